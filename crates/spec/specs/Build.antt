@@ -1,0 +1,37 @@
+-- Document 01, "Turning a file down": the public call build. A key list, settings and an output give the answer and the output's final bytes.
+use Prim.Native.Nat.{ℕ}
+use mathlib.Core.Bool.{Bool, true, false, _&&_}
+use mathlib.Core.List.{List, map}
+use lib.ListN.{length}
+use lib.Dec.{leb, ltb}
+use Rattle.spec.specs.Bytes.{Bytes, concat}
+use Rattle.spec.specs.Keys.{refused, keys, parse-keys}
+use Rattle.spec.specs.Leaves.{Leaf, leaves}
+use Rattle.spec.specs.Image.{Settings, nodes, sparse-labels, image}
+use Rattle.spec.specs.Answer.{Outcome, refuse, write}
+
+-- dense levels 0 to 4, suffix width 0 to 16
+unfoldable pub in-range : Settings → Bool
+in-range st = leb (st .dense) 4 && leb (st .width) 16
+
+-- the trie's entries: branches and exact leaves together
+unfoldable pub trie-entries : List Leaf → ℕ
+unfolding concat sparse-labels nodes
+trie-entries ls = length (concat (map (sparse-labels ls) (nodes ls 0 64)))
+
+-- from the keys: 6, over 4,300,000 trie entries; 7, the image is longer than the output
+unfoldable pub build-keys : Settings → List Bytes → Bytes → Outcome
+unfolding leaves trie-entries image refuse write
+build-keys st ks out =
+    let ls : List Leaf = leaves (st .width) ks in
+    elim (ltb 4300000 (trie-entries ls)) [ true ↦ refuse 6 out | false ↦ write 7 (image st ls) out ]
+
+-- 5, a setting out of range; then the records' 4, 1, 2, 1, 3; then 6 and 7
+unfoldable pub build : Bytes → Settings → Bytes → Outcome
+unfolding in-range parse-keys build-keys refuse
+build list st out =
+    elim (in-range st) [
+      | false ↦ refuse 5 out
+      | true ↦
+          elim (parse-keys list) [ refused r ↦ refuse r out | keys ks ↦ build-keys st ks out ]
+    ]

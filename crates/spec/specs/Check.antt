@@ -1,0 +1,141 @@
+-- Document 01, "Turning a file down": the public call check. The first of 11 to 16 that applies, each judged over the whole image before the next.
+use Prim.Native.Nat.{ℕ, zero, suc, _+_, _-_, _/_, _*_}
+use mathlib.Core.Bool.{Bool, true, false, _&&_}
+use mathlib.Core.List.{List, [], _∷_}
+use mathlib.Core.Option.{Option, none, some}
+use lib.ListN.{length, getD, drop}
+use lib.Dec.{leb, eqb}
+use Rattle.spec.specs.Bytes.{Bytes, Bits, all, every, blocks, equal, from32, clear, unpack}
+use Rattle.spec.specs.Image.{ranks, samples}
+use Rattle.spec.specs.Frame.{marks, has-header, read-bodies, body, Parts, parts}
+use Rattle.spec.specs.Nodes.{Node, slot, branches-of, exact-slot, levels-of, nodes-of}
+use Rattle.spec.specs.Trie.{builders-trie}
+
+-- ---- 12
+
+-- the body lengths that the counts give
+unfoldable pub sizes : Parts → List ℕ
+sizes p =
+    let dn : ℕ = p .dense-count in
+    let se : ℕ = p .entry-count in
+    32 * dn ∷ 32 * dn ∷ blocks 8 dn
+    ∷ se ∷ blocks 8 se ∷ blocks 8 se
+    ∷ blocks 8 (p .leaves * p .width)
+    ∷ 4 * blocks 64 (256 * dn) ∷ 4 * blocks 64 (256 * dn) ∷ 4 * blocks 64 dn ∷ 4 * blocks 512 se
+    ∷ 4 * blocks 64 (p .sparse-count) ∷ []
+
+-- bodies of just these lengths
+unfoldable pub sized : List ℕ → List Bytes → Bool
+sized [] [] = true
+sized [] (b ∷ bs) = false
+sized (n ∷ ns) [] = false
+sized (n ∷ ns) (b ∷ bs) = eqb (length b) n && sized ns bs
+
+-- 12 does not apply: version 1, settings in range, a zero byte, at most 65,535 leaves, body lengths as the counts give
+unfoldable pub header-right : Bytes → Parts → List Bytes → Bool
+unfolding every sizes sized
+header-right s p bs = every (
+    eqb (getD s 2 0) 1
+    ∷ leb (p .dense) 4
+    ∷ leb (p .width) 16
+    ∷ eqb (getD s 5 0) 0
+    ∷ leb (p .leaves) 65535
+    ∷ sized (sizes p) bs
+    ∷ [])
+
+-- ---- 13
+
+-- no bit is set behind a body's first n
+unfoldable pub no-spare : ℕ → Bytes → Bool
+unfolding clear unpack
+no-spare n body = clear (drop n (unpack body))
+
+-- 13 does not apply: no spare bit is set in DP, SC, SB or SV; the other bodies end with their last byte
+unfoldable pub spare-clear : Parts → List Bytes → Bool
+unfolding every no-spare
+spare-clear p bs = every (
+    no-spare (p .dense-count) (body bs 2)
+    ∷ no-spare (p .entry-count) (body bs 4)
+    ∷ no-spare (p .entry-count) (body bs 5)
+    ∷ no-spare (p .leaves * p .width) (body bs 6)
+    ∷ [])
+
+-- ---- 15
+
+-- 15 does not apply: RL, RC, RP and RS are the ranks of DL, DC, DP and SC, and TS the samples of SB
+unfoldable pub ranks-right : Parts → List Bytes → Bool
+unfolding every equal ranks samples
+ranks-right p bs = every (
+    equal (body bs 7) (ranks 64 (p .dl))
+    ∷ equal (body bs 8) (ranks 64 (p .dc))
+    ∷ equal (body bs 9) (ranks 64 (p .dp))
+    ∷ equal (body bs 10) (ranks 512 (p .sc))
+    ∷ equal (body bs 11) (samples (p .sb))
+    ∷ [])
+
+-- ---- 16
+
+-- no suffix bit is set behind the first m bytes
+unfoldable pub clear-behind : ℕ → Bits → Bool
+unfolding clear
+clear-behind zero s = clear s
+clear-behind (suc m) s = clear-behind m (drop 8 s)
+
+-- A node on level d has a key of d bytes, and its branches lead to keys of d + 1:
+-- an exact leaf's slot is zero, and no suffix bit is set past a key's 64th byte.
+unfoldable pub slot-right : ℕ → Node → Bool
+unfolding clear-behind all
+slot-right d n = clear-behind 0 (exact-slot n) && all (λ e. clear-behind (63 - d) (slot e)) (branches-of n)
+
+-- 16 does not apply to the levels from level d on
+unfoldable pub slots-right : ℕ → List (List Node) → Bool
+unfolding slot-right all
+slots-right d [] = true
+slots-right d (ns ∷ ls) = all (slot-right d) ns && slots-right (suc d) ls
+
+-- ---- the check
+
+-- the first of 12 to 16 that applies to a header and bodies, or 0
+unfoldable pub judge-bodies : Bytes → List Bytes → ℕ
+unfolding from32 unpack parts header-right spare-clear builders-trie ranks-right slots-right levels-of nodes-of
+judge-bodies s bs =
+    let p : Parts = parts s bs in
+    elim (header-right s p bs) [
+      | false ↦ 12
+      | true ↦
+          elim (spare-clear p bs) [
+            | false ↦ 13
+            | true ↦
+                elim (builders-trie p) [
+                  | false ↦ 14
+                  | true ↦
+                      elim (ranks-right p bs) [
+                        | false ↦ 15
+                        | true ↦
+                            elim (slots-right 0 (levels-of (nodes-of p))) [ false ↦ 16 | true ↦ 0 ]
+                      ]
+                ]
+          ]
+    ]
+
+-- the first of 11 to 16 that applies, or 0
+unfoldable pub verdict : Bytes → ℕ
+unfolding read-bodies judge-bodies has-header
+verdict s =
+    let f : Option (List Bytes) = read-bodies marks (drop 22 s) in
+    elim (has-header s) [ false ↦ 11 | true ↦ elim f [ none ↦ 11 | some bs ↦ judge-bodies s bs ] ]
+
+-- what check answers: accepted, or a refusal's number
+pub data Checked : Type 0 where
+  accepted : Checked
+  refused : ℕ → Checked
+
+-- the answer of a verdict
+unfoldable pub checked : ℕ → Checked
+checked zero = accepted
+checked (suc r) = refused (suc r)
+
+-- An image is accepted, or it is refused with the first of 11 to 16 that applies.
+unfoldable pub check : Bytes → Checked
+unfolding checked verdict
+check b = checked (verdict b)

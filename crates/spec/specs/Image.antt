@@ -1,0 +1,184 @@
+-- Document 01, "Records of an image": the trie's nodes in level order, the twelve bodies, the header and the image.
+use Prim.Native.Nat.{ℕ, suc, _+_, _-_, _/_, _*_}
+use mathlib.Core.Bool.{Bool, true, false, cond, not, _&&_}
+use mathlib.Core.List.{List, [], _∷_, _++_, map}
+use lib.ListN.{length, getD, take, replicate}
+use lib.Dec.{ltb, eqb}
+use Rattle.spec.specs.Bytes.{Bytes, Bits, any, filter, concat, iota, blocks, letter, dedup, equal, begins, ones, pack, le32}
+use Rattle.spec.specs.Leaves.{Leaf}
+
+-- dense levels, and the suffix width n
+pub record Settings : Type 0 where
+  pub dense : ℕ
+  pub width : ℕ
+
+-- ---- the trie
+
+-- p is a proper prefix of the leaf's cut key
+unfoldable pub above : Bytes → Leaf → Bool
+unfolding begins
+above p l = ltb (length p) (length (l .cut)) && begins p (l .cut)
+
+-- p is a node: a proper prefix of a cut key
+unfoldable pub is-node : List Leaf → Bytes → Bool
+unfolding any above
+is-node ls p = any (above p) ls
+
+-- the leaf whose cut key is p, if there is one
+unfoldable pub leaf-at : List Leaf → Bytes → List Leaf
+unfolding filter equal
+leaf-at ls p = filter (λ l. equal p (l .cut)) ls
+
+-- p is a cut key
+unfoldable pub is-leaf : List Leaf → Bytes → Bool
+unfolding any equal
+is-leaf ls p = any (λ l. equal p (l .cut)) ls
+
+-- the nodes on level d, in key order
+unfoldable pub on-level : List Leaf → ℕ → List Bytes
+unfolding dedup filter
+on-level ls d = dedup (map (λ l. take d (l .cut)) (filter (λ l. ltb d (length (l .cut))) ls))
+
+-- the nodes from one level to below another, in level order
+unfoldable pub nodes : List Leaf → ℕ → ℕ → List Bytes
+unfolding concat iota on-level
+nodes ls from to = concat (map (on-level ls) (iota from (to - from)))
+
+-- where a node's branches lead: the prefixes one byte longer, by label
+unfoldable pub branches : List Leaf → Bytes → List Bytes
+unfolding dedup filter above
+branches ls p = dedup (map (λ l. take (suc (length p)) (l .cut)) (filter (above p) ls))
+
+-- the label of the branch from p to q
+abbrev pub label : Bytes → Bytes → ℕ
+label p q = getD q (length p) 0
+
+-- ---- one node's part of each body
+
+-- b is among the labels
+unfoldable pub has : List ℕ → ℕ → Bool
+unfolding any
+has xs b = any (eqb b) xs
+
+-- D-Labels: the 256 bits of a dense node, set at its labels
+unfoldable pub dense-labels : List Leaf → Bytes → Bits
+unfolding branches has iota
+dense-labels ls p = let xs : List ℕ = map (label p) (branches ls p) in map (has xs) (iota 0 256)
+
+-- D-HasChild: the 256 bits of a dense node, set at the labels that continue
+unfoldable pub dense-has-child : List Leaf → Bytes → Bits
+unfolding branches has iota is-node filter
+dense-has-child ls p = let xs : List ℕ = map (label p) (filter (is-node ls) (branches ls p)) in map (has xs) (iota 0 256)
+
+-- S-Labels: a node's labels; a node that is an exact leaf starts with an extra FF
+unfoldable pub sparse-labels : List Leaf → Bytes → Bytes
+unfolding is-leaf branches
+sparse-labels ls p = cond (is-leaf ls p) (255 ∷ []) [] ++ map (label p) (branches ls p)
+
+-- S-HasChild: which of these entries continue; the extra FF does not
+unfoldable pub sparse-has-child : List Leaf → Bytes → Bits
+unfolding is-leaf branches is-node
+sparse-has-child ls p = cond (is-leaf ls p) (false ∷ []) [] ++ map (is-node ls) (branches ls p)
+
+-- S-LOUDS: set at a node's first entry
+unfoldable pub louds : List Leaf → Bytes → Bits
+unfolding sparse-labels
+louds ls p = true ∷ replicate (length (sparse-labels ls p) - 1) false
+
+-- a node's suffix slots, an exact leaf's before its branches'
+unfoldable pub slots : List Leaf → Bytes → Bits
+unfolding concat leaf-at branches filter is-node
+slots ls p = concat (map (λ l. l .suffix) (leaf-at ls p ++ concat (map (leaf-at ls) (filter (λ q. not (is-node ls q)) (branches ls p)))))
+
+-- ---- ranks and samples
+
+-- entry b is a 32-bit count of ones before bit w b, one entry for each begun block of w bits
+unfoldable pub ranks : ℕ → Bits → Bytes
+unfolding concat iota ones le32
+ranks w bs = concat (map (λ b. le32 (ones (take (w * b) bs))) (iota 0 (blocks w (length bs))))
+
+-- the positions of the ones, the first bit at i
+unfoldable pub positions : ℕ → Bits → List ℕ
+positions i [] = []
+positions i (true ∷ bs) = i ∷ positions (suc i) bs
+positions i (false ∷ bs) = positions (suc i) bs
+
+-- entry t is the position of one number 64t + 1, for each begun 64 ones
+unfoldable pub samples : Bits → Bytes
+unfolding concat iota positions le32
+samples bs =
+    let xs : List ℕ = positions 0 bs in
+    concat (map (λ t. le32 (getD xs (64 * t) 0)) (iota 0 (blocks 64 (length xs))))
+
+-- ---- the image
+
+-- the twelve bodies, under their marks
+pub record Bodies : Type 0 where
+  pub DL : Bytes
+  pub DC : Bytes
+  pub DP : Bytes
+  pub SL : Bytes
+  pub SC : Bytes
+  pub SB : Bytes
+  pub SV : Bytes
+  pub RL : Bytes
+  pub RC : Bytes
+  pub RP : Bytes
+  pub RS : Bytes
+  pub TS : Bytes
+
+-- the bodies of a leaf list: nodes on levels below the dense setting are dense, the rest sparse
+unfoldable pub bodies : ℕ → List Leaf → Bodies
+unfolding concat nodes dense-labels dense-has-child is-leaf sparse-labels sparse-has-child louds slots pack ranks samples
+bodies dense ls =
+    let ds : List Bytes = nodes ls 0 dense in
+    let ss : List Bytes = nodes ls dense 64 in
+    let dl : Bits = concat (map (dense-labels ls) ds) in
+    let dc : Bits = concat (map (dense-has-child ls) ds) in
+    let dp : Bits = map (is-leaf ls) ds in
+    let sc : Bits = concat (map (sparse-has-child ls) ss) in
+    let sb : Bits = concat (map (louds ls) ss) in
+    record {
+      DL = pack dl;
+      DC = pack dc;
+      DP = pack dp;
+      SL = concat (map (sparse-labels ls) ss);
+      SC = pack sc;
+      SB = pack sb;
+      SV = pack (concat (map (slots ls) (ds ++ ss)));
+      RL = ranks 64 dl;
+      RC = ranks 64 dc;
+      RP = ranks 64 dp;
+      RS = ranks 512 sc;
+      TS = samples sb;
+    }
+
+-- a record: a two-byte mark, a 32-bit body length and a body
+unfoldable pub marked : ℕ → ℕ → Bytes → Bytes
+unfolding le32
+marked a b body = a ∷ b ∷ le32 (length body) ++ body
+
+-- the header, 22 bytes: "HD", version 1, dense levels, n, a zero byte, then the counts of leaves, dense nodes, sparse entries and sparse nodes
+unfoldable pub header : Settings → ℕ → ℕ → ℕ → ℕ → Bytes
+unfolding le32
+header st leaf-count dense-nodes entries sparse-nodes =
+    letter "H" ∷ letter "D" ∷ 1 ∷ st .dense ∷ st .width ∷ 0 ∷ le32 leaf-count ++ (le32 dense-nodes ++ (le32 entries ++ le32 sparse-nodes))
+
+-- the image of a leaf list: header and twelve records
+unfoldable pub image : Settings → List Leaf → Bytes
+unfolding header nodes bodies marked
+image st ls =
+    let b : Bodies = bodies (st .dense) ls in
+    header st (length ls) (length (nodes ls 0 (st .dense))) (length (b .SL)) (length (nodes ls (st .dense) 64)) ++ (
+    marked (letter "D") (letter "L") (b .DL) ++ (
+    marked (letter "D") (letter "C") (b .DC) ++ (
+    marked (letter "D") (letter "P") (b .DP) ++ (
+    marked (letter "S") (letter "L") (b .SL) ++ (
+    marked (letter "S") (letter "C") (b .SC) ++ (
+    marked (letter "S") (letter "B") (b .SB) ++ (
+    marked (letter "S") (letter "V") (b .SV) ++ (
+    marked (letter "R") (letter "L") (b .RL) ++ (
+    marked (letter "R") (letter "C") (b .RC) ++ (
+    marked (letter "R") (letter "P") (b .RP) ++ (
+    marked (letter "R") (letter "S") (b .RS) ++
+    marked (letter "T") (letter "S") (b .TS))))))))))))

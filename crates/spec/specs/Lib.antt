@@ -1,0 +1,14 @@
+pub mod Bytes
+pub mod Keys
+pub mod Leaves
+pub mod Image
+pub mod Frame
+pub mod Nodes
+pub mod Questions
+pub mod Answer
+pub mod Build
+pub mod Trie
+pub mod Check
+pub mod Ask
+pub mod Walk
+pub mod Print
