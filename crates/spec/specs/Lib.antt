@@ -12,3 +12,4 @@ pub mod Check
 pub mod Ask
 pub mod Walk
 pub mod Print
+pub mod Examples

@@ -1,0 +1,139 @@
+-- Document 01, "Examples": the starred ones, as one table of definitions with one theorem. Questions go to the leaves read back from the image.
+use Prim.Native.Nat.{ℕ}
+use mathlib.Core.Path.{_≡_, refl}
+use mathlib.Core.Bool.{true}
+use mathlib.Core.List.{List, [], _∷_, _++_, map}
+use lib.ListN.{length, getD, replicate}
+use Rattle.spec.specs.Bytes.{Bytes, count, concat, bit, ascii}
+use Rattle.spec.specs.Keys.{within}
+use Rattle.spec.specs.Leaves.{Leaf, leaves}
+use Rattle.spec.specs.Image.{Bodies, bodies, image}
+use Rattle.spec.specs.Nodes.{read-leaves}
+use Rattle.spec.specs.Questions.{point, counted, seek, Sought, none, found}
+
+-- ---- the lists
+
+-- list A: D1, D12, D2, V
+unfoldable pub A : List Bytes
+unfolding ascii
+A = ascii "D1" ∷ ascii "D12" ∷ ascii "D2" ∷ ascii "V" ∷ []
+
+-- the same with VAN for V
+unfoldable pub VAN : List Bytes
+unfolding ascii
+VAN = ascii "D1" ∷ ascii "D12" ∷ ascii "D2" ∷ ascii "VAN" ∷ []
+
+-- the key FF alone
+abbrev pub FF : List Bytes
+FF = (0xFF ∷ []) ∷ []
+
+-- the keys FF and FF FF
+abbrev pub FF-FF : List Bytes
+FF-FF = (0xFF ∷ []) ∷ (0xFF ∷ 0xFF ∷ []) ∷ []
+
+-- ---- what is computed of a list
+
+-- the bodies of a list's image, by dense levels and n
+unfoldable pub bodies-of : ℕ → ℕ → List Bytes → Bodies
+unfolding bodies leaves
+bodies-of dense n ks = bodies dense (leaves n ks)
+
+-- a list's image, by dense levels and n
+unfoldable pub image-of : ℕ → ℕ → List Bytes → Bytes
+unfolding image leaves
+image-of dense n ks = image (record { dense = dense; width = n }) (leaves n ks)
+
+-- the leaves read back from a list's image without dense levels
+unfoldable pub leaves-read : ℕ → List Bytes → List Leaf
+unfolding image-of read-leaves
+leaves-read n ks = read-leaves (image-of 0 n ks)
+
+-- the point replies to keys, in their order
+unfoldable pub points : List Leaf → List Bytes → List ℕ
+unfolding point
+points ls ks = map (point ls) ks
+
+-- a seek's number and key, or nothing
+unfoldable pub sought-at : List Leaf → Bytes → Bytes
+unfolding seek
+sought-at ls start = elim (seek ls start) [ none ↦ [] | found i k ↦ i ∷ k ]
+
+-- a leaf's suffix bits as numbers, by its number in key order
+unfoldable pub suffix-of : ℕ → List Leaf → List ℕ
+suffix-of i ls = map bit (getD ls i (record { cut = []; exact = true; suffix = [] }) .suffix)
+
+-- the cut keys one behind the other
+unfoldable pub cut-keys : List Leaf → Bytes
+unfolding concat
+cut-keys ls = concat (map (λ l. l .cut) ls)
+
+-- ---- the table
+
+-- what is computed, and what document 01 says
+pub data Row : Type 0 where
+  _is_ : Bytes → Bytes → Row
+
+infix 5 _is_
+-- what is computed
+abbrev pub computed : Row → Bytes
+computed (a is b) = a
+
+-- what document 01 says
+abbrev pub said : Row → Bytes
+said (a is b) = b
+
+-- the starred examples
+unfoldable pub table : List Row
+unfolding A VAN bodies-of image-of leaves-read points counted sought-at suffix-of cut-keys ascii
+table =
+    -- A: SL 44 56 31 32 FF 32, SC 05, SB 15, RS and TS one zero entry each; 110 bytes
+    (bodies-of 0 0 A .SL is 0x44 ∷ 0x56 ∷ 0x31 ∷ 0x32 ∷ 0xFF ∷ 0x32 ∷ [])
+    ∷ (bodies-of 0 0 A .SC is 0x05 ∷ [])
+    ∷ (bodies-of 0 0 A .SB is 0x15 ∷ [])
+    ∷ (bodies-of 0 0 A .RS is 0 ∷ 0 ∷ 0 ∷ 0 ∷ [])
+    ∷ (bodies-of 0 0 A .TS is 0 ∷ 0 ∷ 0 ∷ 0 ∷ [])
+    ∷ (length (image-of 0 0 A) ∷ [] is 110 ∷ [])
+    -- A, dense 1: DL byte 8 is 10 and byte 10 is 40; DC byte 8 is 10; SL 31 32 FF 32, SC 01, SB 05; RL 0 0 2 2, RC 0 0 1 1
+    ∷ (bodies-of 1 0 A .DL is replicate 8 0 ++ (0x10 ∷ 0 ∷ 0x40 ∷ replicate 21 0))
+    ∷ (bodies-of 1 0 A .DC is replicate 8 0 ++ (0x10 ∷ replicate 23 0))
+    ∷ (bodies-of 1 0 A .SL is 0x31 ∷ 0x32 ∷ 0xFF ∷ 0x32 ∷ [])
+    ∷ (bodies-of 1 0 A .SC is 0x01 ∷ [])
+    ∷ (bodies-of 1 0 A .SB is 0x05 ∷ [])
+    ∷ (bodies-of 1 0 A .RL is 0 ∷ 0 ∷ 0 ∷ 0 ∷ 0 ∷ 0 ∷ 0 ∷ 0 ∷ 2 ∷ 0 ∷ 0 ∷ 0 ∷ 2 ∷ 0 ∷ 0 ∷ 0 ∷ [])
+    ∷ (bodies-of 1 0 A .RC is 0 ∷ 0 ∷ 0 ∷ 0 ∷ 0 ∷ 0 ∷ 0 ∷ 0 ∷ 1 ∷ 0 ∷ 0 ∷ 0 ∷ 1 ∷ 0 ∷ 0 ∷ 0 ∷ [])
+    -- the empty list: 94 bytes
+    ∷ (length (image-of 0 0 []) ∷ [] is 94 ∷ [])
+    -- the key FF alone: SL FF, a real label
+    ∷ (bodies-of 0 0 FF .SL is 0xFF ∷ [])
+    ∷ (cut-keys (leaves-read 0 FF) is 0xFF ∷ [])
+    -- FF and FF FF: SL FF FF FF, SC 01, SB 03
+    ∷ (bodies-of 0 0 FF-FF .SL is 0xFF ∷ 0xFF ∷ 0xFF ∷ [])
+    ∷ (bodies-of 0 0 FF-FF .SC is 0x01 ∷ [])
+    ∷ (bodies-of 0 0 FF-FF .SB is 0x03 ∷ [])
+    -- A, points: D1 1, D10 0, D 0, D2x 1, empty 0
+    ∷ (points (leaves-read 0 A) (ascii "D1" ∷ ascii "D10" ∷ ascii "D" ∷ ascii "D2x" ∷ [] ∷ []) is 1 ∷ 0 ∷ 0 ∷ 1 ∷ 0 ∷ [])
+    -- A, counts: D12Z to D2 gives 2; D11 to D13 gives 1
+    ∷ (counted (leaves-read 0 A) (ascii "D12Z") (ascii "D2") ∷ [] is 2 ∷ [])
+    ∷ (counted (leaves-read 0 A) (ascii "D11") (ascii "D13") ∷ [] is 1 ∷ [])
+    -- with VAN for V the image is the same; D2a to V counts 2
+    ∷ (image-of 0 0 VAN is image-of 0 0 A)
+    ∷ (counted (leaves-read 0 VAN) (ascii "D2a") (ascii "V") ∷ [] is 2 ∷ [])
+    -- A, seeks: empty gives 0 D1; D13 gives 2 D2; D2a gives 2 D2a; W none
+    ∷ (sought-at (leaves-read 0 A) [] is 0 ∷ ascii "D1")
+    ∷ (sought-at (leaves-read 0 A) (ascii "D13") is 2 ∷ ascii "D2")
+    ∷ (sought-at (leaves-read 0 A) (ascii "D2a") is 2 ∷ ascii "D2a")
+    ∷ (sought-at (leaves-read 0 A) (ascii "W") is [])
+    -- D1, D12, D2, VAN, n 8: V's suffix is 01000001, so SV is 82 00 00 00; point VAX 1, VB 0; seek VB none; seek V gives 3 VA
+    ∷ (suffix-of 3 (leaves-read 8 VAN) is 0 ∷ 1 ∷ 0 ∷ 0 ∷ 0 ∷ 0 ∷ 0 ∷ 1 ∷ [])
+    ∷ (bodies-of 0 8 VAN .SV is 0x82 ∷ 0 ∷ 0 ∷ 0 ∷ [])
+    ∷ (points (leaves-read 8 VAN) (ascii "VAX" ∷ ascii "VB" ∷ []) is 1 ∷ 0 ∷ [])
+    ∷ (sought-at (leaves-read 8 VAN) (ascii "VB") is [])
+    ∷ (sought-at (leaves-read 8 VAN) (ascii "V") is 3 ∷ ascii "VA")
+    ∷ []
+
+-- Each row's two sides are equal; over the empty list every point is 0, for every key; and the list with VAN has no key from D2a to V.
+pub examples : (map computed table ≡ map said table)
+    × ((k : Bytes) → point (leaves-read 0 []) k ≡ 0)
+    × (count (within (ascii "D2a") (ascii "V")) VAN ≡ 0)
+unfolding table leaves-read point count within VAN ascii
+examples = (refl, λ k. refl, refl)
