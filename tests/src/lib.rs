@@ -7,6 +7,7 @@ pub mod decode;
 pub mod image;
 pub mod keys;
 pub mod leaves;
+pub mod library;
 pub mod print;
 pub mod questions;
 pub mod random;

@@ -1,0 +1,417 @@
+//! Building an image: one pass that judges the list and plans the levels, then each
+//! body filled with a cursor a level. A key takes part in the levels from what it
+//! shares with the key before up to its leaf, so the work is linear in the image.
+
+use super::bits::{load, ones, ones_of, select_in_word, word};
+use super::EXACT_LABEL;
+use reference::build::Answer;
+use reference::check::bit_counts;
+use reference::image::{
+    Header, DENSE_BLOCK, HEADER_LENGTH, MARKS, MAX_DENSE, MAX_WIDTH, SAMPLE, SPARSE_BLOCK,
+};
+use reference::keys::{MAX_KEY, MAX_RECORDS};
+
+/// The levels that nodes stand on.
+const LEVELS: usize = MAX_KEY;
+
+/// The bytes of a record's mark and body length.
+const RECORD_HEAD: usize = 6;
+
+/// The keys whose labels are gathered by level before they are copied to the image,
+/// so that the writes of many levels do not compete for the same cache lines.
+const BATCH: usize = 128;
+
+/// A key of the list: where it starts, what it shares with the key before, and the
+/// level behind its last entry. An exact leaf's last entry is the mark of its node.
+#[derive(Clone, Copy)]
+struct Record {
+    start: u32,
+    length: u8,
+    shared: u8,
+    end: u8,
+}
+
+/// The keys, and how many of them have their first and last entries on each level.
+struct Plan {
+    records: Vec<Record>,
+    starts: [u32; LEVELS],
+    ends: [u32; LEVELS + 1],
+}
+
+/// The next dense node, sparse entry and slot to be written on each level.
+struct Cursors {
+    nodes: [u32; LEVELS],
+    entries: [u32; LEVELS],
+    slots: [u32; LEVELS],
+}
+
+/// The labels of a batch of keys, by level.
+struct Batch {
+    labels: [[u8; BATCH]; LEVELS],
+    counts: [u8; LEVELS],
+}
+
+/// Builds the image of a key list at the start of the output; a refusal leaves the
+/// output as it was.
+pub fn build(list: &[u8], dense: u64, n: u64, out: &mut [u8]) -> Answer {
+    match fill(list, dense, n, out) {
+        Ok(length) => Answer::Written(length),
+        Err(number) => Answer::Refused(number),
+    }
+}
+
+/// Judges everything and then fills the bodies. Number 6 is not judged, since a
+/// key has at most one entry on each of 65 levels and so 6 never comes.
+fn fill(list: &[u8], dense: u64, n: u64, out: &mut [u8]) -> Result<usize, u32> {
+    if dense > u64::from(MAX_DENSE) || n > u64::from(MAX_WIDTH) {
+        return Err(5);
+    }
+    let plan = Plan::of_list(list)?;
+    let (header, cursors) = plan.lay_out(dense as u8, n as u8);
+    let lengths = bit_counts(&header).map(|bits| bits.div_ceil(8) as usize);
+    let length = HEADER_LENGTH + MARKS.len() * RECORD_HEAD + lengths.iter().sum::<usize>();
+    let image = out.get_mut(..length).ok_or(7_u32)?;
+    let [dl, dc, dp, sl, sc, sb, sv, rl, rc, rp, rs, ts] = write_frame(image, &header, &lengths);
+    fill_dense(list, &plan.records, dense as usize, &cursors, [dl, dc, dp]);
+    fill_sparse(list, &plan.records, &header, &cursors, [sl, sc, sb]);
+    fill_slots(list, &plan.records, n as usize, &cursors, sv);
+    fill_ranks(dl, rl, DENSE_BLOCK);
+    fill_ranks(dc, rc, DENSE_BLOCK);
+    fill_ranks(dp, rp, DENSE_BLOCK);
+    fill_ranks(sc, rs, SPARSE_BLOCK);
+    fill_samples(sb, ts);
+    Ok(length)
+}
+
+impl Record {
+    /// Says whether the key begins another.
+    fn is_exact(self) -> bool {
+        self.end > self.length
+    }
+
+    /// Gives the bytes of the key.
+    fn key(self, list: &[u8]) -> &[u8] {
+        &list[self.start as usize..][..usize::from(self.length)]
+    }
+}
+
+impl Plan {
+    /// Reads a key list, or gives the number of the first record's fault.
+    fn of_list(list: &[u8]) -> Result<Self, u32> {
+        let mut plan = Plan {
+            records: Vec::with_capacity(MAX_RECORDS.min(list.len() / 4)),
+            starts: [0; LEVELS],
+            ends: [0; LEVELS + 1],
+        };
+        let mut at = 0;
+        while at < list.len() {
+            if plan.records.len() == MAX_RECORDS {
+                return Err(4);
+            }
+            let length = key_length(&list[at..])?;
+            plan.add(list, at + 3, length)?;
+            at += 3 + length;
+        }
+        plan.end_last(0);
+        Ok(plan)
+    }
+
+    /// Adds a key that is above the last one.
+    fn add(&mut self, list: &[u8], start: usize, length: usize) -> Result<(), u32> {
+        let mut shared = 0;
+        if let Some(last) = self.records.last() {
+            let last_start = last.start as usize;
+            let limit = length.min(usize::from(last.length));
+            shared = shared_prefix(list, last_start, start, limit);
+            let longer = shared == limit && limit < length;
+            if !longer && (shared == limit || list[last_start + shared] > list[start + shared]) {
+                return Err(3);
+            }
+        }
+        self.end_last(shared);
+        self.starts[shared] += 1;
+        self.records.push(Record {
+            start: start as u32,
+            length: length as u8,
+            shared: shared as u8,
+            end: 0,
+        });
+        Ok(())
+    }
+
+    /// Ends the last key, now that it is known what it shares with the next.
+    fn end_last(&mut self, shared: usize) {
+        if let Some(last) = self.records.last_mut() {
+            let shared = shared as u8;
+            let longest = if shared == last.length {
+                shared
+            } else {
+                shared.max(last.shared)
+            };
+            last.end = longest + 1;
+            self.ends[usize::from(last.end)] += 1;
+        }
+    }
+
+    /// Counts the nodes, entries and slots of each level, and from them the header's
+    /// counts and the places where the levels start.
+    fn lay_out(&self, dense: u8, width: u8) -> (Header, Cursors) {
+        let mut header = Header {
+            version: 1,
+            dense,
+            width,
+            zero: 0,
+            leaves: self.records.len() as u32,
+            dense_nodes: 0,
+            sparse_entries: 0,
+            sparse_nodes: 0,
+        };
+        let mut cursors = Cursors {
+            nodes: [0; LEVELS],
+            entries: [0; LEVELS],
+            slots: [0; LEVELS],
+        };
+        let mut entries = 0;
+        let mut slots = 0;
+        for level in 0..LEVELS {
+            cursors.nodes[level] = header.dense_nodes;
+            cursors.entries[level] = header.sparse_entries;
+            cursors.slots[level] = slots;
+            entries -= self.ends[level];
+            let nodes = entries + u32::from(level == 0 && !self.records.is_empty());
+            entries += self.starts[level];
+            slots += self.ends[level + 1];
+            if level < usize::from(dense) {
+                header.dense_nodes += nodes;
+            } else {
+                header.sparse_nodes += nodes;
+                header.sparse_entries += entries;
+            }
+        }
+        (header, cursors)
+    }
+}
+
+/// Gives the key length of the first record, or the number of its fault.
+fn key_length(bytes: &[u8]) -> Result<usize, u32> {
+    let [b'K', b'Y', length, behind @ ..] = bytes else {
+        return Err(1);
+    };
+    let length = usize::from(*length);
+    if length == 0 || length > MAX_KEY {
+        return Err(2);
+    }
+    if behind.len() < length {
+        return Err(1);
+    }
+    Ok(length)
+}
+
+/// Counts the bytes that two keys of a list share, up to a limit; words may reach
+/// behind the keys.
+fn shared_prefix(list: &[u8], one: usize, other: usize, limit: usize) -> usize {
+    let mut count = 0;
+    while count < limit {
+        let difference = load(list, one + count) ^ load(list, other + count);
+        if difference != 0 {
+            return limit.min(count + difference.trailing_zeros() as usize / 8);
+        }
+        count += 8;
+    }
+    limit
+}
+
+/// Writes the header and each record's mark and body length, and gives the bodies.
+fn write_frame<'a>(
+    image: &'a mut [u8],
+    header: &Header,
+    lengths: &[usize; 12],
+) -> [&'a mut [u8]; 12] {
+    let (head, mut rest) = image.split_at_mut(HEADER_LENGTH);
+    head[..2].copy_from_slice(b"HD");
+    head[2..6].copy_from_slice(&[header.version, header.dense, header.width, header.zero]);
+    head[6..10].copy_from_slice(&header.leaves.to_le_bytes());
+    head[10..14].copy_from_slice(&header.dense_nodes.to_le_bytes());
+    head[14..18].copy_from_slice(&header.sparse_entries.to_le_bytes());
+    head[18..].copy_from_slice(&header.sparse_nodes.to_le_bytes());
+    std::array::from_fn(|record| {
+        let (mark, behind) = std::mem::take(&mut rest).split_at_mut(RECORD_HEAD);
+        mark[..2].copy_from_slice(MARKS[record]);
+        mark[2..].copy_from_slice(&(lengths[record] as u32).to_le_bytes());
+        let body;
+        (body, rest) = behind.split_at_mut(lengths[record]);
+        body
+    })
+}
+
+/// Fills D-Labels, D-HasChild and D-IsPrefixKey.
+fn fill_dense(
+    list: &[u8],
+    records: &[Record],
+    dense: usize,
+    cursors: &Cursors,
+    [labels, children, marks]: [&mut [u8]; 3],
+) {
+    if dense == 0 {
+        return;
+    }
+    labels.fill(0);
+    children.fill(0);
+    marks.fill(0);
+    let mut nodes = cursors.nodes.map(|node| (node as usize).wrapping_sub(1));
+    nodes[0] = 0;
+    for record in records {
+        let (shared, end) = (usize::from(record.shared), usize::from(record.end));
+        let key = record.key(list);
+        for level in shared..dense.min(end) {
+            nodes[level] = nodes[level].wrapping_add(usize::from(level > shared));
+            if level == key.len() {
+                set(marks, nodes[level]);
+                break;
+            }
+            let position = nodes[level] * 256 + usize::from(key[level]);
+            set(labels, position);
+            if level + 1 < end {
+                set(children, position);
+            }
+        }
+    }
+}
+
+/// Fills S-Labels, S-HasChild and S-LOUDS. Each key clears one bit of S-LOUDS, where
+/// it leaves the key before, and one of S-HasChild, at its leaf.
+fn fill_sparse(
+    list: &[u8],
+    records: &[Record],
+    header: &Header,
+    cursors: &Cursors,
+    [labels, children, louds]: [&mut [u8]; 3],
+) {
+    let Some(last) = labels.len().checked_sub(1) else {
+        return;
+    };
+    children.fill(0xFF);
+    louds.fill(0xFF);
+    let dense = usize::from(header.dense);
+    let mut entries = cursors.entries;
+    let mut batch = Batch {
+        labels: [[0; BATCH]; LEVELS],
+        counts: [0; LEVELS],
+    };
+    for records in records.chunks(BATCH) {
+        for record in records {
+            let (shared, leaf) = (usize::from(record.shared), usize::from(record.end) - 1);
+            if shared >= dense {
+                clear(louds, batch.position(&entries, shared));
+            }
+            if leaf >= dense {
+                clear(children, batch.position(&entries, leaf));
+                batch.add(record.key(list), shared.max(dense), leaf, record.is_exact());
+            }
+        }
+        batch.copy_to(labels, &mut entries);
+    }
+    set(louds, 0);
+    let used = 0xFF >> (7 - last % 8);
+    children[last / 8] &= used;
+    louds[last / 8] &= used;
+}
+
+impl Batch {
+    /// Gives the position of the next entry of a level.
+    fn position(&self, entries: &[u32; LEVELS], level: usize) -> usize {
+        entries[level] as usize + usize::from(self.counts[level])
+    }
+
+    /// Adds a key's labels on the levels from the first to its leaf.
+    fn add(&mut self, key: &[u8], first: usize, leaf: usize, exact: bool) {
+        let behind = leaf + usize::from(!exact);
+        let rows = self.labels[first..behind].iter_mut();
+        let counts = &mut self.counts[first..behind];
+        for ((row, &count), &label) in rows.zip(counts.iter()).zip(&key[first..behind]) {
+            row[usize::from(count) % BATCH] = label;
+        }
+        for count in counts {
+            *count += 1;
+        }
+        if exact {
+            self.labels[leaf][usize::from(self.counts[leaf]) % BATCH] = EXACT_LABEL;
+            self.counts[leaf] += 1;
+        }
+    }
+
+    /// Copies the labels of each level behind those that are written, and starts again.
+    fn copy_to(&mut self, labels: &mut [u8], entries: &mut [u32; LEVELS]) {
+        let levels = self.labels.iter().zip(&mut self.counts).zip(entries);
+        for ((row, count), entry) in levels.filter(|((_, count), _)| **count > 0) {
+            let length = usize::from(*count);
+            labels[*entry as usize..][..length].copy_from_slice(&row[..length]);
+            *entry += length as u32;
+            *count = 0;
+        }
+    }
+}
+
+/// Fills the suffix slots; a slot touches at most three bytes.
+fn fill_slots(list: &[u8], records: &[Record], width: usize, cursors: &Cursors, values: &mut [u8]) {
+    values.fill(0);
+    if width == 0 {
+        return;
+    }
+    let mut slots = cursors.slots;
+    for record in records {
+        let slot = &mut slots[usize::from(record.end) - 1];
+        let position = *slot as usize * width;
+        *slot += 1;
+        if !record.is_exact() {
+            let bits = suffix(list, record, width) << (position % 8);
+            let bytes = values[position / 8..].iter_mut();
+            for (byte, part) in bytes.zip(bits.to_le_bytes()).take(3) {
+                *byte |= part;
+            }
+        }
+    }
+}
+
+/// Gives the suffix bits of an open leaf, the first one lowest.
+fn suffix(list: &[u8], record: &Record, width: usize) -> u32 {
+    let left = (record.length - record.end).min(2);
+    let two = load(list, record.start as usize + usize::from(record.end)) as u16;
+    let kept = u32::from(two.swap_bytes().reverse_bits()) & ((1 << (8 * left)) - 1);
+    kept & ((1 << width) - 1)
+}
+
+/// Fills a table with the ones before each block of a body.
+fn fill_ranks(body: &[u8], table: &mut [u8], block: usize) {
+    let mut before = 0;
+    for (entry, bytes) in table.chunks_exact_mut(4).zip(body.chunks(block / 8)) {
+        entry.copy_from_slice(&(before as u32).to_le_bytes());
+        before += ones_of(bytes);
+    }
+}
+
+/// Fills a table with the position of each 64th one; a word holds one such at most.
+fn fill_samples(body: &[u8], table: &mut [u8]) {
+    let mut before: usize = 0;
+    let mut entries = table.chunks_exact_mut(4);
+    for index in 0..body.len().div_ceil(8) {
+        let bits = word(body, index);
+        let sampled = before.next_multiple_of(SAMPLE) - before;
+        before += ones(bits);
+        if sampled < ones(bits) {
+            let position = index * 64 + select_in_word(bits, sampled);
+            let entry = entries.next().expect("there is an entry for each sample");
+            entry.copy_from_slice(&(position as u32).to_le_bytes());
+        }
+    }
+}
+
+/// Sets a bit of a body.
+fn set(body: &mut [u8], position: usize) {
+    body[position / 8] |= 1 << (position % 8);
+}
+
+/// Clears a bit of a body.
+fn clear(body: &mut [u8], position: usize) {
+    body[position / 8] &= !(1 << (position % 8));
+}

@@ -1,0 +1,11 @@
+//! What one would ship without proofs: words of bits, rank and select tables, and a
+//! heap where it helps.
+
+pub mod ask;
+mod bits;
+pub mod build;
+pub mod check;
+mod trie;
+
+/// The extra label at the start of a sparse node that is an exact leaf.
+const EXACT_LABEL: u8 = 0xFF;

@@ -1,0 +1,82 @@
+//! The calls of the proved library, made by `rt staticlib filter`, as safe functions.
+//! Each call has a feature of its own, so that a library without it can be linked.
+
+#[cfg(any(feature = "build", feature = "ask"))]
+use crate::build::Answer;
+
+extern "C" {
+    #[cfg(feature = "build")]
+    fn range_filter_build(
+        list: *const u8,
+        list_len: usize,
+        dense: u64,
+        n: u64,
+        out: *mut u8,
+        out_len: usize,
+    ) -> u64;
+
+    #[cfg(feature = "check")]
+    fn range_filter_check(image: *const u8, image_len: usize) -> u32;
+
+    #[cfg(feature = "ask")]
+    fn range_filter_ask(
+        image: *const u8,
+        image_len: usize,
+        questions: *const u8,
+        questions_len: usize,
+        replies: *mut u8,
+        replies_len: usize,
+    ) -> u64;
+}
+
+/// Builds the image of a key list at the start of the output.
+#[cfg(feature = "build")]
+pub fn build(list: &[u8], dense: u64, n: u64, out: &mut [u8]) -> Answer {
+    // SAFETY: pointers and lengths are those of slices that live through the call,
+    // and the output is lent to it alone.
+    answer(unsafe {
+        range_filter_build(
+            list.as_ptr(),
+            list.len(),
+            dense,
+            n,
+            out.as_mut_ptr(),
+            out.len(),
+        )
+    })
+}
+
+/// Gives 0 for an accepted image, else the number of its fault.
+#[cfg(feature = "check")]
+pub fn check(image: &[u8]) -> u32 {
+    // SAFETY: pointer and length are those of a slice that lives through the call.
+    unsafe { range_filter_check(image.as_ptr(), image.len()) }
+}
+
+/// Replies to a question file over an image at the start of the reply buffer.
+#[cfg(feature = "ask")]
+pub fn ask(image: &[u8], questions: &[u8], replies: &mut [u8]) -> Answer {
+    // SAFETY: pointers and lengths are those of slices that live through the call,
+    // and the reply buffer is lent to it alone.
+    answer(unsafe {
+        range_filter_ask(
+            image.as_ptr(),
+            image.len(),
+            questions.as_ptr(),
+            questions.len(),
+            replies.as_mut_ptr(),
+            replies.len(),
+        )
+    })
+}
+
+/// Reads what a call returns: a number above 32 bits of bytes written, of which a
+/// refusal has none.
+#[cfg(any(feature = "build", feature = "ask"))]
+fn answer(returned: u64) -> Answer {
+    match ((returned >> 32) as u32, returned as u32) {
+        (0, written) => Answer::Written(written as usize),
+        (number, 0) => Answer::Refused(number),
+        (number, written) => panic!("refusal {number} with {written} bytes written"),
+    }
+}
