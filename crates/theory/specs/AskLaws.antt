@@ -1,35 +1,118 @@
--- What ask, the walk and the printer give over an accepted image, and over any other byte string.
-use Prim.Native.Nat.{ℕ, suc, _<_, _≤_}
-use mathlib.Core.Path.{_≡_, refl, ap, ap₂, _∙_}
-use mathlib.Core.Bool.{Bool, true, false}
-use mathlib.Core.List.{List, [], _∷_, _++_}
+-- What ask, the walk and the printer give over an accepted image; and the reply read at the place of the i-th question.
+-- The demands on replies stand on this.
+use Prim.Native.Nat.{ℕ, zero, suc, _+_, _<_, _≤_}
+use mathlib.Core.Path.{_≡_, ap, _∙_, refl, ap₂}
+use mathlib.Core.Bool.{cond, Bool, true, false}
+use mathlib.Core.List.{List, [], _∷_, _++_, append-assoc}
 use mathlib.Core.Option.{some}
 use native.Mathlib.Omega.{arith}
-use lib.ListN.{length, getElem?}
+use lib.ListN.{length, getD, take, drop, getElem?}
+use lib.Seq.{take-append-seam, drop-append-seam}
 use lib.Dec.{ltb, eqb}
-use borrow.Author.Tests.{ltb-true, ltb-false, lt-ltb, le-ltb, ne-eqb}
-use Rattle.spec.specs.Bytes.{ascii, Bytes}
-use Rattle.spec.specs.Leaves.{Leaf}
+use borrow.Author.Tests.{ltb-true, ltb-false, lt-ltb, le-ltb}
+use Rattle.spec.specs.Bytes.{Bytes, any, bit, concat, le32, from32, ascii}
+use Rattle.spec.specs.Keys.{below}
+use Rattle.spec.specs.Leaves.{Leaf, possible, lowest, highest}
 use Rattle.spec.specs.Nodes.{read-leaves}
-use Rattle.spec.specs.Questions.{Question, Parsed-questions, refused, taken, parse-questions, replies, questions-of}
-use Rattle.spec.specs.Answer.{Answer, written, Outcome, refuse, success, write}
+use Rattle.spec.specs.Questions.{Sought, point, range, begins-with, counted, meets, greater, seek, seek-from, found, Question, QP, QS, QB, QR, QC, Reply, told, sought, reply, reply-bytes, replies, read-reply, reply-at, Parsed-questions, refused, taken, parse-questions, questions-of}
+use Rattle.spec.specs.Answer.{Outcome, refuse, success, write}
 use Rattle.spec.specs.Check.{verdict}
 use Rattle.spec.specs.Ask.{ask}
 use Rattle.spec.specs.Walk.{Stand, done, stand-at, open-walk, next-place, next}
 use Rattle.spec.specs.Print.{decimal, listing, print}
-use Rattle.spec.specs.Answer as Answer
+use Rattle.theory.specs.Words.{Is-bytes, Bound, Proper, All, Walk-right, Taken}
+use Rattle.theory.specs.Lists.{count-bound, bytes-append, bytes-le32}
+use Rattle.theory.specs.LeafLists.{All-well-sized}
+use Rattle.theory.specs.SeekLaws.{sought-possible}
+use Rattle.theory.specs.OutcomeLaws.{success-answer, no-written, write-fits, write-short}
+use Rattle.theory.specs.Frame.{from32-le32}
+use Rattle.spec.specs.Questions as Questions
 use Rattle.spec.specs.Walk as Walk
-use Rattle.theory.specs.Realize.{All}
-use Rattle.theory.specs.QuestionFiles.{Proper}
-use Rattle.theory.specs.BuildLaws.{write-fits, write-short}
+
+-- ---- replies read from reply bytes
+
+read-reply-bytes : (r : Reply) (s : Bytes) → r .number < 4294967296 → read-reply (reply-bytes r ++ s) ≡ r
+unfolding read-reply reply-bytes le32
+read-reply-bytes r s h =
+    let n : from32 (le32 (r .number) ++ (length (r .key) ∷ r .key ++ s)) ≡ r .number = from32-le32 (r .number) (length (r .key) ∷ r .key ++ s) h in
+    let k = take-append-seam (r .key) s in
+    λ i. record { letter = r .letter; number = n i; key = k i }
+
+drop-reply-bytes : (r : Reply) (s : Bytes) → drop (getD (reply-bytes r ++ s) 7 0 + 8) (reply-bytes r ++ s) ≡ s
+unfolding reply-bytes le32
+drop-reply-bytes r s =
+    let e : length (r .key) + 8 ≡ suc (suc (suc (suc (suc (suc (suc (suc (length (r .key))))))))) = omega arith in
+    rw (e, drop-append-seam (r .key) s)
+
+-- ---- numbers of replies fit 32 bits
+
+bit-small : (b : Bool) → bit b < 4294967296
+bit-small true = omega arith
+bit-small false = omega arith
+
+seek-place : (i : ℕ) (ls : List Leaf) (start : Bytes) → i + length ls < 4294967295 → sought (seek-from i ls start) .number < 4294967296
+unfolding seek-from sought told
+seek-place i [] start h = omega arith
+seek-place i (l ∷ ls) start h = go (below (highest l) start) (seek-place (suc i) ls start (omega arith))
+  where
+    go : (b : Bool) → sought (seek-from (suc i) ls start) .number < 4294967296 → sought (cond b (seek-from (suc i) ls start) (found i (greater start (lowest l)))) .number < 4294967296
+    go true ih = ih
+    go false ih = omega arith
+
+-- the number of a reply over at most 65,535 leaves
+number-small : (ls : List Leaf) → length ls ≤ 65535 → (q : Question) → reply ls q .number < 4294967296
+unfolding reply told point range begins-with counted seek
+number-small ls h (QP k) = bit-small (any (λ l. possible l k) ls)
+number-small ls h (QS start) = seek-place 0 ls start (omega arith)
+number-small ls h (QB stem) = bit-small (any (meets stem (take 64 (stem ++ (255 ∷ [])))) ls)
+number-small ls h (QR lo hi) = bit-small (any (meets lo hi) ls)
+number-small ls h (QC lo hi) = omega (arith, count-bound (meets lo hi) ls)
+
+-- The reply that stands i-th is the i-th question's.
+pub reply-written : (ls : List Leaf) → length ls ≤ 65535 → (i : ℕ) (qs : List Question) (q : Question) (t : Bytes) → getElem? qs i ≡ some q → reply-at i (replies ls qs ++ t) ≡ reply ls q
+unfolding reply-at replies concat
+reply-written ls h i [] q t e = let z : _≡_ {A = ℕ} 0 1 = cc in absurd (omega arith)
+reply-written ls h zero (p ∷ qs) q t e =
+    let same : p ≡ q = cc in
+    ap read-reply (append-assoc (reply-bytes (reply ls p)) (replies ls qs) t) ∙ read-reply-bytes (reply ls p) (replies ls qs ++ t) (number-small ls h p) ∙ ap (reply ls) same
+reply-written ls h (suc i) (p ∷ qs) q t e =
+    ap (λ (z : Bytes). reply-at i (drop (getD z 7 0 + 8) z)) (append-assoc (reply-bytes (reply ls p)) (replies ls qs) t)
+    ∙ ap (reply-at i) (drop-reply-bytes (reply ls p) (replies ls qs ++ t))
+    ∙ reply-written ls h i qs q t e
+
+-- ---- replies are bytes
+
+bytes-reply : (r : Reply) → r .letter < 256 → Bound (r .key) → Is-bytes (reply-bytes r)
+unfolding reply-bytes
+bytes-reply r h q = (omega arith, (omega arith, (h, bytes-append (le32 (r .number)) (length (r .key) ∷ r .key) (bytes-le32 (r .number)) (omega (arith, q .fits), q .bytes))))
+
+-- a reply without a key
+no-key : Bound []
+no-key = record { fits = omega arith; bytes = tt }
+
+bytes-reply-to : (n : ℕ) (ls : List Leaf) → All-well-sized n ls → (q : Question) → Proper q → Is-bytes (reply-bytes (reply ls q))
+unfolding reply told sought seek
+bytes-reply-to n ls o (QP k) p = bytes-reply (reply ls (QP k)) (omega arith) no-key
+bytes-reply-to n ls o (QB stem) p = bytes-reply (reply ls (QB stem)) (omega arith) no-key
+bytes-reply-to n ls o (QR lo hi) p = bytes-reply (reply ls (QR lo hi)) (omega arith) no-key
+bytes-reply-to n ls o (QC lo hi) p = bytes-reply (reply ls (QC lo hi)) (omega arith) no-key
+bytes-reply-to n ls o (QS start) p = go (seek ls start) refl
+  where
+    go : (s : Sought) → seek ls start ≡ s → Is-bytes (reply-bytes (sought s))
+    go Questions.none e = bytes-reply (sought Questions.none) (omega arith) no-key
+    go (found j r) e = let k = sought-possible start p n 0 ls o j r e .0 in bytes-reply (sought (found j r)) (omega arith) (record { fits = k .fits; bytes = k .bytes })
+
+-- The replies over the leaves of an accepted image are bytes, for questions that are taken.
+pub bytes-replies : (n : ℕ) (ls : List Leaf) → All-well-sized n ls → (qs : List Question) → All Proper qs → Is-bytes (replies ls qs)
+unfolding replies concat
+bytes-replies n ls o [] p = tt
+bytes-replies n ls o (q ∷ qs) p = bytes-append (reply-bytes (reply ls q)) (replies ls qs) (bytes-reply-to n ls o q (p .0)) (bytes-replies n ls o qs (p .1))
+
+-- ---- ask
 
 questions-of-file : (file : Bytes) (qs : List Question) → parse-questions file ≡ taken qs → questions-of file ≡ qs
 unfolding questions-of
 questions-of-file file qs h = ap {B = List Question} (λ (a : Parsed-questions). elim a [ refused r ↦ [] | taken qs ↦ qs ]) h
-
--- a question file is taken: ask refuses nothing
-abbrev pub Taken : Bytes → Bytes → Bytes → Type 0
-Taken b file out = (n : ℕ) × (ask b file out .answer ≡ written n)
 
 -- ask, by what its tests say
 pub ask-is : (b file out : Bytes) (v : ℕ) (a : Parsed-questions) → verdict b ≡ v → parse-questions file ≡ a
@@ -38,18 +121,6 @@ unfolding ask
 ask-is b file out v a e f =
     ap₂ {C = Outcome} (λ (v : ℕ) (a : Parsed-questions). elim (eqb v 0) [ false ↦ refuse v out | true ↦ elim a [ refused r ↦ refuse r out | taken qs ↦ write 25 (replies (read-leaves b) qs) out ] ]) e f
 
--- a refusal takes no file
-no-written : {A : Type 0} (r n : ℕ) (out : Bytes) (o : Outcome) → o ≡ refuse r out → o .answer ≡ written n → A
-unfolding refuse
-no-written r n out o e h =
-    let f : o .answer ≡ Answer.refused r = ap (λ (o : Outcome). o .answer) e in
-    let z : _≡_ {A = ℕ} 0 1 = cc in
-    absurd (omega arith)
-
-success-answer : (a out : Bytes) → success a out .answer ≡ written (length a)
-unfolding success
-success-answer a out = refl
-
 -- what ask does with a file that it takes
 pub record Answered (b file out : Bytes) : Type 0 where
   pub questions-are : parse-questions file ≡ taken (questions-of file)
@@ -57,6 +128,7 @@ pub record Answered (b file out : Bytes) : Type 0 where
   pub writes : ask b file out ≡ success (replies (read-leaves b) (questions-of file)) out
 
 module _ (b file out : Bytes) (v : verdict b ≡ 0) where
+  -- a file that is taken is answered
   pub ask-answers : Taken b file out → Answered b file out
   ask-answers t = one (parse-questions file) refl
     where
@@ -78,23 +150,17 @@ module _ (b file out : Bytes) (v : verdict b ≡ 0) where
       let a : List ℕ = replies (read-leaves b) qs in
       (length a, ap (λ (o : Outcome). o .answer) (ask-is b file out 0 (taken qs) v e ∙ write-fits 25 a out h) ∙ success-answer a out)
 
--- every question of a list whose questions are all proper
-pub proper-at : (qs : List Question) (i : ℕ) (q : Question) → All Proper qs → getElem? qs i ≡ some q → Proper q
-proper-at [] i q p e = let z : _≡_ {A = ℕ} 0 1 = cc in absurd (omega arith)
-proper-at (x ∷ qs) ℕ.zero q p e = let s : x ≡ q = cc in rw s at (p .0)
-proper-at (x ∷ qs) (suc i) q p e = proper-at qs i q (p .1) e
-
 -- ---- the walk
 
 -- the walk opened at a place, by what its tests say
-walk-is : (b : Bytes) (place v : ℕ) (ls : List Leaf) → verdict b ≡ v → read-leaves b ≡ ls
+pub walk-is : (b : Bytes) (place v : ℕ) (ls : List Leaf) → verdict b ≡ v → read-leaves b ≡ ls
     → open-walk b place ≡ elim (eqb v 0) [ false ↦ Walk.refused v | true ↦ elim (ltb (length ls) place) [ true ↦ Walk.refused 17 | false ↦ stand-at ls place ] ]
 unfolding open-walk
 walk-is b place v ls e f =
     ap₂ {C = Stand} (λ (v : ℕ) (ls : List Leaf). elim (eqb v 0) [ false ↦ Walk.refused v | true ↦ elim (ltb (length ls) place) [ true ↦ Walk.refused 17 | false ↦ stand-at ls place ] ]) e f
 
 -- where a move leads
-step-is : (b : Bytes) (place : ℕ) (t : Bool) → ltb place (length (read-leaves b)) ≡ t → next b place ≡ open-walk b (elim t [ true ↦ suc place | false ↦ place ])
+pub step-is : (b : Bytes) (place : ℕ) (t : Bool) → ltb place (length (read-leaves b)) ≡ t → next b place ≡ open-walk b (elim t [ true ↦ suc place | false ↦ place ])
 unfolding next next-place
 step-is b place t e = ap {B = Stand} (λ (t : Bool). open-walk b (elim t [ true ↦ suc place | false ↦ place ])) e
 
@@ -104,17 +170,11 @@ unfolding stand-at
 stand-done [] = refl
 stand-done (l ∷ ls) = stand-done ls
 
--- The walk over an image with these leaves: it stands at the leaf whose number is the place, and goes to the next; at the leaf count it is done, and stays there; a place beyond is turned down.
-pub record Walk-right (b : Bytes) (ls : List Leaf) : Type 0 where
-  pub stands : (place : ℕ) → place ≤ length ls → open-walk b place ≡ stand-at ls place
-  pub goes-on : (place : ℕ) → place < length ls → next b place ≡ stand-at ls (suc place)
-  pub ends : (open-walk b (length ls) ≡ done) × (next b (length ls) ≡ done)
-  pub beyond : (place : ℕ) → length ls < place → open-walk b place ≡ Walk.refused 17
-
 module _ (b : Bytes) (ls : List Leaf) (v : verdict b ≡ 0) (e : read-leaves b ≡ ls) where
   stands : (place : ℕ) → place ≤ length ls → open-walk b place ≡ stand-at ls place
   stands place h = walk-is b place 0 ls v e ∙ ap {B = Stand} (λ (t : Bool). elim t [ true ↦ Walk.refused 17 | false ↦ stand-at ls place ]) (le-ltb (length ls) place h)
 
+  -- the walk over an accepted image
   pub walk-right : Walk-right b ls
   walk-right =
       let n : length (read-leaves b) ≡ length ls = ap length e in
@@ -138,16 +198,3 @@ print-is b t v e f =
 -- over an accepted image of at most 65,536 bytes
 pub print-right : (b : Bytes) (ls : List Leaf) → verdict b ≡ 0 → read-leaves b ≡ ls → length b ≤ 65536 → print b ≡ listing ls
 print-right b ls v e h = print-is b false 0 (le-ltb 65536 (length b) h) v ∙ ap listing e
-
--- ---- byte strings that are not accepted
-
--- what the check turns down, ask and the walk turn down with its number
-pub record Judged-alike (b : Bytes) (r : ℕ) : Type 0 where
-  pub asking : (file out : Bytes) → ask b file out ≡ refuse r out
-  pub walking : (place : ℕ) → open-walk b place ≡ Walk.refused r
-
-pub judged-alike : (b : Bytes) (r : ℕ) → verdict b ≡ suc r → Judged-alike b (suc r)
-judged-alike b r v = record {
-  asking = λ file out. ask-is b file out (suc r) (parse-questions file) v refl ∙ ap {B = Outcome} (λ (t : Bool). elim t [ false ↦ refuse (suc r) out | true ↦ elim (parse-questions file) [ refused r ↦ refuse r out | taken qs ↦ write 25 (replies (read-leaves b) qs) out ] ]) (ne-eqb (suc r) 0 (λ e. omega arith));
-  walking = λ place. walk-is b place (suc r) (read-leaves b) v refl ∙ ap {B = Stand} (λ (t : Bool). elim t [ false ↦ Walk.refused (suc r) | true ↦ elim (ltb (length (read-leaves b)) place) [ true ↦ Walk.refused 17 | false ↦ stand-at (read-leaves b) place ] ]) (ne-eqb (suc r) 0 (λ e. omega arith));
-}

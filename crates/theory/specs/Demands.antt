@@ -1,34 +1,36 @@
--- The buyer's demands, on bytes, in the words of document 01 ("Words of demand 3"). Byte strings are lists of numbers below 256 (Small).
-use Prim.Native.Nat.{ℕ, suc, _+_, _<_, _≤_}
+-- The buyer's demands 1, 2 and 3, on bytes, in the words of the sheet and of document 01 ("Words of demand 3").
+-- A reader needs this file, Words and crate `spec`. DemandsMet proves them; the contracts of the public calls equate each call with its definition here.
+use Prim.Native.Nat.{ℕ, _+_, _<_, _≤_}
 use mathlib.Core.Path.{_≡_}
 use mathlib.Core.Bool.{true, false}
 use mathlib.Core.List.{List, [], _∷_}
 use mathlib.Core.Option.{some}
 use mathlib.Core.Logic.{_↔_}
-use lib.ListN.{length, getD, drop}
+use lib.ListN.{length, getD, take, drop}
 use Rattle.spec.specs.Bytes.{Bytes, count}
-use Rattle.spec.specs.Keys.{below, keys-of, within}
+use Rattle.spec.specs.Keys.{below, within, keys, parse-keys, keys-of}
 use Rattle.spec.specs.Leaves.{Leaf, leaves}
 use Rattle.spec.specs.Image.{Settings, image}
 use Rattle.spec.specs.Frame.{read-settings}
 use Rattle.spec.specs.Nodes.{read-leaves}
-use Rattle.spec.specs.Questions.{stem-end, Question, QP, QS, QB, QR, QC, Reply, reply, replies, reply-at, questions-of, question-at}
+use Rattle.spec.specs.Questions.{stem-end, Question, QP, QS, QB, QR, QC, Reply, reply, replies, reply-at, taken, parse-questions, questions-of, question-at}
 use Rattle.spec.specs.Answer.{written, refused, Outcome, success}
 use Rattle.spec.specs.Build.{in-range, build}
-use Rattle.spec.specs.Check.{verdict}
+use Rattle.spec.specs.Check.{accepted, check}
 use Rattle.spec.specs.Ask.{ask}
+use Rattle.spec.specs.Walk.{open-walk, next}
 use Rattle.spec.specs.Print.{listing, print}
-use Rattle.theory.specs.Interval.{Small}
-use Rattle.theory.specs.Built.{In}
-use Rattle.theory.specs.KeyRecords.{Key-list}
-use Rattle.theory.specs.QuestionFiles.{Question-file}
-use Rattle.theory.specs.AskLaws.{Taken, Walk-right, Judged-alike}
+use Rattle.theory.specs.Words.{In, Is-bytes, Key-list, Question-file, Taken, Walk-right, From, Judged-alike}
+use Rattle.spec.specs.Check as Check
+use Rattle.spec.specs.Keys as Keys
+use Rattle.spec.specs.Questions as Questions
+use Rattle.spec.specs.Walk as Walk
 
 -- ---- the words
 
--- A key list builds an image if building from it, with settings in range and an output that holds the image, writes just those bytes.
+-- "A key list builds an image if building from it, with settings in range and an output that holds the image, writes just those bytes."
 pub record Builds-with (st : Settings) (list b : Bytes) : Type 0 where
-  pub bytes : Small list
+  pub bytes : Is-bytes list
   pub range : in-range st ≡ true
   pub output : Bytes
   pub room : length b ≤ length output
@@ -38,82 +40,118 @@ pub record Builds-with (st : Settings) (list b : Bytes) : Type 0 where
 abbrev pub Builds : Bytes → Bytes → Type 0
 Builds list b = (st : Settings) × Builds-with st list b
 
--- A byte string is accepted if the check gives it none of 11 to 16.
+-- "A byte string is accepted if the check gives it none of 11 to 16."
 abbrev pub Accepted : Bytes → Type 0
-Accepted b = verdict b ≡ 0
+Accepted b = check b ≡ accepted
 
--- A list holds its keys.
+-- "A list holds its keys,"
 abbrev pub Holds : Bytes → Bytes → Type 0
 Holds list k = In k (keys-of list)
 
--- None of the lists that build the image holds the key.
-abbrev pub No-list-holds : Bytes → Bytes → Type 0
-No-list-holds b k = (list : Bytes) → Builds list b → Holds list k → ⊥
-
--- None of them has a key in the range, from bound to bound, both included.
-abbrev pub No-list-has : Bytes → Bytes → Bytes → Type 0
-No-list-has b lo hi = (list : Bytes) → Builds list b → (k : Bytes) → Holds list k → within lo hi k ≡ false
-
--- how many keys the list has in the range
+-- "and has in a range those from bound to bound, both included.": how many it has
 abbrev pub number-in : Bytes → Bytes → Bytes → ℕ
 number-in list lo hi = count (within lo hi) (keys-of list)
 
--- The number of keys that some list that builds the image has in the range; no such list has more, or over two fewer.
+-- none of the lists that build the image holds the key
+abbrev pub No-list-holds : Bytes → Bytes → Type 0
+No-list-holds b k = (list : Bytes) → Builds list b → Holds list k → ⊥
+
+-- none of them has a key in the range
+abbrev pub No-list-has : Bytes → Bytes → Bytes → Type 0
+No-list-has b lo hi = (list : Bytes) → Builds list b → (k : Bytes) → Holds list k → within lo hi k ≡ false
+
+-- none of them holds a key at or after the start
+abbrev pub No-list-from : Bytes → Bytes → Type 0
+No-list-from b start = (list : Bytes) → Builds list b → (k : Bytes) → Holds list k → below k start ≡ true
+
+-- the number of keys that some list that builds the image has in the range; no such list has more, or over two fewer
 pub record Count (b lo hi : Bytes) (c : ℕ) : Type 0 where
   pub reached : (list : Bytes) × Builds list b × (number-in list lo hi ≡ c)
   pub most : (list : Bytes) → Builds list b → number-in list lo hi ≤ c
   pub near : (list : Bytes) → Builds list b → c ≤ number-in list lo hi + 2
 
--- The smallest key at or after the start that any list that builds the image holds, with its place, from 0, in every such list that holds it.
+-- the smallest key at or after the start that any list that builds the image holds, with its place, from 0, in every such list that holds it
 pub record Next-key (b start : Bytes) (place : ℕ) (key : Bytes) : Type 0 where
   pub after : below key start ≡ false
   pub held : (list : Bytes) × Builds list b × Holds list key
   pub smallest : (list : Bytes) → Builds list b → (k : Bytes) → Holds list k → below k start ≡ false → below k key ≡ false
   pub placed : (list : Bytes) → Builds list b → Holds list key → (place < length (keys-of list)) × (getD (keys-of list) place [] ≡ key)
 
--- None is FFFFFFFF with length 0.
+-- "none is FFFFFFFF with length 0"
 abbrev pub None : Reply → Type 0
 None r = (r .number ≡ 0xFFFFFFFF) × (r .key ≡ [])
 
--- Prefixes are the cut keys, kinds are exact and open; lists agree in these and the suffix bits if they have as many leaves and the three are equal leaf by leaf in key order.
+-- "Prefixes are the cut keys, kinds are exact and open; lists agree in these and the suffix bits if they have as many leaves and the three are equal leaf by leaf in key order."
 abbrev pub Agree : List Leaf → List Leaf → Type 0
 Agree [] [] = Unit
 Agree [] (m ∷ ms) = ⊥
 Agree (l ∷ ls) [] = ⊥
 Agree (l ∷ ls) (m ∷ ms) = ((l .cut ≡ m .cut) × (l .exact ≡ m .exact) × (l .suffix ≡ m .suffix)) × Agree ls ms
 
--- ---- demand 1, of the buffers: the answers themselves are build's and ask's definitions
+-- ---- demand 1
 
--- an answer, and what it leaves of the buffer
+-- The number that the order of checks names for build: 5, a setting out of range; then the records' 1 to 4; then 7, the image is longer than the output.
+pub data Build-refusal (list : Bytes) (st : Settings) (out : Bytes) : ℕ → Type 0 where
+  setting-refused : in-range st ≡ false → Build-refusal list st out 5
+  record-refused : {r : ℕ} → in-range st ≡ true → parse-keys list ≡ Keys.refused r → From 1 4 r → Build-refusal list st out r
+  image-too-long : in-range st ≡ true → (ks : List Bytes) → parse-keys list ≡ keys ks → length out < length (image st (leaves (st .width) ks)) → Build-refusal list st out 7
+
+-- for ask: the check's 11 to 16; then the questions' 21 to 24; then 25, replies longer than the reply buffer
+pub data Ask-refusal (b file out : Bytes) : ℕ → Type 0 where
+  image-refused : {r : ℕ} → check b ≡ Check.refused r → From 11 16 r → Ask-refusal b file out r
+  question-refused : {r : ℕ} → check b ≡ accepted → parse-questions file ≡ Questions.refused r → From 21 24 r → Ask-refusal b file out r
+  replies-too-long : check b ≡ accepted → (qs : List Question) → parse-questions file ≡ taken qs → length out < length (replies (read-leaves b) qs) → Ask-refusal b file out 25
+
+-- for the walk: the check's 11 to 16; then 17, the place handed in is neither a leaf of this image nor done
+pub data Walk-refusal (b : Bytes) (place : ℕ) : ℕ → Type 0 where
+  refused-image : {r : ℕ} → check b ≡ Check.refused r → From 11 16 r → Walk-refusal b place r
+  place-refused : check b ≡ accepted → length (read-leaves b) < place → Walk-refusal b place 17
+
+-- what a call leaves of the buffer lent to it
 pub record Kept (out : Bytes) (o : Outcome) : Type 0 where
-  -- after a refusal no lent byte has changed
+  -- "after a refusal no lent byte has changed"
   pub refusal : (r : ℕ) → o .answer ≡ refused r → o .final ≡ out
-  -- so many bytes written are within the buffer, which keeps its length and the bytes behind them
+  -- it "stays inside its buffers": the bytes written are within the buffer, which keeps its length and the bytes behind them
   pub success : (n : ℕ) → o .answer ≡ written n → (n ≤ length out) × (length (o .final) ≡ length out) × (drop n (o .final) ≡ drop n out)
 
+-- The check and the walk are lent no buffer that they write. That every call ends is in its contract: each call gives what its definition gives, for every input.
 pub record Demand-1 : Type 0 where
-  -- a key list of any bytes and any length, any settings and any output
+  -- "A key list, an image or a question file, of any bytes and any length, handed to a public call gets its work done or the one refusal number that the order of checks names."
+  -- Build: 1 to 5 and 7,
+  pub build-refuses : (list : Bytes) → Is-bytes list → (st : Settings) (out : Bytes) (r : ℕ) → (build list st out .answer ≡ refused r) ↔ Build-refusal list st out r
+  -- and never 6.
+  pub never-six : (list : Bytes) → Is-bytes list → (st : Settings) (out : Bytes) → build list st out .answer ≡ refused 6 → ⊥
+  -- Check: 11 to 16.
+  pub check-refuses : (b : Bytes) (r : ℕ) → check b ≡ Check.refused r → From 11 16 r
+  -- Ask: those and 21 to 25.
+  pub ask-refuses : (b file out : Bytes) (r : ℕ) → (ask b file out .answer ≡ refused r) ↔ Ask-refusal b file out r
+  -- Walk: the check's and 17, where it is opened and where it goes on.
+  pub walk-refuses : (b : Bytes) (place r : ℕ) → (open-walk b place ≡ Walk.refused r) ↔ Walk-refusal b place r
+  pub next-refuses : (b : Bytes) (place r : ℕ) → (next b place ≡ Walk.refused r) ↔ Walk-refusal b place r
+  -- "The call always ends and stays inside its buffers; after a refusal no lent byte has changed."
   pub build-kept : (list : Bytes) (st : Settings) (out : Bytes) → Kept out (build list st out)
-  -- an image, a question file and a reply buffer of any bytes and any length
   pub ask-kept : (b file out : Bytes) → Kept out (ask b file out)
+  -- What is written are bytes: of a list of bytes, and of an image and a question file of bytes.
+  pub build-bytes : (list : Bytes) → Is-bytes list → (st : Settings) (out : Bytes) (n : ℕ) → build list st out .answer ≡ written n → Is-bytes (take n (build list st out .final))
+  pub ask-bytes : (b file : Bytes) → Is-bytes b → Is-bytes file → (out : Bytes) (n : ℕ) → ask b file out .answer ≡ written n → Is-bytes (take n (ask b file out .final))
 
 -- ---- demand 2
 
+-- of an image that a list builds with settings st
 pub record Demand-2 : Type 0 where
-  -- An image built from a key list is, byte for byte, the dense and sparse layout of that list's shortest distinguishing prefixes, their kinds and suffix bits.
+  -- "An image built from a key list is, byte for byte, the dense and sparse layout of that list's shortest distinguishing prefixes, their kinds and suffix bits."
   pub layout : (st : Settings) (list b : Bytes) → Builds-with st list b → b ≡ image st (leaves (st .width) (keys-of list))
-  -- It is a byte string, and it is written from every key list, with settings in range and into every output that holds it.
-  pub bytes : (st : Settings) (list b : Bytes) → Builds-with st list b → Small b
-  pub built : (st : Settings) (list : Bytes) (ks : List Bytes) → Small list → in-range st ≡ true → Key-list list ks
+  -- It is written from every key list, with settings in range, into every output that holds it.
+  pub built : (st : Settings) (list : Bytes) (ks : List Bytes) → Is-bytes list → in-range st ≡ true → Key-list list ks
       → (out : Bytes) → length (image st (leaves (st .width) ks)) ≤ length out → build list st out ≡ success (image st (leaves (st .width) ks)) out
-  -- An image read back gives the same three, and the settings.
+  -- "An image read back gives the same three," and the settings,
   pub read-back : (st : Settings) (list b : Bytes) → Builds-with st list b → (read-leaves b ≡ leaves (st .width) (keys-of list)) × (read-settings b ≡ st)
-  -- Every reply is the one worked out from them alone: all that ask writes, and the one for the i-th question.
+  -- "and every reply is the one worked out from them alone": all that ask writes, and what is read at the place of the i-th question;
   pub all-replies : (st : Settings) (list b : Bytes) → Builds-with st list b → (file out : Bytes) → Taken b file out
       → ask b file out ≡ success (replies (leaves (st .width) (keys-of list)) (questions-of file)) out
   pub each-reply : (st : Settings) (list b : Bytes) → Builds-with st list b → (file out : Bytes) → Taken b file out
       → (i : ℕ) (q : Question) → question-at file i ≡ some q → reply-at i (ask b file out .final) ≡ reply (leaves (st .width) (keys-of list)) q
-  -- A walk gives them leaf by leaf, and the leaf printer prints them.
+  -- a walk gives them leaf by leaf, and the leaf printer prints them.
   pub walk : (st : Settings) (list b : Bytes) → Builds-with st list b → Walk-right b (leaves (st .width) (keys-of list))
   pub print : (st : Settings) (list b : Bytes) → Builds-with st list b → length b ≤ 65536 → print b ≡ listing (leaves (st .width) (keys-of list))
 
@@ -121,31 +159,40 @@ pub record Demand-2 : Type 0 where
 
 -- of an accepted image, a question file that is taken, and the reply buffer's final bytes
 pub record Replies-right (b file final : Bytes) : Type 0 where
-  -- a key is denied exactly when none of the lists that build the image holds it
+  -- "a key or range is denied exactly when none of the lists that build the image holds it"
   pub key : (i : ℕ) (k : Bytes) → question-at file i ≡ some (QP k) → (reply-at i final .number ≡ 0) ↔ No-list-holds b k
-  -- a range is denied exactly when none of them has a key in it
+  -- "or has a key in it";
   pub range : (i : ℕ) (lo hi : Bytes) → question-at file i ≡ some (QR lo hi) → (reply-at i final .number ≡ 0) ↔ No-list-has b lo hi
-  -- so is the range that a begins-with question's reply rule names
+  -- "the range of a begins-with question is the one that its reply rule names";
   pub stem : (i : ℕ) (stem : Bytes) → question-at file i ≡ some (QB stem) → (reply-at i final .number ≡ 0) ↔ No-list-has b stem (stem-end stem)
-  -- a count is the number of keys that some such list has in the range, and no such list has more, or over two fewer
+  -- "a count is the number of keys that some such list has in the range, and no such list has more, or over two fewer";
   pub count : (i : ℕ) (lo hi : Bytes) → question-at file i ≡ some (QC lo hi) → Count b lo hi (reply-at i final .number)
-  -- a seek gives none exactly when no such list holds a key at or after its start
-  pub none : (i : ℕ) (start : Bytes) → question-at file i ≡ some (QS start)
-      → None (reply-at i final) ↔ ((list : Bytes) → Builds list b → (k : Bytes) → Holds list k → below k start ≡ true)
-  -- else the smallest key there that any of them holds, with its place, from 0, in every such list that holds it
+  -- "a seek gives none exactly when no such list holds a key at or after its start",
+  pub none : (i : ℕ) (start : Bytes) → question-at file i ≡ some (QS start) → None (reply-at i final) ↔ No-list-from b start
+  -- "else the smallest key there that any of them holds, with its place, from 0, in every such list that holds it".
   pub next : (i : ℕ) (start : Bytes) → question-at file i ≡ some (QS start) → (None (reply-at i final) → ⊥)
       → Next-key b start (reply-at i final .number) (reply-at i final .key)
 
+-- of byte strings, question files and lists
 pub record Demand-3 : Type 0 where
-  -- Of all byte strings, exactly those that some key list builds are accepted as images.
-  pub accepted : (b : Bytes) → Small b → Accepted b ↔ ((list : Bytes) × Builds list b)
-  -- Ask and walk judge it alike.
-  pub alike : (b : Bytes) (r : ℕ) → verdict b ≡ suc r → Judged-alike b (suc r)
-  -- A question file is taken exactly where none of 21 to 25 applies.
-  pub taken : (b : Bytes) → Accepted b → (file : Bytes) → Small file → (out : Bytes)
+  -- "Of all byte strings, exactly those that some key list builds are accepted as images."
+  pub accepted-exactly : (b : Bytes) → Is-bytes b → Accepted b ↔ ((list : Bytes) × Builds list b)
+  -- "ask and walk judge it alike"
+  pub alike : (b : Bytes) → Judged-alike b
+  -- "A question file is taken if ask refuses nothing, as it must where none of 21 to 25 applies.": its questions are at most 1,024, "with keys and bounds of at most 64 bytes
+  -- and ranges the right way round", and the replies fit the reply buffer.
+  pub taken-exactly : (b : Bytes) → Accepted b → (file : Bytes) → Is-bytes file → (out : Bytes)
       → Taken b file out ↔ ((qs : List Question) × Question-file file qs × (length (replies (read-leaves b) qs) ≤ length out))
-  -- For every accepted image and every question of every question file that is taken.
-  pub right : (b : Bytes) → Small b → Accepted b → (file : Bytes) → Small file → (out : Bytes) → Taken b file out → Replies-right b file (ask b file out .final)
-  -- Two lists with the same settings build one image exactly when their prefixes, kinds and suffix bits agree.
+  -- "For every accepted image and every question of every question file that is taken"
+  pub right : (b : Bytes) → Is-bytes b → Accepted b → (file : Bytes) → Is-bytes file → (out : Bytes) → Taken b file out → Replies-right b file (ask b file out .final)
+  -- "Two lists with the same settings build one image exactly when their prefixes, kinds and suffix bits agree."
   pub one-image : (st : Settings) (list other b c : Bytes) → Builds-with st list b → Builds-with st other c
       → (b ≡ c) ↔ Agree (leaves (st .width) (keys-of list)) (leaves (st .width) (keys-of other))
+
+-- ---- the three
+
+-- what a hire firm buys, at all three levels
+pub record Demands : Type 0 where
+  pub first : Demand-1
+  pub second : Demand-2
+  pub third : Demand-3

@@ -1,4 +1,4 @@
--- Demands 2 and 3 hold.
+-- The three demands hold.
 use Prim.Native.Nat.{ℕ, _+_, _<_, _≤_}
 use mathlib.Core.Path.{_≡_, refl, sym, ap, ap₂, subst, _∙_}
 use mathlib.Core.Bool.{true, false}
@@ -6,74 +6,86 @@ use mathlib.Core.List.{List, [], _∷_, _++_}
 use mathlib.Core.Option.{some}
 use mathlib.Core.Logic.{_↔_, Iff·trans}
 use native.Mathlib.Omega.{arith}
-use lib.ListN.{length, getD, drop}
+use lib.ListN.{length, getD, take, drop}
 use Rattle.spec.specs.Bytes.{Bytes, count}
 use Rattle.spec.specs.Keys.{below, keys, write-keys, keys-of, within}
 use Rattle.spec.specs.Leaves.{Leaf, leaves}
 use Rattle.spec.specs.Image.{Settings, image}
 use Rattle.spec.specs.Frame.{read-settings}
 use Rattle.spec.specs.Nodes.{read-leaves}
-use Rattle.spec.specs.Questions.{point, range, begins-with, counted, seek, Sought, found, stem-end, Question, QP, QS, QB, QR, QC, Reply, told, sought, reply, replies, taken, reply-at, questions-of, question-at}
-use Rattle.spec.specs.Answer.{Outcome, success}
+use Rattle.spec.specs.Questions.{point, range, begins-with, counted, seek, Sought, found, stem-end, Question, QP, QS, QB, QR, QC, Reply, told, sought, reply, replies, reply-at, questions-of, question-at}
+use Rattle.spec.specs.Answer.{success, Outcome}
 use Rattle.spec.specs.Build.{in-range, build}
 use Rattle.spec.specs.Check.{verdict}
 use Rattle.spec.specs.Ask.{ask}
-use Rattle.spec.specs.Questions as Questions
-use Rattle.theory.specs.Realize.{leaf-path}
-use Rattle.theory.specs.Interval.{Small}
-use Rattle.theory.specs.Built.{In}
-use Rattle.theory.specs.Choose as Choose
-use Rattle.theory.specs.Questions.{Bound, Found, Counted}
-use Rattle.theory.specs.LeafDemand.{demand3, built-exactly, builds-length}
-use Rattle.theory.specs.LeafDemand as LeafDemand
-use Rattle.theory.specs.Layout.{Fits}
-use Rattle.theory.specs.Accept as Accept
-use Rattle.theory.specs.AcceptImage.{image-accepted}
+use Rattle.theory.specs.Words.{Is-bytes, In, Bound, Key-list, Proper}
+use Rattle.theory.specs.Lists.{all-at}
+use Rattle.theory.specs.LeafLists.{leaf-equal}
+use Rattle.theory.specs.Choices.{Has-leaves, has-leaves-exactly, has-leaves-length}
+use Rattle.theory.specs.RangeLaws.{Count-right, point-denied, range-denied, begins-denied, count-right}
+use Rattle.theory.specs.SeekLaws.{Seek-right, seek-none, seek-found}
 use Rattle.theory.specs.ReadBack.{read-back, settings-back}
-use Rattle.theory.specs.Acceptance.{image-small}
-use Rattle.theory.specs.BuiltImage.{built-fits}
-use Rattle.theory.specs.KeyRecords.{Key-list, parsed-exactly, small-recorded}
-use Rattle.theory.specs.QuestionFiles.{Proper, asked-exactly}
-use Rattle.theory.specs.Replies.{reply-written}
-use Rattle.theory.specs.BuildLaws.{keys-of-list, write-fits, ranges, build-writes, Written, build-wrote}
-use Rattle.theory.specs.AskLaws.{Answered, ask-answers, ask-takes, proper-at, walk-right, print-right, judged-alike}
-use Rattle.theory.specs.Demands.{Builds-with, Builds, Accepted, Count, Next-key, None, Agree, Demand-2, Replies-right, Demand-3}
+use Rattle.theory.specs.KeyFiles.{keys-exactly, bytes-write-keys}
+use Rattle.theory.specs.QuestionFiles.{questions-exactly}
+use Rattle.theory.specs.Demands.{Builds-with, Builds, Count, Next-key, None, Agree, Demand-1, Demand-2, Replies-right, Demand-3, Demands}
+use Rattle.theory.specs.OutcomeLaws.{final-is, write-fits, success-written, success-answer}
+use Rattle.theory.specs.BuildLaws.{built-from, built-fits, keys-of-list, in-range-exactly, build-writes, build-writes-image}
+use Rattle.theory.specs.AskLaws.{bytes-replies, reply-written, Answered, ask-answers, ask-takes, walk-right, print-right}
+use Rattle.theory.specs.ImageBytes.{image-bytes}
+use Rattle.theory.specs.RefusalNumbers.{check-accepts, check-refuses}
+use Rattle.theory.specs.RefusalLaws.{build-refuses, never-six, ask-refuses, ask-writes-replies, walk-refuses, next-refuses, judged-alike, build-kept, ask-kept}
+use Rattle.theory.specs.LiteralImage.{Buildable}
+use Rattle.theory.specs.AcceptImage.{image-accepted}
+use Rattle.spec.specs.Answer as Answer
+use Rattle.spec.specs.Questions as Questions
+use Rattle.theory.specs.Accept as Accept
 
 -- ---- leaf lists that agree
 
+-- leaf lists that agree are equal
 agree-same : (ls ms : List Leaf) → Agree ls ms → ls ≡ ms
 agree-same [] [] a = refl
 agree-same [] (m ∷ ms) a = absurd a
 agree-same (l ∷ ls) [] a = absurd a
-agree-same (l ∷ ls) (m ∷ ms) a = ap₂ _∷_ (leaf-path l m (a .0 .0) (a .0 .1) (a .0 .2)) (agree-same ls ms (a .1))
+agree-same (l ∷ ls) (m ∷ ms) a = ap₂ _∷_ (leaf-equal l m (a .0 .0) (a .0 .1) (a .0 .2)) (agree-same ls ms (a .1))
 
+-- and a leaf list agrees with itself
 agree-self : (ls : List Leaf) → Agree ls ls
 agree-self [] = tt
 agree-self (l ∷ ls) = ((refl, refl, refl), agree-self ls)
 
 -- ---- images that lists build
 
-module _ (st : Settings) (list b : Bytes) (w : Written list st b) where
-  list-fits : Fits st (leaves (st .width) (keys-of list))
-  list-fits = built-fits st (keys-of list) (record { dense-range = w .dense-range; width-range = w .width-range; few = w .listed .few; keys = w .listed .each; up = w .listed .up })
+-- a list that builds b, with settings st
+module _ (st : Settings) (list b : Bytes) (w : Builds-with st list b) where
+  list-answer : build list st (w .output) .answer ≡ Answer.written (length b)
+  list-answer = ap (λ (o : Outcome). o .answer) (w .writes) ∙ success-answer b (w .output)
+
+  list-keys : Key-list list (keys-of list)
+  list-keys = build-writes-image list (w .bytes) st (w .output) (length b) list-answer .1
 
   list-image : b ≡ image st (leaves (st .width) (keys-of list))
-  list-image = sym (w .image-is)
+  list-image =
+      sym (success-written b (w .output) (length b) (build list st (w .output)) (w .writes) list-answer)
+      ∙ build-writes-image list (w .bytes) st (w .output) (length b) list-answer .2
+
+  list-fits : Buildable st (leaves (st .width) (keys-of list))
+  list-fits = built-fits st (keys-of list) (built-from st list (keys-of list) (w .range) list-keys)
 
   list-settings : read-settings b ≡ st
   list-settings = ap read-settings list-image ∙ settings-back st (leaves (st .width) (keys-of list))
 
-written : (st : Settings) (list b : Bytes) → Builds-with st list b → Written list st b
-written st list b w = build-wrote list st b (w .output) (w .bytes) (w .writes)
+  -- its leaves are read back from the image, which the check accepts
+  list-read : read-leaves b ≡ leaves (st .width) (keys-of list)
+  list-read = ap read-leaves list-image ∙ read-back st (leaves (st .width) (keys-of list)) list-fits
+
+  list-accepted : verdict b ≡ 0
+  list-accepted = ap verdict list-image ∙ image-accepted st (leaves (st .width) (keys-of list)) list-fits
 
 -- a key list builds its image
-key-list-builds : (st : Settings) (list : Bytes) (ks : List Bytes) → Small list → in-range st ≡ true → Key-list list ks → (out : Bytes) → length (image st (leaves (st .width) ks)) ≤ length out
+key-list-builds : (st : Settings) (list : Bytes) (ks : List Bytes) → Is-bytes list → in-range st ≡ true → Key-list list ks → (out : Bytes) → length (image st (leaves (st .width) ks)) ≤ length out
     → build list st out ≡ success (image st (leaves (st .width) ks)) out
-key-list-builds st list ks w r k out h = build-writes list st ks out r (parsed-exactly list ks w .1 k) k ∙ write-fits 7 (image st (leaves (st .width) ks)) out h
-
-final-is : (a out : Bytes) (o : Outcome) → o ≡ success a out → o .final ≡ a ++ drop (length a) out
-unfolding success
-final-is a out o e = ap (λ (o : Outcome). o .final) e
+key-list-builds st list ks w r k out h = build-writes list st ks out r (keys-exactly list ks w .1 k) k ∙ write-fits 7 (image st (leaves (st .width) ks)) out h
 
 -- the reply written for the i-th question
 reply-is : (b file out : Bytes) (ls : List Leaf) → Answered b file out → read-leaves b ≡ ls → length ls ≤ 65535 → (i : ℕ) (q : Question) → question-at file i ≡ some q → reply-at i (ask b file out .final) ≡ reply ls q
@@ -91,6 +103,8 @@ none-is (found j r) h = (
   λ z. absurd (omega (arith, h j r refl, z .0)),
   λ z. let y : _≡_ {A = ℕ} 0 1 = cc in absurd (omega arith),
 )
+
+-- ---- the reply to each question
 
 reply-point : (ls : List Leaf) (k : Bytes) → reply ls (QP k) .number ≡ point ls k
 unfolding reply told
@@ -116,72 +130,97 @@ sought-found : (j : ℕ) (r : Bytes) → sought (found j r) ≡ record { letter 
 unfolding sought
 sought-found j r = refl
 
--- a list's leaves are read back from its image
-list-read : (st : Settings) (list b : Bytes) (w : Written list st b) → read-leaves b ≡ leaves (st .width) (keys-of list)
-list-read st list b w = ap read-leaves (list-image st list b w) ∙ read-back st (leaves (st .width) (keys-of list)) (list-fits st list b w)
-
-list-accepted : (st : Settings) (list b : Bytes) → Written list st b → verdict b ≡ 0
-list-accepted st list b w = ap verdict (list-image st list b w) ∙ image-accepted st (leaves (st .width) (keys-of list)) (list-fits st list b w)
-
 -- an accepted image's leaves are read back
-leaves-are : (b : Bytes) (o : Accept.Accepted b) → read-leaves b ≡ o .leaves
+leaves-are : (b : Bytes) (o : Accept.Image-of-leaves b) → read-leaves b ≡ o .leaves
 leaves-are b o = ap read-leaves (o .image-is) ∙ read-back (o .settings) (o .leaves) (o .fits)
+
+-- ---- demand 1
+
+build-bytes : (list : Bytes) → Is-bytes list → (st : Settings) (out : Bytes) (n : ℕ) → build list st out .answer ≡ Answer.written n → Is-bytes (take n (build list st out .final))
+build-bytes list w st out n h =
+    let i = build-writes-image list w st out n h in
+    rw (i .2) (image-bytes st (leaves (st .width) (keys-of list)) (built-fits st (keys-of list) (built-from st list (keys-of list) (i .0) (i .1))))
+
+ask-bytes : (b file : Bytes) → Is-bytes b → Is-bytes file → (out : Bytes) (n : ℕ) → ask b file out .answer ≡ Answer.written n → Is-bytes (take n (ask b file out .final))
+ask-bytes b file s w out n h =
+    let r = ask-writes-replies b file out n h in
+    let o = Accept.accepted-is-image b s (check-accepts b .0 (r .0)) in
+    let q = questions-exactly file (questions-of file) w .0 (r .1) in
+    rw (r .2, leaves-are b o) (bytes-replies (o .settings .width) (o .leaves) (o .fits .well-sized) (questions-of file) (q .each))
+
+-- Demand 1.
+pub demand-1 : Demand-1
+demand-1 = record {
+  build-refuses = build-refuses;
+  never-six = never-six;
+  check-refuses = check-refuses;
+  ask-refuses = ask-refuses;
+  walk-refuses = walk-refuses;
+  next-refuses = next-refuses;
+  build-kept = build-kept;
+  ask-kept = ask-kept;
+  build-bytes = build-bytes;
+  ask-bytes = ask-bytes;
+}
+
+-- ---- demand 2
 
 -- Demand 2.
 pub demand-2 : Demand-2
 demand-2 = record {
-  layout = λ st list b w. sym (written st list b w .image-is);
-  bytes = λ st list b w. let x = written st list b w in rw (list-image st list b x) (image-small st (leaves (st .width) (keys-of list)) (list-fits st list b x));
+  layout = λ st list b w. list-image st list b w;
   built = key-list-builds;
-  read-back = λ st list b w. let x = written st list b w in (list-read st list b x, list-settings st list b x);
+  read-back = λ st list b w. (list-read st list b w, list-settings st list b w);
   all-replies = λ st list b w file out t.
-      let x = written st list b w in
-      ask-answers b file out (list-accepted st list b x) t .writes ∙ ap (λ (z : List Leaf). success (replies z (questions-of file)) out) (list-read st list b x);
+      ask-answers b file out (list-accepted st list b w) t .writes ∙ ap (λ (z : List Leaf). success (replies z (questions-of file)) out) (list-read st list b w);
   each-reply = λ st list b w file out t i q e.
-      let x = written st list b w in
-      reply-is b file out (leaves (st .width) (keys-of list)) (ask-answers b file out (list-accepted st list b x) t) (list-read st list b x) (list-fits st list b x .few) i q e;
-  walk = λ st list b w. let x = written st list b w in walk-right b (leaves (st .width) (keys-of list)) (list-accepted st list b x) (list-read st list b x);
-  print = λ st list b w h. let x = written st list b w in print-right b (leaves (st .width) (keys-of list)) (list-accepted st list b x) (list-read st list b x) h;
+      reply-is b file out (leaves (st .width) (keys-of list)) (ask-answers b file out (list-accepted st list b w) t) (list-read st list b w) (list-fits st list b w .few) i q e;
+  walk = λ st list b w. walk-right b (leaves (st .width) (keys-of list)) (list-accepted st list b w) (list-read st list b w);
+  print = λ st list b w h. print-right b (leaves (st .width) (keys-of list)) (list-accepted st list b w) (list-read st list b w) h;
 }
 
-module _ (b : Bytes) (o : Accept.Accepted b) where
+-- ---- demand 3
+
+-- an accepted image, as the laws of acceptance give it
+module _ (b : Bytes) (o : Accept.Image-of-leaves b) where
   -- a list that builds the image has its leaves
-  list-has : (list : Bytes) → Builds list b → Choose.Builds (o .settings .width) (keys-of list) (o .leaves)
+  list-has : (list : Bytes) → Builds list b → Has-leaves (o .settings .width) (keys-of list) (o .leaves)
   list-has list w =
-      let x = written (w .0) list b (w .1) in
-      let s : o .settings ≡ w .0 = sym (settings-back (o .settings) (o .leaves)) ∙ ap read-settings (sym (o .image-is)) ∙ list-settings (w .0) list b x in
-      let l : leaves (w .0 .width) (keys-of list) ≡ o .leaves = sym (list-read (w .0) list b x) ∙ leaves-are b o in
-      record { keys = x .listed .each; up = x .listed .up; same-leaves = ap (λ (z : Settings). leaves (z .width) (keys-of list)) s ∙ l }
+      let x = list-keys (w .0) list b (w .1) in
+      let s : o .settings ≡ w .0 = sym (settings-back (o .settings) (o .leaves)) ∙ ap read-settings (sym (o .image-is)) ∙ list-settings (w .0) list b (w .1) in
+      let l : leaves (w .0 .width) (keys-of list) ≡ o .leaves = sym (list-read (w .0) list b (w .1)) ∙ leaves-are b o in
+      record { keys = x .each; up = x .up; same-leaves = ap (λ (z : Settings). leaves (z .width) (keys-of list)) s ∙ l }
 
   -- keys that have the image's leaves, as a list, build it
-  keys-build : (ks : List Bytes) → Choose.Builds (o .settings .width) ks (o .leaves) → Builds (write-keys ks) b × (keys-of (write-keys ks) ≡ ks)
+  keys-build : (ks : List Bytes) → Has-leaves (o .settings .width) ks (o .leaves) → Builds (write-keys ks) b × (keys-of (write-keys ks) ≡ ks)
   keys-build ks w =
       let st : Settings = o .settings in
-      let k : Key-list (write-keys ks) ks = record { bytes = refl; each = w .keys; up = w .up; few = omega (arith, o .fits .few, builds-length ks (o .leaves) w) } in
-      let small : Small (write-keys ks) = small-recorded ks (w .keys) in
-      let r : in-range st ≡ true = ranges st .1 (o .fits .dense-range, o .fits .width-range) in
+      let k : Key-list (write-keys ks) ks = record { bytes = refl; each = w .keys; up = w .up; few = omega (arith, o .fits .few, has-leaves-length ks (o .leaves) w) } in
+      let small : Is-bytes (write-keys ks) = bytes-write-keys ks (w .keys) in
+      let r : in-range st ≡ true = in-range-exactly st .1 (o .fits .dense-range, o .fits .width-range) in
       let i : image st (leaves (st .width) ks) ≡ b = ap (image st) (w .same-leaves) ∙ sym (o .image-is) in
       let x : build (write-keys ks) st b ≡ success b b = key-list-builds st (write-keys ks) ks small r k b (omega (arith, ap length i)) ∙ ap (λ (z : Bytes). success z b) i in
-      ((st, record { bytes = small; range = r; output = b; room = omega arith; writes = x }), keys-of-list (write-keys ks) ks (parsed-exactly (write-keys ks) ks small .1 k))
+      ((st, record { bytes = small; range = r; output = b; room = omega arith; writes = x }), keys-of-list (write-keys ks) ks (keys-exactly (write-keys ks) ks small .1 k))
 
   -- what holds of every list, or of some, as keys and as bytes
-  every : (P : List Bytes → Type 0) → ((ks : List Bytes) → Choose.Builds (o .settings .width) ks (o .leaves) → P ks) ↔ ((list : Bytes) → Builds list b → P (keys-of list))
+  every : (P : List Bytes → Type 0) → ((ks : List Bytes) → Has-leaves (o .settings .width) ks (o .leaves) → P ks) ↔ ((list : Bytes) → Builds list b → P (keys-of list))
   every P = (
     λ f list w. f (keys-of list) (list-has list w),
     λ f ks w. let x = keys-build ks w in subst P (x .1) (f (write-keys ks) (x .0)),
   )
 
-  some-list : (P : List Bytes → Type 0) → (ks : List Bytes) × Choose.Builds (o .settings .width) ks (o .leaves) × P ks → (list : Bytes) × Builds list b × P (keys-of list)
+  some-list : (P : List Bytes → Type 0) → (ks : List Bytes) × Has-leaves (o .settings .width) ks (o .leaves) × P ks → (list : Bytes) × Builds list b × P (keys-of list)
   some-list P w = let x = keys-build (w .0) (w .1) in (write-keys (w .0), x .0, subst P (sym (x .1)) (w .2))
 
-  count-lists : (lo hi : Bytes) (c : ℕ) → Counted (o .settings .width) (o .leaves) lo hi c → Count b lo hi c
+  -- a count and a seek over the leaves, of the lists that build the image
+  count-lists : (lo hi : Bytes) (c : ℕ) → Count-right (o .settings .width) (o .leaves) lo hi c → Count b lo hi c
   count-lists lo hi c w = record {
     reached = some-list (λ ks. count (within lo hi) ks ≡ c) (w .reached);
     most = every (λ ks. count (within lo hi) ks ≤ c) .0 (w .most);
     near = every (λ ks. c ≤ count (within lo hi) ks + 2) .0 (w .near);
   }
 
-  found-lists : (start : Bytes) (place : ℕ) (key : Bytes) → Found (o .settings .width) (o .leaves) start place key → Next-key b start place key
+  found-lists : (start : Bytes) (place : ℕ) (key : Bytes) → Seek-right (o .settings .width) (o .leaves) start place key → Next-key b start place key
   found-lists start place key w = record {
     after = w .after;
     held = some-list (λ ks. In key ks) (w .held);
@@ -189,13 +228,15 @@ module _ (b : Bytes) (o : Accept.Accepted b) where
     placed = every (λ ks. In key ks → (place < length ks) × (getD ks place [] ≡ key)) .0 (w .placed);
   }
 
-  found-place : (start : Bytes) (place : ℕ) (key : Bytes) → Found (o .settings .width) (o .leaves) start place key → place < 65535
+  -- a place is below 65,535
+  found-place : (start : Bytes) (place : ℕ) (key : Bytes) → Seek-right (o .settings .width) (o .leaves) start place key → place < 65535
   found-place start place key w =
       let h = w .held in
-      omega (arith, w .placed (h .0) (h .1) (h .2) .0, builds-length (h .0) (o .leaves) (h .1), o .fits .few)
+      omega (arith, w .placed (h .0) (h .1) (h .2) .0, has-leaves-length (h .0) (o .leaves) (h .1), o .fits .few)
 
-  on-leaves : LeafDemand.Demand3 (o .settings .width) (o .leaves)
-  on-leaves = demand3 (o .leaves) (o .fits .good) (o .fits .ok)
+  -- a seek from a start that is not none
+  found-at : (start : Bytes) → Bound start → (j : ℕ) (r : Bytes) → seek (o .leaves) start ≡ found j r → Seek-right (o .settings .width) (o .leaves) start j r
+  found-at start p j r h = seek-found (o .leaves) start (o .fits .realizable) (o .fits .well-sized) p j r h
 
   -- a seek that is not none
   found-reply : (start : Bytes) → Bound start → (None (sought (seek (o .leaves) start)) → ⊥)
@@ -204,12 +245,12 @@ module _ (b : Bytes) (o : Accept.Accepted b) where
     where
       go : (s : Sought) → seek (o .leaves) start ≡ s → (None (sought s) → ⊥) → Next-key b start (sought s .number) (sought s .key)
       go Questions.none e f = absurd (f (none-is Questions.none (λ j r h. let z : _≡_ {A = ℕ} 0 1 = cc in absurd (omega arith)) .1 refl))
-      go (found j r) e f = rw (sought-found j r) (found-lists start j r (on-leaves .next-key start p j r e))
+      go (found j r) e f = rw (sought-found j r) (found-lists start j r (found-at start p j r e))
 
-  module _ (file out : Bytes) (small : Small file) (a : Answered b file out) where
+  module _ (file out : Bytes) (small : Is-bytes file) (a : Answered b file out) where
     proper : (i : ℕ) (q : Question) → question-at file i ≡ some q → Proper q
     unfolding question-at
-    proper i q e = proper-at (questions-of file) i q (asked-exactly file (questions-of file) small .0 (a .questions-are) .each) e
+    proper i q e = all-at Proper (questions-of file) i q (questions-exactly file (questions-of file) small .0 (a .questions-are) .each) e
 
     reply-on : (i : ℕ) (q : Question) → question-at file i ≡ some q → reply-at i (ask b file out .final) ≡ reply (o .leaves) q
     reply-on i q e = reply-is b file out (o .leaves) a (leaves-are b o) (o .fits .few) i q e
@@ -223,22 +264,22 @@ module _ (b : Bytes) (o : Accept.Accepted b) where
     replies-right : Replies-right b file (ask b file out .final)
     replies-right = record {
       key = λ i k e.
-          rw (number-on i (QP k) e ∙ reply-point (o .leaves) k) (Iff·trans (on-leaves .key k (proper i (QP k) e)) (every (λ ks. In k ks → ⊥)));
+          rw (number-on i (QP k) e ∙ reply-point (o .leaves) k) (Iff·trans (point-denied (o .leaves) k (o .fits .realizable) (o .fits .well-sized) (proper i (QP k) e)) (every (λ ks. In k ks → ⊥)));
       range = λ i lo hi e.
           let p = proper i (QR lo hi) e in
           rw (number-on i (QR lo hi) e ∙ reply-range (o .leaves) lo hi)
-          (Iff·trans (on-leaves .keys-in-range lo hi (p .lower) (p .upper) (p .order)) (every (λ ks. (k : Bytes) → In k ks → within lo hi k ≡ false)));
+          (Iff·trans (range-denied (o .leaves) lo hi (o .fits .realizable) (o .fits .well-sized) (p .lower) (p .order)) (every (λ ks. (k : Bytes) → In k ks → within lo hi k ≡ false)));
       stem = λ i stem e.
           rw (number-on i (QB stem) e ∙ reply-stem (o .leaves) stem)
-          (Iff·trans (on-leaves .keys-from-stem stem (proper i (QB stem) e)) (every (λ ks. (k : Bytes) → In k ks → within stem (stem-end stem) k ≡ false)));
+          (Iff·trans (begins-denied (o .leaves) stem (o .fits .realizable) (o .fits .well-sized) (proper i (QB stem) e)) (every (λ ks. (k : Bytes) → In k ks → within stem (stem-end stem) k ≡ false)));
       count = λ i lo hi e.
           let p = proper i (QC lo hi) e in
-          rw (number-on i (QC lo hi) e ∙ reply-count (o .leaves) lo hi) (count-lists lo hi (counted (o .leaves) lo hi) (on-leaves .number lo hi (p .lower) (p .upper) (p .order)));
+          rw (number-on i (QC lo hi) e ∙ reply-count (o .leaves) lo hi) (count-lists lo hi (counted (o .leaves) lo hi) (count-right (o .leaves) lo hi (o .fits .realizable) (o .fits .well-sized) (p .lower) (p .order)));
       none = λ i start e.
           let p = proper i (QS start) e in
           rw (sought-on i start e)
-          (Iff·trans (none-is (seek (o .leaves) start) (λ j r h. found-place start j r (on-leaves .next-key start p j r h)))
-          (Iff·trans (on-leaves .no-key start p) (every (λ ks. (k : Bytes) → In k ks → below k start ≡ true))));
+          (Iff·trans (none-is (seek (o .leaves) start) (λ j r h. found-place start j r (found-at start p j r h)))
+          (Iff·trans (seek-none (o .leaves) start (o .fits .realizable) (o .fits .well-sized) p) (every (λ ks. (k : Bytes) → In k ks → below k start ≡ true))));
       next = λ i start e f.
           let x = sought-on i start e in
           rw x (found-reply start (proper i (QS start) e) (λ z. f (rw x z)));
@@ -247,23 +288,28 @@ module _ (b : Bytes) (o : Accept.Accepted b) where
 -- Demand 3.
 pub demand-3 : Demand-3
 demand-3 = record {
-  accepted = λ b s. (
-    λ v. let o = Accept.accepted b s v in
-        let ks = built-exactly (o .settings .width) (o .leaves) .1 (o .fits .good, o .fits .ok) in
+  accepted-exactly = λ b s. (
+    λ c. let o = Accept.accepted-is-image b s (check-accepts b .0 c) in
+        let ks = has-leaves-exactly (o .settings .width) (o .leaves) .1 (o .fits .realizable, o .fits .well-sized) in
         (write-keys (ks .0), keys-build b o (ks .0) (ks .1) .0),
-    λ w. list-accepted (w .1 .0) (w .0) b (written (w .1 .0) (w .0) b (w .1 .1)),
+    λ w. check-accepts b .1 (list-accepted (w .1 .0) (w .0) b (w .1 .1)),
   );
   alike = judged-alike;
-  taken = λ b v file s out. (
-    λ t. let a = ask-answers b file out v t in (questions-of file, asked-exactly file (questions-of file) s .0 (a .questions-are), a .room),
-    λ f. ask-takes b file out v (f .0) (asked-exactly file (f .0) s .1 (f .1)) (f .2),
-  );
-  right = λ b s v file sf out t. replies-right b (Accept.accepted b s v) file out sf (ask-answers b file out v t);
-  one-image = λ st list other b c w x.
-      let y = written st list b w in
-      let z = written st other c x in (
-        λ e. let same : leaves (st .width) (keys-of list) ≡ leaves (st .width) (keys-of other) = sym (list-read st list b y) ∙ ap read-leaves e ∙ list-read st other c z in
-            subst (λ (ms : List Leaf). Agree (leaves (st .width) (keys-of list)) ms) same (agree-self (leaves (st .width) (keys-of list))),
-        λ g. sym (y .image-is) ∙ ap (image st) (agree-same (leaves (st .width) (keys-of list)) (leaves (st .width) (keys-of other)) g) ∙ z .image-is,
+  taken-exactly = λ b c file s out.
+      let v = check-accepts b .0 c in (
+        λ t. let a = ask-answers b file out v t in (questions-of file, questions-exactly file (questions-of file) s .0 (a .questions-are), a .room),
+        λ f. ask-takes b file out v (f .0) (questions-exactly file (f .0) s .1 (f .1)) (f .2),
       );
+  right = λ b s c file sf out t.
+      let v = check-accepts b .0 c in
+      replies-right b (Accept.accepted-is-image b s v) file out sf (ask-answers b file out v t);
+  one-image = λ st list other b c w x. (
+    λ e. let same : leaves (st .width) (keys-of list) ≡ leaves (st .width) (keys-of other) = sym (list-read st list b w) ∙ ap read-leaves e ∙ list-read st other c x in
+        subst (λ (ms : List Leaf). Agree (leaves (st .width) (keys-of list)) ms) same (agree-self (leaves (st .width) (keys-of list))),
+    λ g. list-image st list b w ∙ ap (image st) (agree-same (leaves (st .width) (keys-of list)) (leaves (st .width) (keys-of other)) g) ∙ sym (list-image st other c x),
+  );
 }
+
+-- The three demands hold.
+pub demands : Demands
+demands = record { first = demand-1; second = demand-2; third = demand-3 }

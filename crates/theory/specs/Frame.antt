@@ -1,39 +1,25 @@
--- Framing: 32-bit numbers, and records behind their marks, written and read back.
-use Prim.Native.Nat.{ℕ, zero, suc, _+_, _*_, _/_, _%_, _<_, _≤_}
-use mathlib.Core.Path.{_≡_, refl, sym, ap, _∙_}
-use mathlib.Core.Bool.{Bool, true, false}
-use mathlib.Core.List.{List, [], _∷_, _++_, map, append-assoc}
-use mathlib.Core.Option.{Option, none, some}
+-- 32-bit numbers, records behind their marks and the header, written and read back.
+-- Used where an image is written or read: the parts of an image, acceptance, and the replies of questions.
+use Prim.Native.Nat.{ℕ, _<_, _+_, _*_, _%_, _/_, _≤_, suc, zero}
+use mathlib.Core.Path.{_≡_, sym, refl, ap, _∙_}
+use mathlib.Core.Bool.{true, Bool, false}
+use mathlib.Core.List.{_∷_, [], _++_, List, append-assoc}
+use mathlib.Core.Option.{some, Option, none}
 use native.Mathlib.Omega.{arith}
-use native.Mathlib.Nat.{div-add-mod', div-div-eq-div-mul, mod-eq-of-lt}
-use lib.ListN.{length, getD, take, drop, length-append, take-append-drop}
-use lib.Seq.{length-take-le, take-append-seam, drop-append-seam}
+use native.Mathlib.Nat.{div-div-eq-div-mul, div-add-mod', mod-eq-of-lt}
+use lib.ListN.{length, drop, getD, take, take-append-drop, length-append}
+use lib.Seq.{length-take-le, drop-append-seam, take-append-seam, getD-drop}
 use lib.Dec.{leb, eqb}
 use borrow.Author.Tests.{leb-true, eqb-true, le-leb, eq-eqb}
-use Rattle.spec.specs.Bytes.{Bytes, iota, le32, every, from32}
-use Rattle.spec.specs.Image.{marked}
-use Rattle.spec.specs.Frame.{is-record, read-bodies}
-use Rattle.theory.specs.Levels.{and-both}
-use Rattle.theory.specs.Interval.{Small, small-drop}
+use Rattle.spec.specs.Bytes.{Bytes, le32, from32, iota}
+use Rattle.spec.specs.Image.{marked, Settings, header}
+use Rattle.spec.specs.Frame.{body, is-record, read-bodies}
+use Rattle.theory.specs.Lists.{bytes-drop, every-true, true-every, first-members}
+use Rattle.theory.specs.Words.{Is-bytes, All}
 
--- each test passes
-abbrev pub Passed : List Bool → Type 0
-Passed [] = Unit
-Passed (t ∷ ts) = (t ≡ true) × Passed ts
+-- ---- 32-bit numbers
 
--- tests that all pass, one by one
-pub every-true : (ts : List Bool) → every ts ≡ true → Passed ts
-unfolding every
-every-true [] h = tt
-every-true (t ∷ ts) h = let p = and-both t (every ts) h in (p .0, every-true ts (p .1))
-
--- and all, where each passes
-pub true-every : (ts : List Bool) → Passed ts → every ts ≡ true
-unfolding every
-true-every [] p = refl
-true-every (t ∷ ts) p = rw (p .0) (true-every ts (p .1))
-
--- four bytes are the number that they give
+-- Four bytes are those of the number that they give.
 pub le32-from32 : (a b c d : ℕ) (r : Bytes) → a < 256 → b < 256 → c < 256 → d < 256 → le32 (from32 (a ∷ b ∷ c ∷ d ∷ r)) ≡ a ∷ b ∷ c ∷ d ∷ []
 unfolding le32 from32
 le32-from32 a b c d r p q s t =
@@ -46,31 +32,34 @@ le32-from32 a b c d r p q s t =
     let e₃ : d % 256 ≡ d = omega arith in
     rw (e₀, f₁, f₂, f₃, e₁, e₂, e₃)
 
-sum32 : (n a b c d q₁ q₂ q₃ : ℕ) → n ≡ q₁ * 256 + a → q₁ ≡ q₂ * 256 + b → q₂ ≡ q₃ * 256 + c → d ≡ q₃ → a + 256 * b + 65536 * c + 16777216 * d ≡ n
-sum32 n a b c d q₁ q₂ q₃ e₀ e₁ e₂ e₃ = omega arith
+le32-sum : (n a b c d q₁ q₂ q₃ : ℕ) → n ≡ q₁ * 256 + a → q₁ ≡ q₂ * 256 + b → q₂ ≡ q₃ * 256 + c → d ≡ q₃ → a + 256 * b + 65536 * c + 16777216 * d ≡ n
+le32-sum n a b c d q₁ q₂ q₃ e₀ e₁ e₂ e₃ = omega arith
 
--- a number below 2^32 is read back
+-- A number below 2^32 is read back from its four bytes.
 pub from32-le32 : (n : ℕ) (r : Bytes) → n < 4294967296 → from32 (le32 n ++ r) ≡ n
 unfolding le32 from32
 from32-le32 n r h =
     let f₂ : n / 256 / 256 ≡ n / 65536 = div-div-eq-div-mul n 256 256 in
     let f₃ : n / 65536 / 256 ≡ n / 16777216 = div-div-eq-div-mul n 65536 256 in
     let top : n / 16777216 < 256 = omega arith in
-    sum32 n (n % 256) (n / 256 % 256) (n / 65536 % 256) (n / 16777216 % 256) (n / 256) (n / 65536) (n / 16777216)
+    le32-sum n (n % 256) (n / 256 % 256) (n / 65536 % 256) (n / 16777216 % 256) (n / 256) (n / 65536) (n / 16777216)
     (sym (div-add-mod' n 256)) (rw (← f₂) (sym (div-add-mod' (n / 256) 256))) (rw (← f₃) (sym (div-add-mod' (n / 65536) 256))) (mod-eq-of-lt top)
 
--- records in order, each behind its mark
-unfoldable pub frames : List ℕ → List Bytes → Bytes
+-- ---- records
+
+-- the records of bodies in order, each behind its mark
+unfoldable pub write-records : List ℕ → List Bytes → Bytes
 unfolding marked
-frames [] bs = []
-frames (a ∷ []) bs = []
-frames (a ∷ b ∷ ms) [] = []
-frames (a ∷ b ∷ ms) (body ∷ bs) = marked a b body ++ frames ms bs
+write-records [] bs = []
+write-records (a ∷ []) bs = []
+write-records (a ∷ b ∷ ms) [] = []
+write-records (a ∷ b ∷ ms) (body ∷ bs) = marked a b body ++ write-records ms bs
 
-six : (a b : ℕ) (s : Bytes) → is-record a b s ≡ true → length s < 6 → ⊥
+record-six-bytes : (a b : ℕ) (s : Bytes) → is-record a b s ≡ true → length s < 6 → ⊥
 unfolding is-record
-six a b s h l = omega (arith, leb-true 6 (length s) (every-true (leb 6 (length s) ∷ leb (from32 (drop 2 s) + 6) (length s) ∷ eqb (getD s 0 0) a ∷ eqb (getD s 1 0) b ∷ []) h .0))
+record-six-bytes a b s h l = omega (arith, leb-true 6 (length s) (every-true (leb 6 (length s) ∷ leb (from32 (drop 2 s) + 6) (length s) ∷ eqb (getD s 0 0) a ∷ eqb (getD s 1 0) b ∷ []) h .0))
 
+-- The test of a record says that its body is within the end, and what its mark is.
 is-record-true : (a b : ℕ) (s : Bytes) → is-record a b s ≡ true → (from32 (drop 2 s) + 6 ≤ length s) × (getD s 0 0 ≡ a) × (getD s 1 0 ≡ b)
 unfolding is-record
 is-record-true a b s h =
@@ -81,15 +70,15 @@ marked-is : (a b : ℕ) (body : Bytes) → marked a b body ≡ a ∷ b ∷ le32 
 unfolding marked
 marked-is a b body = refl
 
--- a record at the front, and what stands behind it
-pub record-split : (a b : ℕ) (s : Bytes) → Small s → is-record a b s ≡ true
+-- Bytes that begin with a record are that record and what stands behind it.
+pub record-split : (a b : ℕ) (s : Bytes) → Is-bytes s → is-record a b s ≡ true
     → s ≡ marked a b (take (from32 (drop 2 s)) (drop 6 s)) ++ drop (from32 (drop 2 s) + 6) s
-record-split a b [] w h = absurd (six a b _ h (omega arith))
-record-split a b (x₀ ∷ []) w h = absurd (six a b _ h (omega arith))
-record-split a b (x₀ ∷ x₁ ∷ []) w h = absurd (six a b _ h (omega arith))
-record-split a b (x₀ ∷ x₁ ∷ x₂ ∷ []) w h = absurd (six a b _ h (omega arith))
-record-split a b (x₀ ∷ x₁ ∷ x₂ ∷ x₃ ∷ []) w h = absurd (six a b _ h (omega arith))
-record-split a b (x₀ ∷ x₁ ∷ x₂ ∷ x₃ ∷ x₄ ∷ []) w h = absurd (six a b _ h (omega arith))
+record-split a b [] w h = absurd (record-six-bytes a b _ h (omega arith))
+record-split a b (x₀ ∷ []) w h = absurd (record-six-bytes a b _ h (omega arith))
+record-split a b (x₀ ∷ x₁ ∷ []) w h = absurd (record-six-bytes a b _ h (omega arith))
+record-split a b (x₀ ∷ x₁ ∷ x₂ ∷ []) w h = absurd (record-six-bytes a b _ h (omega arith))
+record-split a b (x₀ ∷ x₁ ∷ x₂ ∷ x₃ ∷ []) w h = absurd (record-six-bytes a b _ h (omega arith))
+record-split a b (x₀ ∷ x₁ ∷ x₂ ∷ x₃ ∷ x₄ ∷ []) w h = absurd (record-six-bytes a b _ h (omega arith))
 record-split a b (x₀ ∷ x₁ ∷ x₂ ∷ x₃ ∷ x₄ ∷ x₅ ∷ s) w h = go (from32 (x₂ ∷ x₃ ∷ x₄ ∷ x₅ ∷ s)) refl (is-record-true a b (x₀ ∷ x₁ ∷ x₂ ∷ x₃ ∷ x₄ ∷ x₅ ∷ s) h)
   where
     go : (n : ℕ) → from32 (x₂ ∷ x₃ ∷ x₄ ∷ x₅ ∷ s) ≡ n → (n + 6 ≤ suc (suc (suc (suc (suc (suc (length s))))))) × (x₀ ≡ a) × (x₁ ≡ b)
@@ -100,18 +89,18 @@ record-split a b (x₀ ∷ x₁ ∷ x₂ ∷ x₃ ∷ x₄ ∷ x₅ ∷ s) w h =
         let four : le32 n ≡ x₂ ∷ x₃ ∷ x₄ ∷ x₅ ∷ [] = ap le32 (sym e) ∙ le32-from32 x₂ x₃ x₄ x₅ s (w .1 .1 .0) (w .1 .1 .1 .0) (w .1 .1 .1 .1 .0) (w .1 .1 .1 .1 .1 .0) in
         rw (marked-is a b (take n s), six-on, size, four, take-append-drop n s, p .1, p .2)
 
--- bytes that are framed are their records
-pub framed-some : (ms : List ℕ) (s : Bytes) (bs : List Bytes) → Small s → read-bodies ms s ≡ some bs → s ≡ frames ms bs
-unfolding read-bodies frames
-framed-some [] [] bs w h = refl
-framed-some [] (x ∷ s) bs w h = let z : _≡_ {A = ℕ} 0 1 = cc in absurd (omega arith)
-framed-some (a ∷ []) s bs w h = let z : _≡_ {A = ℕ} 0 1 = cc in absurd (omega arith)
-framed-some (a ∷ b ∷ ms) s bs w h = go (is-record a b s) refl (read-bodies ms (drop (from32 (drop 2 s) + 6) s)) refl h
-    (λ cs f. framed-some ms (drop (from32 (drop 2 s) + 6) s) cs (small-drop (from32 (drop 2 s) + 6) s w) f)
+-- Bytes whose bodies are read are the records of these bodies.
+pub read-bodies-some : (ms : List ℕ) (s : Bytes) (bs : List Bytes) → Is-bytes s → read-bodies ms s ≡ some bs → s ≡ write-records ms bs
+unfolding read-bodies write-records
+read-bodies-some [] [] bs w h = refl
+read-bodies-some [] (x ∷ s) bs w h = let z : _≡_ {A = ℕ} 0 1 = cc in absurd (omega arith)
+read-bodies-some (a ∷ []) s bs w h = let z : _≡_ {A = ℕ} 0 1 = cc in absurd (omega arith)
+read-bodies-some (a ∷ b ∷ ms) s bs w h = go (is-record a b s) refl (read-bodies ms (drop (from32 (drop 2 s) + 6) s)) refl h
+    (λ cs f. read-bodies-some ms (drop (from32 (drop 2 s) + 6) s) cs (bytes-drop (from32 (drop 2 s) + 6) s w) f)
   where
     go : (t : Bool) → is-record a b s ≡ t → (r : Option (List Bytes)) → read-bodies ms (drop (from32 (drop 2 s) + 6) s) ≡ r
         → elim t [ true ↦ elim r [ none ↦ none | some bs ↦ some (take (from32 (drop 2 s)) (drop 6 s) ∷ bs) ] | false ↦ none ] ≡ some bs
-        → ((cs : List Bytes) → read-bodies ms (drop (from32 (drop 2 s) + 6) s) ≡ some cs → drop (from32 (drop 2 s) + 6) s ≡ frames ms cs) → s ≡ frames (a ∷ b ∷ ms) bs
+        → ((cs : List Bytes) → read-bodies ms (drop (from32 (drop 2 s) + 6) s) ≡ some cs → drop (from32 (drop 2 s) + 6) s ≡ write-records ms cs) → s ≡ write-records (a ∷ b ∷ ms) bs
     go true e none f h ih = let z : _≡_ {A = ℕ} 0 1 = cc in absurd (omega arith)
     go true e (some cs) f h ih =
         let q : bs ≡ take (from32 (drop 2 s)) (drop 6 s) ∷ cs = cc in
@@ -119,11 +108,10 @@ framed-some (a ∷ b ∷ ms) s bs w h = go (is-record a b s) refl (read-bodies m
     go false e r f h ih = let z : _≡_ {A = ℕ} 0 1 = cc in absurd (omega arith)
 
 -- every body's length fits 32 bits
-abbrev pub Short : List Bytes → Type 0
-Short [] = Unit
-Short (b ∷ bs) = (length b < 4294967296) × Short bs
+abbrev pub Short-bodies : List Bytes → Type 0
+Short-bodies bs = All (λ b. length b < 4294967296) bs
 
--- as many marks as bodies
+-- two marks for each body
 abbrev pub Paired : List ℕ → List Bytes → Type 0
 Paired [] [] = Unit
 Paired [] (body ∷ bs) = ⊥
@@ -131,51 +119,52 @@ Paired (a ∷ []) bs = ⊥
 Paired (a ∷ b ∷ ms) [] = ⊥
 Paired (a ∷ b ∷ ms) (body ∷ bs) = Paired ms bs
 
-first : (a b : ℕ) (body r : Bytes) → getD (marked a b body ++ r) 0 0 ≡ a
+first-mark : (a b : ℕ) (body r : Bytes) → getD (marked a b body ++ r) 0 0 ≡ a
 unfolding marked
-first a b body r = refl
+first-mark a b body r = refl
 
-second : (a b : ℕ) (body r : Bytes) → getD (marked a b body ++ r) 1 0 ≡ b
+second-mark : (a b : ℕ) (body r : Bytes) → getD (marked a b body ++ r) 1 0 ≡ b
 unfolding marked
-second a b body r = refl
+second-mark a b body r = refl
 
-number : (a b : ℕ) (body r : Bytes) → length body < 4294967296 → from32 (drop 2 (marked a b body ++ r)) ≡ length body
-number a b body r h = rw (marked-is a b body) (ap from32 (append-assoc (le32 (length body)) body r) ∙ from32-le32 (length body) (body ++ r) h)
+record-length : (a b : ℕ) (body r : Bytes) → length body < 4294967296 → from32 (drop 2 (marked a b body ++ r)) ≡ length body
+record-length a b body r h = rw (marked-is a b body) (ap from32 (append-assoc (le32 (length body)) body r) ∙ from32-le32 (length body) (body ++ r) h)
 
 marked-length : (a b : ℕ) (body r : Bytes) → length (marked a b body ++ r) ≡ length body + length r + 6
 unfolding marked
 marked-length a b body r = omega (arith, length-append body r)
 
+-- A written record passes its test, and its length is read back.
 record-front : (a b : ℕ) (body r : Bytes) → length body < 4294967296
     → (is-record a b (marked a b body ++ r) ≡ true) × (from32 (drop 2 (marked a b body ++ r)) ≡ length body)
 unfolding is-record
 record-front a b body r h =
-    let n : from32 (drop 2 (marked a b body ++ r)) ≡ length body = number a b body r h in
+    let n : from32 (drop 2 (marked a b body ++ r)) ≡ length body = record-length a b body r h in
     let z = marked-length a b body r in (
       true-every (leb 6 (length s) ∷ leb (from32 (drop 2 s) + 6) (length s) ∷ eqb (getD s 0 0) a ∷ eqb (getD s 1 0) b ∷ [])
-          (le-leb 6 (length s) (omega arith), (le-leb (from32 (drop 2 s) + 6) (length s) (omega arith), (eq-eqb (getD s 0 0) a (first a b body r), (eq-eqb (getD s 1 0) b (second a b body r), tt)))),
+          (le-leb 6 (length s) (omega arith), (le-leb (from32 (drop 2 s) + 6) (length s) (omega arith), (eq-eqb (getD s 0 0) a (first-mark a b body r), (eq-eqb (getD s 1 0) b (second-mark a b body r), tt)))),
       n,
     )
   where
     s : Bytes
     s = marked a b body ++ r
 
-past : (a b : ℕ) (body r : Bytes) → drop (length body + 6) (marked a b body ++ r) ≡ r
+drop-record : (a b : ℕ) (body r : Bytes) → drop (length body + 6) (marked a b body ++ r) ≡ r
 unfolding marked le32
-past a b body r = let six-on : length body + 6 ≡ suc (suc (suc (suc (suc (suc (length body)))))) = omega arith in rw six-on (drop-append-seam body r)
+drop-record a b body r = let six-on : length body + 6 ≡ suc (suc (suc (suc (suc (suc (length body)))))) = omega arith in rw six-on (drop-append-seam body r)
 
-front : (a b : ℕ) (body r : Bytes) → take (length body) (drop 6 (marked a b body ++ r)) ≡ body
+record-body : (a b : ℕ) (body r : Bytes) → take (length body) (drop 6 (marked a b body ++ r)) ≡ body
 unfolding marked le32
-front a b body r = take-append-seam body r
+record-body a b body r = take-append-seam body r
 
-framed-end : read-bodies [] [] ≡ some []
+read-bodies-end : read-bodies [] [] ≡ some []
 unfolding read-bodies
-framed-end = refl
+read-bodies-end = refl
 
-framed-step : (a b : ℕ) (ms : List ℕ) (s : Bytes) (cs : List Bytes) → is-record a b s ≡ true → read-bodies ms (drop (from32 (drop 2 s) + 6) s) ≡ some cs
+read-bodies-step : (a b : ℕ) (ms : List ℕ) (s : Bytes) (cs : List Bytes) → is-record a b s ≡ true → read-bodies ms (drop (from32 (drop 2 s) + 6) s) ≡ some cs
     → read-bodies (a ∷ b ∷ ms) s ≡ some (take (from32 (drop 2 s)) (drop 6 s) ∷ cs)
 unfolding read-bodies
-framed-step a b ms s cs e f = go (is-record a b s) e (read-bodies ms (drop (from32 (drop 2 s) + 6) s)) f
+read-bodies-step a b ms s cs e f = go (is-record a b s) e (read-bodies ms (drop (from32 (drop 2 s) + 6) s)) f
   where
     go : (t : Bool) → t ≡ true → (r : Option (List Bytes)) → r ≡ some cs
         → elim t [ true ↦ elim r [ none ↦ none | some bs ↦ some (take (from32 (drop 2 s)) (drop 6 s) ∷ bs) ] | false ↦ none ] ≡ some (take (from32 (drop 2 s)) (drop 6 s) ∷ cs)
@@ -183,26 +172,106 @@ framed-step a b ms s cs e f = go (is-record a b s) e (read-bodies ms (drop (from
     go true e (some bs) f = let q : bs ≡ cs = cc in rw q
     go false e r f = let z : _≡_ {A = ℕ} 0 1 = cc in absurd (omega arith)
 
--- records are framed
-pub framed-frames : (ms : List ℕ) (bs : List Bytes) → Paired ms bs → Short bs → read-bodies ms (frames ms bs) ≡ some bs
-unfolding frames
-framed-frames [] [] p h = framed-end
-framed-frames [] (x ∷ bs) p h = absurd p
-framed-frames (a ∷ []) bs p h = absurd p
-framed-frames (a ∷ b ∷ ms) [] p h = absurd p
-framed-frames (a ∷ b ∷ ms) (body ∷ bs) p h =
-    let q = record-front a b body (frames ms bs) (h .0) in
-    let behind : drop (from32 (drop 2 (marked a b body ++ frames ms bs)) + 6) (marked a b body ++ frames ms bs) ≡ frames ms bs = ap (λ (n : ℕ). drop (n + 6) (marked a b body ++ frames ms bs)) (q .1) ∙ past a b body (frames ms bs) in
-    let inside : take (from32 (drop 2 (marked a b body ++ frames ms bs))) (drop 6 (marked a b body ++ frames ms bs)) ≡ body = ap (λ (n : ℕ). take n (drop 6 (marked a b body ++ frames ms bs))) (q .1) ∙ front a b body (frames ms bs) in
-    framed-step a b ms (marked a b body ++ frames ms bs) bs (q .0) (ap (read-bodies ms) behind ∙ framed-frames ms bs p (h .1)) ∙ ap (λ (z : Bytes). some (z ∷ bs)) inside
+-- The bodies of written records are read back.
+pub read-bodies-write : (ms : List ℕ) (bs : List Bytes) → Paired ms bs → Short-bodies bs → read-bodies ms (write-records ms bs) ≡ some bs
+unfolding write-records
+read-bodies-write [] [] p h = read-bodies-end
+read-bodies-write [] (x ∷ bs) p h = absurd p
+read-bodies-write (a ∷ []) bs p h = absurd p
+read-bodies-write (a ∷ b ∷ ms) [] p h = absurd p
+read-bodies-write (a ∷ b ∷ ms) (body ∷ bs) p h =
+    let q = record-front a b body (write-records ms bs) (h .0) in
+    let behind : drop (from32 (drop 2 (marked a b body ++ write-records ms bs)) + 6) (marked a b body ++ write-records ms bs) ≡ write-records ms bs = ap (λ (n : ℕ). drop (n + 6) (marked a b body ++ write-records ms bs)) (q .1) ∙ drop-record a b body (write-records ms bs) in
+    let inside : take (from32 (drop 2 (marked a b body ++ write-records ms bs))) (drop 6 (marked a b body ++ write-records ms bs)) ≡ body = ap (λ (n : ℕ). take n (drop 6 (marked a b body ++ write-records ms bs))) (q .1) ∙ record-body a b body (write-records ms bs) in
+    read-bodies-step a b ms (marked a b body ++ write-records ms bs) bs (q .0) (ap (read-bodies ms) behind ∙ read-bodies-write ms bs p (h .1)) ∙ ap (λ (z : Bytes). some (z ∷ bs)) inside
 
--- the first k members of a list, one by one
-pub first-members : {A : Type 0} (d : A) (k : ℕ) (xs : List A) → k ≤ length xs → take k xs ≡ map (λ i. getD xs i d) (iota 0 k)
+-- A byte string of two parts has bytes in each.
+pub bytes-split : (a b : Bytes) → Is-bytes (a ++ b) → Is-bytes a × Is-bytes b
+bytes-split [] b s = (tt, s)
+bytes-split (x ∷ a) b s = let q = bytes-split a b (s .1) in ((s .0, q .0), q .1)
+
+bytes-body : (a b : ℕ) (body : Bytes) → Is-bytes (marked a b body) → Is-bytes body
+unfolding marked
+bytes-body a b body s = bytes-split (a ∷ b ∷ le32 (length body)) body s .1
+
+-- The bodies of records that are bytes are bytes.
+pub bytes-bodies : (ms : List ℕ) (bs : List Bytes) → Paired ms bs → Is-bytes (write-records ms bs) → All Is-bytes bs
+unfolding write-records
+bytes-bodies [] [] p s = tt
+bytes-bodies [] (b ∷ bs) p s = absurd p
+bytes-bodies (a ∷ []) bs p s = absurd p
+bytes-bodies (a ∷ b ∷ ms) [] p s = absurd p
+bytes-bodies (a ∷ b ∷ ms) (body ∷ bs) p s =
+    let q = bytes-split (marked a b body) (write-records ms bs) s in (bytes-body a b body (q .0), bytes-bodies ms bs p (q .1))
+
+-- ---- the header
+
+bytes-getD : (i : ℕ) (s : Bytes) → Is-bytes s → getD s i 0 < 256
+bytes-getD i [] w = omega arith
+bytes-getD zero (x ∷ s) w = w .0
+bytes-getD (suc i) (x ∷ s) w = bytes-getD i s (w .1)
+
+-- A 32-bit number at a place is read from the four bytes there.
+from32-at : (k : ℕ) (s : Bytes) → from32 (drop k s) ≡ from32 (getD s (k + 0) 0 ∷ getD s (k + 1) 0 ∷ getD s (k + 2) 0 ∷ getD s (k + 3) 0 ∷ [])
+unfolding from32
+from32-at k s = rw (getD-drop k s 0 0, getD-drop k s 1 0, getD-drop k s 2 0, getD-drop k s 3 0)
+
+-- The four bytes at a place in a header are those of the number there.
+le32-at : (k : ℕ) (s : Bytes) → Is-bytes s → le32 (from32 (drop k s)) ≡ getD s (k + 0) 0 ∷ getD s (k + 1) 0 ∷ getD s (k + 2) 0 ∷ getD s (k + 3) 0 ∷ []
+le32-at k s w = ap le32 (from32-at k s) ∙ le32-from32 (getD s (k + 0) 0) (getD s (k + 1) 0) (getD s (k + 2) 0) (getD s (k + 3) 0) [] (bytes-getD (k + 0) s w) (bytes-getD (k + 1) s w) (bytes-getD (k + 2) s w) (bytes-getD (k + 3) s w)
+
+header-is : (st : Settings) (a b c d : ℕ) → header st a b c d ≡ 72 ∷ 68 ∷ 1 ∷ st .dense ∷ st .width ∷ 0 ∷ le32 a ++ (le32 b ++ (le32 c ++ le32 d))
+unfolding header
+header-is st a b c d = refl
+
+-- 22 bytes that are marked as a header, of this version and with its zero byte, are the header of the fields read from them.
+pub header-from-fields : (s : Bytes) → Is-bytes s → 22 ≤ length s → getD s 0 0 ≡ 72 → getD s 1 0 ≡ 68 → getD s 2 0 ≡ 1 → getD s 5 0 ≡ 0
+    → take 22 s ≡ header (record { dense = getD s 3 0; width = getD s 4 0 }) (from32 (drop 6 s)) (from32 (drop 10 s)) (from32 (drop 14 s)) (from32 (drop 18 s))
 unfolding iota
-first-members d zero xs h = refl
-first-members d (suc k) [] h = absurd (omega arith)
-first-members d (suc k) (x ∷ xs) h = ap (λ z. x ∷ z) (first-members d k xs (omega arith) ∙ shift 0 k)
-  where
-    shift : (i k : ℕ) → map (λ i. getD xs i d) (iota i k) ≡ map (λ i. getD (x ∷ xs) i d) (iota (suc i) k)
-    shift i zero = refl
-    shift i (suc k) = ap (λ z. getD xs i d ∷ z) (shift (suc i) k)
+header-from-fields s w h a b c d =
+    first-members 0 22 s h
+    ∙ rw (header-is (record { dense = getD s 3 0; width = getD s 4 0 }) (from32 (drop 6 s)) (from32 (drop 10 s)) (from32 (drop 14 s)) (from32 (drop 18 s)), le32-at 6 s w, le32-at 10 s w, le32-at 14 s w, le32-at 18 s w, a, b, c, d)
+
+-- the fields that are read from a byte string with a header
+pub record Header-fields (st : Settings) (a b c d : ℕ) (s : Bytes) : Type 0 where
+  pub mark-one : getD s 0 0 ≡ 72
+  pub mark-two : getD s 1 0 ≡ 68
+  pub version : getD s 2 0 ≡ 1
+  pub dense : getD s 3 0 ≡ st .dense
+  pub width : getD s 4 0 ≡ st .width
+  pub zero-byte : getD s 5 0 ≡ 0
+  pub count₀ : from32 (drop 6 s) ≡ a
+  pub count₁ : from32 (drop 10 s) ≡ b
+  pub count₂ : from32 (drop 14 s) ≡ c
+  pub count₃ : from32 (drop 18 s) ≡ d
+
+-- What stands behind each field of a header, and that it has 22 bytes.
+pub drop-header : (st : Settings) (a b c d : ℕ) (r : Bytes)
+    → (drop 6 (header st a b c d ++ r) ≡ le32 a ++ (le32 b ++ (le32 c ++ (le32 d ++ r)))) × (drop 10 (header st a b c d ++ r) ≡ le32 b ++ (le32 c ++ (le32 d ++ r)))
+    × (drop 14 (header st a b c d ++ r) ≡ le32 c ++ (le32 d ++ r)) × (drop 18 (header st a b c d ++ r) ≡ le32 d ++ r) × (drop 22 (header st a b c d ++ r) ≡ r) × (22 ≤ length (header st a b c d ++ r))
+unfolding header
+drop-header st a b c d r = (refl, refl, refl, refl, refl, omega arith)
+
+first-fields : (st : Settings) (a b c d : ℕ) (r : Bytes)
+    → (getD (header st a b c d ++ r) 0 0 ≡ 72) × (getD (header st a b c d ++ r) 1 0 ≡ 68) × (getD (header st a b c d ++ r) 2 0 ≡ 1)
+    × (getD (header st a b c d ++ r) 3 0 ≡ st .dense) × (getD (header st a b c d ++ r) 4 0 ≡ st .width) × (getD (header st a b c d ++ r) 5 0 ≡ 0)
+unfolding header
+first-fields st a b c d r = (refl, refl, refl, refl, refl, refl)
+
+-- A header's fields are read back.
+pub header-back : (st : Settings) (a b c d : ℕ) (r : Bytes) → a < 4294967296 → b < 4294967296 → c < 4294967296 → d < 4294967296 → Header-fields st a b c d (header st a b c d ++ r)
+header-back st a b c d r p q u v =
+    let z = drop-header st a b c d r in
+    let y = first-fields st a b c d r in
+    record {
+      mark-one = y .0;
+      mark-two = y .1;
+      version = y .2;
+      dense = y .3;
+      width = y .4;
+      zero-byte = y .5;
+      count₀ = ap from32 (z .0) ∙ from32-le32 a (le32 b ++ (le32 c ++ (le32 d ++ r))) p;
+      count₁ = ap from32 (z .1) ∙ from32-le32 b (le32 c ++ (le32 d ++ r)) q;
+      count₂ = ap from32 (z .2) ∙ from32-le32 c (le32 d ++ r) u;
+      count₃ = ap from32 (z .3) ∙ from32-le32 d r v;
+    }

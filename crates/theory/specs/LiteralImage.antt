@@ -1,148 +1,161 @@
--- The literal form of an image, whose nodes are prefixes of cut keys, and the form by levels are the same bytes.
-use Prim.Native.Nat.{ℕ, zero, suc, _-_, _≤_}
-use mathlib.Core.Path.{_≡_, refl, sym, ap, ap₂, _∙_}
-use mathlib.Core.List.{List, [], _∷_, _++_, map, map-map, map-append}
+-- The literal image, whose nodes are prefixes of cut keys, is the header and records of its trie's nodes (`image-of-trie`).
+-- Used by acceptance, by reading back and by the bound of trie entries.
+use Prim.Native.Nat.{ℕ, zero, suc, _≤_, _-_}
+use mathlib.Core.Path.{_≡_, refl, ap, sym, _∙_, ap₂}
+use mathlib.Core.List.{List, [], map, _++_, _∷_, map-append, map-map, append-nil}
 use native.Mathlib.Omega.{arith}
 use native.Mathlib.Nat.{sub-zero, suc-sub-suc}
-use lib.ListN.{length, take, drop, length-map}
+use lib.ListN.{take, drop, length, length-map}
 use lib.Seq.{take-nil, drop-nil}
-use Rattle.spec.specs.Bytes.{Bytes, Bits, concat, iota, pack}
+use Rattle.spec.specs.Bytes.{concat, iota, Bytes}
 use Rattle.spec.specs.Leaves.{Leaf}
-use Rattle.spec.specs.Image.{Settings, nodes, on-level, is-leaf, ranks, samples, marked, header}
+use Rattle.spec.specs.Image.{on-level, nodes, is-leaf, Bodies, marked, Settings, header}
+use Rattle.spec.specs.Frame.{marks}
 use Rattle.spec.specs.Nodes.{Group, Node}
-use Rattle.spec.specs.Nodes as Node
-use Rattle.spec.specs.Image as Literal
+use Rattle.theory.specs.LeafLists.{Realizable, All-well-sized}
 use Rattle.theory.specs.Lists.{map-ext}
-use Rattle.theory.specs.Realize.{Good}
-use Rattle.theory.specs.Trie.{node-of, subs, coded}
-use Rattle.theory.specs.Image2 as Level
-use Rattle.theory.specs.FineTrie.{any-leaf, Fits, good-neat}
-use Rattle.theory.specs.UnderPrefix.{node-at}
-use Rattle.theory.specs.LiteralNode.{dense-labels-at, dense-children-at, is-leaf-at, sparse-labels-at, sparse-children-at, sparse-starts-at, slots-at-node}
-use Rattle.theory.specs.RootNode.{Ready, level-groups, level-none, nodes-level}
+use Rattle.theory.specs.Frame.{write-records}
+use Rattle.theory.specs.LevelTrie.{node-of, child-groups, trie-levels, trie-dense, trie-sparse, trie}
+use Rattle.theory.specs.TrieGroups.{Depth-at-most, realizable-trie-group, has-leaf, well-sized-depth}
+use Rattle.theory.specs.NodeBits.{bodies-of, bodies-bits, layout, node-image}
+use Rattle.theory.specs.PrefixNodes.{node-at, dense-labels-at, dense-has-child-at, is-leaf-at, sparse-labels-at, sparse-has-child-at, louds-at, slots-at-node}
+use Rattle.theory.specs.LevelPrefixes.{groups-below, groups-below-none, Trie-node, nodes-on-level}
+use Rattle.spec.specs.Image as Literal
+use Rattle.spec.specs.Nodes as Node
+use Rattle.theory.specs.NodeBits as Level
 
 -- ---- the nodes of levels a, a + 1, .. , k of them
 
-flat : List Group → ℕ → ℕ → List Node
-flat gs a zero = []
-flat gs a (suc k) = map node-of (level-groups a gs) ++ flat gs (suc a) k
+-- the nodes of levels a, a + 1, .. , k of them
+level-nodes : List Group → ℕ → ℕ → List Node
+level-nodes gs a zero = []
+level-nodes gs a (suc k) = map node-of (groups-below a gs) ++ level-nodes gs (suc a) k
 
-flat-none : (a k : ℕ) → flat [] a k ≡ []
-unfolding flat
-flat-none a zero = refl
-flat-none a (suc k) = rw (level-none a) (flat-none (suc a) k)
+level-nodes-none : (a k : ℕ) → level-nodes [] a k ≡ []
+unfolding level-nodes
+level-nodes-none a zero = refl
+level-nodes-none a (suc k) = rw (groups-below-none a) (level-nodes-none (suc a) k)
 
-flat-next : (gs : List Group) (a k : ℕ) → flat gs (suc a) k ≡ flat (concat (map subs gs)) a k
-unfolding flat level-groups
-flat-next gs a zero = refl
-flat-next gs a (suc k) = ap (λ (z : List Node). map node-of (level-groups a (concat (map subs gs))) ++ z) (flat-next gs (suc a) k)
+level-nodes-next : (gs : List Group) (a k : ℕ) → level-nodes gs (suc a) k ≡ level-nodes (concat (map child-groups gs)) a k
+unfolding level-nodes groups-below
+level-nodes-next gs a zero = refl
+level-nodes-next gs a (suc k) = ap (λ (z : List Node). map node-of (groups-below a (concat (map child-groups gs))) ++ z) (level-nodes-next gs (suc a) k)
 
-coded-all : (f : ℕ) (gs : List Group) → concat (coded f gs) ≡ flat gs 0 f
-unfolding coded concat flat level-groups
-coded-all zero gs = refl
-coded-all (suc f) [] = sym (flat-none 1 f)
-coded-all (suc f) (g ∷ gs) = ap (λ (z : List Node). map node-of (g ∷ gs) ++ z) (coded-all f (concat (map subs (g ∷ gs))) ∙ sym (flat-next (g ∷ gs) 0 f))
+-- The nodes of all levels of a trie.
+trie-levels-all : (f : ℕ) (gs : List Group) → concat (trie-levels f gs) ≡ level-nodes gs 0 f
+unfolding trie-levels concat level-nodes groups-below
+trie-levels-all zero gs = refl
+trie-levels-all (suc f) [] = sym (level-nodes-none 1 f)
+trie-levels-all (suc f) (g ∷ gs) = ap (λ (z : List Node). map node-of (g ∷ gs) ++ z) (trie-levels-all f (concat (map child-groups (g ∷ gs))) ∙ sym (level-nodes-next (g ∷ gs) 0 f))
 
-coded-take : (k f : ℕ) (gs : List Group) → k ≤ f → concat (take k (coded f gs)) ≡ flat gs 0 k
-unfolding coded concat flat level-groups
-coded-take zero f gs h = refl
-coded-take (suc k) zero gs h = absurd (omega arith)
-coded-take (suc k) (suc f) [] h = sym (flat-none 1 k)
-coded-take (suc k) (suc f) (g ∷ gs) h = ap (λ (z : List Node). map node-of (g ∷ gs) ++ z) (coded-take k f (concat (map subs (g ∷ gs))) (omega arith) ∙ sym (flat-next (g ∷ gs) 0 k))
+trie-levels-take : (k f : ℕ) (gs : List Group) → k ≤ f → concat (take k (trie-levels f gs)) ≡ level-nodes gs 0 k
+unfolding trie-levels concat level-nodes groups-below
+trie-levels-take zero f gs h = refl
+trie-levels-take (suc k) zero gs h = absurd (omega arith)
+trie-levels-take (suc k) (suc f) [] h = sym (level-nodes-none 1 k)
+trie-levels-take (suc k) (suc f) (g ∷ gs) h = ap (λ (z : List Node). map node-of (g ∷ gs) ++ z) (trie-levels-take k f (concat (map child-groups (g ∷ gs))) (omega arith) ∙ sym (level-nodes-next (g ∷ gs) 0 k))
 
-coded-drop : (k f : ℕ) (gs : List Group) → k ≤ f → concat (drop k (coded f gs)) ≡ flat gs k (f - k)
-unfolding coded concat
-coded-drop zero f gs h = rw (sub-zero f) (coded-all f gs)
-coded-drop (suc k) zero gs h = absurd (omega arith)
-coded-drop (suc k) (suc f) [] h = sym (flat-none (suc k) (suc f - suc k))
-coded-drop (suc k) (suc f) (g ∷ gs) h = rw (suc-sub-suc f k) (coded-drop k f (concat (map subs (g ∷ gs))) (omega arith) ∙ sym (flat-next (g ∷ gs) k (f - k)))
+trie-levels-drop : (k f : ℕ) (gs : List Group) → k ≤ f → concat (drop k (trie-levels f gs)) ≡ level-nodes gs k (f - k)
+unfolding trie-levels concat
+trie-levels-drop zero f gs h = rw (sub-zero f) (trie-levels-all f gs)
+trie-levels-drop (suc k) zero gs h = absurd (omega arith)
+trie-levels-drop (suc k) (suc f) [] h = sym (level-nodes-none (suc k) (suc f - suc k))
+trie-levels-drop (suc k) (suc f) (g ∷ gs) h = rw (suc-sub-suc f k) (trie-levels-drop k f (concat (map child-groups (g ∷ gs))) (omega arith) ∙ sym (level-nodes-next (g ∷ gs) k (f - k)))
 
--- the literal form's nodes
-literal-run : (ls : Group) → Ready ls → (a k : ℕ) → map (node-at ls) (concat (map (on-level ls) (iota a k))) ≡ flat (ls ∷ []) a k
-unfolding iota concat flat
-literal-run ls r a zero = refl
-literal-run ls r a (suc k) = map-append (node-at ls) (on-level ls a) (concat (map (on-level ls) (iota (suc a) k))) ∙ ap₂ _++_ (nodes-level a ls r) (literal-run ls r (suc a) k)
+-- The nodes of the prefixes on k levels are those of the trie.
+prefix-level-nodes : (ls : Group) → Trie-node ls → (a k : ℕ) → map (node-at ls) (concat (map (on-level ls) (iota a k))) ≡ level-nodes (ls ∷ []) a k
+unfolding iota concat level-nodes
+prefix-level-nodes ls r a zero = refl
+prefix-level-nodes ls r a (suc k) = map-append (node-at ls) (on-level ls a) (concat (map (on-level ls) (iota (suc a) k))) ∙ ap₂ _++_ (nodes-on-level a ls r) (prefix-level-nodes ls r (suc a) k)
 
-none-run : (a k : ℕ) → concat (map (on-level []) (iota a k)) ≡ []
+no-prefixes : (a k : ℕ) → concat (map (on-level []) (iota a k)) ≡ []
 unfolding iota concat on-level
-none-run a zero = refl
-none-run a (suc k) = none-run (suc a) k
+no-prefixes a zero = refl
+no-prefixes a (suc k) = no-prefixes (suc a) k
 
--- The nodes of the literal form, dense and sparse, are in order the nodes by levels.
-pub record Nodes (dense : ℕ) (ls : List Leaf) : Type 0 where
-  pub first : map (node-at ls) (nodes ls 0 dense) ≡ concat (take dense (Level.trie ls))
-  pub rest : map (node-at ls) (nodes ls dense 64) ≡ concat (drop dense (Level.trie ls))
+-- the nodes of a leaf list's prefixes, dense and sparse, are in order the nodes of its trie
+pub record Prefix-nodes (dense : ℕ) (ls : List Leaf) : Type 0 where
+  pub first : map (node-at ls) (nodes ls 0 dense) ≡ trie-dense dense ls
+  pub rest : map (node-at ls) (nodes ls dense 64) ≡ trie-sparse dense ls
 
--- of a good leaf list
-pub nodes-of : {n : ℕ} (dense : ℕ) (ls : List Leaf) → dense ≤ 64 → Good n ls → Fits 64 ls → Nodes dense ls
-unfolding nodes Level.trie concat
-nodes-of dense [] h g q = record {
-  first = ap (map (node-at [])) (none-run 0 (dense - 0)) ∙ ap concat (sym (take-nil {A = List Node} dense));
-  rest = ap (map (node-at [])) (none-run dense (64 - dense)) ∙ ap concat (sym (drop-nil {A = List Node} dense));
+-- The nodes of a realizable leaf list's prefixes are the nodes of its trie.
+pub prefix-nodes : {n : ℕ} (dense : ℕ) (ls : List Leaf) → dense ≤ 64 → Realizable n ls → Depth-at-most 64 ls → Prefix-nodes dense ls
+unfolding nodes trie concat
+prefix-nodes dense [] h g q = record {
+  first = ap (map (node-at [])) (no-prefixes 0 (dense - 0)) ∙ ap concat (sym (take-nil {A = List Node} dense));
+  rest = ap (map (node-at [])) (no-prefixes dense (64 - dense)) ∙ ap concat (sym (drop-nil {A = List Node} dense));
 }
-nodes-of dense (l ∷ ls) h g q =
-    let r : Ready (l ∷ ls) = record { depth = 64; shape = good-neat 63 (l ∷ ls) any-leaf g q } in
+prefix-nodes dense (l ∷ ls) h g q =
+    let r : Trie-node (l ∷ ls) = record { depth = 64; shape = realizable-trie-group 63 (l ∷ ls) has-leaf g q } in
     record {
-      first = literal-run (l ∷ ls) r 0 (dense - 0) ∙ ap (flat ((l ∷ ls) ∷ []) 0) (sub-zero dense) ∙ sym (coded-take dense 64 ((l ∷ ls) ∷ []) h);
-      rest = literal-run (l ∷ ls) r dense (64 - dense) ∙ sym (coded-drop dense 64 ((l ∷ ls) ∷ []) h);
+      first = prefix-level-nodes (l ∷ ls) r 0 (dense - 0) ∙ ap (level-nodes ((l ∷ ls) ∷ []) 0) (sub-zero dense) ∙ sym (trie-levels-take dense 64 ((l ∷ ls) ∷ []) h);
+      rest = prefix-level-nodes (l ∷ ls) r dense (64 - dense) ∙ sym (trie-levels-drop dense 64 ((l ∷ ls) ∷ []) h);
     }
 
--- a function of prefixes that is one of their nodes, over prefixes and over nodes
-pub over-nodes : {A : Type 0} (ls : List Leaf) (F : Bytes → A) (G : Node → A) (ps : List Bytes) (ns : List Node) → ((p : Bytes) → F p ≡ G (node-at ls p)) → map (node-at ls) ps ≡ ns → map F ps ≡ map G ns
-over-nodes ls F G ps ns h e = map-ext F (λ p. G (node-at ls p)) h ps ∙ sym (map-map G (node-at ls) ps) ∙ ap (map G) e
+-- What prefixes write, where it is what their nodes write, over prefixes and over nodes.
+pub map-prefix-nodes : {A : Type 0} (ls : List Leaf) (F : Bytes → A) (G : Node → A) (ps : List Bytes) (ns : List Node) → ((p : Bytes) → F p ≡ G (node-at ls p)) → map (node-at ls) ps ≡ ns → map F ps ≡ map G ns
+map-prefix-nodes ls F G ps ns h e = map-ext F (λ p. G (node-at ls p)) h ps ∙ sym (map-map G (node-at ls) ps) ∙ ap (map G) e
 
--- the bytes, from what they are written of
-laid : Settings → ℕ → ℕ → ℕ → Bits → Bits → Bits → Bytes → Bits → Bits → Bits → Bytes
-laid st leaf-count dense-nodes sparse-nodes dl dc dp sl sc sb sv =
-    header st leaf-count dense-nodes (length sl) sparse-nodes ++ (
-    marked 68 76 (pack dl) ++ (marked 68 67 (pack dc) ++ (marked 68 80 (pack dp) ++ (
-    marked 83 76 sl ++ (marked 83 67 (pack sc) ++ (marked 83 66 (pack sb) ++ (marked 83 86 (pack sv) ++ (
-    marked 82 76 (ranks 64 dl) ++ (marked 82 67 (ranks 64 dc) ++ (marked 82 80 (ranks 64 dp) ++ (marked 82 83 (ranks 512 sc) ++ marked 84 83 (samples sb))))))))))))
+-- ---- the image
 
-literal-laid : (st : Settings) (ls : List Leaf) → Literal.image st ls ≡ laid st (length ls) (length (nodes ls 0 (st .dense))) (length (nodes ls (st .dense) 64))
-    (concat (map (Literal.dense-labels ls) (nodes ls 0 (st .dense)))) (concat (map (Literal.dense-has-child ls) (nodes ls 0 (st .dense)))) (map (is-leaf ls) (nodes ls 0 (st .dense)))
-    (concat (map (Literal.sparse-labels ls) (nodes ls (st .dense) 64))) (concat (map (Literal.sparse-has-child ls) (nodes ls (st .dense) 64))) (concat (map (Literal.louds ls) (nodes ls (st .dense) 64)))
-    (concat (map (Literal.slots ls) (nodes ls 0 (st .dense) ++ nodes ls (st .dense) 64)))
-unfolding laid Literal.image Literal.bodies
-literal-laid st ls = refl
+-- The bodies of a leaf list, from the bits and labels of its prefixes.
+literal-bodies : (dense : ℕ) (ls : List Leaf) → Literal.bodies dense ls
+    ≡ bodies-of (concat (map (Literal.dense-labels ls) (nodes ls 0 dense))) (concat (map (Literal.dense-has-child ls) (nodes ls 0 dense))) (map (is-leaf ls) (nodes ls 0 dense))
+    (concat (map (Literal.sparse-labels ls) (nodes ls dense 64))) (concat (map (Literal.sparse-has-child ls) (nodes ls dense 64))) (concat (map (Literal.louds ls) (nodes ls dense 64)))
+    (concat (map (Literal.slots ls) (nodes ls 0 dense ++ nodes ls dense 64)))
+unfolding Literal.bodies
+literal-bodies dense ls = refl
 
-level-laid : (st : Settings) (ls : List Leaf) (ds ss : List Node) → concat (take (st .dense) (Level.trie ls)) ≡ ds → concat (drop (st .dense) (Level.trie ls)) ≡ ss
-    → Level.image st ls ≡ laid st (length ls) (length ds) (length ss)
-    (concat (map Level.dense-labels ds)) (concat (map Level.dense-children ds)) (map Node.is-exact ds)
-    (concat (map Level.sparse-labels ss)) (concat (map Level.sparse-children ss)) (concat (map Level.sparse-starts ss))
-    (concat (map Level.slots (ds ++ ss)))
-unfolding laid Level.image Level.bodies
-level-laid st ls ds ss p q = rw (← p, ← q)
-
-same-laid : (st : Settings) (ls : List Leaf) (dp sp : List Bytes) (ds ss : List Node) → map (node-at ls) dp ≡ ds → map (node-at ls) sp ≡ ss
-    → laid st (length ls) (length dp) (length sp)
-    (concat (map (Literal.dense-labels ls) dp)) (concat (map (Literal.dense-has-child ls) dp)) (map (is-leaf ls) dp)
+-- The bodies of prefixes are those of their nodes.
+same-bodies : (ls : List Leaf) (dp sp : List Bytes) (ds ss : List Node) → map (node-at ls) dp ≡ ds → map (node-at ls) sp ≡ ss
+    → bodies-of (concat (map (Literal.dense-labels ls) dp)) (concat (map (Literal.dense-has-child ls) dp)) (map (is-leaf ls) dp)
     (concat (map (Literal.sparse-labels ls) sp)) (concat (map (Literal.sparse-has-child ls) sp)) (concat (map (Literal.louds ls) sp))
     (concat (map (Literal.slots ls) (dp ++ sp)))
-    ≡ laid st (length ls) (length ds) (length ss)
-    (concat (map Level.dense-labels ds)) (concat (map Level.dense-children ds)) (map Node.is-exact ds)
-    (concat (map Level.sparse-labels ss)) (concat (map Level.sparse-children ss)) (concat (map Level.sparse-starts ss))
-    (concat (map Level.slots (ds ++ ss)))
-same-laid st ls dp sp ds ss p q =
+    ≡ Level.bodies ds ss
+same-bodies ls dp sp ds ss p q =
     let both : map (node-at ls) (dp ++ sp) ≡ ds ++ ss = map-append (node-at ls) dp sp ∙ ap₂ _++_ p q in
-    let n : length dp ≡ length ds = sym (length-map dp (node-at ls)) ∙ ap length p in
-    let m : length sp ≡ length ss = sym (length-map sp (node-at ls)) ∙ ap length q in
     rw (
-      n,
-      m,
-      over-nodes ls (Literal.dense-labels ls) Level.dense-labels dp ds (dense-labels-at ls) p,
-      over-nodes ls (Literal.dense-has-child ls) Level.dense-children dp ds (dense-children-at ls) p,
-      over-nodes ls (is-leaf ls) Node.is-exact dp ds (is-leaf-at ls) p,
-      over-nodes ls (Literal.sparse-labels ls) Level.sparse-labels sp ss (sparse-labels-at ls) q,
-      over-nodes ls (Literal.sparse-has-child ls) Level.sparse-children sp ss (sparse-children-at ls) q,
-      over-nodes ls (Literal.louds ls) Level.sparse-starts sp ss (sparse-starts-at ls) q,
-      over-nodes ls (Literal.slots ls) Level.slots (dp ++ sp) (ds ++ ss) (slots-at-node ls) both,
-    )
+      map-prefix-nodes ls (Literal.dense-labels ls) Level.dense-labels dp ds (dense-labels-at ls) p,
+      map-prefix-nodes ls (Literal.dense-has-child ls) Level.dense-has-child dp ds (dense-has-child-at ls) p,
+      map-prefix-nodes ls (is-leaf ls) Node.is-exact dp ds (is-leaf-at ls) p,
+      map-prefix-nodes ls (Literal.sparse-labels ls) Level.sparse-labels sp ss (sparse-labels-at ls) q,
+      map-prefix-nodes ls (Literal.sparse-has-child ls) Level.sparse-has-child sp ss (sparse-has-child-at ls) q,
+      map-prefix-nodes ls (Literal.louds ls) Level.louds sp ss (louds-at ls) q,
+      map-prefix-nodes ls (Literal.slots ls) Level.slots (dp ++ sp) (ds ++ ss) (slots-at-node ls) both,
+    ) (sym (bodies-bits ds ss))
 
--- For every good leaf list, with cut keys of at most 64 bytes, the image with prefixes as nodes is the image by levels.
-pub image-levels : {n : ℕ} (st : Settings) (ls : List Leaf) → st .dense ≤ 64 → Good n ls → Fits 64 ls → Literal.image st ls ≡ Level.image st ls
-image-levels st ls h g q =
-    let N = nodes-of (st .dense) ls h g q in
-    literal-laid st ls
-    ∙ same-laid st ls (nodes ls 0 (st .dense)) (nodes ls (st .dense) 64) (concat (take (st .dense) (Level.trie ls))) (concat (drop (st .dense) (Level.trie ls))) (N .first) (N .rest)
-    ∙ sym (level-laid st ls (concat (take (st .dense) (Level.trie ls))) (concat (drop (st .dense) (Level.trie ls))) refl refl)
+-- The twelve records, one behind the other.
+records-layout : (b : Bodies) → write-records marks (layout b) ≡
+    marked 68 76 (b .DL) ++ (marked 68 67 (b .DC) ++ (marked 68 80 (b .DP) ++ (
+    marked 83 76 (b .SL) ++ (marked 83 67 (b .SC) ++ (marked 83 66 (b .SB) ++ (marked 83 86 (b .SV) ++ (
+    marked 82 76 (b .RL) ++ (marked 82 67 (b .RC) ++ (marked 82 80 (b .RP) ++ (marked 82 83 (b .RS) ++ marked 84 83 (b .TS)))))))))))
+unfolding write-records
+records-layout b = ap (λ (z : Bytes).
+    marked 68 76 (b .DL) ++ (marked 68 67 (b .DC) ++ (marked 68 80 (b .DP) ++ (
+    marked 83 76 (b .SL) ++ (marked 83 67 (b .SC) ++ (marked 83 66 (b .SB) ++ (marked 83 86 (b .SV) ++ (
+    marked 82 76 (b .RL) ++ (marked 82 67 (b .RC) ++ (marked 82 80 (b .RP) ++ (marked 82 83 (b .RS) ++ z)))))))))))
+    (append-nil (marked 84 83 (b .TS)))
+
+-- An image is its header and its records.
+image-records : (st : Settings) (ls : List Leaf) → Literal.image st ls
+    ≡ header st (length ls) (length (nodes ls 0 (st .dense))) (length (Literal.bodies (st .dense) ls .SL)) (length (nodes ls (st .dense) 64)) ++ write-records marks (layout (Literal.bodies (st .dense) ls))
+unfolding Literal.image
+image-records st ls =
+    sym (ap (λ (z : Bytes). header st (length ls) (length (nodes ls 0 (st .dense))) (length (Literal.bodies (st .dense) ls .SL)) (length (nodes ls (st .dense) 64)) ++ z) (records-layout (Literal.bodies (st .dense) ls)))
+
+-- settings in range, and a realizable list of at most 65,535 leaves, each with a cut key of 1 to 64 bytes and a suffix of n bits with none set past the 64th byte
+pub record Buildable (st : Settings) (ls : List Leaf) : Type 0 where
+  pub dense-range : st .dense ≤ 4
+  pub width-range : st .width ≤ 16
+  pub few : length ls ≤ 65535
+  pub realizable : Realizable (st .width) ls
+  pub well-sized : All-well-sized (st .width) ls
+
+-- The image of a buildable leaf list is the header and the records of its trie's nodes.
+pub image-of-trie : (st : Settings) (ls : List Leaf) → Buildable st ls → Literal.image st ls ≡ node-image st (length ls) (trie-dense (st .dense) ls) (trie-sparse (st .dense) ls)
+image-of-trie st ls v =
+    let N = prefix-nodes (st .dense) ls (omega (arith, v .dense-range)) (v .realizable) (well-sized-depth (st .width) ls (v .well-sized)) in
+    let n : length (nodes ls 0 (st .dense)) ≡ length (trie-dense (st .dense) ls) = sym (length-map (nodes ls 0 (st .dense)) (node-at ls)) ∙ ap length (N .first) in
+    let m : length (nodes ls (st .dense) 64) ≡ length (trie-sparse (st .dense) ls) = sym (length-map (nodes ls (st .dense) 64) (node-at ls)) ∙ ap length (N .rest) in
+    let b = literal-bodies (st .dense) ls ∙ same-bodies ls (nodes ls 0 (st .dense)) (nodes ls (st .dense) 64) (trie-dense (st .dense) ls) (trie-sparse (st .dense) ls) (N .first) (N .rest) in
+    image-records st ls ∙ rw (n, m, b)

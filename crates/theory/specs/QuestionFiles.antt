@@ -12,41 +12,8 @@ use borrow.Author.Tests.{ltb-false, eqb-true, eqb-false, le-ltb, ne-eqb}
 use Rattle.spec.specs.Bytes.{Bytes, concat}
 use Rattle.spec.specs.Keys.{below}
 use Rattle.spec.specs.Questions.{Question, QP, QS, QB, QR, QC, Front, bad, got, read-key, one-key, two-keys, read-keys, read-question, Parsed-questions, refused, taken, with-question, parse-from, parse-questions}
-use Rattle.theory.specs.Realize.{All}
-use Rattle.theory.specs.Interval.{Small, small-drop}
-use Rattle.theory.specs.Choose.{small-take}
-use Rattle.theory.specs.Questions.{Bound}
-
--- a key or bound as a question has it: a length byte and bytes
-abbrev pub key-bytes : Bytes → Bytes
-key-bytes k = length k ∷ k
-
--- a question's mark and keys
-unfoldable pub question-bytes : Question → Bytes
-question-bytes (QP k) = 81 ∷ 80 ∷ key-bytes k
-question-bytes (QS k) = 81 ∷ 83 ∷ key-bytes k
-question-bytes (QB k) = 81 ∷ 66 ∷ key-bytes k
-question-bytes (QR lo hi) = 81 ∷ 82 ∷ key-bytes lo ++ key-bytes hi
-question-bytes (QC lo hi) = 81 ∷ 67 ∷ key-bytes lo ++ key-bytes hi
-
--- a question file's bytes
-unfoldable pub file-bytes : List Question → Bytes
-unfolding concat question-bytes
-file-bytes qs = concat (map question-bytes qs)
-
--- a range the right way round
-pub record Range (lo hi : Bytes) : Type 0 where
-  pub lower : Bound lo
-  pub upper : Bound hi
-  pub order : below hi lo ≡ false
-
--- keys and bounds of at most 64 bytes, ranges the right way round
-abbrev pub Proper : Question → Type 0
-Proper (QP k) = Bound k
-Proper (QS k) = Bound k
-Proper (QB k) = Bound k
-Proper (QR lo hi) = Range lo hi
-Proper (QC lo hi) = Range lo hi
+use Rattle.theory.specs.Words.{All, Is-bytes, Bound, file-bytes, question-bytes, Question-file, Range, key-bytes, Proper}
+use Rattle.theory.specs.Lists.{bytes-drop, bytes-take}
 
 -- ---- a key
 
@@ -57,12 +24,12 @@ key-read k t q = rw (le-ltb 64 (length k) (q .fits), le-ltb (length (k ++ t)) (l
 record Key-read (s k t : Bytes) : Type 0 where
   bytes : s ≡ key-bytes k ++ t
   bound : Bound k
-  rest : Small t
+  rest : Is-bytes t
 
 no-got : {A B : Type 0} {r : ℕ} {a : B} {t : Bytes} → _≡_ {A = Front B} (bad r) (got a t) → A
 no-got h = let z : _≡_ {A = ℕ} 0 1 = cc in absurd (omega arith)
 
-read-key-is : (s k t : Bytes) → Small s → read-key s ≡ got k t → Key-read s k t
+read-key-is : (s k t : Bytes) → Is-bytes s → read-key s ≡ got k t → Key-read s k t
 unfolding read-key
 read-key-is [] k t w h = no-got h
 read-key-is (n ∷ s) k t w h = one (ltb 64 n) refl
@@ -77,8 +44,8 @@ read-key-is (n ∷ s) k t w h = one (ltb 64 n) refl
         let split : n ∷ s ≡ key-bytes (take n s) ++ drop n s = rw (size, take-append-drop n s) in
         rw (← x, ← y) (record {
           bytes = split;
-          bound = record { fits = omega (arith, ltb-false 64 n p); small = small-take n s (w .1) };
-          rest = small-drop n s (w .1);
+          bound = record { fits = omega (arith, ltb-false 64 n p); bytes = bytes-take n s (w .1) };
+          rest = bytes-drop n s (w .1);
         })
 
     one : (b : Bool) → ltb 64 n ≡ b → Key-read (n ∷ s) k t
@@ -104,7 +71,7 @@ question-read (QB k) t p = one-read QB k t p
 question-read (QR lo hi) t p = two-read QR lo hi t p
 question-read (QC lo hi) t p = two-read QC lo hi t p
 
-one-key-is : (q : Bytes → Question) (s : Bytes) (x : Question) (t : Bytes) → Small s → one-key q s ≡ got x t → (k : Bytes) × (q k ≡ x) × Key-read s k t
+one-key-is : (q : Bytes → Question) (s : Bytes) (x : Question) (t : Bytes) → Is-bytes s → one-key q s ≡ got x t → (k : Bytes) × (q k ≡ x) × Key-read s k t
 unfolding one-key
 one-key-is q s x t w h = go (read-key s) refl
   where
@@ -119,9 +86,9 @@ one-key-is q s x t w h = go (read-key s) refl
 record Range-read (s lo hi t : Bytes) : Type 0 where
   bytes : s ≡ (key-bytes lo ++ key-bytes hi) ++ t
   range : Range lo hi
-  rest : Small t
+  rest : Is-bytes t
 
-two-keys-is : (q : Bytes → Bytes → Question) (s : Bytes) (x : Question) (t : Bytes) → Small s → two-keys q s ≡ got x t → (lo hi : Bytes) × (q lo hi ≡ x) × Range-read s lo hi t
+two-keys-is : (q : Bytes → Bytes → Question) (s : Bytes) (x : Question) (t : Bytes) → Is-bytes s → two-keys q s ≡ got x t → (lo hi : Bytes) × (q lo hi ≡ x) × Range-read s lo hi t
 unfolding two-keys
 two-keys-is q s x t w h = one (read-key s) refl
   where
@@ -153,9 +120,9 @@ two-keys-is q s x t w h = one (read-key s) refl
 record Question-read (s : Bytes) (q : Question) (t : Bytes) : Type 0 where
   bytes : s ≡ question-bytes q ++ t
   proper : Proper q
-  rest : Small t
+  rest : Is-bytes t
 
-module _ (x : ℕ) (s : Bytes) (q : Question) (t : Bytes) (w : Small s) where
+module _ (x : ℕ) (s : Bytes) (q : Question) (t : Bytes) (w : Is-bytes s) where
   one-letter : (c : Bytes → Question) (y : ℕ) → ((k : Bytes) → question-bytes (c k) ≡ 81 ∷ y ∷ key-bytes k) → ((k : Bytes) → Bound k → Proper (c k))
       → eqb x y ≡ true → one-key c s ≡ got q t → Question-read (81 ∷ x ∷ s) q t
   one-letter c y b p e h =
@@ -200,7 +167,7 @@ module _ (x : ℕ) (s : Bytes) (q : Question) (t : Bytes) (w : Small s) where
       point true e = one-letter QP 80 (λ k. refl) (λ k r. r) e (rw (e, read-keys) at h)
       point false e = seeks e (eqb x 83) refl
 
-read-question-is : (s : Bytes) (q : Question) (t : Bytes) → Small s → read-question s ≡ got q t → Question-read s q t
+read-question-is : (s : Bytes) (q : Question) (t : Bytes) → Is-bytes s → read-question s ≡ got q t → Question-read s q t
 unfolding read-question
 read-question-is [] q t w h = no-got h
 read-question-is (a ∷ []) q t w h = no-got h
@@ -256,7 +223,7 @@ none-read done qs d h =
     let e : [] ≡ qs = cc in
     rw (← e) (record { bytes = refl; each = tt; few = omega arith })
 
-questions-are : (f done : ℕ) (s : Bytes) (qs : List Question) → Small s → done ≤ 1024 → length s ≤ f → parse-from f done s ≡ taken qs → Questions-read done s qs
+questions-are : (f done : ℕ) (s : Bytes) (qs : List Question) → Is-bytes s → done ≤ 1024 → length s ≤ f → parse-from f done s ≡ taken qs → Questions-read done s qs
 unfolding parse-from file-bytes concat
 questions-are zero done [] qs w d l h = none-read done qs d h
 questions-are zero done (b ∷ s) qs w d l h = absurd (omega arith)
@@ -265,7 +232,7 @@ questions-are (suc f) done (b ∷ s) qs w d l h = one (eqb done 1024) refl
     (λ t ps v m n k. questions-are f (suc done) t ps v m (omega arith) k)
   where
     Behind : Type 0
-    Behind = (t : Bytes) (ps : List Question) → Small t → done < 1024 → length t < length (b ∷ s) → parse-from f (suc done) t ≡ taken ps → Questions-read (suc done) t ps
+    Behind = (t : Bytes) (ps : List Question) → Is-bytes t → done < 1024 → length t < length (b ∷ s) → parse-from f (suc done) t ≡ taken ps → Questions-read (suc done) t ps
 
     two : eqb done 1024 ≡ false → (g : Front Question) → read-question (b ∷ s) ≡ g → Behind → Questions-read done (b ∷ s) qs
     two p (bad r) e ih = no-taken (rw (p, e, parse-from) at h)
@@ -285,16 +252,10 @@ questions-are (suc f) done (b ∷ s) qs w d l h = one (eqb done 1024) refl
     one true p ih = no-taken (rw (p, parse-from) at h)
     one false p ih = two p (read-question (b ∷ s)) refl ih
 
--- the bytes are the questions: at most 1,024, with keys and bounds of at most 64 bytes and ranges the right way round
-pub record Question-file (s : Bytes) (qs : List Question) : Type 0 where
-  pub bytes : s ≡ file-bytes qs
-  pub each : All Proper qs
-  pub few : length qs ≤ 1024
-
 -- None of 21 to 24 applies to a byte string exactly when it is such questions.
-pub asked-exactly : (s : Bytes) (qs : List Question) → Small s → (parse-questions s ≡ taken qs) ↔ Question-file s qs
+pub questions-exactly : (s : Bytes) (qs : List Question) → Is-bytes s → (parse-questions s ≡ taken qs) ↔ Question-file s qs
 unfolding parse-questions
-asked-exactly s qs w = (to, from)
+questions-exactly s qs w = (to, from)
   where
     to : parse-from (length s) 0 s ≡ taken qs → Question-file s qs
     to h = let r = questions-are (length s) 0 s qs w (omega arith) (omega arith) h in record { bytes = r .bytes; each = r .each; few = omega (arith, r .few) }

@@ -1,0 +1,129 @@
+-- Every byte of an image is below 256.
+use Prim.Native.Nat.{ℕ, zero, suc, _+_, _-_, _*_, _/_, _^_, _<_, _≤_}
+use mathlib.Core.Bool.{cond, Bool, true, false}
+use mathlib.Core.List.{List, [], _∷_, _++_, map}
+use native.Mathlib.Omega.{arith}
+use lib.ListN.{length, getD, take, drop}
+use Rattle.spec.specs.Bytes.{Bytes, Bits, concat, iota, ones, low-first, packed, pack, le32}
+use Rattle.spec.specs.Leaves.{Leaf}
+use Rattle.spec.specs.Image.{Settings, image, header, marked, ranks, samples, positions}
+use Rattle.spec.specs.Frame.{marks}
+use Rattle.spec.specs.Nodes.{Node, label-of, branches-of, is-exact}
+use Rattle.theory.specs.Words.{All, Is-bytes}
+use Rattle.theory.specs.Lists.{bytes-append, bytes-le32}
+use Rattle.theory.specs.NodeBits.{Byte-labels, sparse-labels, layout, bodies, bodies-bits, dense-labels, dense-has-child, sparse-has-child, louds, slots}
+use Rattle.theory.specs.Frame.{write-records}
+use Rattle.theory.specs.ImageParts.{Writable, image-holds}
+use Rattle.theory.specs.LiteralImage.{Buildable}
+
+-- ---- every byte of an image is below 256
+
+bytes-le32s : (f : ℕ → ℕ) (xs : List ℕ) → Is-bytes (concat (map (λ b. le32 (f b)) xs))
+unfolding concat
+bytes-le32s f [] = tt
+bytes-le32s f (x ∷ xs) = bytes-append (le32 (f x)) (concat (map (λ b. le32 (f b)) xs)) (bytes-le32 (f x)) (bytes-le32s f xs)
+
+bytes-ranks : (w : ℕ) (bs : Bits) → Is-bytes (ranks w bs)
+unfolding ranks
+bytes-ranks w bs = bytes-le32s (λ b. ones (take (w * b) bs)) (iota 0 ((length bs + (w - 1)) / w))
+
+bytes-samples : (bs : Bits) → Is-bytes (samples bs)
+unfolding samples
+bytes-samples bs = bytes-le32s (λ t. getD (positions 0 bs) (64 * t) 0) (iota 0 ((length (positions 0 bs) + 63) / 64))
+
+low-bound : (k : ℕ) (bs : Bits) → low-first (take k bs) < 2 ^ k
+unfolding low-first
+low-bound zero bs = omega arith
+low-bound (suc k) [] = omega (arith, low-bound k [])
+low-bound (suc k) (true ∷ bs) = omega (arith, low-bound k bs)
+low-bound (suc k) (false ∷ bs) = omega (arith, low-bound k bs)
+
+bytes-packed : (k : ℕ) (bs : Bits) → Is-bytes (packed k bs)
+unfolding packed
+bytes-packed zero bs = tt
+bytes-packed (suc k) bs = (low-bound 8 bs, bytes-packed k (drop 8 bs))
+
+bytes-pack : (bs : Bits) → Is-bytes (pack bs)
+unfolding pack
+bytes-pack bs = bytes-packed ((length bs + 7) / 8) bs
+
+bytes-node : (n : Node) → Byte-labels n → Is-bytes (sparse-labels n)
+unfolding sparse-labels
+bytes-node n s = bytes-append (cond (is-exact n) (255 ∷ []) []) (map label-of (branches-of n)) (extra (is-exact n)) s
+  where
+    extra : (b : Bool) → Is-bytes (cond b (255 ∷ []) [])
+    extra true = (omega arith, tt)
+    extra false = tt
+
+bytes-labels : (ns : List Node) → All Byte-labels ns → Is-bytes (concat (map sparse-labels ns))
+unfolding concat
+bytes-labels [] s = tt
+bytes-labels (n ∷ ns) s = bytes-append (sparse-labels n) (concat (map sparse-labels ns)) (bytes-node n (s .0)) (bytes-labels ns (s .1))
+
+bytes-marked : (a b : ℕ) (body : Bytes) → a < 256 → b < 256 → Is-bytes body → Is-bytes (marked a b body)
+unfolding marked
+bytes-marked a b body p q s = (p, (q, bytes-append (le32 (length body)) body (bytes-le32 (length body)) s))
+
+bytes-frames : (ms : List ℕ) (bs : List Bytes) → Is-bytes ms → All Is-bytes bs → Is-bytes (write-records ms bs)
+unfolding write-records
+bytes-frames [] bs m s = tt
+bytes-frames (a ∷ []) bs m s = tt
+bytes-frames (a ∷ b ∷ ms) [] m s = tt
+bytes-frames (a ∷ b ∷ ms) (body ∷ bs) m s = bytes-append (marked a b body) (write-records ms bs) (bytes-marked a b body (m .0) (m .1 .0) (s .0)) (bytes-frames ms bs (m .1 .1) (s .1))
+
+bytes-header : (st : Settings) (a b c d : ℕ) → st .dense ≤ 4 → st .width ≤ 16 → Is-bytes (header st a b c d)
+unfolding header
+bytes-header st a b c d p q = (
+  omega arith,
+  (
+    omega arith,
+    (
+      omega arith,
+      (
+        omega arith,
+        (
+          omega arith,
+          (
+            omega arith,
+            bytes-append (le32 a) (le32 b ++ (le32 c ++ le32 d)) (bytes-le32 a) (bytes-append (le32 b) (le32 c ++ le32 d) (bytes-le32 b) (bytes-append (le32 c) (le32 d) (bytes-le32 c) (bytes-le32 d))),
+          ),
+        ),
+      ),
+    ),
+  ),
+)
+
+bytes-marks : Is-bytes marks
+bytes-marks = (omega arith, (omega arith, (omega arith, (omega arith, (omega arith, (omega arith, (omega arith, (omega arith, (omega arith, (omega arith, (omega arith, (omega arith, (omega arith, (omega arith, (omega arith, (omega arith, (omega arith, (omega arith, (omega arith, (omega arith, (omega arith, (omega arith, (omega arith, (omega arith, tt))))))))))))))))))))))))
+
+bytes-bodies : (n count : ℕ) (ds ss : List Node) → Writable n count ds ss → All Is-bytes (layout (bodies ds ss))
+bytes-bodies n count ds ss w =
+    rw (bodies-bits ds ss) (
+      bytes-pack (concat (map dense-labels ds)),
+      (
+        bytes-pack (concat (map dense-has-child ds)),
+        (
+          bytes-pack (map is-exact ds),
+          (
+            bytes-labels ss (w .sparse-bytes),
+            (
+              bytes-pack (concat (map sparse-has-child ss)),
+              (
+                bytes-pack (concat (map louds ss)),
+                (bytes-pack (concat (map slots (ds ++ ss))), (bytes-ranks 64 (concat (map dense-labels ds)), (bytes-ranks 64 (concat (map dense-has-child ds)), (bytes-ranks 64 (map is-exact ds), (bytes-ranks 512 (concat (map sparse-has-child ss)), (bytes-samples (concat (map louds ss)), tt)))))),
+              ),
+            ),
+          ),
+        ),
+      ),
+    )
+
+-- every byte of an image is below 256
+pub image-bytes : (st : Settings) (ls : List Leaf) → Buildable st ls → Is-bytes (image st ls)
+image-bytes st ls v =
+    let h = image-holds st ls v in
+    let ds : List Node = h .dense-nodes in
+    let ss : List Node = h .sparse-nodes in
+    rw (h .image-is)
+    (bytes-append (header st (length ls) (length ds) (length (bodies ds ss .SL)) (length ss)) (write-records marks (layout (bodies ds ss)))
+    (bytes-header st (length ls) (length ds) (length (bodies ds ss .SL)) (length ss) (v .dense-range) (v .width-range)) (bytes-frames marks (layout (bodies ds ss)) bytes-marks (bytes-bodies (st .width) (length ls) ds ss (h .writable))))

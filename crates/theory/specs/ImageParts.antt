@@ -1,0 +1,258 @@
+-- An image of nodes, read back: its header, its bodies, its parts (`parts-back`) and its nodes (`nodes-back`); and the image of a buildable leaf list is that of its trie's nodes (`image-holds`).
+-- Used by acceptance of images and by reading back.
+use Prim.Native.Nat.{ℕ, _≤_, _*_, _<_, _+_}
+use mathlib.Core.Path.{_≡_, ap, _∙_, ap₂, sym, refl}
+use mathlib.Core.List.{List, map, _++_, map-append, append-nil, []}
+use mathlib.Core.Option.{some}
+use native.Mathlib.Omega.{arith}
+use native.Mathlib.Nat.{mul-le-mul}
+use lib.ListN.{length, length-map, drop, length-append, take}
+use lib.Seq.{take-all, take-nil, drop-nil}
+use Rattle.spec.specs.Bytes.{concat, Bytes, Bits, blocks, pack}
+use Rattle.spec.specs.Leaves.{Leaf}
+use Rattle.spec.specs.Image.{Settings, header, Bodies, image}
+use Rattle.spec.specs.Frame.{Parts, parts, marks, read-bodies}
+use Rattle.spec.specs.Nodes.{Node, is-exact, sparse-nodes, nodes-of, Shape, slotted, sparse-shape, total, children-of}
+use Rattle.spec.specs.Trie.{leaf-count}
+use Rattle.theory.specs.Words.{All}
+use Rattle.theory.specs.Lists.{concat-split, all-split}
+use Rattle.theory.specs.Frame.{Header-fields, write-records, header-back, Short-bodies, drop-header, read-bodies-write}
+use Rattle.theory.specs.Bits.{unpack-at, length-pack, length-ranks, length-samples}
+use Rattle.theory.specs.LevelTrie.{trie, trie-dense, trie-sparse}
+use Rattle.theory.specs.LinkedLevels.{Labelled}
+use Rattle.theory.specs.Levels.{leaf-count-root, nodes-bound, linked-labelled, linked-count, sparse-labels-count, leaf-count-append, total-append}
+use Rattle.theory.specs.TrieTests.{Trie-right, root-first-width, realizable-trie, Empty-or-right, empty-list, right-trie}
+use Rattle.theory.specs.LevelSlots.{Levels-right, levels-right, realizable-leaf-right}
+use Rattle.theory.specs.NodeBits.{sparse-labels, dense-labels, dense-has-child, sparse-has-child, louds, slots, Byte-labels, Slots-width, layout, bodies-of, node-image, bodies, bodies-bits, length-sv, shape-of, slotted-back}
+use Rattle.theory.specs.LiteralImage.{Buildable, image-of-trie}
+use Rattle.theory.specs.DenseBits.{length-dl, length-dc, dense-shapes-back}
+use Rattle.theory.specs.SparseBits.{length-sc, length-sb, sparse-of, split-nodes, sparse-shapes-back, louds-ones}
+
+-- the parts of the image of these nodes
+abbrev pub parts-of-nodes : Settings → ℕ → List Node → List Node → Parts
+parts-of-nodes st count ds ss = record {
+  dense = st .dense;
+  width = st .width;
+  leaves = count;
+  dense-count = length ds;
+  entry-count = length (concat (map sparse-labels ss));
+  sparse-count = length ss;
+  dl = concat (map dense-labels ds);
+  dc = concat (map dense-has-child ds);
+  dp = map is-exact ds;
+  sl = concat (map sparse-labels ss);
+  sc = concat (map sparse-has-child ss);
+  sb = concat (map louds ss);
+  sv = concat (map slots (ds ++ ss));
+}
+
+-- nodes with slots of n bits, labels that are bytes and ascend, and counts that fit 32 bits
+pub record Writable (n count : ℕ) (ds ss : List Node) : Type 0 where
+  pub dense-labelled : All Labelled ds
+  pub sparse-labelled : All Labelled ss
+  pub dense-bytes : All Byte-labels ds
+  pub sparse-bytes : All Byte-labels ss
+  pub wide : All (Slots-width n) (ds ++ ss)
+  pub leaf-total : leaf-count (ds ++ ss) ≡ count
+  pub width-range : n ≤ 16
+  pub few : count ≤ 65535
+  pub few-dense : length ds ≤ 262140
+  pub few-entries : length (concat (map sparse-labels ss)) ≤ 4300000
+  pub few-sparse : length ss ≤ 4300000
+
+-- ---- the header and the parts
+
+parts-of-bits : (s : Bytes) (st : Settings) (a b c d : ℕ) (dl dc dp : Bits) (sl : Bytes) (sc sb sv : Bits) → Header-fields st a b c d s
+    → length dl ≡ 256 * b → length dc ≡ 256 * b → length dp ≡ b → length sc ≡ c → length sb ≡ c → length sv ≡ a * st .width
+    → parts s (layout (bodies-of dl dc dp sl sc sb sv)) ≡ record { dense = st .dense; width = st .width; leaves = a; dense-count = b; entry-count = c; sparse-count = d; dl = dl; dc = dc; dp = dp; sl = sl; sc = sc; sb = sb; sv = sv }
+unfolding parts
+parts-of-bits s st a b c d dl dc dp sl sc sb sv h e₀ e₁ e₂ e₄ e₅ e₆ =
+    rw (h .dense, h .width, h .count₀, h .count₁, h .count₂, h .count₃, unpack-at (256 * b) dl e₀, unpack-at (256 * b) dc e₁, unpack-at b dp e₂, unpack-at c sc e₄, unpack-at c sb e₅, unpack-at (a * st .width) sv e₆)
+
+-- the header of the image of these nodes
+abbrev pub header-of-nodes : Settings → ℕ → List Node → List Node → Bytes
+header-of-nodes st count ds ss = header st count (length ds) (length (concat (map sparse-labels ss))) (length ss)
+
+-- The image of nodes is this header and its records.
+pub node-image-is : (st : Settings) (count : ℕ) (ds ss : List Node) → node-image st count ds ss ≡ header-of-nodes st count ds ss ++ write-records marks (layout (bodies ds ss))
+node-image-is st count ds ss = ap (λ (b : Bodies). header st count (length ds) (length (b .SL)) (length ss) ++ write-records marks (layout (bodies ds ss))) (bodies-bits ds ss)
+
+-- The header of the image of nodes is read back.
+pub node-image-header : (st : Settings) (count : ℕ) (ds ss : List Node) → Writable (st .width) count ds ss → Header-fields st count (length ds) (length (concat (map sparse-labels ss))) (length ss) (node-image st count ds ss)
+node-image-header st count ds ss w =
+    rw (node-image-is st count ds ss)
+    (header-back st count (length ds) (length (concat (map sparse-labels ss))) (length ss) (write-records marks (layout (bodies ds ss))) (omega (arith, w .few)) (omega (arith, w .few-dense)) (omega (arith, w .few-entries)) (omega (arith, w .few-sparse)))
+
+-- The slots of an image have n bits a leaf.
+pub sv-size : (n count : ℕ) (ds ss : List Node) → Writable n count ds ss → length (concat (map slots (ds ++ ss))) ≡ count * n
+sv-size n count ds ss w = length-sv n (ds ++ ss) (w .wide) ∙ ap (λ (k : ℕ). k * n) (w .leaf-total)
+
+-- The parts of the image of nodes are read back.
+pub parts-back : (st : Settings) (count : ℕ) (ds ss : List Node) → Writable (st .width) count ds ss → parts (node-image st count ds ss) (layout (bodies ds ss)) ≡ parts-of-nodes st count ds ss
+parts-back st count ds ss w =
+    ap (λ (b : Bodies). parts (node-image st count ds ss) (layout b)) (bodies-bits ds ss)
+    ∙ parts-of-bits (node-image st count ds ss) st count (length ds) (length (concat (map sparse-labels ss))) (length ss) (concat (map dense-labels ds)) (concat (map dense-has-child ds)) (map is-exact ds)
+    (concat (map sparse-labels ss)) (concat (map sparse-has-child ss)) (concat (map louds ss)) (concat (map slots (ds ++ ss))) (node-image-header st count ds ss w)
+    (length-dl ds) (length-dc ds) (length-map ds is-exact) (length-sc ss (w .sparse-labelled)) (length-sb ss (w .sparse-labelled)) (sv-size (st .width) count ds ss w)
+
+-- ---- the nodes
+
+-- The sparse entries of the image of nodes are read back, node by node.
+pub sparse-nodes-back : (st : Settings) (count : ℕ) (ds ss : List Node) → Writable (st .width) count ds ss → sparse-nodes (parts-of-nodes st count ds ss) ≡ map sparse-of ss
+unfolding sparse-nodes
+sparse-nodes-back st count ds ss w = split-nodes ss (w .sparse-labelled)
+
+-- The nodes of their image are read back.
+pub nodes-back : (st : Settings) (count : ℕ) (ds ss : List Node) → Writable (st .width) count ds ss → nodes-of (parts-of-nodes st count ds ss) ≡ ds ++ ss
+unfolding nodes-of
+nodes-back st count ds ss w =
+    ap₂ (λ (a b : List Shape). slotted (st .width) (a ++ b) (concat (map slots (ds ++ ss)))) (dense-shapes-back ds (w .dense-labelled) (w .dense-bytes))
+    (ap (map sparse-shape) (sparse-nodes-back st count ds ss w) ∙ sparse-shapes-back ss (w .sparse-labelled) (w .sparse-bytes) .0)
+    ∙ ap₂ (λ (a : List Shape) (b : Bits). slotted (st .width) a b) (sym (map-append shape-of ds ss)) (sym (append-nil (concat (map slots (ds ++ ss)))))
+    ∙ slotted-back (st .width) (ds ++ ss) [] (w .wide)
+
+-- ---- the bodies
+
+blocks-short : (n : ℕ) → n < 34359738360 → blocks 8 n < 4294967296
+blocks-short n h = omega arith
+
+pack-short : (bs : Bits) → length bs < 34359738360 → length (pack bs) < 4294967296
+pack-short bs h = rw (length-pack bs) (blocks-short (length bs) h)
+
+slots-short : (n count : ℕ) → n ≤ 16 → count ≤ 65535 → count * n < 34359738360
+slots-short n count h k = let m : count * n ≤ 65535 * 16 = mul-le-mul k h in omega arith
+
+-- The bodies' lengths fit 32 bits.
+bodies-short : (n count : ℕ) (ds ss : List Node) → Writable n count ds ss → Short-bodies (layout (bodies ds ss))
+bodies-short n count ds ss w =
+    rw (bodies-bits ds ss) (
+      pack-short (concat (map dense-labels ds)) (omega (arith, length-dl ds, w .few-dense)),
+      (
+        pack-short (concat (map dense-has-child ds)) (omega (arith, length-dc ds, w .few-dense)),
+        (
+          pack-short (map is-exact ds) (omega (arith, length-map ds is-exact, w .few-dense)),
+          (
+            omega (arith, w .few-entries),
+            (
+              pack-short (concat (map sparse-has-child ss)) (omega (arith, length-sc ss (w .sparse-labelled), w .few-entries)),
+              (
+                pack-short (concat (map louds ss)) (omega (arith, length-sb ss (w .sparse-labelled), w .few-entries)),
+                (
+                  pack-short (concat (map slots (ds ++ ss))) (omega (arith, sv-size n count ds ss w, slots-short n count (w .width-range) (w .few))),
+                  (
+                    omega (arith, length-ranks 64 (concat (map dense-labels ds)), length-dl ds, w .few-dense),
+                    (
+                      omega (arith, length-ranks 64 (concat (map dense-has-child ds)), length-dc ds, w .few-dense),
+                      (
+                        omega (arith, length-ranks 64 (map is-exact ds), length-map ds is-exact, w .few-dense),
+                        (
+                          omega (arith, length-ranks 512 (concat (map sparse-has-child ss)), length-sc ss (w .sparse-labelled), w .few-entries),
+                          (omega (arith, length-samples (concat (map louds ss)), louds-ones ss (w .sparse-labelled) .0, w .few-sparse), tt),
+                        ),
+                      ),
+                    ),
+                  ),
+                ),
+              ),
+            ),
+          ),
+        ),
+      ),
+    )
+
+-- The bodies of the image of nodes are read back.
+pub node-image-bodies : (st : Settings) (count : ℕ) (ds ss : List Node) → Writable (st .width) count ds ss → read-bodies marks (drop 22 (node-image st count ds ss)) ≡ some (layout (bodies ds ss))
+node-image-bodies st count ds ss w =
+    ap (λ (z : Bytes). read-bodies marks (drop 22 z)) (node-image-is st count ds ss)
+    ∙ ap (read-bodies marks) (drop-header st count (length ds) (length (concat (map sparse-labels ss))) (length ss) (write-records marks (layout (bodies ds ss))) .4)
+    ∙ read-bodies-write marks (layout (bodies ds ss)) tt (bodies-short (st .width) count ds ss w)
+
+-- ---- the nodes of a buildable leaf list
+
+module _ (st : Settings) (ls : List Leaf) (v : Buildable st ls) (t : Trie-right ls) where
+  -- The labels and slots of the trie's levels are right.
+  pub trie-levels-right : Levels-right (st .width) 0 (trie ls)
+  trie-levels-right = levels-right (st .width) 0 (trie ls) (t .linked) (rw (t .root) (realizable-leaf-right (st .width) ls ls (v .well-sized) (v .realizable .shortest), tt))
+
+  -- The trie's nodes have as many leaves as the list.
+  pub trie-leaf-count : leaf-count (concat (trie ls)) ≡ length ls
+  trie-leaf-count = sym (leaf-count-root (trie ls) ls (t .linked) (t .root))
+
+  all-nodes : length (concat (trie ls)) ≤ 4194240
+  all-nodes = let e = ap (λ (z : List (List Node)). length (concat z)) (take-all 64 (trie ls) (t .shallow)) in omega (arith, nodes-bound 64 65535 (trie ls) (t .linked) (omega (arith, trie-leaf-count, v .few)), e)
+
+  -- The trie's nodes can be written.
+  pub trie-writable : Writable (st .width) (length ls) (trie-dense (st .dense) ls) (trie-sparse (st .dense) ls)
+  trie-writable =
+      let ds : List Node = trie-dense (st .dense) ls in
+      let ss : List Node = trie-sparse (st .dense) ls in
+      let whole : ds ++ ss ≡ concat (trie ls) = concat-split (st .dense) (trie ls) in
+      let f : All Labelled (ds ++ ss) = rw whole (linked-labelled (trie ls) (t .linked)) in
+      let s : All Byte-labels (ds ++ ss) = rw whole (trie-levels-right .bytes) in
+      let c : leaf-count (ds ++ ss) ≡ length ls = ap leaf-count whole ∙ trie-leaf-count in
+      let n : length (ds ++ ss) ≤ 4194240 = rw whole all-nodes in
+      let k : total children-of (ds ++ ss) + 1 ≤ 4194241 = let e = linked-count (trie ls) (t .linked) in rw whole (omega (arith, (root-first-width t), all-nodes)) in
+      record {
+        dense-labelled = all-split Labelled ds ss f .0;
+        sparse-labelled = all-split Labelled ds ss f .1;
+        dense-bytes = all-split Byte-labels ds ss s .0;
+        sparse-bytes = all-split Byte-labels ds ss s .1;
+        wide = rw whole (trie-levels-right .wide);
+        leaf-total = c;
+        width-range = v .width-range;
+        few = v .few;
+        few-dense = omega (arith, nodes-bound (st .dense) 65535 (trie ls) (t .linked) (omega (arith, trie-leaf-count, v .few)));
+        few-entries = omega (arith, sparse-labels-count ss, leaf-count-append ds ss, total-append children-of ds ss);
+        few-sparse = omega (arith, length-append ds ss);
+      }
+
+empty-trie : trie [] ≡ []
+unfolding trie
+empty-trie = refl
+
+empty-concat : _≡_ {A = List Node} (concat []) []
+unfolding concat
+empty-concat = refl
+
+pub no-nodes-writable : (st : Settings) → st .width ≤ 16 → Writable (st .width) 0 [] []
+unfolding leaf-count concat
+no-nodes-writable st h = record {
+  dense-labelled = tt;
+  sparse-labelled = tt;
+  dense-bytes = tt;
+  sparse-bytes = tt;
+  wide = tt;
+  leaf-total = refl;
+  width-range = h;
+  few = omega arith;
+  few-dense = omega arith;
+  few-entries = omega arith;
+  few-sparse = omega arith;
+}
+
+-- The empty list's image has no node.
+pub empty-image : (st : Settings) → Buildable st [] → image st [] ≡ node-image st 0 [] []
+empty-image st v = image-of-trie st [] v ∙ ap₂ (λ (a b : List Node). node-image st 0 a b) (ap (λ (z : List (List Node)). concat (take (st .dense) z)) empty-trie ∙ ap concat (take-nil {A = List Node} (st .dense)) ∙ empty-concat)
+    (ap (λ (z : List (List Node)). concat (drop (st .dense) z)) empty-trie ∙ ap concat (drop-nil {A = List Node} (st .dense)) ∙ empty-concat)
+
+-- an image is that of the nodes of its leaf list's trie
+pub record Image-holds (st : Settings) (ls : List Leaf) : Type 0 where
+  pub dense-nodes : List Node
+  pub sparse-nodes : List Node
+  pub image-is : image st ls ≡ node-image st (length ls) dense-nodes sparse-nodes
+  pub writable : Writable (st .width) (length ls) dense-nodes sparse-nodes
+  pub whole : dense-nodes ++ sparse-nodes ≡ concat (trie ls)
+
+-- The image of a buildable leaf list holds its trie's nodes.
+pub image-holds : (st : Settings) (ls : List Leaf) → Buildable st ls → Image-holds st ls
+image-holds st ls v = go (realizable-trie (st .width) ls (v .realizable) (v .well-sized)) v
+  where
+    go : {ls : List Leaf} → Empty-or-right ls → Buildable st ls → Image-holds st ls
+    go empty-list v = record { dense-nodes = []; sparse-nodes = []; image-is = empty-image st v; writable = no-nodes-writable st (v .width-range); whole = sym (ap concat empty-trie ∙ empty-concat) }
+    go (right-trie {ls = ls} t) v = record {
+      dense-nodes = trie-dense (st .dense) ls;
+      sparse-nodes = trie-sparse (st .dense) ls;
+      image-is = image-of-trie st ls v;
+      writable = trie-writable st ls v t;
+      whole = concat-split (st .dense) (trie ls);
+    }
