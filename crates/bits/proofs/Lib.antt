@@ -1,0 +1,6 @@
+pub mod ValueLaws
+pub mod RankLaws
+pub mod SelectLaws
+pub mod BitLaws
+pub mod UnpackLaws
+pub mod CoverLaws

@@ -1,0 +1,28 @@
+use Prim.Native.Nat.{_*_}
+use native.Mathlib.Omega.{arith}
+use lib.Count.{ones-le}
+use Rattle.bits.proofs.ValueLaws.{Small, word-lt}
+use Rattle.bits.proofs.RankLaws.{rank-whole-word}
+use borrow.Author.Needs.{needs}
+use Rattle.bits.proofs.ones.ones_word.Statement.{statement}
+use Rattle.bits.proofs.ones.ones_word.Tie as tie
+
+-- src/ones.rt:38:21
+read-word-requires : tie.Need-read-word-requires
+read-word-requires c κs = search needs
+
+-- src/ones.rt:38:5
+cast-result : tie.Need-cast-result
+cast-result c =
+    let a = c .before .before .args in
+    omega (arith, ones-le 64 (c .read-word .result) (rw (c .read-word .ensures) (word-lt (a .s .now) (a .q * 8))))
+
+-- src/ones.rt:34:1
+returns : tie.Need-returns
+returns c =
+    let a = c .before .before .args in
+    let small : Small (a .s .now) = λ i. c .before .shared-slice-known .given i .fits in
+    rw (c .read-word .ensures) (rank-whole-word (a .s .now) small (a .q))
+
+pub ones-word-spec : {M : Type 1} → statement M
+ones-word-spec = tie.close (tie.spec read-word-requires cast-result returns)

@@ -1,0 +1,80 @@
+// Numbers of four and of eight bytes in a slice, the low byte first.
+ghost use mathlib.Core.Path.{_≡_};
+ghost use Prim.Native.Nat.{_+_, _*_, _≤_, _<_};
+ghost use lib.ListN.{length, drop};
+ghost use Rattle.spec.specs.Bytes.{from32, le32};
+ghost use Rattle.bits.specs.Bits.{word, placed};
+
+// A byte as a usize.
+pub fn wide(x: u8) -> usize
+    ensures { λ r. ⌜ (r ≡ x) × (r < 256) ⌝ }
+{
+    x as usize
+}
+
+// A byte as a u64.
+fn wide64(x: u8) -> u64
+    ensures { λ r. ⌜ (r ≡ x) × (r < 256) ⌝ }
+{
+    x as u64
+}
+
+// The number in the four bytes of s from at.
+pub fn read32(s: &[u8], at: usize) -> usize
+    requires { ⌜ at + 4 ≤ length (now s) ⌝ }
+    ensures { λ r. ⌜ (r ≡ from32 (drop at (now (s .entry)))) × (r < 4294967296) ⌝ }
+{
+    wide(s[at]) + 256 * wide(s[at + 1]) + 65536 * wide(s[at + 2]) + 16777216 * wide(s[at + 3])
+}
+
+// The low four bytes of v go to s from at, and all else stays.
+pub fn write32(s: &mut [u8], at: usize, v: usize)
+    requires { ⌜ at + 4 ≤ length (now s) ⌝ }
+    ensures { λ _. ⌜ now (s .exit) ≡ placed (now (s .entry)) at (le32 v) ⌝ }
+{
+    s[at] = (v % 256) as u8;
+    s[at + 1] = (v / 256 % 256) as u8;
+    s[at + 2] = (v / 65536 % 256) as u8;
+    s[at + 3] = (v / 16777216 % 256) as u8;
+}
+
+// The number in the eight bytes of s from at.
+pub fn read64(s: &[u8], at: usize) -> u64
+    requires { ⌜ at + 8 ≤ length (now s) ⌝ }
+    ensures { λ r. ⌜ r ≡ word (now (s .entry)) at ⌝ }
+{
+    let lo = wide64(s[at])
+        + 256 * wide64(s[at + 1])
+        + 65536 * wide64(s[at + 2])
+        + 16777216 * wide64(s[at + 3]);
+    let hi = wide64(s[at + 4])
+        + 256 * wide64(s[at + 5])
+        + 65536 * wide64(s[at + 6])
+        + 16777216 * wide64(s[at + 7]);
+    lo + 4294967296 * hi
+}
+
+// The number in the bytes of s from at to its end, which are fewer than eight.
+fn read_end(s: &[u8], at: usize) -> u64
+    requires { ⌜ (at ≤ length (now s)) × (length (now s) < at + 8) ⌝ }
+    ensures { λ r. ⌜ r ≡ word (now (s .entry)) at ⌝ }
+{
+    let mut w = 0u64;
+    let mut i = s.len();
+    while at < i {
+        i = i - 1;
+        w = w * 256 + wide64(s[i]);
+    }
+    w
+}
+
+// Word q of s, that is, bits 64 q to 64 q + 63, zeros where s has ended.
+pub fn read_word(s: &[u8], q: usize) -> u64
+    requires { ⌜ q * 8 ≤ length (now s) ⌝ }
+    ensures { λ r. ⌜ r ≡ word (now (s .entry)) (q * 8) ⌝ }
+{
+    if s.len() - q * 8 < 8 {
+        return read_end(s, q * 8);
+    }
+    read64(s, q * 8)
+}

@@ -1,0 +1,62 @@
+// Single bits, and counts of ones by 64-bit words.
+ghost use mathlib.Core.Path.{_≡_};
+ghost use Prim.Native.Nat.{_+_, _*_, _≤_, _<_};
+ghost use lib.ListN.{length};
+ghost use Rattle.bits.specs.Bits.{bit-at, rank, with-bit};
+use super::numbers::read_word;
+use super::numbers::wide;
+
+// Bit i of s.
+pub fn bit_at(s: &[u8], i: usize) -> usize
+    requires { ⌜ i < 8 * length (now s) ⌝ }
+    ensures { λ r. ⌜ r ≡ bit-at (now (s .entry)) i ⌝ }
+{
+    (wide(s[i / 8]) >> (i % 8)) % 2
+}
+
+// Bit i of out becomes 1, and every other bit stays.
+pub fn set_bit(out: &mut [u8], i: usize)
+    requires { ⌜ i < 8 * length (now out) ⌝ }
+    ensures { λ _. ⌜ now (out .exit) ≡ with-bit (now (out .entry)) i ⌝ }
+{
+    let b = i / 8;
+    out[b] = out[b] | (1u8 << (i % 8));
+}
+
+// The ones in byte b of s.
+pub fn ones_byte(s: &[u8], b: usize) -> usize
+    requires { ⌜ b < length (now s) ⌝ }
+    ensures { λ r. ⌜ (rank (now (s .entry)) (8 * b + 8) ≡ rank (now (s .entry)) (8 * b) + r) × (r ≤ 8) ⌝ }
+{
+    usize::count_ones(wide(s[b])) as usize
+}
+
+// The ones in word q of s, that is, in bits 64 q to 64 q + 63.
+pub fn ones_word(s: &[u8], q: usize) -> usize
+    requires { ⌜ q * 8 ≤ length (now s) ⌝ }
+    ensures { λ r. ⌜ (rank (now (s .entry)) (64 * q + 64) ≡ rank (now (s .entry)) (64 * q) + r) × (r ≤ 64) ⌝ }
+{
+    u64::count_ones(read_word(s, q)) as usize
+}
+
+// The ones in the first j bits of word q of s.
+pub fn ones_before(s: &[u8], q: usize, j: usize) -> usize
+    requires { ⌜ (q * 8 ≤ length (now s)) × (j < 64) ⌝ }
+    ensures { λ r. ⌜ (rank (now (s .entry)) (64 * q + j) ≡ rank (now (s .entry)) (64 * q) + r) × (r ≤ j) ⌝ }
+{
+    u64::count_ones(read_word(s, q) % (1u64 << j)) as usize
+}
+
+// The ones before bit k of s, counted on from word `from`, before which stand `before` ones.
+pub fn rank_from(s: &[u8], from: usize, before: usize, k: usize) -> usize
+    requires { ⌜ (k ≤ 8 * length (now s)) × (64 * from ≤ k) × (before ≡ rank (now s) (64 * from)) ⌝ }
+    ensures { λ r. ⌜ r ≡ rank (now (s .entry)) k ⌝ }
+{
+    let mut r = before;
+    let mut q = from;
+    while q < k / 64 {
+        r = r + ones_word(s, q);
+        q = q + 1;
+    }
+    r + ones_before(s, q, k % 64)
+}

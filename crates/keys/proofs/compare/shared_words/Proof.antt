@@ -1,0 +1,86 @@
+use mathlib.Core.Path.{_≡_, refl, sym, ap, _∙_}
+use Prim.Native.Nat.{ℕ, _*_, _-_, _%_, _^_, _≤_}
+use Rattle.keys.proofs.PrefixLaws.{same-word}
+use Rattle.bits.proofs.ValueLaws.{Small}
+use native.Mathlib.Omega.{arith}
+use borrow.Author.Needs.{needs}
+use lib.ListN.{take}
+use Rattle.keys.proofs.compare.shared_words.Statement.{statement}
+use Rattle.keys.proofs.compare.shared_words.Tie as tie
+
+abbrev Inv-loop : tie.InvT-loop
+Inv-loop p q n i₀ i = (i ≤ n) × (take i p ≡ take i q)
+
+abbrev μ-loop : tie.MeasureT-loop
+μ-loop p q n i₀ i = n - i
+
+-- src/compare.rt:38:5
+loop-holds : tie.Need-loop-holds Inv-loop μ-loop
+loop-holds c = (omega arith, refl)
+
+-- src/compare.rt:38:16
+sub-loop : tie.Need-sub-loop Inv-loop μ-loop
+sub-loop c = search needs
+
+-- src/compare.rt:39:29
+read64-requires : tie.Need-read64-requires Inv-loop μ-loop
+read64-requires c κs = search needs
+
+-- src/compare.rt:39:43
+read64-requires-2 : tie.Need-read64-requires-2 Inv-loop μ-loop
+read64-requires-2 c κs = search needs
+
+-- src/compare.rt:39:13
+equal-bytes-requires : tie.Need-equal-bytes-requires Inv-loop μ-loop
+equal-bytes-requires c κs = search needs
+
+-- src/compare.rt:40:13
+add-i : tie.Need-add-i Inv-loop μ-loop
+add-i c = search needs
+
+-- src/compare.rt:42:13
+returns : tie.Need-returns Inv-loop μ-loop
+returns c =
+    let a = c .before .before .before .before .before .before .before .before .args in
+    let l = c .before .before .before .before .before .loop in
+    let k = c .before .equal-bytes in
+    let small₁ : Small (a .p .now) = λ i. c .before .before .before .before .before .before .before .shared-slice-known .given i .fits in
+    let small₂ : Small (a .q .now) = λ i. c .before .before .before .before .before .before .shared-slice-known2 .given i .fits in
+    let e = ap (λ (x : ℕ). x % 2 ^ (8 * k .result)) (sym (c .before .before .before .read64 .ensures)) ∙ k .ensures .1 ∙ ap (λ (x : ℕ). x % 2 ^ (8 * k .result)) (c .before .before .read642 .ensures) in
+    (omega arith, same-word (a .p .now) (a .q .now) small₁ small₂ (l .i) (k .result) (k .ensures .0) (omega arith) (omega arith) (l .inv .1) e)
+
+-- src/compare.rt:38:5
+loop-less : tie.Need-loop-less Inv-loop μ-loop
+loop-less c = search needs
+
+-- src/compare.rt:38:5
+loop-again : tie.Need-loop-again Inv-loop μ-loop
+loop-again c =
+    let a = c .before .before .before .before .before .before .before .before .args in
+    let l = c .before .before .before .before .before .loop in
+    let k = c .before .equal-bytes in
+    let small₁ : Small (a .p .now) = λ i. c .before .before .before .before .before .before .before .shared-slice-known .given i .fits in
+    let small₂ : Small (a .q .now) = λ i. c .before .before .before .before .before .before .shared-slice-known2 .given i .fits in
+    let e = ap (λ (x : ℕ). x % 2 ^ (8 * k .result)) (sym (c .before .before .before .read64 .ensures)) ∙ k .ensures .1 ∙ ap (λ (x : ℕ). x % 2 ^ (8 * k .result)) (c .before .before .read642 .ensures) in
+    (omega arith, same-word (a .p .now) (a .q .now) small₁ small₂ (l .i) (k .result) (k .ensures .0) (omega arith) (omega arith) (l .inv .1) e)
+
+-- src/compare.rt:33:1
+returns-2 : tie.Need-returns-2 Inv-loop μ-loop
+returns-2 c = c .before .loop .inv
+
+pub shared-words-spec : {M : Type 1} → statement M
+shared-words-spec =
+    tie.close
+    (tie.spec
+    Inv-loop
+    μ-loop
+    loop-holds
+    sub-loop
+    read64-requires
+    read64-requires-2
+    equal-bytes-requires
+    add-i
+    returns
+    loop-less
+    loop-again
+    returns-2)

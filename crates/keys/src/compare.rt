@@ -1,0 +1,90 @@
+// The prefix that two keys share, and their order.
+ghost use mathlib.Core.Path.{_≡_};
+ghost use Prim.Native.Nat.{min, _*_, _≤_, _^_, _%_};
+ghost use lib.ListN.{length, take};
+ghost use Rattle.spec.specs.Bytes.{shared};
+ghost use Rattle.keys.specs.Keys.{order};
+use bits::numbers::read64;
+
+// How a key stands to another.
+pub enum Order {
+    Below,
+    Equal,
+    Above,
+}
+
+// How many low bytes, up to eight, two words have in common before their first difference.
+fn equal_bytes(x: u64, y: u64) -> usize
+    ensures { λ r. ⌜ (r ≤ 8) × (x % 2 ^ (8 * r) ≡ y % 2 ^ (8 * r)) ⌝ }
+{
+    (u64::trailing_zeros(x ^ y) / 8) as usize
+}
+
+// The length of the shorter key.
+fn shorter(p: &[u8], q: &[u8]) -> usize
+    ensures { λ r. ⌜ r ≡ min (length (now (p .entry))) (length (now (q .entry))) ⌝ }
+{
+    let m = p.len();
+    let n = q.len();
+    if m < n { m } else { n }
+}
+
+// So many of the first n bytes are the same in both keys: whole words, and those before the first difference in a word.
+fn shared_words(p: &[u8], q: &[u8], n: usize) -> usize
+    requires { ⌜ (n ≤ length (now p)) × (n ≤ length (now q)) ⌝ }
+    ensures { λ r. ⌜ (r ≤ n) × (take r (now (p .entry)) ≡ take r (now (q .entry))) ⌝ }
+{
+    let mut i = 0usize;
+    while 8 <= n - i {
+        let k = equal_bytes(read64(p, i), read64(q, i));
+        i = i + k;
+        if k < 8 {
+            return i;
+        }
+    }
+    i
+}
+
+// The length of the longest prefix that two keys share, the shorter of n bytes, from a length that they are known to share.
+fn shared_from(p: &[u8], q: &[u8], n: usize, from: usize) -> usize
+    requires { ⌜ (n ≡ min (length (now p)) (length (now q))) × (from ≤ n) × (take from (now p) ≡ take from (now q)) ⌝ }
+    ensures { λ r. ⌜ r ≡ shared (now (p .entry)) (now (q .entry)) ⌝ }
+{
+    let mut i = from;
+    while i < n {
+        if p[i] != q[i] {
+            return i;
+        }
+        i = i + 1;
+    }
+    i
+}
+
+// The length of the longest prefix that two keys share: by words, then by bytes.
+pub fn shared(p: &[u8], q: &[u8]) -> usize
+    ensures { λ r. ⌜ r ≡ shared (now (p .entry)) (now (q .entry)) ⌝ }
+{
+    let n = shorter(p, q);
+    let i = shared_words(p, q, n);
+    shared_from(p, q, n, i)
+}
+
+// The order of two keys by unsigned bytes, a proper prefix first: the byte behind the shared prefix decides.
+pub fn compare(p: &[u8], q: &[u8]) -> Order
+    ensures { λ r. ⌜ r ≡ order (now (p .entry)) (now (q .entry)) ⌝ }
+{
+    let i = shared(p, q);
+    if q.len() <= i {
+        if p.len() <= i {
+            return Order::Equal;
+        }
+        return Order::Above;
+    }
+    if p.len() <= i {
+        return Order::Below;
+    }
+    if p[i] < q[i] {
+        return Order::Below;
+    }
+    Order::Above
+}
