@@ -245,7 +245,7 @@ unfolding ranks
 length-ranks w bs = length-le32s (λ b. ones (take (w * b) bs)) (iota 0 ((length bs + (w - 1)) / w)) ∙ ap (λ (k : ℕ). 4 * k) (length-iota 0 ((length bs + (w - 1)) / w))
 
 -- There are as many positions as ones.
-length-positions : (i : ℕ) (bs : Bits) → length (positions i bs) ≡ ones bs
+pub length-positions : (i : ℕ) (bs : Bits) → length (positions i bs) ≡ ones bs
 unfolding positions ones
 length-positions i [] = refl
 length-positions i (true ∷ bs) = omega (arith, length-positions (suc i) bs)

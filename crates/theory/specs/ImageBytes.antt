@@ -38,12 +38,12 @@ low-bound (suc k) [] = omega (arith, low-bound k [])
 low-bound (suc k) (true ∷ bs) = omega (arith, low-bound k bs)
 low-bound (suc k) (false ∷ bs) = omega (arith, low-bound k bs)
 
-bytes-packed : (k : ℕ) (bs : Bits) → Is-bytes (packed k bs)
+pub bytes-packed : (k : ℕ) (bs : Bits) → Is-bytes (packed k bs)
 unfolding packed
 bytes-packed zero bs = tt
 bytes-packed (suc k) bs = (low-bound 8 bs, bytes-packed k (drop 8 bs))
 
-bytes-pack : (bs : Bits) → Is-bytes (pack bs)
+pub bytes-pack : (bs : Bits) → Is-bytes (pack bs)
 unfolding pack
 bytes-pack bs = bytes-packed ((length bs + 7) / 8) bs
 

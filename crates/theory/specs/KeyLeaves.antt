@@ -148,7 +148,7 @@ leaves-realizable n ks q a = realizable n ks (λ k i. all-in Key q i .least) a
 
 -- ---- sizes
 
-length-padded : (n : ℕ) (bs : Bits) → length (padded n bs) ≡ n
+pub length-padded : (n : ℕ) (bs : Bits) → length (padded n bs) ≡ n
 unfolding padded
 length-padded zero bs = refl
 length-padded (suc n) [] = ap suc (length-padded n [])

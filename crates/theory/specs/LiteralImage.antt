@@ -99,7 +99,7 @@ map-prefix-nodes ls F G ps ns h e = map-ext F (λ p. G (node-at ls p)) h ps ∙ 
 -- ---- the image
 
 -- The bodies of a leaf list, from the bits and labels of its prefixes.
-literal-bodies : (dense : ℕ) (ls : List Leaf) → Literal.bodies dense ls
+pub literal-bodies : (dense : ℕ) (ls : List Leaf) → Literal.bodies dense ls
     ≡ bodies-of (concat (map (Literal.dense-labels ls) (nodes ls 0 dense))) (concat (map (Literal.dense-has-child ls) (nodes ls 0 dense))) (map (is-leaf ls) (nodes ls 0 dense))
     (concat (map (Literal.sparse-labels ls) (nodes ls dense 64))) (concat (map (Literal.sparse-has-child ls) (nodes ls dense 64))) (concat (map (Literal.louds ls) (nodes ls dense 64)))
     (concat (map (Literal.slots ls) (nodes ls 0 dense ++ nodes ls dense 64)))

@@ -102,7 +102,7 @@ trie-levels-continue (suc f) [] e = tt
 trie-levels-continue (suc f) (g ∷ gs) e =
     (all-map (Inner-group (suc f)) Sole-continues node-of (λ h p. p .0) (g ∷ gs) e, trie-levels-continue f (concat (map child-groups (g ∷ gs))) (child-groups-level f (g ∷ gs) (all-weaken (Inner-group (suc f)) (λ h. Trie-group (suc f) h) (λ h p. p .1) (g ∷ gs) e)))
 
-trie-levels-short : (f : ℕ) (gs : List Group) → length (trie-levels f gs) ≤ f
+pub trie-levels-short : (f : ℕ) (gs : List Group) → length (trie-levels f gs) ≤ f
 unfolding trie-levels
 trie-levels-short zero gs = omega arith
 trie-levels-short (suc f) [] = omega arith

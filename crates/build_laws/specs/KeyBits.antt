@@ -1,0 +1,98 @@
+-- The bits that a key list's image is made of, by the nodes of its trie, and that the keys emit the items of these nodes. Used by the laws of lengths and of the bodies.
+use Prim.Native.Nat.{ℕ}
+use mathlib.Core.Path.{_≡_, sym, ap, _∙_}
+use mathlib.Core.List.{List, _++_, map}
+use native.Mathlib.Omega.{arith}
+use native.Mathlib.Nat.{sub-zero}
+use lib.ListN.{length}
+use Rattle.spec.specs.Bytes.{Bytes, Bits, concat}
+use Rattle.spec.specs.Leaves.{leaves}
+use Rattle.spec.specs.Image.{Settings, Bodies}
+use Rattle.spec.specs.Image as Literal
+use Rattle.spec.specs.Nodes.{is-exact}
+use Rattle.build_laws.specs.LevelItems.{Chain}
+use Rattle.build_laws.specs.TrieItems.{Item, Rooted, items-of, items-between, items-first, items-rest}
+use Rattle.theory.specs.Neighbours.{Nonempty}
+use Rattle.build_laws.specs.NeighbourLeaves.{leaves-chain}
+use Rattle.build_laws.specs.Emissions.{Emission, values-below, map-emissions}
+use Rattle.build_laws.specs.KeyItems.{item-emissions, values-emitted}
+use Rattle.build_laws.specs.PassEmissions.{values-map, keys-nonempty}
+use Rattle.build_laws.specs.TrieFacts.{dense-nodes, sparse-nodes, Trie-facts, trie-facts, bodies-levels}
+use Rattle.theory.specs.BuildLaws.{Built-from, built-fits}
+use Rattle.theory.specs.LiteralImage.{Buildable}
+use Rattle.theory.specs.LevelTrie.{trie}
+use Rattle.theory.specs.NodeBits.{dense-labels, dense-has-child, sparse-has-child, louds, slots, bodies-of, sparse-labels}
+
+-- the bodies of a key list's image, as document 01 has them
+abbrev pub key-bodies : Settings → List Bytes → Bodies
+key-bodies st ks = Literal.bodies (st .dense) (leaves (st .width) ks)
+
+module _ (st : Settings) (ks : List Bytes) (b : Built-from st ks) where
+  -- the keys are not empty
+  pub some : Nonempty ks
+  some = keys-nonempty ks (b .keys)
+
+  -- the leaves fit document 01
+  pub fits : Buildable st (leaves (st .width) ks)
+  fits = built-fits st ks b
+
+  -- what holds of the nodes
+  pub facts : Trie-facts (st .width) (length (leaves (st .width) ks)) (dense-nodes st (leaves (st .width) ks)) (sparse-nodes st (leaves (st .width) ks))
+  facts = trie-facts st (leaves (st .width) ks) fits
+
+  -- each leaf follows the one before
+  pub chain : Chain (leaves (st .width) ks) × Rooted (leaves (st .width) ks)
+  chain = leaves-chain (st .width) ks some (b .up)
+
+  -- the items that the keys emit on the sparse levels are those of the sparse nodes
+  pub sparse-values : values-below (item-emissions (st .dense) 64 (st .width) ks) 64 ≡ items-of (sparse-nodes st (leaves (st .width) ks))
+  unfolding sparse-nodes
+  sparse-values =
+      values-emitted (st .width) (st .dense) 64 ks (omega (arith, b .dense-range)) (omega arith) some (b .up)
+      ∙ sym (items-rest (st .dense) (leaves (st .width) ks) (omega (arith, b .dense-range)) (chain .0) (chain .1))
+
+  -- those on the dense levels are those of the dense nodes
+  pub dense-values : values-below (item-emissions 0 (st .dense) (st .width) ks) 64 ≡ items-of (dense-nodes st (leaves (st .width) ks))
+  unfolding dense-nodes
+  dense-values =
+      values-emitted (st .width) 0 (st .dense) ks (omega arith) (omega (arith, b .dense-range)) some (b .up)
+      ∙ ap (λ (k : ℕ). items-between 0 k (leaves (st .width) ks)) (sub-zero (st .dense))
+      ∙ sym (items-first (st .dense) (leaves (st .width) ks) (omega (arith, b .dense-range)) (chain .0) (chain .1))
+
+  -- those on all levels are those of all nodes
+  pub all-values : values-below (item-emissions 0 64 (st .width) ks) 64 ≡ items-of (concat (trie (leaves (st .width) ks)))
+  all-values = values-emitted (st .width) 0 64 ks (omega arith) (omega arith) some (b .up) ∙ sym (items-rest 0 (leaves (st .width) ks) (omega arith) (chain .0) (chain .1))
+
+  -- a function of the items that the keys emit
+  pub mapped-values : {B : Type 0} (f : Item → B) (lo hi : ℕ) (es : List (Emission B)) (xs : List Item) → es ≡ map-emissions f (item-emissions lo hi (st .width) ks) → values-below (item-emissions lo hi (st .width) ks) 64 ≡ xs → values-below es 64 ≡ map f xs
+  mapped-values f lo hi es xs e q = ap (λ (z : List (Emission _)). values-below z 64) e ∙ values-map f (item-emissions lo hi (st .width) ks) 64 ∙ ap (map f) q
+
+  -- ---- the bits of the bodies
+
+  -- the bits of D-Labels
+  abbrev pub DL-bits : Bits
+  DL-bits = concat (map dense-labels (dense-nodes st (leaves (st .width) ks)))
+
+  -- the bits of D-HasChild
+  abbrev pub DC-bits : Bits
+  DC-bits = concat (map dense-has-child (dense-nodes st (leaves (st .width) ks)))
+
+  -- the bits of D-IsPrefixKey
+  abbrev pub DP-bits : Bits
+  DP-bits = map is-exact (dense-nodes st (leaves (st .width) ks))
+
+  -- the bits of S-HasChild
+  abbrev pub SC-bits : Bits
+  SC-bits = concat (map sparse-has-child (sparse-nodes st (leaves (st .width) ks)))
+
+  -- the bits of S-LOUDS
+  abbrev pub SB-bits : Bits
+  SB-bits = concat (map louds (sparse-nodes st (leaves (st .width) ks)))
+
+  -- the bits of the suffix slots
+  abbrev pub SV-bits : Bits
+  SV-bits = concat (map slots (dense-nodes st (leaves (st .width) ks) ++ sparse-nodes st (leaves (st .width) ks)))
+
+  -- The bodies of document 01 by these bits.
+  pub bodies-are : key-bodies st ks ≡ bodies-of DL-bits DC-bits DP-bits (concat (map sparse-labels (sparse-nodes st (leaves (st .width) ks)))) SC-bits SB-bits SV-bits
+  bodies-are = bodies-levels st (leaves (st .width) ks) fits
