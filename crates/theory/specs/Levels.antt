@@ -30,7 +30,7 @@ module _ {A : Type 0} (children : A → ℕ) where
   total-append (x ∷ a) b = omega (arith, total-append a b)
 
   -- The continuing branches of nodes are those of the first w and of the others.
-  total-split : (w : ℕ) (xs : List A) → total children xs ≡ total children (take w xs) + total children (drop w xs)
+  pub total-split : (w : ℕ) (xs : List A) → total children xs ≡ total children (take w xs) + total children (drop w xs)
   total-split w xs = ap (total children) (sym (take-append-drop w xs)) ∙ total-append (take w xs) (drop w xs)
 
   -- Where no branch can lead to a later node, no branch continues.
