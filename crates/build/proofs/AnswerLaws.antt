@@ -1,0 +1,70 @@
+-- The cases of the public call build: settings out of range, a list that is turned down, and an accepted list. Used by the public call.
+use Prim.Native.Nat.{ℕ, _≤_, _<_}
+use mathlib.Core.Path.{_≡_, refl, sym, ap, _∙_}
+use mathlib.Core.Bool.{Bool, true, false, _&&_, and-false}
+use mathlib.Core.List.{List}
+use native.Mathlib.Omega.{arith}
+use lib.ListN.{length}
+use lib.Dec.{leb}
+use borrow.Author.Tests.{lt-leb}
+use Rattle.spec.specs.Bytes.{Bytes}
+use Rattle.spec.specs.Keys.{refused, keys, parse-keys, keys-of}
+use Rattle.spec.specs.Leaves.{leaves}
+use Rattle.spec.specs.Image.{Settings, image}
+use Rattle.spec.specs.Answer.{Outcome, refuse, write}
+use Rattle.spec.specs.Build.{build, in-range}
+use Rattle.theory.specs.KeyFiles.{keys-exactly}
+use Rattle.theory.specs.Words.{Is-bytes}
+use Rattle.theory.specs.BuildLaws.{build-is, build-writes, in-range-exactly}
+use Rattle.keys.specs.Keys.{judgement}
+use Rattle.keys.specs.declared.list.Judged.the-variants.{Keys, Refused as List-refused}
+use Rattle.keys.proofs.ListedLaws.{listed, keys-of-is, judged-keys, judged-refused}
+use Rattle.records.specs.Records.{settings}
+use Rattle.build.specs.declared.Built.the-variants.{Refused}
+use Rattle.build.specs.Build.{outcome, Ready}
+
+-- 5: a setting is out of range
+out-of-range : (list out : Bytes) (st : Settings) → in-range st ≡ false → outcome (Refused 5) out ≡ build list st out
+unfolding refuse
+out-of-range list out st e = sym (build-is list st out false (parse-keys list) e refl)
+
+-- too many dense levels
+pub wide-dense : (list out : Bytes) (dense n : ℕ) → 4 < dense → outcome (Refused 5) out ≡ build list (settings dense n) out
+unfolding in-range
+wide-dense list out dense n h = out-of-range list out (settings dense n) (ap (λ (b : Bool). b && leb n 16) (lt-leb dense 4 h))
+
+-- too wide a suffix
+pub wide-suffix : (list out : Bytes) (dense n : ℕ) → 16 < n → outcome (Refused 5) out ≡ build list (settings dense n) out
+unfolding in-range
+wide-suffix list out dense n h = out-of-range list out (settings dense n) (ap (λ (b : Bool). leb dense 4 && b) (lt-leb n 16 h) ∙ and-false (leb dense 4))
+
+module _ (list out : Bytes) (dense n : ℕ) where
+  -- settings in range
+  in-both : dense ≤ 4 → n ≤ 16 → in-range (settings dense n) ≡ true
+  in-both h l = in-range-exactly (settings dense n) .1 (h, l)
+
+  -- a list that is turned down
+  pub list-refused : (r : ℕ) → dense ≤ 4 → n ≤ 16 → List-refused r ≡ judgement (parse-keys list) → outcome (Refused r) out ≡ build list (settings dense n) out
+  unfolding refuse
+  list-refused r h l j = sym (build-is list (settings dense n) out true (refused r) (in-both h l) (judged-refused (parse-keys list) r j))
+
+-- an accepted list
+pub list-ready : (list : Bytes) (dense n count : ℕ) → Is-bytes list → dense ≤ 4 → n ≤ 16 → Keys count ≡ judgement (parse-keys list) → Ready list dense n × (count ≡ length (keys-of list))
+list-ready list dense n count w h l j =
+    let t = judged-keys (parse-keys list) count j in
+    let e = keys-of-is list (t .0) (t .1) in
+    let k = keys-exactly list (t .0) w .0 (t .1) in (
+      record {
+        built = rw e (record { dense-range = h; width-range = l; few = k .few; keys = k .each; up = k .up });
+        records = rw e (listed list (t .0) (t .1) .records);
+      },
+      sym (t .2) ∙ ap length (sym e),
+    )
+
+-- what it builds
+pub list-built : (list out : Bytes) (dense n count : ℕ) (o : Outcome) → Is-bytes list → dense ≤ 4 → n ≤ 16 → Keys count ≡ judgement (parse-keys list) → o ≡ write 7 (image (settings dense n) (leaves n (keys-of list))) out → o ≡ build list (settings dense n) out
+list-built list out dense n count o w h l j z =
+    let t = judged-keys (parse-keys list) count j in
+    let e = keys-of-is list (t .0) (t .1) in
+    z ∙ ap (λ (ks : List Bytes). write 7 (image (settings dense n) (leaves n ks)) out) e
+    ∙ sym (build-writes list (settings dense n) (t .0) out (in-range-exactly (settings dense n) .1 (h, l)) (t .1) (keys-exactly list (t .0) w .0 (t .1)))

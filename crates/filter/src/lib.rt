@@ -1,0 +1,19 @@
+// The face of the library: the calls for programs in other languages.
+ghost use mathlib.Core.Path.{_≡_};
+ghost use Rattle.spec.specs.Build.{build};
+ghost use Rattle.records.specs.Records.{settings};
+ghost use Rattle.filter.specs.Filter.{coded};
+use build::Built;
+use build::build;
+
+// Builds the image of a key list into the output. The answer is the number of a refusal, 0 for success, times 2^32, plus the bytes written, 0 for a refusal.
+#[no_mangle]
+pub extern "C" fn range_filter_build(list: &[u8], dense: u64, n: u64, out: &mut [u8]) -> u64
+    ensures { λ r. ⌜ coded r (now (out .exit)) (build (now (list .entry)) (settings dense n) (now (out .entry))) ⌝ }
+{
+    let built = build(list, dense, n, out);
+    match built {
+        Built::Bytes(written) => written as u64,
+        Built::Refused(number) => (number as u64) * 4294967296,
+    }
+}

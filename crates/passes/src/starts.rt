@@ -1,0 +1,46 @@
+// Level starts and totals from the counters of the levels.
+ghost use mathlib.Core.Path.{_≡_};
+ghost use Prim.Native.Nat.{_+_, _≤_, _<_};
+ghost use lib.ListN.{length, getD};
+ghost use Rattle.build_laws.specs.Cursors.{sums};
+ghost use Rattle.build_laws.specs.Counters.{Cursors-at};
+use super::numbers::wide32;
+
+// The counter of level d if d is lo or above, else 0.
+fn count_from(cnt: &[u32; 65], lo: usize, d: usize) -> u32
+    requires { ⌜ d < 65 ⌝ }
+    ensures { λ r. ⌜ sums (now (cnt .entry)) lo (d + 1) ≡ sums (now (cnt .entry)) lo d + r ⌝ }
+{
+    if lo <= d {
+        return cnt[d];
+    }
+    0
+}
+
+// Each level's cursor goes behind the counted of the levels from lo on that are before it.
+pub fn start_levels(cur: &mut [u32; 65], cnt: &[u32; 65], lo: usize)
+    requires { ⌜ (length (now cur) ≡ 65) × (sums (now cnt) lo 65 ≤ 8600000) ⌝ }
+    ensures { λ _. ⌜ Cursors-at (now (cnt .entry)) lo (now (cur .exit)) × (length (now (cur .exit)) ≡ 65) ⌝ }
+{
+    let mut sum = 0u32;
+    let mut d = 0usize;
+    while d < 65 {
+        cur[d] = sum;
+        sum = sum + count_from(cnt, lo, d);
+        d = d + 1;
+    }
+}
+
+// The counted of the levels from lo to below hi.
+pub fn total(cnt: &[u32; 65], lo: usize, hi: usize) -> usize
+    requires { ⌜ (hi ≤ 65) × (sums (now cnt) lo 65 ≤ 8600000) ⌝ }
+    ensures { λ r. ⌜ r ≡ sums (now (cnt .entry)) lo hi ⌝ }
+{
+    let mut sum = 0u32;
+    let mut d = 0usize;
+    while d < hi {
+        sum = sum + count_from(cnt, lo, d);
+        d = d + 1;
+    }
+    wide32(sum)
+}
