@@ -1,10 +1,9 @@
 -- The records of a list's image, group by group, and the public call's answer. Used by the functions that write the image.
-use Prim.Native.Nat.{ℕ, zero, suc, _+_, _*_, _/_, _-_, _≤_, _<_}
-use mathlib.Core.Path.{_≡_, refl, sym, ap, ap₂, subst, _∙_}
-use mathlib.Core.List.{List, [], _∷_, _++_, append-assoc}
+use Prim.Native.Nat.{ℕ, _+_, _*_, _-_, _≤_, _<_}
+use mathlib.Core.Path.{_≡_, refl, sym, ap, ap₂, _∙_}
+use mathlib.Core.List.{List, _++_, append-assoc}
 use native.Mathlib.Omega.{arith}
-use native.Mathlib.Nat.{mul-le-mul}
-use lib.ListN.{length, take, drop, length-append}
+use lib.ListN.{length, drop, length-append}
 use Rattle.spec.specs.Bytes.{Bytes, blocks, letter, le32}
 use Rattle.spec.specs.Keys.{keys-of}
 use Rattle.spec.specs.Leaves.{leaves}
@@ -15,14 +14,14 @@ use Rattle.bits.specs.Bits.{placed, rank}
 use Rattle.build_laws.specs.Cursors.{sums}
 use Rattle.build_laws.specs.Counters.{entry-counts, node-counts}
 use Rattle.build_laws.specs.Lengths.{length-DL, length-DC, length-DP, length-SL, length-SC, length-SB, length-SV, length-RL, length-RC, length-RP, length-RS, length-TS}
-use Rattle.build_laws.specs.ImageRecords.{key-header, records-of, image-is, image-written, length-image}
+use Rattle.build_laws.specs.ImageRecords.{records-of, image-written, length-image}
 use Rattle.records.specs.declared.frame.Counts.{Counts}
 use Rattle.records.specs.Records.{settings, rank-entries, sample-entries}
 use Rattle.records.proofs.Placed.{placed-behind, length-placed}
 use Rattle.fill_laws.specs.TableBodies.{RL-entries, RC-entries, RP-entries, RS-entries, SB-rank, TS-entries}
 use Rattle.build.specs.declared.image.Layout.{Layout}
 use Rattle.build.specs.declared.Built.the-variants.{Bytes as Written-bytes, Refused}
-use Rattle.build.specs.Build.{outcome, Ready, Counted, Few, Laid, part, list-bodies, list-header, dense-records, sparse-records, slot-record, rank-records, table-records, body-records}
+use Rattle.build.specs.Build.{outcome, Ready, Counted, Laid, part, list-bodies, list-header, dense-records, sparse-records, slot-record, rank-records, table-records, body-records}
 use Rattle.build.proofs.RecordLaws.{length-marked, three-placed, part-kept, part-placed, part-part, part-middle, first-body, second-body, third-body}
 
 -- a part before what was placed is kept

@@ -1,16 +1,16 @@
 -- Records placed in an output: a mark, a length and a body that was filled in a part lent from its start; and where a body stands afterwards. Used by the functions that write records.
-use Prim.Native.Nat.{ℕ, zero, suc, _+_, _*_, _-_, _≤_, _<_}
-use mathlib.Core.Path.{_≡_, refl, sym, ap, ap₂, _∙_}
-use mathlib.Core.List.{List, [], _∷_, _++_, append-assoc, append-nil}
+use Prim.Native.Nat.{ℕ, _+_, _-_, _≤_}
+use mathlib.Core.Path.{_≡_, refl, sym, ap, _∙_}
+use mathlib.Core.List.{[], _∷_, _++_, append-assoc, append-nil}
 use native.Mathlib.Omega.{arith}
 use borrow.Rule.Slice.PartMut.{putMid, midOf}
-use lib.ListN.{length, getD, take, drop, length-append, length-drop, length-take}
+use lib.ListN.{length, getD, take, drop, length-append, length-drop}
 use lib.Seq.{take-all, take-at, take-take, take-add, drop-at, drop-drop, length-take-le}
 use Rattle.spec.specs.Bytes.{Bytes, le32}
 use Rattle.spec.specs.Image.{marked}
 use Rattle.bits.specs.Bits.{placed}
 use Rattle.records.specs.Records.{mark-bytes}
-use Rattle.records.proofs.Placed.{length-placed, placed-placed, placed-behind, take-placed, lent-placed, length-le32}
+use Rattle.records.proofs.Placed.{length-placed, placed-behind, take-placed, lent-placed, length-le32}
 use Rattle.build.specs.Build.{part}
 
 -- a mark and a length

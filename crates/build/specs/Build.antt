@@ -1,7 +1,7 @@
 -- What the builder's functions ask and give, and the numbers and values of the public call's answer.
 use Prim.Native.Nat.{ℕ, _+_, _*_, _≤_}
 use mathlib.Core.Path.{_≡_}
-use mathlib.Core.List.{List, _++_}
+use mathlib.Core.List.{_++_}
 use lib.ListN.{length, take, drop}
 use Rattle.spec.specs.Bytes.{Bytes, blocks, letter}
 use Rattle.spec.specs.Keys.{keys-of}

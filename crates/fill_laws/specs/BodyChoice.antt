@@ -4,7 +4,6 @@ use mathlib.Core.List.{List}
 use Rattle.spec.specs.Bytes.{Bytes}
 use Rattle.spec.specs.Image.{Bodies}
 use Rattle.build_laws.specs.Counters.{entry-counts, node-counts, leaf-counts}
-use Rattle.passes.specs.declared.Kind.{Kind}
 use Rattle.passes.specs.declared.Kind.the-variants.{DL, DC, DP, SL, SC, SB}
 use Rattle.passes.specs.declared.Body.{Body}
 use Rattle.passes.specs.declared.Body.the-variants.{Entries, Slots}

@@ -1,27 +1,26 @@
 -- What a pass leaves in bytes that were zero is the body of document 01. Used by the function that fills a body.
 use Prim.Native.Nat.{ℕ, _+_, _*_, _≤_}
-use mathlib.Core.Path.{_≡_, refl, sym, ap, ap₂, subst, _∙_}
+use mathlib.Core.Path.{_≡_, sym, ap, _∙_}
 use mathlib.Core.List.{List, _++_}
 use native.Mathlib.Omega.{arith}
 use lib.ListN.{length, drop, replicate, length-replicate, length-append}
 use lib.Seq.{drop-at}
-use Rattle.spec.specs.Bytes.{Bytes, Bits, unpack}
+use Rattle.spec.specs.Bytes.{Bytes, unpack}
 use Rattle.spec.specs.Image.{Settings}
 use Rattle.theory.specs.BuildLaws.{Built-from}
 use Rattle.theory.specs.Words.{Is-bytes}
-use Rattle.build_laws.specs.Emissions.{Emission, map-emissions}
+use Rattle.build_laws.specs.Emissions.{Emission}
 use Rattle.build_laws.specs.BitPass.{bit-state, write-all-bits, Room}
 use Rattle.build_laws.specs.BytePass.{Byte-state, byte-state, place-all, one-step}
 use Rattle.build_laws.specs.DenseRows.{cell-step, cell-ones}
-use Rattle.build_laws.specs.PassEmissions.{label-emissions, child-emissions, start-emissions, dense-label-emissions, dense-child-emissions, dense-exact-emissions, slot-emissions}
+use Rattle.build_laws.specs.PassEmissions.{child-emissions, start-emissions, dense-label-emissions, dense-child-emissions, dense-exact-emissions, slot-emissions}
 use Rattle.build_laws.specs.Counters.{Cursors-at}
 use Rattle.build_laws.specs.KeyBits.{key-bodies}
 use Rattle.build_laws.specs.BodyLaws.{bit-at, slot-at, SL-filled, SC-filled, SB-filled, SV-filled, DL-filled, DC-filled, DP-filled}
-use Rattle.passes.specs.declared.Entry.{Entry}
 use Rattle.passes.specs.declared.Kind.the-variants.{DL, DC, DP, SL, SC, SB}
 use Rattle.passes.specs.declared.Body.{Body}
 use Rattle.passes.specs.declared.Body.the-variants.{Entries, Slots}
-use Rattle.passes.specs.Writes.{all-entries, set-all, write-keys, label-cell, child-cell, exact-cell}
+use Rattle.passes.specs.Writes.{all-entries, set-all, write-keys}
 use Rattle.fill_laws.specs.BodyChoice.{body-of, counters-of, levels-of}
 use Rattle.fill_laws.specs.ByteLevel.{set-all-bits, labels-placed, children-set, starts-set, label-cells-set, child-cells-set, exact-cells-set}
 use Rattle.fill_laws.specs.BodyRoom.{labels-map, children-map, starts-map, label-cells-map, child-cells-map, exact-cells-map, room-SC, room-SB, room-SV, room-DL, room-DC, room-DP}

@@ -1,14 +1,13 @@
 -- Room in a body for what its pass writes, by the number of its bytes. Used by the function that fills a body.
-use Prim.Native.Nat.{ℕ, zero, suc, _+_, _-_, _*_, _/_, _<_, _≤_}
-use mathlib.Core.Path.{_≡_, refl, sym, ap, subst, _∙_}
+use Prim.Native.Nat.{ℕ, _+_, _-_, _*_, _<_, _≤_}
+use mathlib.Core.Path.{_≡_, sym}
 use mathlib.Core.List.{List, [], _∷_}
 use native.Mathlib.Omega.{arith}
-use native.Mathlib.Nat.{mul-le-mul}
 use lib.ListN.{length, getD, set}
 use Rattle.spec.specs.Bytes.{Bytes, blocks}
 use Rattle.spec.specs.Image.{Settings}
 use Rattle.theory.specs.BuildLaws.{Built-from}
-use Rattle.build_laws.specs.Emissions.{Emission, emission, map-emissions, emissions, map-keys}
+use Rattle.build_laws.specs.Emissions.{Emission, emission, map-emissions, map-keys}
 use Rattle.build_laws.specs.Cursors.{sums}
 use Rattle.build_laws.specs.BitPass.{Room, Positions-below}
 use Rattle.build_laws.specs.BytePass.{one-step, at-cursor}

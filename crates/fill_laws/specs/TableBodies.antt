@@ -1,6 +1,6 @@
 -- The tables that are counted in finished bodies are those of document 01. Used by the functions that write the records of tables.
-use Prim.Native.Nat.{ℕ, zero, suc, _+_, _*_, _/_, _≤_, _<_}
-use mathlib.Core.Path.{_≡_, refl, sym, ap, ap₂, _∙_}
+use Prim.Native.Nat.{ℕ, suc, _+_, _*_, _≤_, _<_}
+use mathlib.Core.Path.{_≡_, sym, ap, ap₂, _∙_}
 use mathlib.Core.List.{List, [], _++_, append-nil}
 use native.Mathlib.Omega.{arith}
 use native.Mathlib.Numerals.{add-one}
@@ -8,7 +8,7 @@ use lib.ListN.{length, take}
 use Rattle.spec.specs.Bytes.{Bytes, Bits, ones, blocks, pack, unpack}
 use Rattle.spec.specs.Image.{Settings, Bodies}
 use Rattle.bits.specs.Bits.{rank, select}
-use Rattle.bits.proofs.RankLaws.{rank-next, rank-slow}
+use Rattle.bits.proofs.RankLaws.{rank-slow}
 use Rattle.bits.proofs.SelectLaws.{select-is}
 use Rattle.bits.proofs.UnpackLaws.{rank-unpack}
 use Rattle.build_laws.specs.Cursors.{sums}

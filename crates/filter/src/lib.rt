@@ -1,5 +1,4 @@
 // The face of the library: the calls for programs in other languages.
-ghost use mathlib.Core.Path.{_≡_};
 ghost use Rattle.spec.specs.Build.{build};
 ghost use Rattle.records.specs.Records.{settings};
 ghost use Rattle.filter.specs.Filter.{coded};

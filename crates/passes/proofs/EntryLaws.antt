@@ -1,16 +1,16 @@
 -- A key's emissions from a level on, one at a time: what is left to be written or counted, and that there is room for it. Used by the functions that go over a key's levels.
-use Prim.Native.Nat.{ℕ, zero, suc, _+_, _-_, _*_, _≤_, _<_, max, min}
-use mathlib.Core.Path.{_≡_, refl, sym, ap, ap₂, subst, _∙_}
-use mathlib.Core.Bool.{Bool, true, false, cond, _&&_}
+use Prim.Native.Nat.{ℕ, suc, _+_, _-_, _≤_, _<_, max, min}
+use mathlib.Core.Path.{_≡_, refl, sym, ap, subst, _∙_}
+use mathlib.Core.Bool.{true, false, cond}
 use mathlib.Core.List.{List, [], _∷_, _++_}
 use native.Mathlib.Omega.{arith}
 use native.Mathlib.Numerals.{add-one}
-use lib.ListN.{length, getD, set}
+use lib.ListN.{getD, set}
 use Rattle.build_laws.specs.NeighbourLeaves.{cut-length}
 use Rattle.build_laws.specs.Emissions.{Emission, emission, consecutive, key-emissions}
 use Rattle.build_laws.specs.Cursors.{counts}
 use Rattle.build_laws.specs.BitPass.{Room}
-use Rattle.build_laws.specs.BytePass.{Byte-state, byte-state}
+use Rattle.build_laws.specs.BytePass.{Byte-state}
 use Rattle.passes.specs.declared.Entry.{Entry}
 use Rattle.passes.specs.declared.Kind.{Kind}
 use Rattle.passes.specs.declared.Kind.the-variants.{DL, DC, DP, SL, SC, SB}

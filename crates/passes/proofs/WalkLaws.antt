@@ -1,10 +1,10 @@
 -- A pass over an accepted key list, key by key. Used by the passes.
-use Prim.Native.Nat.{ℕ, zero, suc, _+_, _*_, _≤_, _<_}
+use Prim.Native.Nat.{ℕ, suc, _+_, _≤_, _<_}
 use mathlib.Core.Path.{_≡_, refl, sym, ap, ap₂, subst, _∙_}
 use mathlib.Core.List.{List, [], _∷_, _++_}
 use native.Mathlib.Omega.{arith}
 use native.Mathlib.Numerals.{add-one}
-use lib.ListN.{length, getD, set, replicate, length-replicate, length-set}
+use lib.ListN.{length, getD, set, replicate, length-set}
 use borrow.Author.Tests.{lt-ltb}
 use Rattle.spec.specs.Bytes.{Bytes, bit, shared}
 use Rattle.spec.specs.Keys.{keys-of}
@@ -12,23 +12,22 @@ use Rattle.theory.specs.Words.{Keys, Ascending}
 use Rattle.keys.specs.Keys.{key, Records}
 use Rattle.build_laws.specs.LevelItems.{pred}
 use Rattle.theory.specs.Neighbours.{next-shared}
-use Rattle.build_laws.specs.Emissions.{Emission, emission, key-emissions, emissions}
+use Rattle.build_laws.specs.Emissions.{Emission, emission, emissions}
 use Rattle.build_laws.specs.Cursors.{counts, counts-append, length-counts}
 use Rattle.build_laws.specs.BitPass.{Room, room-append}
-use Rattle.build_laws.specs.BytePass.{Byte-state, byte-state, one-step}
+use Rattle.build_laws.specs.BytePass.{Byte-state, one-step}
 use Rattle.build_laws.specs.PassEmissions.{leaf-level, key-slot, start-emissions, slot-emissions, Key-numbers, Next-longer, key-numbers, first-longer}
 use Rattle.build_laws.specs.Counters.{entry-counts, node-counts, leaf-counts}
-use Rattle.build_laws.specs.BodyLaws.{slot-at}
 use Rattle.passes.specs.declared.Entry.{Entry}
 use Rattle.passes.specs.declared.Kind.{Kind}
 use Rattle.passes.specs.declared.Body.{Body}
 use Rattle.passes.specs.declared.Body.the-variants.{Entries, Slots}
 use Rattle.passes.specs.List.{shared-behind, Accepted}
-use Rattle.passes.specs.Writes.{entry-at, exact-entry, key-entries, all-entries, kind-step, kind-ones, capacity, write-entry, write-entries, set-all, write-key, write-keys, Key-room, Keys-room}
+use Rattle.passes.specs.Writes.{key-entries, all-entries, kind-step, kind-ones, capacity, write-entry, write-entries, set-all, write-key, write-keys, Key-room, Keys-room}
 use Rattle.build_laws.specs.CounterRoom.{no-ones, Counters-room}
 use Rattle.passes.specs.Counts.{key-starts, Counter-room}
 use Rattle.passes.proofs.KeyLaws.{behind-none, key-length}
-use Rattle.passes.proofs.EntryLaws.{write-cons, write-none, entry-cursors}
+use Rattle.passes.proofs.EntryLaws.{write-none, entry-cursors}
 
 -- the keys ks are left from `at` on, the first of which starts nodes from the level `first` on
 pub record At (s : Bytes) (at first : ℕ) (ks : List Bytes) : Type 0 where

@@ -1,18 +1,16 @@
 -- Bits set in bytes at positions, and what one emission does by cases. Used by the functions that write at a cursor.
-use Prim.Native.Nat.{ℕ, zero, suc, _+_, _*_, _-_, _≤_, _<_}
-use mathlib.Core.Path.{_≡_, refl, sym, ap, ap₂, _∙_}
+use Prim.Native.Nat.{ℕ, _+_, _*_, _-_, _<_}
+use mathlib.Core.Path.{_≡_, refl, sym, ap, _∙_}
 use mathlib.Core.Bool.{Bool, true, false, cond, true≢false}
-use mathlib.Core.List.{List, [], _∷_, _++_}
+use mathlib.Core.List.{List, [], _∷_}
 use native.Mathlib.Omega.{arith}
-use lib.ListN.{length, getD, set}
+use lib.ListN.{length}
 use Rattle.spec.specs.Bytes.{Bytes, bit}
 use Rattle.bits.specs.Bits.{with-bit}
 use Rattle.bits.proofs.BitLaws.{length-with-bit}
 use Rattle.build_laws.specs.LevelItems.{pred}
-use Rattle.build_laws.specs.Emissions.{Emission, emission}
-use Rattle.build_laws.specs.BitPass.{Room, Positions-below}
-use Rattle.build_laws.specs.BytePass.{Byte-state, byte-state}
-use Rattle.build_laws.specs.DenseRows.{cell, cell-step, cell-ones}
+use Rattle.build_laws.specs.BitPass.{Positions-below}
+use Rattle.build_laws.specs.DenseRows.{cell, cell-ones}
 use Rattle.build_laws.specs.BodyLaws.{bit-at}
 use Rattle.passes.specs.Writes.{with-bits}
 use Rattle.passes.proofs.KeyLaws.{pred-sub}

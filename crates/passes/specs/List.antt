@@ -1,7 +1,6 @@
 -- A key list in bytes, record by record, as the passes over it go.
 use Prim.Native.Nat.{ℕ, _+_}
 use mathlib.Core.Bool.{cond}
-use mathlib.Core.List.{List}
 use lib.ListN.{length, getD}
 use lib.Dec.{ltb}
 use Rattle.spec.specs.Bytes.{Bytes, shared}

@@ -1,17 +1,16 @@
 -- What the passes that fill bodies do, emission by emission, to the bytes of a body and the cursors of the levels.
-use Prim.Native.Nat.{ℕ, suc, _+_, _*_}
-use mathlib.Core.Bool.{Bool, true, false, cond, not, _&&_}
+use Prim.Native.Nat.{ℕ, _+_, _*_}
+use mathlib.Core.Bool.{Bool, true, false, not, _&&_}
 use mathlib.Core.List.{List, [], _∷_}
 use lib.ListN.{length, getD, set}
 use lib.Dec.{leb, ltb, eqb}
-use Rattle.spec.specs.Bytes.{Bytes, Bits}
+use Rattle.spec.specs.Bytes.{Bytes}
 use Rattle.bits.specs.Bits.{with-bit}
 use Rattle.build_laws.specs.LevelItems.{pred}
-use Rattle.theory.specs.Neighbours.{next-shared}
 use Rattle.build_laws.specs.Emissions.{Emission, emission, key-emissions, emissions}
 use Rattle.build_laws.specs.KeyItems.{continues-at}
 use Rattle.build_laws.specs.BitPass.{Room}
-use Rattle.build_laws.specs.BytePass.{Byte-state, byte-state, place, one-step, at-cursor}
+use Rattle.build_laws.specs.BytePass.{Byte-state, place, one-step, at-cursor}
 use Rattle.build_laws.specs.DenseRows.{Cell, cell, cell-step, cell-ones}
 use Rattle.build_laws.specs.PassEmissions.{leaf-level, key-slot, slot-emissions}
 use Rattle.build_laws.specs.BodyLaws.{bit-at, slot-at}

@@ -1,8 +1,7 @@
 // Entries, nodes and leaves of each level, counted in one pass over the list.
 ghost use mathlib.Core.Path.{_≡_};
-ghost use mathlib.Core.List.{[], _∷_};
 ghost use Prim.Native.Nat.{_+_, _≤_, _<_};
-ghost use lib.ListN.{length, getD, set, replicate};
+ghost use lib.ListN.{getD, set, replicate};
 ghost use Rattle.spec.specs.Bytes.{bit};
 ghost use Rattle.spec.specs.Keys.{keys-of};
 ghost use Rattle.build_laws.specs.LevelItems.{pred};

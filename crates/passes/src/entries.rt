@@ -1,8 +1,7 @@
 // A key's entries: a branch on each level of its cut key that the keys before have not made, and the exact leaf.
 ghost use mathlib.Core.Path.{_≡_};
-ghost use mathlib.Core.List.{[], _∷_};
-ghost use Prim.Native.Nat.{_+_, _*_, _≤_, _<_};
-ghost use lib.ListN.{length, getD};
+ghost use Prim.Native.Nat.{_+_, _≤_, _<_};
+ghost use lib.ListN.{length};
 ghost use Rattle.build_laws.specs.LevelItems.{pred};
 ghost use Rattle.build_laws.specs.NeighbourLeaves.{cut-length};
 ghost use Rattle.build_laws.specs.KeyItems.{continues-at};

@@ -2,7 +2,7 @@
 ghost use mathlib.Core.Path.{_≡_};
 ghost use mathlib.Core.List.{[], _∷_};
 ghost use Prim.Native.Nat.{_+_, _*_, _≤_, _<_};
-ghost use lib.ListN.{length, getD};
+ghost use lib.ListN.{length};
 ghost use Rattle.build_laws.specs.Emissions.{emission};
 ghost use Rattle.build_laws.specs.BitPass.{Room};
 ghost use Rattle.build_laws.specs.BytePass.{byte-state, place, one-step, at-cursor};
@@ -14,6 +14,8 @@ use super::Kind;
 use super::numbers::less;
 use super::numbers::one_if;
 use super::numbers::wide32;
+use bits::BitPos;
+use bits::NodeNum;
 use bits::numbers::wide;
 use bits::ones::set_bit;
 
@@ -48,6 +50,14 @@ fn put_bit(out: &mut [u8], cur: &mut [u32; 65], d: usize, x: bool)
     }
 }
 
+// The bit of a place in a node's row of w bits.
+fn row_bit(w: usize, node: NodeNum, place: usize) -> BitPos
+    requires { ⌜ (w ≤ 256) × (node .0 ≤ 8600000) × (place < 256) ⌝ }
+    ensures { λ r. ⌜ r .0 ≡ w * node .0 + place ⌝ }
+{
+    BitPos(w * node.0 + place)
+}
+
 // The cursor of level d goes on if the cell starts a row of w bits, and the cell's bit is set in the last row begun.
 fn put_cell(out: &mut [u8], cur: &mut [u32; 65], d: usize, w: usize, c: Cell)
     requires { ⌜ (w ≤ 256) × (c .place < 256) × Room cell-step (cell-ones w) (8 * length (now out)) 8600000 (emission d (cell (c .start) (c .set) (c .place)) ∷ []) (now cur) ⌝ }
@@ -56,8 +66,8 @@ fn put_cell(out: &mut [u8], cur: &mut [u32; 65], d: usize, w: usize, c: Cell)
     let rows = wide32(cur[d]) + one_if(c.start);
     cur[d] = rows as u32;
     if c.set {
-        let row = less(rows);
-        set_bit(out, w * row + c.place);
+        let at = row_bit(w, NodeNum(less(rows)), c.place);
+        set_bit(out, at.0);
     }
 }
 

@@ -20,6 +20,8 @@ use super::numbers::cut_length;
 use super::numbers::leaf_level;
 use super::numbers::less;
 use super::numbers::wide32;
+use bits::BitPos;
+use bits::ValuePos;
 use bits::numbers::wide;
 use bits::ones::set_bit;
 
@@ -36,15 +38,23 @@ fn suffix_bit(s: &[u8], k: Key, cut: usize, i: usize) -> bool
     (wide(s[place]) >> (7 - i % 8)) % 2 == 1
 }
 
+// The first bit of a suffix slot of n bits.
+fn slot_bit(n: usize, v: ValuePos) -> BitPos
+    requires { ⌜ (n ≤ 16) × (v .0 ≤ 8600000) ⌝ }
+    ensures { λ r. ⌜ (r .0 ≡ n * v .0) × (r .0 ≤ 137600000) ⌝ }
+{
+    BitPos(n * v.0)
+}
+
 // The n bits of a key behind its cut go to the bits of out from `base`, which are zero.
-fn write_suffix(out: &mut [u8], base: usize, s: &[u8], k: Key, cut: usize, n: usize)
-    requires { ⌜ (k .at + k .len ≤ length (now s)) × (cut ≤ k .len) × (n ≤ 16) × (base ≤ 137600000) × Positions-below (8 * length (now out)) (positions base (bits-behind n cut (key (now s) (k .at) (k .len)))) ⌝ }
-    ensures { λ _. ⌜ now (out .exit) ≡ with-bits (positions base (bits-behind n cut (key (now (s .entry)) (k .at) (k .len)))) (now (out .entry)) ⌝ }
+fn write_suffix(out: &mut [u8], base: BitPos, s: &[u8], k: Key, cut: usize, n: usize)
+    requires { ⌜ (k .at + k .len ≤ length (now s)) × (cut ≤ k .len) × (n ≤ 16) × (base .0 ≤ 137600000) × Positions-below (8 * length (now out)) (positions (base .0) (bits-behind n cut (key (now s) (k .at) (k .len)))) ⌝ }
+    ensures { λ _. ⌜ now (out .exit) ≡ with-bits (positions (base .0) (bits-behind n cut (key (now (s .entry)) (k .at) (k .len)))) (now (out .entry)) ⌝ }
 {
     let mut i = 0usize;
     while i < n {
         let b = suffix_bit(s, k, cut, i);
-        let to = base + i;
+        let to = base.0 + i;
         i = i + 1;
         if b {
             set_bit(out, to);
@@ -64,7 +74,7 @@ pub fn write_slot(out: &mut [u8], cur: &mut [u32; 65], s: &[u8], k: Key, n: usiz
     let v = cur[d];
     cur[d] = v + 1;
     if k.next != k.len {
-        let base = n * wide32(v);
+        let base = slot_bit(n, ValuePos(wide32(v)));
         write_suffix(out, base, s, k, cut, n);
     }
 }

@@ -1,7 +1,7 @@
 // Level starts and totals from the counters of the levels.
 ghost use mathlib.Core.Path.{_≡_};
 ghost use Prim.Native.Nat.{_+_, _≤_, _<_};
-ghost use lib.ListN.{length, getD};
+ghost use lib.ListN.{length};
 ghost use Rattle.build_laws.specs.Cursors.{sums};
 ghost use Rattle.build_laws.specs.Counters.{Cursors-at};
 use super::numbers::wide32;

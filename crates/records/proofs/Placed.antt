@@ -1,13 +1,13 @@
 -- Bytes placed in a byte string, one run behind the other, in a part that was lent, and beside what stays. Used by every function that writes an image.
 use Prim.Native.Nat.{ℕ, zero, suc, _+_, _*_, _-_, _≤_, _<_}
 use mathlib.Core.Path.{_≡_, refl, sym, ap, ap₂, _∙_}
-use mathlib.Core.List.{List, [], _∷_, _++_, map, append-assoc, append-nil}
+use mathlib.Core.List.{[], _∷_, _++_, map, append-assoc, append-nil}
 use native.Mathlib.Omega.{arith}
 use native.Mathlib.Numerals.{add-one}
-use native.Mathlib.Nat.{add-zero, add-suc}
+use native.Mathlib.Nat.{add-zero}
 use borrow.Rule.Slice.PartMut.{putMid, midOf, postOf}
-use lib.ListN.{length, getD, take, drop, set, replicate, length-replicate, drop-of-length-le, length-append, length-take, length-drop}
-use lib.Seq.{take-all, take-at, take-take, take-append-le, take-append-add, drop-at, drop-append-add, drop-append-le, drop-drop, length-take-le, take-add, drop-cons, set-at}
+use lib.ListN.{length, getD, take, drop, set, replicate, length-replicate, drop-of-length-le, length-append, length-drop}
+use lib.Seq.{take-all, take-at, take-take, take-append-le, drop-append-add, drop-drop, length-take-le, take-add, drop-cons, set-at}
 use Rattle.spec.specs.Bytes.{Bytes, concat, iota, le32}
 use Rattle.bits.specs.Bits.{placed}
 use Rattle.records.specs.Records.{entries}

@@ -1,6 +1,6 @@
 -- Marks, settings and tables as the functions of this crate write them.
 use Prim.Native.Nat.{ℕ, _*_}
-use mathlib.Core.List.{List, [], _∷_, map}
+use mathlib.Core.List.{[], _∷_, map}
 use lib.ListN.{getD}
 use Rattle.spec.specs.Bytes.{Bytes, letter, concat, iota, le32}
 use Rattle.spec.specs.Image.{Settings}

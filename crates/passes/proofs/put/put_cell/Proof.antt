@@ -1,22 +1,22 @@
 -- By cases of the cell's bit.
 use borrow.Author.Needs.{needs}
+use Rattle.bits.specs.Bits.{with-bit}
 use Rattle.build_laws.specs.BytePass.{byte-state}
 use Rattle.build_laws.specs.LevelItems.{pred}
 use Rattle.spec.specs.Bytes.{bit}
 use lib.ListN.{set, length, getD}
-use native.Mathlib.Nat.{mul-le-mul}
 use Rattle.passes.proofs.KeyLaws.{pred-sub}
 use Rattle.passes.proofs.WriteLaws.{cell-set, cell-kept, cell-below}
-use mathlib.Core.Path.{_≡_, ap₂}
+use mathlib.Core.Path.{_≡_, ap, ap₂, _∙_}
 use mathlib.Core.List.{List}
 use Prim.Native.Nat.{ℕ, _+_, _*_, _≤_}
 use native.Mathlib.Omega.{arith}
 use Rattle.passes.proofs.put.put_cell.Statement.{statement}
 use Rattle.passes.proofs.put.put_cell.Tie as tie
 
--- the product of a row's number and width fits
-product : (w r rows c b : ℕ) → w ≤ 256 → rows ≡ c + b → r ≡ pred rows → c + b ≤ 8600000 → w * r ≤ 256 * 8600000
-product w r rows c b h e f l = let q : r ≤ 8600000 = omega (arith, pred-sub rows) in mul-le-mul h q
+-- the row's number is small
+few : (r rows c b : ℕ) → rows ≡ c + b → r ≡ pred rows → c + b ≤ 8600000 → r ≤ 8600000
+few r rows c b e f l = omega (arith, pred-sub rows)
 
 mul-wide32 : tie.Need-mul-wide32
 mul-wide32 c = search needs
@@ -45,20 +45,16 @@ element-write-cur c = search needs
 less-requires : tie.Need-less-requires
 less-requires c κs = search needs
 
-mul-set-bit : tie.Need-mul-set-bit
-mul-set-bit c =
-    let a = (c .before .before .before .before .before .before .before .args) in
-    omega (arith, product (a .w) (c .before .less .result) (c .before .before .before .before .wide32 .result + c .before .before .before .one-if .result) (getD (a .cur .now) (a .d) 0) (bit (a .c .start)) (c .before .before .before .before .before .before .before .pre .0) (omega (arith, c .before .before .before .before .wide32 .ensures, c .before .before .before .one-if .ensures .0)) (c .before .less .ensures) (c .before .before .before .before .before .before .before .pre .2 .1))
-
-add-set-bit : tie.Need-add-set-bit
-add-set-bit c =
-    let a = (c .before .before .before .before .before .before .before .before .args) in
-    omega (arith, product (a .w) (c .before .before .less .result) (c .before .before .before .before .before .wide32 .result + c .before .before .before .before .one-if .result) (getD (a .cur .now) (a .d) 0) (bit (a .c .start)) (c .before .before .before .before .before .before .before .before .pre .0) (omega (arith, c .before .before .before .before .before .wide32 .ensures, c .before .before .before .before .one-if .ensures .0)) (c .before .before .less .ensures) (c .before .before .before .before .before .before .before .before .pre .2 .1))
+row-bit-requires : tie.Need-row-bit-requires
+row-bit-requires c κs =
+    let a = (c .before .before .before .before .before .before .args) in
+    (c .before .before .before .before .before .before .pre .0, few (c .less .result) (c .before .before .before .wide32 .result + c .before .before .one-if .result) (getD (a .cur .now) (a .d) 0) (bit (a .c .start)) (omega (arith, c .before .before .before .wide32 .ensures, c .before .before .one-if .ensures .0)) (c .less .ensures) (c .before .before .before .before .before .before .pre .2 .1), c .before .before .before .before .before .before .pre .1)
 
 set-bit-requires : tie.Need-set-bit-requires
 set-bit-requires c κs =
     let a = (c .before .before .before .before .before .before .before .before .args) in
-    cell-below (8 * length (a .out .now)) (a .w) (c .before .before .before .before .before .wide32 .result + c .before .before .before .before .one-if .result) _ (getD (a .cur .now) (a .d) 0) (a .c .place) (a .c .start) (a .c .set) (c .before .before .before .if1 .taken) (omega (arith, c .before .before .before .before .before .wide32 .ensures, c .before .before .before .before .one-if .ensures .0)) (c .before .before .less .ensures) (c .before .before .before .before .before .before .before .before .pre .2 .2)
+    let b = cell-below (8 * length (a .out .now)) (a .w) (c .before .before .before .before .before .wide32 .result + c .before .before .before .before .one-if .result) (c .before .before .less .result) (getD (a .cur .now) (a .d) 0) (a .c .place) (a .c .start) (a .c .set) (c .before .before .before .if1 .taken) (omega (arith, c .before .before .before .before .before .wide32 .ensures, c .before .before .before .before .one-if .ensures .0)) (c .before .before .less .ensures) (c .before .before .before .before .before .before .before .before .pre .2 .2) in
+    omega (arith, b, c .before .row-bit .ensures)
 
 same-length : tie.Need-same-length
 same-length c = search needs
@@ -68,7 +64,7 @@ returns c =
     let a = (c .before .before .before .before .before .before .before .before .before .before .before .args) in
     let c′ = getD (a .cur .now) (a .d) 0 in
     let e : c .before .before .before .before .before .before .before .before .wide32 .result + c .before .before .before .before .before .before .before .one-if .result ≡ c′ + bit (a .c .start) = omega (arith, c .before .before .before .before .before .before .before .before .wide32 .ensures, c .before .before .before .before .before .before .before .one-if .ensures .0) in
-    ap₂ (λ (o : List ℕ) (v : ℕ). byte-state o (set (a .cur .now) (a .d) v)) (cell-set (a .out .now) _ (a .w) _ _ c′ (a .c .place) (a .c .start) (a .c .set) (c .before .before .before .before .before .before .if1 .taken) e (c .before .before .before .before .before .less .ensures) (c .before .before .set-bit .ensures)) e
+    ap₂ (λ (o : List ℕ) (v : ℕ). byte-state o (set (a .cur .now) (a .d) v)) (cell-set (a .out .now) _ (a .w) _ (c .before .before .before .before .before .less .result) c′ (a .c .place) (a .c .start) (a .c .set) (c .before .before .before .before .before .before .if1 .taken) e (c .before .before .before .before .before .less .ensures) (c .before .before .set-bit .ensures ∙ ap (with-bit (a .out .now)) (c .before .before .before .before .row-bit .ensures))) e
 
 returns-2 : tie.Need-returns-2
 returns-2 c =
@@ -90,8 +86,7 @@ put-cell-spec =
     mul-cur
     element-write-cur
     less-requires
-    mul-set-bit
-    add-set-bit
+    row-bit-requires
     set-bit-requires
     same-length
     returns

@@ -1,7 +1,6 @@
 -- By cases of an exact leaf.
 use borrow.Author.Needs.{needs}
 use mathlib.Core.Path.{subst, _≡_, refl, sym, ap, ap₂, _∙_}
-use native.Mathlib.Nat.{mul-le-mul}
 use lib.ListN.{length, getD}
 use Rattle.spec.specs.Bytes.{Bits}
 use Rattle.spec.specs.Leaves.{bits-behind}
@@ -19,10 +18,6 @@ use Prim.Native.Nat.{ℕ, _+_, _*_, _≤_}
 use native.Mathlib.Omega.{arith}
 use Rattle.passes.proofs.slots.write_slot.Statement.{statement}
 use Rattle.passes.proofs.slots.write_slot.Tie as tie
-
--- the place of a slot fits
-product : (n v c : ℕ) → n ≤ 16 → v ≡ c → c + 1 ≤ 8600000 → n * v ≤ 16 * 8600000
-product n v c h e l = let q : v ≤ 8600000 = omega arith in mul-le-mul h q
 
 -- the leaf's level, as computed
 level-is : (s : List ℕ) (a n p q b d : ℕ) → a + n ≤ length s → b ≡ pred p → d ≡ leaf-level b q n → d ≡ leaf-level (pred p) q (length (key s a n))
@@ -63,26 +58,26 @@ element-write-cur c = search needs
 wide32-requires : tie.Need-wide32-requires
 wide32-requires c κs = search needs
 
-mul-base : tie.Need-mul-base
-mul-base c =
+slot-bit-requires : tie.Need-slot-bit-requires
+slot-bit-requires c κs =
     let a = (c .before .before .before .before .before .before .before .before .before .args) in
     let k = a .k in
     let e = level-is (a .s .now) (k .at) (k .len) (k .first) (k .next) _ _ (c .before .before .before .before .before .before .before .before .before .pre .0 .0) (c .before .before .before .before .before .before .less .ensures) (c .before .before .before .before .before .leaf-level .ensures .0) in
-    omega (arith, product (a .n) (c .wide32 .result) _ (c .before .before .before .before .before .before .before .before .before .pre .0 .2) (c .wide32 .ensures ∙ ap (λ (d : ℕ). getD (a .cur .now) d 0) e) (c .before .before .before .before .before .before .before .before .before .pre .1 .1))
+    (c .before .before .before .before .before .before .before .before .before .pre .0 .2, omega (arith, c .before .before .before .before .before .before .before .before .before .pre .1 .1, c .wide32 .ensures, ap (λ (d : ℕ). getD (a .cur .now) d 0) e))
 
 write-suffix-requires : tie.Need-write-suffix-requires
 write-suffix-requires c κs =
-    let a = (c .before .before .before .before .before .before .before .before .before .before .args) in
+    let a = (c .before .before .before .before .before .before .before .before .before .before .before .args) in
     let k = a .k in
-    let e = level-is (a .s .now) (k .at) (k .len) (k .first) (k .next) _ _ (c .before .before .before .before .before .before .before .before .before .before .pre .0 .0) (c .before .before .before .before .before .before .before .less .ensures) (c .before .before .before .before .before .before .leaf-level .ensures .0) in
-    let v : c .before .wide32 .result ≡ getD (a .cur .now) (leaf-level (pred (k .first)) (k .next) (length (key (a .s .now) (k .at) (k .len)))) 0 = c .before .wide32 .ensures ∙ ap (λ (d : ℕ). getD (a .cur .now) d 0) e in
-    let b = open-slot (a .s .now) (k .at) (k .len) (k .first) (k .next) _ _ (a .n) (c .before .before .before .before .before .before .before .before .before .before .pre .0 .0) (c .before .before .before .before .before .before .before .less .ensures) (c .before .before .before .before .before .cut-length .ensures .0) (c .before .before .if1 .taken) in (
-      c .before .before .before .before .before .before .before .before .before .before .pre .0 .0,
-      c .before .before .before .before .before .cut-length .ensures .1,
-      c .before .before .before .before .before .before .before .before .before .before .pre .0 .2,
-      omega (arith, product (a .n) (c .before .wide32 .result) _ (c .before .before .before .before .before .before .before .before .before .before .pre .0 .2) v (c .before .before .before .before .before .before .before .before .before .before .pre .1 .1)),
-      subst (λ (z : Bits). Positions-below (8 * length (a .out .now)) (positions (a .n * c .before .wide32 .result) z)) (sym b)
-          (subst (λ (i : ℕ). Positions-below (8 * length (a .out .now)) (positions (a .n * i) (key-slot (a .n) (pred (k .first)) (k .next) (key (a .s .now) (k .at) (k .len))))) (sym v) (c .before .before .before .before .before .before .before .before .before .before .pre .1 .2)),
+    let e = level-is (a .s .now) (k .at) (k .len) (k .first) (k .next) _ _ (c .before .before .before .before .before .before .before .before .before .before .before .pre .0 .0) (c .before .before .before .before .before .before .before .before .less .ensures) (c .before .before .before .before .before .before .before .leaf-level .ensures .0) in
+    let v : c .before .before .wide32 .result ≡ getD (a .cur .now) (leaf-level (pred (k .first)) (k .next) (length (key (a .s .now) (k .at) (k .len)))) 0 = c .before .before .wide32 .ensures ∙ ap (λ (d : ℕ). getD (a .cur .now) d 0) e in
+    let b = open-slot (a .s .now) (k .at) (k .len) (k .first) (k .next) _ _ (a .n) (c .before .before .before .before .before .before .before .before .before .before .before .pre .0 .0) (c .before .before .before .before .before .before .before .before .less .ensures) (c .before .before .before .before .before .before .cut-length .ensures .0) (c .before .before .before .if1 .taken) in (
+      c .before .before .before .before .before .before .before .before .before .before .before .pre .0 .0,
+      c .before .before .before .before .before .before .cut-length .ensures .1,
+      c .before .before .before .before .before .before .before .before .before .before .before .pre .0 .2,
+      c .before .slot-bit .ensures .1,
+      subst (λ (z : Bits). Positions-below (8 * length (a .out .now)) (positions (c .before .slot-bit .result .0) z)) (sym b)
+          (subst (λ (i : ℕ). Positions-below (8 * length (a .out .now)) (positions i (key-slot (a .n) (pred (k .first)) (k .next) (key (a .s .now) (k .at) (k .len))))) (sym (c .before .slot-bit .ensures .0 ∙ ap (λ (i : ℕ). a .n * i) v)) (c .before .before .before .before .before .before .before .before .before .before .before .pre .1 .2)),
     )
 
 same-length : tie.Need-same-length
@@ -90,12 +85,12 @@ same-length c = search needs
 
 returns : tie.Need-returns
 returns c =
-    let a = (c .before .before .before .before .before .before .before .before .before .before .before .before .before .args) in
+    let a = (c .before .before .before .before .before .before .before .before .before .before .before .before .before .before .args) in
     let k = a .k in
-    let e = level-is (a .s .now) (k .at) (k .len) (k .first) (k .next) _ _ (c .before .before .before .before .before .before .before .before .before .before .before .before .before .pre .0 .0) (c .before .before .before .before .before .before .before .before .before .before .less .ensures) (c .before .before .before .before .before .before .before .before .before .leaf-level .ensures .0) in
-    let b = open-slot (a .s .now) (k .at) (k .len) (k .first) (k .next) _ _ (a .n) (c .before .before .before .before .before .before .before .before .before .before .before .before .before .pre .0 .0) (c .before .before .before .before .before .before .before .before .before .before .less .ensures) (c .before .before .before .before .before .before .before .before .cut-length .ensures .0) (c .before .before .before .before .before .if1 .taken) in
-    slot-done (a .cur .now) (a .out .now) _ _ _ (a .n) (a .n * c .before .before .before .before .wide32 .result) (key-slot (a .n) (pred (k .first)) (k .next) (key (a .s .now) (k .at) (k .len))) e (ap (λ (i : ℕ). a .n * i) (c .before .before .before .before .wide32 .ensures))
-    (c .before .before .write-suffix .ensures ∙ ap (λ (z : Bits). with-bits (positions (a .n * c .before .before .before .before .wide32 .result) z) (a .out .now)) b)
+    let e = level-is (a .s .now) (k .at) (k .len) (k .first) (k .next) _ _ (c .before .before .before .before .before .before .before .before .before .before .before .before .before .before .pre .0 .0) (c .before .before .before .before .before .before .before .before .before .before .before .less .ensures) (c .before .before .before .before .before .before .before .before .before .before .leaf-level .ensures .0) in
+    let b = open-slot (a .s .now) (k .at) (k .len) (k .first) (k .next) _ _ (a .n) (c .before .before .before .before .before .before .before .before .before .before .before .before .before .before .pre .0 .0) (c .before .before .before .before .before .before .before .before .before .before .before .less .ensures) (c .before .before .before .before .before .before .before .before .before .cut-length .ensures .0) (c .before .before .before .before .before .before .if1 .taken) in
+    slot-done (a .cur .now) (a .out .now) _ _ _ (a .n) (c .before .before .before .before .slot-bit .result .0) (key-slot (a .n) (pred (k .first)) (k .next) (key (a .s .now) (k .at) (k .len))) e (c .before .before .before .before .slot-bit .ensures .0 ∙ ap (λ (i : ℕ). a .n * i) (c .before .before .before .before .before .wide32 .ensures))
+    (c .before .before .write-suffix .ensures ∙ ap (λ (z : Bits). with-bits (positions (c .before .before .before .before .slot-bit .result .0) z) (a .out .now)) b)
 
 returns-2 : tie.Need-returns-2
 returns-2 c =
@@ -118,7 +113,7 @@ write-slot-spec =
     mul-cur
     element-write-cur
     wide32-requires
-    mul-base
+    slot-bit-requires
     write-suffix-requires
     same-length
     returns

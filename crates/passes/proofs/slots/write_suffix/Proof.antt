@@ -18,7 +18,7 @@ use Rattle.passes.proofs.slots.write_suffix.Statement.{statement}
 use Rattle.passes.proofs.slots.write_suffix.Tie as tie
 
 abbrev Inv-loop : tie.InvT-loop
-Inv-loop out₀ base s k cut n i₀ out i = (i ≤ n) × (length out ≡ length out₀) × (with-bits (positions (base + i) (drop i (bits-behind n cut (key s (k .at) (k .len))))) out ≡ with-bits (positions base (bits-behind n cut (key s (k .at) (k .len)))) out₀) × Positions-below (8 * length out₀) (positions (base + i) (drop i (bits-behind n cut (key s (k .at) (k .len)))))
+Inv-loop out₀ base s k cut n i₀ out i = (i ≤ n) × (length out ≡ length out₀) × (with-bits (positions (base .0 + i) (drop i (bits-behind n cut (key s (k .at) (k .len))))) out ≡ with-bits (positions (base .0) (bits-behind n cut (key s (k .at) (k .len)))) out₀) × Positions-below (8 * length out₀) (positions (base .0 + i) (drop i (bits-behind n cut (key s (k .at) (k .len)))))
 
 abbrev μ-loop : tie.MeasureT-loop
 μ-loop out₀ base s k cut n i₀ out i = n - i
@@ -27,7 +27,7 @@ loop-holds : tie.Need-loop-holds Inv-loop μ-loop
 loop-holds c =
     let a = (c .before .before .args) in
     let bs : Bits = bits-behind (a .n) (a .cut) (key (a .s .now) (a .k .at) (a .k .len)) in
-    let e = positions-first bs (a .base) in
+    let e = positions-first bs (a .base .0) in
     (omega arith, refl, ap (λ (z : List ℕ). with-bits z (a .out .now)) e, rw e (c .before .before .pre .4))
 
 suffix-bit-requires : tie.Need-suffix-bit-requires Inv-loop μ-loop
@@ -41,11 +41,11 @@ add-i c = search needs
 
 set-bit-requires : tie.Need-set-bit-requires Inv-loop μ-loop
 set-bit-requires c κs =
-    let a = (c .before .before .before .before .before .before .before .args) in
-    let l = (c .before .before .before .before .loop) in
+    let a = (c .before .before .before .before .before .before .before .before .args) in
+    let l = (c .before .before .before .before .before .loop) in
     let bs : Bits = bits-behind (a .n) (a .cut) (key (a .s .now) (a .k .at) (a .k .len)) in
-    let e = positions-on bs (a .base) (l .i) true (omega (arith, length-behind (a .n) (a .cut) (key (a .s .now) (a .k .at) (a .k .len)))) (behind-at (a .n) (a .cut) (l .i) (key (a .s .now) (a .k .at) (a .k .len)) (omega arith) ∙ sym (c .before .before .suffix-bit .ensures) ∙ c .before .if1 .taken) in
-    let p : Positions-below (8 * length (a .out .now)) ((a .base + l .i) ∷ positions (a .base + (l .i + 1)) (drop (l .i + 1) bs)) = rw e at (l .inv .3) in
+    let e = positions-on bs (a .base .0) (l .i) true (omega (arith, length-behind (a .n) (a .cut) (key (a .s .now) (a .k .at) (a .k .len)))) (behind-at (a .n) (a .cut) (l .i) (key (a .s .now) (a .k .at) (a .k .len)) (omega arith) ∙ sym (c .before .before .before .suffix-bit .ensures) ∙ c .before .if1 .taken) in
+    let p : Positions-below (8 * length (a .out .now)) ((a .base .0 + l .i) ∷ positions (a .base .0 + (l .i + 1)) (drop (l .i + 1) bs)) = rw e at (l .inv .3) in
     omega (arith, p .0, l .inv .1)
 
 loop-less : tie.Need-loop-less Inv-loop μ-loop
@@ -53,14 +53,14 @@ loop-less c = search needs
 
 loop-again : tie.Need-loop-again Inv-loop μ-loop
 loop-again c =
-    let a = (c .before .before .before .before .before .before .before .before .before .before .args) in
-    let l = (c .before .before .before .before .before .before .before .loop) in
+    let a = (c .before .before .before .before .before .before .before .before .before .before .before .args) in
+    let l = (c .before .before .before .before .before .before .before .before .loop) in
     let bs : Bits = bits-behind (a .n) (a .cut) (key (a .s .now) (a .k .at) (a .k .len)) in
-    let e = positions-on bs (a .base) (l .i) true (omega (arith, length-behind (a .n) (a .cut) (key (a .s .now) (a .k .at) (a .k .len)))) (behind-at (a .n) (a .cut) (l .i) (key (a .s .now) (a .k .at) (a .k .len)) (omega arith) ∙ sym (c .before .before .before .before .before .suffix-bit .ensures) ∙ c .before .before .before .before .if1 .taken) in
-    let p : Positions-below (8 * length (a .out .now)) ((a .base + l .i) ∷ positions (a .base + (l .i + 1)) (drop (l .i + 1) bs)) = rw e at (l .inv .3) in (
+    let e = positions-on bs (a .base .0) (l .i) true (omega (arith, length-behind (a .n) (a .cut) (key (a .s .now) (a .k .at) (a .k .len)))) (behind-at (a .n) (a .cut) (l .i) (key (a .s .now) (a .k .at) (a .k .len)) (omega arith) ∙ sym (c .before .before .before .before .before .before .suffix-bit .ensures) ∙ c .before .before .before .before .if1 .taken) in
+    let p : Positions-below (8 * length (a .out .now)) ((a .base .0 + l .i) ∷ positions (a .base .0 + (l .i + 1)) (drop (l .i + 1) bs)) = rw e at (l .inv .3) in (
       omega arith,
       omega (arith, c .before .before .set-bit .kept .0, l .inv .1),
-      ap (with-bits (positions (a .base + (l .i + 1)) (drop (l .i + 1) bs))) (c .before .before .set-bit .ensures) ∙ sym (with-cons (a .base + l .i) (positions (a .base + (l .i + 1)) (drop (l .i + 1) bs)) (l .out))
+      ap (with-bits (positions (a .base .0 + (l .i + 1)) (drop (l .i + 1) bs))) (c .before .before .set-bit .ensures) ∙ sym (with-cons (a .base .0 + l .i) (positions (a .base .0 + (l .i + 1)) (drop (l .i + 1) bs)) (l .out))
           ∙ ap (λ (z : List ℕ). with-bits z (l .out)) (sym e) ∙ l .inv .2,
       p .1,
     )
@@ -70,10 +70,10 @@ loop-less-2 c = search needs
 
 loop-again-2 : tie.Need-loop-again-2 Inv-loop μ-loop
 loop-again-2 c =
-    let a = (c .before .before .before .before .before .before .args) in
-    let l = (c .before .before .before .loop) in
+    let a = (c .before .before .before .before .before .before .before .args) in
+    let l = (c .before .before .before .before .loop) in
     let bs : Bits = bits-behind (a .n) (a .cut) (key (a .s .now) (a .k .at) (a .k .len)) in
-    let e = positions-on bs (a .base) (l .i) false (omega (arith, length-behind (a .n) (a .cut) (key (a .s .now) (a .k .at) (a .k .len)))) (behind-at (a .n) (a .cut) (l .i) (key (a .s .now) (a .k .at) (a .k .len)) (omega arith) ∙ sym (c .before .suffix-bit .ensures) ∙ c .if1 .left) in
+    let e = positions-on bs (a .base .0) (l .i) false (omega (arith, length-behind (a .n) (a .cut) (key (a .s .now) (a .k .at) (a .k .len)))) (behind-at (a .n) (a .cut) (l .i) (key (a .s .now) (a .k .at) (a .k .len)) (omega arith) ∙ sym (c .before .before .suffix-bit .ensures) ∙ c .if1 .left) in
     (omega arith, l .inv .1, ap (λ (z : List ℕ). with-bits z (l .out)) (sym e) ∙ l .inv .2, rw e at (l .inv .3))
 
 same-length : tie.Need-same-length Inv-loop μ-loop
@@ -84,7 +84,7 @@ returns c =
     let a = (c .before .before .before .before .args) in
     let l = (c .before .loop) in
     let bs : Bits = bits-behind (a .n) (a .cut) (key (a .s .now) (a .k .at) (a .k .len)) in
-    sym (with-none (l .out)) ∙ ap (λ (z : List ℕ). with-bits z (l .out)) (sym (positions-none bs (a .base) (l .i) (omega (arith, length-behind (a .n) (a .cut) (key (a .s .now) (a .k .at) (a .k .len)))))) ∙ l .inv .2
+    sym (with-none (l .out)) ∙ ap (λ (z : List ℕ). with-bits z (l .out)) (sym (positions-none bs (a .base .0) (l .i) (omega (arith, length-behind (a .n) (a .cut) (key (a .s .now) (a .k .at) (a .k .len)))))) ∙ l .inv .2
 
 pub write-suffix-spec : {M : Type 1} → statement M
 write-suffix-spec =
