@@ -68,27 +68,12 @@ fn write_dense(out: &mut [u8], at: usize, list: &[u8], nodes: &[u32; 65], st: Se
     let second = at + 6 + m;
     let third = second + 6 + m;
     let k = bytes_for(c.dense);
-    write_body(out, at, b"DL", m, list, nodes, st, Body::Entries(Kind::DL));
-    write_body(
-        out,
-        second,
-        b"DC",
-        m,
-        list,
-        nodes,
-        st,
-        Body::Entries(Kind::DC),
-    );
-    write_body(
-        out,
-        third,
-        b"DP",
-        k,
-        list,
-        nodes,
-        st,
-        Body::Entries(Kind::DP),
-    );
+    let dl = Body::Entries(Kind::DL);
+    write_body(out, at, b"DL", m, list, nodes, st, dl);
+    let dc = Body::Entries(Kind::DC);
+    write_body(out, second, b"DC", m, list, nodes, st, dc);
+    let dp = Body::Entries(Kind::DP);
+    write_body(out, third, b"DP", k, list, nodes, st, dp);
 }
 
 // The records of the sparse entries' bodies go to out from `at`.
@@ -107,36 +92,12 @@ fn write_sparse(
     let k = bytes_for(m);
     let second = at + 6 + m;
     let third = second + 6 + k;
-    write_body(
-        out,
-        at,
-        b"SL",
-        m,
-        list,
-        entries,
-        st,
-        Body::Entries(Kind::SL),
-    );
-    write_body(
-        out,
-        second,
-        b"SC",
-        k,
-        list,
-        entries,
-        st,
-        Body::Entries(Kind::SC),
-    );
-    write_body(
-        out,
-        third,
-        b"SB",
-        k,
-        list,
-        entries,
-        st,
-        Body::Entries(Kind::SB),
-    );
+    let sl = Body::Entries(Kind::SL);
+    write_body(out, at, b"SL", m, list, entries, st, sl);
+    let sc = Body::Entries(Kind::SC);
+    write_body(out, second, b"SC", k, list, entries, st, sc);
+    let sb = Body::Entries(Kind::SB);
+    write_body(out, third, b"SB", k, list, entries, st, sb);
 }
 
 // The records of the dense bodies' ranks go to out from `at`; the dense records start at `from`.

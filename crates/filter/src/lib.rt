@@ -1,7 +1,11 @@
 // The face of the library: the calls for programs in other languages.
+ghost use mathlib.Core.Path.{_≡_};
 ghost use Rattle.spec.specs.Build.{build};
+ghost use Rattle.spec.specs.Check.{check};
 ghost use Rattle.records.specs.Records.{settings};
-ghost use Rattle.filter.specs.Filter.{coded};
+ghost use Rattle.filter.specs.Filter.{coded, number-of};
+use accept::Checked;
+use accept::check;
 use build::Built;
 use build::build;
 
@@ -14,5 +18,17 @@ pub extern "C" fn range_filter_build(list: &[u8], dense: u64, n: u64, out: &mut 
     match built {
         Built::Bytes(written) => written as u64,
         Built::Refused(number) => (number as u64) * 4294967296,
+    }
+}
+
+// Judges an image. The answer is 0 for an accepted one, else the number of the refusal.
+#[no_mangle]
+pub extern "C" fn range_filter_check(image: &[u8]) -> u32
+    ensures { λ r. ⌜ r ≡ number-of (check (now (image .entry))) ⌝ }
+{
+    let checked = check(image);
+    match checked {
+        Checked::Accepted => 0,
+        Checked::Refused(number) => number,
     }
 }

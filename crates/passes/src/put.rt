@@ -19,13 +19,6 @@ use bits::NodeNum;
 use bits::numbers::wide;
 use bits::ones::set_bit;
 
-// A cell of a row of bits: whether it starts a row, whether its bit is set, and the bit's place in the row.
-pub struct Cell {
-    pub start: bool,
-    pub set: bool,
-    pub place: usize,
-}
-
 // x goes to the cursor of level d, which goes on by one.
 fn place_byte(out: &mut [u8], cur: &mut [u32; 65], d: usize, x: u8)
     requires { ⌜ Room one-step at-cursor (length (now out)) 8600000 (emission d x ∷ []) (now cur) ⌝ }
@@ -58,15 +51,23 @@ fn row_bit(w: usize, node: NodeNum, place: usize) -> BitPos
     BitPos(w * node.0 + place)
 }
 
-// The cursor of level d goes on if the cell starts a row of w bits, and the cell's bit is set in the last row begun.
-fn put_cell(out: &mut [u8], cur: &mut [u32; 65], d: usize, w: usize, c: Cell)
-    requires { ⌜ (w ≤ 256) × (c .place < 256) × Room cell-step (cell-ones w) (8 * length (now out)) 8600000 (emission d (cell (c .start) (c .set) (c .place)) ∷ []) (now cur) ⌝ }
-    ensures { λ _. ⌜ byte-state (now (out .exit)) (now (cur .exit)) ≡ set-at-cursor cell-step (cell-ones w) (emission d (cell (c .start) (c .set) (c .place))) (byte-state (now (out .entry)) (now (cur .entry))) ⌝ }
+// The cursor of level d goes on if a node starts, and if `sets` the bit of a place is set in the last node's row of w bits.
+fn put_cell(
+    out: &mut [u8],
+    cur: &mut [u32; 65],
+    d: usize,
+    w: usize,
+    starts: bool,
+    sets: bool,
+    place: usize,
+)
+    requires { ⌜ (w ≤ 256) × (place < 256) × Room cell-step (cell-ones w) (8 * length (now out)) 8600000 (emission d (cell starts sets place) ∷ []) (now cur) ⌝ }
+    ensures { λ _. ⌜ byte-state (now (out .exit)) (now (cur .exit)) ≡ set-at-cursor cell-step (cell-ones w) (emission d (cell starts sets place)) (byte-state (now (out .entry)) (now (cur .entry))) ⌝ }
 {
-    let rows = wide32(cur[d]) + one_if(c.start);
+    let rows = wide32(cur[d]) + one_if(starts);
     cur[d] = rows as u32;
-    if c.set {
-        let at = row_bit(w, NodeNum(less(rows)), c.place);
+    if sets {
+        let at = row_bit(w, NodeNum(less(rows)), place);
         set_bit(out, at.0);
     }
 }
@@ -79,43 +80,13 @@ pub fn write_entry(out: &mut [u8], cur: &mut [u32; 65], d: usize, e: Entry, kind
     match kind {
         Kind::DL => {
             let x = wide(e.label);
-            put_cell(
-                out,
-                cur,
-                d,
-                256,
-                Cell {
-                    start: e.start,
-                    set: !e.exact,
-                    place: x,
-                },
-            )
+            put_cell(out, cur, d, 256, e.start, !e.exact, x)
         }
         Kind::DC => {
             let x = wide(e.label);
-            put_cell(
-                out,
-                cur,
-                d,
-                256,
-                Cell {
-                    start: e.start,
-                    set: e.child,
-                    place: x,
-                },
-            )
+            put_cell(out, cur, d, 256, e.start, e.child, x)
         }
-        Kind::DP => put_cell(
-            out,
-            cur,
-            d,
-            1,
-            Cell {
-                start: e.start,
-                set: e.exact,
-                place: 0,
-            },
-        ),
+        Kind::DP => put_cell(out, cur, d, 1, e.start, e.exact, 0),
         Kind::SL => place_byte(out, cur, d, e.label),
         Kind::SC => put_bit(out, cur, d, e.child),
         Kind::SB => put_bit(out, cur, d, e.start),

@@ -48,12 +48,12 @@ less-requires c κs = search needs
 row-bit-requires : tie.Need-row-bit-requires
 row-bit-requires c κs =
     let a = (c .before .before .before .before .before .before .args) in
-    (c .before .before .before .before .before .before .pre .0, few (c .less .result) (c .before .before .before .wide32 .result + c .before .before .one-if .result) (getD (a .cur .now) (a .d) 0) (bit (a .c .start)) (omega (arith, c .before .before .before .wide32 .ensures, c .before .before .one-if .ensures .0)) (c .less .ensures) (c .before .before .before .before .before .before .pre .2 .1), c .before .before .before .before .before .before .pre .1)
+    (c .before .before .before .before .before .before .pre .0, few (c .less .result) (c .before .before .before .wide32 .result + c .before .before .one-if .result) (getD (a .cur .now) (a .d) 0) (bit (a .starts)) (omega (arith, c .before .before .before .wide32 .ensures, c .before .before .one-if .ensures .0)) (c .less .ensures) (c .before .before .before .before .before .before .pre .2 .1), c .before .before .before .before .before .before .pre .1)
 
 set-bit-requires : tie.Need-set-bit-requires
 set-bit-requires c κs =
     let a = (c .before .before .before .before .before .before .before .before .args) in
-    let b = cell-below (8 * length (a .out .now)) (a .w) (c .before .before .before .before .before .wide32 .result + c .before .before .before .before .one-if .result) (c .before .before .less .result) (getD (a .cur .now) (a .d) 0) (a .c .place) (a .c .start) (a .c .set) (c .before .before .before .if1 .taken) (omega (arith, c .before .before .before .before .before .wide32 .ensures, c .before .before .before .before .one-if .ensures .0)) (c .before .before .less .ensures) (c .before .before .before .before .before .before .before .before .pre .2 .2) in
+    let b = cell-below (8 * length (a .out .now)) (a .w) (c .before .before .before .before .before .wide32 .result + c .before .before .before .before .one-if .result) (c .before .before .less .result) (getD (a .cur .now) (a .d) 0) (a .place) (a .starts) (a .sets) (c .before .before .before .if1 .taken) (omega (arith, c .before .before .before .before .before .wide32 .ensures, c .before .before .before .before .one-if .ensures .0)) (c .before .before .less .ensures) (c .before .before .before .before .before .before .before .before .pre .2 .2) in
     omega (arith, b, c .before .row-bit .ensures)
 
 same-length : tie.Need-same-length
@@ -63,15 +63,15 @@ returns : tie.Need-returns
 returns c =
     let a = (c .before .before .before .before .before .before .before .before .before .before .before .args) in
     let c′ = getD (a .cur .now) (a .d) 0 in
-    let e : c .before .before .before .before .before .before .before .before .wide32 .result + c .before .before .before .before .before .before .before .one-if .result ≡ c′ + bit (a .c .start) = omega (arith, c .before .before .before .before .before .before .before .before .wide32 .ensures, c .before .before .before .before .before .before .before .one-if .ensures .0) in
-    ap₂ (λ (o : List ℕ) (v : ℕ). byte-state o (set (a .cur .now) (a .d) v)) (cell-set (a .out .now) _ (a .w) _ (c .before .before .before .before .before .less .result) c′ (a .c .place) (a .c .start) (a .c .set) (c .before .before .before .before .before .before .if1 .taken) e (c .before .before .before .before .before .less .ensures) (c .before .before .set-bit .ensures ∙ ap (with-bit (a .out .now)) (c .before .before .before .before .row-bit .ensures))) e
+    let e : c .before .before .before .before .before .before .before .before .wide32 .result + c .before .before .before .before .before .before .before .one-if .result ≡ c′ + bit (a .starts) = omega (arith, c .before .before .before .before .before .before .before .before .wide32 .ensures, c .before .before .before .before .before .before .before .one-if .ensures .0) in
+    ap₂ (λ (o : List ℕ) (v : ℕ). byte-state o (set (a .cur .now) (a .d) v)) (cell-set (a .out .now) _ (a .w) _ (c .before .before .before .before .before .less .result) c′ (a .place) (a .starts) (a .sets) (c .before .before .before .before .before .before .if1 .taken) e (c .before .before .before .before .before .less .ensures) (c .before .before .set-bit .ensures ∙ ap (with-bit (a .out .now)) (c .before .before .before .before .row-bit .ensures))) e
 
 returns-2 : tie.Need-returns-2
 returns-2 c =
     let a = (c .before .before .before .before .before .args) in
     let c′ = getD (a .cur .now) (a .d) 0 in
-    let e : c .before .before .wide32 .result + c .before .one-if .result ≡ c′ + bit (a .c .start) = omega (arith, c .before .before .wide32 .ensures, c .before .one-if .ensures .0) in
-    ap₂ (λ (o : List ℕ) (v : ℕ). byte-state o (set (a .cur .now) (a .d) v)) (cell-kept (a .out .now) (a .w) c′ (a .c .place) (a .c .start) (a .c .set) (c .if1 .left)) e
+    let e : c .before .before .wide32 .result + c .before .one-if .result ≡ c′ + bit (a .starts) = omega (arith, c .before .before .wide32 .ensures, c .before .one-if .ensures .0) in
+    ap₂ (λ (o : List ℕ) (v : ℕ). byte-state o (set (a .cur .now) (a .d) v)) (cell-kept (a .out .now) (a .w) c′ (a .place) (a .starts) (a .sets) (c .if1 .left)) e
 
 pub put-cell-spec : {M : Type 1} → statement M
 put-cell-spec =

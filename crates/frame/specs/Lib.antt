@@ -1,0 +1,5 @@
+pub mod Records
+pub mod Framed
+pub mod Located
+pub mod FrameOf
+pub mod Groups

@@ -1,0 +1,12 @@
+use mathlib.Core.Path.{refl}
+use lib.Bits.{and-le-r}
+use Rattle.accept_laws.specs.LaneLaws.{low-bytes}
+use Rattle.trie_check.proofs.labels.even_bytes.Statement.{statement}
+use Rattle.trie_check.proofs.labels.even_bytes.Tie as tie
+
+-- src/labels.rt:29:1
+returns : tie.Need-returns
+returns c = (refl, and-le-r (c .args .w) low-bytes)
+
+pub even-bytes-spec : {M : Type 1} → statement M
+even-bytes-spec = tie.close (tie.spec returns)

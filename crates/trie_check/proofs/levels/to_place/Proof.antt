@@ -1,0 +1,58 @@
+use mathlib.Core.Path.{_≡_, refl, sym, ap, ap₂, _∙_}
+use Prim.Native.Nat.{ℕ, suc, _+_, _*_, _-_, _/_, _%_, _≤_, _<_}
+use mathlib.Core.Bool.{Bool, true, false, not, _&&_, _||_}
+use native.Mathlib.Omega.{arith}
+use lib.ListN.{length, getD}
+use Rattle.bits.specs.Bits.{rank}
+use Rattle.accept_laws.specs.NodeBranches.{select-behind, select-rank, rank-word-start}
+use borrow.Author.Needs.{needs}
+use Rattle.trie_check.proofs.levels.to_place.Statement.{statement}
+use Rattle.trie_check.proofs.levels.to_place.Tie as tie
+use Rattle.trie_check.proofs.levels.to_place.Reads as reads
+use Rattle.trie_check.proofs.levels.to_place.Lts as lts
+use Rattle.bits.proofs.ones.ones_before.Reads as ones-before-reads
+use Rattle.bits.proofs.ones.rank_from.Reads as rank-from-reads
+use Rattle.bits.proofs.select.select_from.Reads as select-from-reads
+
+-- src/levels.rt:36:9
+select-from-requires : tie.Need-select-from-requires
+select-from-requires c κs = search needs
+
+-- src/levels.rt:37:31
+ones-before-requires : tie.Need-ones-before-requires
+ones-before-requires c κs = search needs
+
+-- src/levels.rt:37:15
+sub-low : tie.Need-sub-low
+sub-low c =
+    let a = c .before .before .before .before .before .args in
+    let p = c .before .before .before .before .before .pre .2 in
+    let w : 64 * (a .from .bit / 64) + a .from .bit % 64 ≡ a .from .bit = omega arith in
+    omega (arith, c .before .ones-before .ensures .0, p .branches, ap (rank (a .sc .now)) w)
+
+-- src/levels.rt:38:9
+rank-from-requires : tie.Need-rank-from-requires
+rank-from-requires c κs =
+    let a = c .before .before .before .before .before .args in
+    let p = c .before .before .before .before .before .pre .2 in
+    let b = select-behind (a .sb .now) (a .entries) (a .m) (a .from .bit) (p .within) (omega (arith, p .starts, c .before .before .before .before .before .pre .3)) in
+    (omega (arith, c .before .before .select-from .ensures .1, c .before .before .before .before .before .pre .1), omega (arith, b, c .before .before .select-from .ensures .0), rank-word-start (a .sc .now) (a .from .bit) (a .from .branches) (c .before .ones-before .result) (p .branches) (c .before .ones-before .ensures .0))
+
+-- src/levels.rt:31:1
+returns : tie.Need-returns
+returns c =
+    let a = c .before .before .before .before .before .before .args in
+    let p = c .before .before .before .before .before .before .pre .2 in (
+      record {
+        within = c .before .before .before .select-from .ensures .1;
+        starts = sym (ap (rank (a .sb .now)) (c .before .before .before .select-from .ensures .0) ∙ select-rank (a .sb .now) (a .entries) (a .m) (c .before .before .before .before .before .before .pre .4));
+        branches = c .rank-from .ensures;
+      },
+      c .before .before .before .select-from .ensures .0,
+      refl,
+    )
+
+pub to-place-spec : {M : Type 1} → statement M
+to-place-spec =
+    tie.close
+    (tie.spec select-from-requires ones-before-requires sub-low rank-from-requires returns)
