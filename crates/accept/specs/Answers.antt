@@ -1,34 +1,25 @@
 -- What the public call check answers, as document 01's numbers, and the stages of the check over an image's frame.
-use Prim.Native.Nat.{ℕ, zero, suc, _+_, _-_, _*_, _/_, _<_, _≤_}
+use Prim.Native.Nat.{ℕ, zero, suc, _+_, _*_, _<_, _≤_}
 use mathlib.Core.Path.{_≡_, refl, sym, ap, ap₂, _∙_}
-use mathlib.Core.Bool.{Bool, true, false, cond, _&&_, _||_, and-assoc, and-true, true≢false}
-use mathlib.Core.List.{List, [], _∷_}
-use mathlib.Core.Logic.{_⊎_, inl, inr, ⊎-elim}
+use mathlib.Core.Bool.{Bool, true, false, cond}
+use mathlib.Core.List.{List, []}
+use mathlib.Core.Logic.{_⊎_, ⊎-elim}
 use native.Mathlib.Omega.{arith}
 use native.Mathlib.Nat.{mul-le-mul-right}
-use lib.ListN.{length, take, drop, length-drop}
+use lib.ListN.{length, drop, length-drop}
 use lib.Seq.{length-take-le}
-use lib.Dec.{eqb}
-use borrow.Author.Tests.{eqb-true}
-use Rattle.spec.specs.Bytes.{Bytes, blocks, every, equal, ones}
-use Rattle.spec.specs.Image.{ranks, samples}
-use Rattle.bits.specs.Bits.{rank}
-use Rattle.accept_laws.specs.Tests.{both}
+use Rattle.spec.specs.Bytes.{Bytes, blocks}
 use Rattle.spec.specs.Frame.{Parts, parts}
-use Rattle.spec.specs.Nodes.{levels-of, nodes-of}
-use Rattle.spec.specs.Trie.{first-set, covered, builders-trie}
-use Rattle.spec.specs.Check.{header-right, no-spare, spare-clear, ranks-right, slots-right, judge-bodies, verdict, Checked, accepted, refused, checked, check}
+use mathlib.Core.Option.{Option, none, some}
+use Rattle.spec.specs.Nodes.{Node, levels-of, leaves-of, nodes-of, read-nodes, read-leaves}
+use Rattle.spec.specs.Trie.{builders-trie}
+use Rattle.spec.specs.Check.{header-right, spare-clear, ranks-right, slots-right, judge-bodies, verdict, Checked, accepted, refused, checked, check}
 use Rattle.frame.specs.Records.{part}
 use Rattle.frame.specs.FrameOf.{FrameOf, frame-bodies, frame-parts, bodies-judged}
 use Rattle.frame.specs.declared.Frame.{Frame}
 use Rattle.accept_laws.specs.BitTests.{Sized, bits-right, builders-trie-is}
 use Rattle.accept_laws.specs.BodyTests.{trie-parts}
-use Rattle.accept_laws.specs.LevelEnds.{rise}
-use Rattle.accept_laws.specs.NodeBranches.{node-branches}
-use Rattle.accept_laws.specs.ExactSlots.{upto}
-use Rattle.accept_laws.specs.SlotPositions.{exact-entry, exact-dense, node-slot}
-use Rattle.accept_laws.specs.SlotTests.{deep-slots, rises, slots-without, slots-by-bits}
-use Rattle.accept_laws.specs.Positions.{bits, length-bits, ones-all}
+use Rattle.accept_laws.specs.Positions.{length-bits}
 use Rattle.accept.specs.declared.Checked.{Checked as Answer}
 use Rattle.accept.specs.declared.Checked.the-variants.{Accepted, Refused}
 use Rattle.accept.specs.declared.Accepted.{Accepted as Found}
@@ -180,131 +171,14 @@ check-refused s (suc n) h l = sym (ap checked h)
 pub early : (n : ℕ) → (n ≡ 11) ⊎ (n ≡ 12) → 1 ≤ n
 early n h = ⊎-elim (λ e. omega arith) (λ e. omega arith) h
 
--- the spare bits of the four bodies that can have them
-pub spare-tests : (s : Bytes) (f : Frame) (a b c d : Bool)
-    → a ≡ no-spare (f .dense) (part s (f .dp) (blocks 8 (f .dense))) → b ≡ no-spare (f .entries) (part s (f .sc) (blocks 8 (f .entries)))
-    → c ≡ no-spare (f .entries) (part s (f .sb) (blocks 8 (f .entries))) → d ≡ no-spare (f .leaves * f .width) (part s (f .sv) (blocks 8 (f .leaves * f .width)))
-    → (a && b && c && d) ≡ spare-clear (frame-parts s f) (frame-bodies s f)
-unfolding spare-clear every
-spare-tests s f a b c d e g h i = rw (e, g, h, i) (regroup (no-spare (f .dense) (part s (f .dp) (blocks 8 (f .dense)))) (no-spare (f .entries) (part s (f .sc) (blocks 8 (f .entries)))) (no-spare (f .entries) (part s (f .sb) (blocks 8 (f .entries)))) (no-spare (f .leaves * f .width) (part s (f .sv) (blocks 8 (f .leaves * f .width)))))
-  where
-    regroup : (a b c d : Bool) → (a && b && c && d) ≡ a && (b && (c && (d && true)))
-    regroup a b c d = simp (and-assoc, and-true)
-
 -- number 14 of equal bodies
 pub same-trie : (levels leaves n entries sparse : ℕ) (a a′ b b′ c c′ d d′ e e′ g g′ : Bytes) → a ≡ a′ → b ≡ b′ → c ≡ c′ → d ≡ d′ → e ≡ e′ → g ≡ g′
     → bits-right (trie-parts levels leaves n entries sparse a b c d e g) ≡ bits-right (trie-parts levels leaves n entries sparse a′ b′ c′ d′ e′ g′)
 same-trie levels leaves n entries sparse a a′ b b′ c c′ d d′ e e′ g g′ h i j k l m = rw (h, i, j, k, l, m)
 
--- ---- number 15
-
--- the tables of the dense bodies
-abbrev pub dense-tables : Bytes → Frame → Bool
-dense-tables s f =
-    equal (part s (f .rl) (4 * blocks 64 (256 * f .dense))) (ranks 64 (frame-parts s f .dl))
-    && equal (part s (f .rc) (4 * blocks 64 (256 * f .dense))) (ranks 64 (frame-parts s f .dc))
-    && equal (part s (f .rp) (4 * blocks 64 (f .dense))) (ranks 64 (frame-parts s f .dp))
-
--- the tables of the sparse bodies
-abbrev pub sparse-tables : Bytes → Frame → Bool
-sparse-tables s f =
-    equal (part s (f .rs) (4 * blocks 512 (f .entries))) (ranks 512 (frame-parts s f .sc))
-    && equal (part s (f .ts) (4 * blocks 64 (f .sparse))) (samples (frame-parts s f .sb))
-
--- both are all of number 15
-pub tables-right : (s : Bytes) (f : Frame) → dense-tables s f && sparse-tables s f ≡ ranks-right (frame-parts s f) (frame-bodies s f)
-unfolding ranks-right every
-tables-right s f = regroup (equal (part s (f .rl) (4 * blocks 64 (256 * f .dense))) (ranks 64 (frame-parts s f .dl))) (equal (part s (f .rc) (4 * blocks 64 (256 * f .dense))) (ranks 64 (frame-parts s f .dc)))
-    (equal (part s (f .rp) (4 * blocks 64 (f .dense))) (ranks 64 (frame-parts s f .dp))) (equal (part s (f .rs) (4 * blocks 512 (f .entries))) (ranks 512 (frame-parts s f .sc)))
-    (equal (part s (f .ts) (4 * blocks 64 (f .sparse))) (samples (frame-parts s f .sb)))
-  where
-    regroup : (a b c d e : Bool) → (a && b && c && (d && e)) ≡ a && (b && (c && (d && (e && true))))
-    regroup a b c d e = simp (and-assoc, and-true)
-
--- as many S-LOUDS bits are set as the count says
-pub starts-are : (s : Bytes) (f : Frame) → builders-trie (frame-parts s f) ≡ true → rank (part s (f .sb) (blocks 8 (f .entries))) (f .entries) ≡ f .sparse
-unfolding builders-trie every
-starts-are s f h =
-    let a = both (first-set (frame-parts s f .sb)) _ h in
-    let b = both (eqb (ones (frame-parts s f .sb)) (f .sparse)) _ (a .1) in
-    sym (ones-all (part s (f .sb) (blocks 8 (f .entries))) (f .entries)) ∙ eqb-true (ones (frame-parts s f .sb)) (f .sparse) (b .0)
-
--- three tests, and two, at equal values
-pub three-tests : (a a′ b b′ c c′ : Bool) → a ≡ a′ → b ≡ b′ → c ≡ c′ → (a && b && c) ≡ (a′ && b′ && c′)
-three-tests a a′ b b′ c c′ e g h = rw (e, g, h)
-
--- ---- number 16
-
-module _ (s : Bytes) (f : Frame) (o : FrameOf s f) (ok : builders-trie (frame-parts s f) ≡ true) where
-  abbrev DL : Bytes
-  DL = part s (f .dl) (32 * f .dense)
-
-  abbrev DC : Bytes
-  DC = part s (f .dc) (32 * f .dense)
-
-  abbrev DP : Bytes
-  DP = part s (f .dp) (blocks 8 (f .dense))
-
-  abbrev SL : Bytes
-  SL = part s (f .sl) (f .entries)
-
-  abbrev SC : Bytes
-  SC = part s (f .sc) (blocks 8 (f .entries))
-
-  abbrev SB : Bytes
-  SB = part s (f .sb) (blocks 8 (f .entries))
-
-  abbrev SV : Bytes
-  SV = part s (f .sv) (blocks 8 (f .leaves * f .width))
-
-  -- DC lies within DL
-  pub within-are : (x y : Bytes) → x ≡ DC → y ≡ DL → covered (bits x (256 * f .dense)) (bits y (256 * f .dense)) ≡ true
-  unfolding builders-trie every
-  within-are x y e g =
-      let a = both (first-set (frame-parts s f .sb)) _ ok in
-      let b = both (eqb (ones (frame-parts s f .sb)) (f .sparse)) _ (a .1) in
-      ap₂ (λ (u v : Bytes). covered (bits u (256 * f .dense)) (bits v (256 * f .dense))) e g ∙ both (covered (frame-parts s f .dc) (frame-parts s f .dl)) _ (b .1) .0
-
-  w : Within s f
-  w = within s f o
-
-  a₁ : 256 * f .dense ≤ 8 * length DL
-  a₁ = omega (arith, length-part s (f .dl) (32 * f .dense) (w .dl))
-
-  a₂ : 256 * f .dense ≤ 8 * length DC
-  a₂ = omega (arith, length-part s (f .dc) (32 * f .dense) (w .dc))
-
-  a₃ : f .dense ≤ 8 * length DP
-  a₃ = omega (arith, length-part s (f .dp) (blocks 8 (f .dense)) (w .dp))
-
-  a₄ : length SL ≡ f .entries
-  a₄ = length-part s (f .sl) (f .entries) (w .sl)
-
-  a₅ : f .entries ≤ 8 * length SC
-  a₅ = omega (arith, length-part s (f .sc) (blocks 8 (f .entries)) (w .sc))
-
-  a₆ : f .entries ≤ 8 * length SB
-  a₆ = omega (arith, length-part s (f .sb) (blocks 8 (f .entries)) (w .sb))
-
-  okay : bits-right (frame-parts s f) ≡ true
-  okay = sym (builders-trie-is (frame-parts s f) (sized-parts s f o)) ∙ ok
-
-  -- the ends of the levels rise
-  pub rises-are : 1 ≤ f .dense + f .sparse → (x y z : Bytes) → x ≡ DC → y ≡ SC → z ≡ SB → rise (node-branches (f .dense) (f .entries) x y z) (f .dense + f .sparse) 63 1 ≡ true
-  rises-are h x y z e g i =
-      rw (e, g, i) (rises (f .levels) (f .width) (f .leaves) (f .dense) (f .entries) (f .sparse) DL DC DP SL SC SB (bits SV (f .leaves * f .width)) a₁ a₂ a₃ a₄ a₅ a₆ (o .levels) (o .width) okay h)
-
-  -- no node
-  pub slots-none : f .dense + f .sparse ≡ 0 → slots-right 0 (levels-of (nodes-of (frame-parts s f))) ≡ true
-  slots-none h = slots-without (f .levels) (f .width) (f .leaves) (f .dense) (f .entries) (f .sparse) DL DC DP SL SC SB (bits SV (f .leaves * f .width)) a₁ a₂ a₃ a₄ a₅ a₆ (o .levels) (o .width) okay h
-
-  -- the three tests of the slots
-  pub slots-are : 1 ≤ f .dense + f .sparse → (dl dc dp sl sc sb sv : Bytes) → dl ≡ DL → dc ≡ DC → dp ≡ DP → sl ≡ SL → sc ≡ SC → sb ≡ SB → sv ≡ SV → (first : ℕ) → first ≡ node-slot dl dc dp (f .dense) → (x y z : Bool)
-      → x ≡ upto (exact-dense dl dc dp (f .width) (bits sv (f .leaves * f .width))) 0 (f .dense - 0)
-      → y ≡ upto (exact-entry sl sc sb (f .width) (bits sv (f .leaves * f .width)) first) 0 (f .entries - 1 - 0)
-      → z ≡ deep-slots (f .dense) (f .entries) (f .sparse) (f .width) dl dc dp sc sb (bits sv (f .leaves * f .width))
-      → (x && y && z) ≡ slots-right 0 (levels-of (nodes-of (frame-parts s f)))
-  slots-are h dl dc dp sl sc sb sv e₁ e₂ e₃ e₄ e₅ e₆ e₇ first e₈ x y z p q r =
-      three-tests x _ y _ z _ p (q ∙ ap (λ (k : ℕ). upto (exact-entry sl sc sb (f .width) (bits sv (f .leaves * f .width)) k) 0 (f .entries - 1 - 0)) e₈) r
-      ∙ rw (e₁, e₂, e₃, e₄, e₅, e₆, e₇)
-      (sym (slots-by-bits (f .levels) (f .width) (f .leaves) (f .dense) (f .entries) (f .sparse) DL DC DP SL SC SB (bits SV (f .leaves * f .width)) a₁ a₂ a₃ a₄ a₅ a₆ (o .levels) (o .width) okay h))
+-- An image's leaf list by its frame: what the calls that read an accepted image go by.
+pub frame-leaves : (s : Bytes) (f : Frame) → FrameOf s f → read-leaves s ≡ leaves-of (levels-of (nodes-of (frame-parts s f)))
+unfolding read-leaves read-nodes
+frame-leaves s f o =
+    ap (λ (ns : List Node). leaves-of (levels-of ns))
+    (ap (λ (z : Option (List Bytes)). elim z [ none ↦ [] | some bs ↦ nodes-of (parts s bs) ]) (o .bodies) ∙ ap nodes-of (o .parts-are))

@@ -1,8 +1,8 @@
 -- Number 14 said of the bits and labels alone, without a list of nodes: what the check judges. `builders-trie-is` says that it is document 01's.
-use Prim.Native.Nat.{ℕ, zero, suc, _+_, _-_, _*_, _<_, _≤_}
+use Prim.Native.Nat.{ℕ, suc, _+_, _-_, _*_, _<_, _≤_}
 use mathlib.Core.Path.{_≡_, refl, sym, ap, ap₂, _∙_}
-use mathlib.Core.Bool.{Bool, true, false, cond, _&&_, _||_, not, and-assoc, and-true, true≢false}
-use mathlib.Core.List.{List, [], _∷_, _++_, map, append-nil}
+use mathlib.Core.Bool.{Bool, true, false, cond, _&&_, and-assoc, and-true, true≢false}
+use mathlib.Core.List.{List, [], _∷_, _++_, map}
 use native.Mathlib.Omega.{arith}
 use lib.ListN.{length, take, drop, length-map, length-append}
 use lib.Seq.{take-all, take-nil, take-append-le, take-append-add}
@@ -10,7 +10,7 @@ use lib.Dec.{leb, ltb, eqb}
 use borrow.Author.Tests.{eqb-true, eqb-false, eq-eqb, ne-eqb, leb-true, leb-false}
 use Rattle.spec.specs.Bytes.{Bytes, Bits, all, every, count, ones}
 use Rattle.spec.specs.Frame.{Parts}
-use Rattle.spec.specs.Nodes.{Entry, entry, continues, Shape, dense-shapes, zip-entries, Sparse, split, split-behind, sparse-shape, extra-ends, sparse-nodes, nodes-of, slotted, total}
+use Rattle.spec.specs.Nodes.{Entry, entry, continues, Shape, dense-shapes, zip-entries, split, sparse-shape, extra-ends, sparse-nodes, nodes-of, slotted, total}
 use Rattle.spec.specs.Trie.{first-set, covered, nodes-right, builders-trie}
 use Rattle.accept_laws.specs.Tests.{both, under, all-append}
 use Rattle.accept_laws.specs.LevelEnds.{before, rise, nodes-above, rise-ext, nodes-above-ext, end-tests}
@@ -79,7 +79,7 @@ unfolding total
 total-append f [] gs = omega arith
 total-append f (h ∷ hs) gs = omega (arith, total-append f hs gs)
 
-continues-zip : (xs : Bytes) (cs : Bits) → length xs ≡ length cs → map continues (zip-entries xs cs) ≡ cs
+pub continues-zip : (xs : Bytes) (cs : Bits) → length xs ≡ length cs → map continues (zip-entries xs cs) ≡ cs
 unfolding zip-entries
 continues-zip [] [] h = refl
 continues-zip [] (c ∷ cs) h = absurd (omega arith)
@@ -90,7 +90,7 @@ pub length-zip : (xs : Bytes) (cs : Bits) → length xs ≡ length cs → length
 length-zip xs cs h = sym (length-map (zip-entries xs cs) continues) ∙ ap length (continues-zip xs cs h)
 
 -- entries that end, and those that continue
-count-both : (es : List Entry) → count ends-here es + ones (map continues es) ≡ length es
+pub count-both : (es : List Entry) → count ends-here es + ones (map continues es) ≡ length es
 unfolding count ones
 count-both [] = refl
 count-both (entry x true ∷ es) = omega (arith, count-both es)
@@ -217,7 +217,7 @@ module _ (p : Parts) (z : Sized p) where
             ap (λ (k : ℕ). total branches (take k (D ++ S))) (sym q) ∙ ap (total branches) (take-append-add D S m) ∙ total-append branches D (take m S)
             ∙ ap₂ _+_ total-D (sparse .branches-are m ∙ ap (λ (b : Bits). ones (take (place-of m (p .sb)) b)) bits-of-entries)
 
-    leaves-all : total leaves-at (D ++ S) + ones (p .dc) + ones (p .sc) ≡ ones (p .dl) + ones (p .dp) + p .entry-count
+    pub leaves-all : total leaves-at (D ++ S) + ones (p .dc) + ones (p .sc) ≡ ones (p .dl) + ones (p .dp) + p .entry-count
     leaves-all =
         omega (
           arith,

@@ -1,18 +1,18 @@
 -- The dense nodes by counts of ones: what number 14 asks of each, the branches before each and the leaves among them.
-use Prim.Native.Nat.{ℕ, zero, suc, _+_, _-_, _*_, _<_, _≤_}
+use Prim.Native.Nat.{ℕ, zero, suc, _+_, _*_, _≤_}
 use mathlib.Core.Path.{_≡_, refl, sym, ap, ap₂, _∙_}
-use mathlib.Core.Bool.{Bool, true, false, cond, _&&_, _||_, not, and-assoc, and-true, true≢false}
-use mathlib.Core.List.{List, [], _∷_, _++_, map}
+use mathlib.Core.Bool.{Bool, true, false, cond, _&&_, _||_, not, and-true, true≢false}
+use mathlib.Core.List.{List, [], _∷_}
 use native.Mathlib.Omega.{arith}
-use lib.ListN.{length, take, drop, length-drop, take-append-drop}
-use lib.Seq.{length-take-le, take-nil, take-add}
-use lib.Dec.{leb, ltb, eqb}
-use borrow.Author.Tests.{lt-ltb, eqb-true, ne-eqb, eq-eqb}
-use Rattle.spec.specs.Bytes.{Bits, all, count, bit, ones}
+use lib.ListN.{length, take, drop, length-drop}
+use lib.Seq.{length-take-le, take-nil}
+use lib.Dec.{ltb, eqb}
+use borrow.Author.Tests.{lt-ltb, ne-eqb}
+use Rattle.spec.specs.Bytes.{Bits, all, count, ones}
 use Rattle.spec.specs.Nodes.{Entry, entry, entry-label, continues, Shape, shape, dense-entries, dense-shapes, total}
 use Rattle.spec.specs.Trie.{covered}
 use Rattle.accept_laws.specs.Tests.{both}
-use Rattle.accept_laws.specs.Shapes.{ends-here, rising, exact, branches, leaves-at, labelled, ordered, sole, root-right, inner-right, nodes-from}
+use Rattle.accept_laws.specs.Shapes.{ends-here, rising, branches, leaves-at, root-right, inner-right, nodes-from}
 
 -- ---- one node
 

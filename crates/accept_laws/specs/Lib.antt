@@ -13,11 +13,3 @@ pub mod DensePositions
 pub mod Climb
 pub mod NodeBranches
 pub mod BodyTests
-pub mod Tables
-pub mod Spare
-pub mod SlotLevels
-pub mod SlotBits
-pub mod ExactSlots
-pub mod SlotPositions
-pub mod SlotTests
-pub mod SlotWindows

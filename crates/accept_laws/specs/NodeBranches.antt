@@ -1,17 +1,16 @@
 -- The branches that continue before a node, by rank and select over the bodies.
-use Prim.Native.Nat.{ℕ, zero, suc, _+_, _-_, _*_, _/_, _%_, _<_, _≤_}
-use mathlib.Core.Path.{_≡_, refl, sym, ap, ap₂, _∙_}
+use Prim.Native.Nat.{ℕ, _+_, _-_, _*_, _/_, _%_, _<_, _≤_}
+use mathlib.Core.Path.{_≡_, refl, ap, ap₂, _∙_}
 use mathlib.Core.Bool.{Bool, true, false, cond, _&&_}
-use mathlib.Core.List.{List, [], _∷_}
 use native.Mathlib.Omega.{arith}
 use lib.ListN.{length, take}
 use lib.Dec.{leb, ltb, eqb}
 use borrow.Author.Tests.{leb-true, leb-false, ltb-true, ltb-false, le-leb, lt-leb}
 use Rattle.spec.specs.Bytes.{Bytes, ones}
 use Rattle.bits.specs.Bits.{rank, select}
-use Rattle.bits.proofs.RankLaws.{rank-zero, rank-le, rank-up, rank-next}
+use Rattle.bits.proofs.RankLaws.{rank-le, rank-up, rank-next}
 use Rattle.bits.proofs.SelectLaws.{select-is, select-le}
-use Rattle.accept_laws.specs.LevelEnds.{rise, nodes-above, rise-ext, nodes-above-ext}
+use Rattle.accept_laws.specs.LevelEnds.{rise-ext, nodes-above-ext}
 use Rattle.accept_laws.specs.SparseNodes.{place-of}
 use Rattle.accept_laws.specs.BitTests.{branches-to}
 use Rattle.accept_laws.specs.Climb.{climb}

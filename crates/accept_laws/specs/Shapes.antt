@@ -1,15 +1,15 @@
 -- What number 14 asks of the nodes, said of their shapes: the suffix slots play no part in it.
-use Prim.Native.Nat.{ℕ, zero, suc, _+_, _*_, _<_, _≤_}
+use Prim.Native.Nat.{ℕ, zero, suc, _+_, _<_, _≤_}
 use mathlib.Core.Path.{_≡_, refl, sym, ap, ap₂, _∙_}
-use mathlib.Core.Bool.{Bool, true, false, cond, _&&_, _||_, not, and-assoc, and-comm, and-true}
-use mathlib.Core.List.{List, [], _∷_, _++_, map}
+use mathlib.Core.Bool.{Bool, true, false, _&&_, not}
+use mathlib.Core.List.{List, [], _∷_}
 use mathlib.Core.Option.{Option, none, some}
 use native.Mathlib.Omega.{arith}
 use lib.ListN.{length, take, drop}
 use lib.Dec.{leb, ltb, eqb}
 use borrow.Author.Tests.{eqb-true}
-use Rattle.spec.specs.Bytes.{Bits, all, concat, count, every, bit}
-use Rattle.spec.specs.Nodes.{Entry, entry, entry-label, continues, Shape, shape, Branch, to-node, to-leaf, Node, node, label-of, has-child, branches-of, is-exact, children, children-of, with-slots, past-slots, slotted, total, later, levels, levels-of}
+use Rattle.spec.specs.Bytes.{Bits, all, concat, count, bit}
+use Rattle.spec.specs.Nodes.{Entry, entry, entry-label, continues, Shape, shape, Branch, to-node, to-leaf, Node, node, label-of, has-child, branches-of, is-exact, children, children-of, with-slots, past-slots, slotted, total, later, levels-of}
 use Rattle.spec.specs.Trie.{open-leaves, leaf-count, has-label, ascending, sole-continues, nodes-right}
 use Rattle.accept_laws.specs.Tests.{all-both, under, regroup-ten}
 use Rattle.accept_laws.specs.LevelEnds.{level-tests, end-tests, levels-are, before, rise, nodes-above, rise-ext, nodes-above-ext}

@@ -1,17 +1,17 @@
 -- The sparse nodes entry by entry: what number 14 asks of them, the branches before each and the leaves among them, read off the entries and S-LOUDS bits in one go.
-use Prim.Native.Nat.{ℕ, zero, suc, _+_, _*_, _<_, _≤_}
+use Prim.Native.Nat.{ℕ, zero, suc, _+_}
 use mathlib.Core.Path.{_≡_, refl, sym, ap, ap₂, _∙_}
-use mathlib.Core.Bool.{Bool, true, false, cond, _&&_, _||_, not, and-assoc, and-comm, and-true, true≢false}
-use mathlib.Core.List.{List, [], _∷_, _++_, map}
+use mathlib.Core.Bool.{Bool, true, false, cond, _&&_, _||_, not, and-assoc, and-true, true≢false}
+use mathlib.Core.List.{List, [], _∷_, map}
 use native.Mathlib.Omega.{arith}
 use native.Mathlib.Nat.{add-zero}
-use lib.ListN.{length, take, drop, length-map}
+use lib.ListN.{length, take, length-map}
 use lib.Seq.{take-all, take-nil}
-use lib.Dec.{leb, ltb, eqb}
+use lib.Dec.{ltb, eqb}
 use Rattle.spec.specs.Bytes.{Bits, all, count, bit, ones}
 use Rattle.spec.specs.Nodes.{Entry, entry, entry-label, continues, Shape, shape, Sparse, sparse, prepend, split-behind, sparse-shape, extra-ends, total}
 use Rattle.accept_laws.specs.Tests.{both, swap-middle}
-use Rattle.accept_laws.specs.Shapes.{ends-here, rising, exact, branches, leaves-at, labelled, ordered, sole, root-right, inner-right, nodes-from}
+use Rattle.accept_laws.specs.Shapes.{ends-here, rising, branches, leaves-at, root-right, inner-right, nodes-from}
 
 -- an entry behind which its node ends: a sole entry continues, except at the root
 abbrev pub last-right : Bool → Bool → Entry → Bool
@@ -200,7 +200,7 @@ leaves-of (sparse (entry x c) (f ∷ es)) h = go (eqb x 255) c h
     go false false h = omega arith
 
 -- a count over nodes, by their shapes and by their entries
-total-shapes : (f : Shape → ℕ) (g : Sparse → ℕ) → ((c : Sparse) → extra-ends c ≡ true → f (sparse-shape c) ≡ g c)
+pub total-shapes : (f : Shape → ℕ) (g : Sparse → ℕ) → ((c : Sparse) → extra-ends c ≡ true → f (sparse-shape c) ≡ g c)
     → (m : ℕ) (cs : List Sparse) → all extra-ends cs ≡ true → total f (take m (map sparse-shape cs)) ≡ total g (take m cs)
 unfolding total all
 total-shapes f g h zero cs a = refl

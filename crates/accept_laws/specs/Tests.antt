@@ -1,6 +1,6 @@
 -- Tests and their conjunctions, as the laws of the check use them.
 use mathlib.Core.Path.{_≡_, refl, sym, ap, ap₂, _∙_}
-use mathlib.Core.Bool.{Bool, true, false, cond, _&&_, _||_, not, true≢false, and-assoc, and-comm}
+use mathlib.Core.Bool.{Bool, true, false, _&&_, true≢false, and-assoc}
 use mathlib.Core.List.{List, [], _∷_, _++_}
 use Rattle.spec.specs.Bytes.{all, every}
 use Rattle.theory.specs.Lists.{every-true, true-every}

@@ -1,8 +1,8 @@
 -- What is known of a frame that was read, for every reader of an accepted image: the settings and counts, the offset of each body, and that document 01's
 -- reading of the image has just these bodies and parts. `Framed-right` is the contract of the reader of the frame.
-use Prim.Native.Nat.{ℕ, _+_, _-_, _*_, _/_, _≤_, _<_}
-use mathlib.Core.Path.{_≡_, refl, sym, ap, ap₂, _∙_}
-use mathlib.Core.Bool.{Bool, true, false, cond, _&&_, true≢false, and-assoc, and-true}
+use Prim.Native.Nat.{ℕ, _+_, _-_, _*_, _≤_, _<_}
+use mathlib.Core.Path.{_≡_, refl, sym, ap, _∙_}
+use mathlib.Core.Bool.{Bool, true, false, _&&_, true≢false, and-assoc, and-true}
 use mathlib.Core.List.{List, [], _∷_}
 use mathlib.Core.Option.{Option, none, some}
 use mathlib.Core.Logic.{_⊎_}
@@ -15,7 +15,7 @@ use Rattle.spec.specs.Bytes.{Bytes, blocks, every, from32, unpack}
 use Rattle.spec.specs.Frame.{marks, has-header, read-bodies, Parts, parts}
 use Rattle.spec.specs.Check.{sizes, sized, header-right, judge-bodies, verdict}
 use Rattle.frame.specs.Records.{part, ends, bodies, whole, last-end, read-ends}
-use Rattle.frame.specs.Located.{settings-right, front-sized, middle-sized, back-sized, spaced, ends-chained, sized-spaced, both, spaced-first}
+use Rattle.frame.specs.Located.{settings-right, front-sized, middle-sized, back-sized, spaced, ends-chained, sized-spaced, spaced-first}
 use Rattle.frame.specs.declared.Frame.{Frame}
 use Rattle.frame.specs.declared.Framed.{Framed}
 use Rattle.frame.specs.declared.Framed.the-variants.{At, Refused}

@@ -1,19 +1,18 @@
 -- The twelve records in three groups of four, as the reader of the frame finds them, and number 11 by what it finds.
-use Prim.Native.Nat.{ℕ, _+_, _≤_, _<_}
-use mathlib.Core.Path.{_≡_, refl, sym, ap, _∙_}
-use mathlib.Core.Bool.{Bool, true, false, cond, _||_, not, true≢false, and-false}
+use Prim.Native.Nat.{ℕ, _≤_, _<_}
+use mathlib.Core.Path.{_≡_, sym, ap, _∙_}
+use mathlib.Core.Bool.{true, false, and-false}
 use mathlib.Core.List.{List, [], _∷_, _++_}
 use mathlib.Core.Option.{Option, none, some}
-use native.Mathlib.Omega.{arith}
-use lib.ListN.{length, getD, drop}
+use lib.ListN.{length, getD}
 use lib.Dec.{leb, eqb}
-use borrow.Author.Tests.{lt-leb, le-leb, ne-eqb, eqb-true, eq-eqb}
+use borrow.Author.Tests.{lt-leb, le-leb, ne-eqb, eq-eqb}
 use Rattle.spec.specs.Bytes.{Bytes, every, letter}
-use Rattle.spec.specs.Frame.{marks, has-header, read-bodies}
+use Rattle.spec.specs.Frame.{marks, has-header}
 use Rattle.spec.specs.Check.{verdict}
-use Rattle.frame.specs.Records.{ends, last-end, all-before, behind, ends-append, ends-within, bodies, whole, read-ends}
+use Rattle.frame.specs.Records.{ends, last-end, all-before, behind, ends-append, ends-within, whole, read-ends}
 use Rattle.frame.specs.Framed.{records-found}
-use Rattle.frame.specs.FrameOf.{no-header, no-bodies, image-ends}
+use Rattle.frame.specs.FrameOf.{no-bodies}
 use Rattle.frame.specs.declared.Records.{Records}
 use Rattle.frame.specs.declared.Records.the-variants.{Ends, Wrong}
 

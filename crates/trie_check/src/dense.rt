@@ -10,7 +10,7 @@ use bits::ones::bit_at;
 use bits::ones::ones_word;
 
 // The ones among the 256 bits of node i.
-pub fn node_ones(s: &[u8], i: usize) -> usize
+fn node_ones(s: &[u8], i: usize) -> usize
     requires { ⌜ 32 * i + 32 ≤ length (now s) ⌝ }
     ensures { λ r. ⌜ rank (now (s .entry)) (256 * i + 256) ≡ rank (now (s .entry)) (256 * i) + r ⌝ }
 {

@@ -1,10 +1,9 @@
 // The levels of the nodes by their ends: each end is one more than the branches that continue before the last, found by rank and select from one level to the next.
 ghost use mathlib.Core.Path.{_≡_};
-ghost use mathlib.Core.Bool.{cond, true};
+ghost use mathlib.Core.Bool.{cond};
 ghost use Prim.Native.Nat.{_+_, _*_, _≤_, _<_};
 ghost use lib.ListN.{length};
 ghost use Rattle.bits.specs.Bits.{rank, select};
-ghost use Rattle.accept_laws.specs.LevelEnds.{rise, level-end};
 ghost use Rattle.accept_laws.specs.Climb.{climb};
 ghost use Rattle.accept_laws.specs.NodeBranches.{node-branches};
 ghost use Rattle.trie_check.specs.Places.{PlaceOf, ReachedAt};
@@ -133,39 +132,4 @@ pub fn levels_right(
         d = d + 1;
     }
     pick(d <= levels, e, above) == n
-}
-
-// The end of the level that is t levels below the root's, of nodes whose levels are right.
-pub fn level_end(
-    dc: &[u8],
-    sc: &[u8],
-    sb: &[u8],
-    n: usize,
-    entries: usize,
-    sparse: usize,
-    t: usize,
-) -> usize
-    requires { ⌜ (256 * n ≤ 8 * length (now dc)) × (entries ≤ 8 * length (now sb)) × (entries ≤ 8 * length (now sc)) × (sparse ≡ rank (now sb) entries) × (1 ≤ n + sparse) × (n < 4294967296) × (entries < 4294967296) × (rise (node-branches n entries (now dc) (now sc) (now sb)) (n + sparse) 63 1 ≡ true) × (t ≤ 63) ⌝ }
-    ensures { λ r. ⌜ r ≡ level-end (node-branches n entries (now (dc .entry)) (now (sc .entry)) (now (sb .entry))) (n + sparse) t 1 ⌝ }
-{
-    let total = n + sparse;
-    let all = rank_from(dc, 0, 0, 256 * n);
-    let mut at = Reached {
-        node: 0,
-        branches: 0,
-        bit: 0,
-        starts: 0,
-        inner: 0,
-    };
-    let mut e = 1usize;
-    let mut d = 0usize;
-    while d < t {
-        if e == total {
-            return total;
-        }
-        at = reach(dc, sc, sb, n, entries, all, at, e);
-        e = at.branches + 1;
-        d = d + 1;
-    }
-    e
 }

@@ -1,62 +1,44 @@
-use mathlib.Core.Path.{_≡_, refl, sym, ap, ap₂, _∙_}
-use Prim.Native.Nat.{ℕ, suc, _+_, _*_, _-_, _/_, _%_, _≤_, _<_}
-use mathlib.Core.Bool.{Bool, true, false, not, _&&_, _||_}
+use mathlib.Core.Path.{sym, ap, _∙_}
+use Prim.Native.Nat.{_+_, _*_, _/_}
 use native.Mathlib.Omega.{arith}
-use lib.ListN.{length, getD}
+use lib.ListN.{length}
 use Rattle.accept.specs.Answers.{within, length-part, trie-by-bits, same-trie}
-use borrow.Author.Needs.{needs}
 use Rattle.accept.proofs.nodes_right.Statement.{statement}
 use Rattle.accept.proofs.nodes_right.Tie as tie
-use Rattle.accept.proofs.nodes_right.Reads as reads
-use Rattle.accept.proofs.nodes_right.Lts as lts
-use Rattle.accept.proofs.body.Reads as body-reads
-use Rattle.trie_check.proofs.trie.trie_right.Reads as trie-right-reads
 
--- src/lib.rt:59:32
 mul-body : tie.Need-mul-body
 mul-body c = omega (arith, c .before .before .pre .dense)
 
--- src/lib.rt:59:9
 body-requires : tie.Need-body-requires
 body-requires c κs = within (c .before .before .args .image .now) (c .before .before .args .f) (c .before .before .pre) .dl
 
--- src/lib.rt:60:32
 mul-body-2 : tie.Need-mul-body-2
 mul-body-2 c = omega (arith, c .before .before .before .before .pre .dense)
 
--- src/lib.rt:60:9
 body-requires-2 : tie.Need-body-requires-2
 body-requires-2 c κs = within (c .before .before .before .before .args .image .now) (c .before .before .before .before .args .f) (c .before .before .before .before .pre) .dc
 
--- src/lib.rt:61:33
 add-body : tie.Need-add-body
 add-body c = omega (arith, c .before .before .before .before .before .before .pre .dense)
 
--- src/lib.rt:61:9
 body-requires-3 : tie.Need-body-requires-3
 body-requires-3 c κs = within (c .before .before .before .before .before .before .args .image .now) (c .before .before .before .before .before .before .args .f) (c .before .before .before .before .before .before .pre) .dp
 
--- src/lib.rt:62:9
 body-requires-4 : tie.Need-body-requires-4
 body-requires-4 c κs = within (c .before .before .before .before .before .before .before .args .image .now) (c .before .before .before .before .before .before .before .args .f) (c .before .before .before .before .before .before .before .pre) .sl
 
--- src/lib.rt:63:33
 add-body-2 : tie.Need-add-body-2
 add-body-2 c = omega (arith, c .before .before .before .before .before .before .before .before .before .pre .entries)
 
--- src/lib.rt:63:9
 body-requires-5 : tie.Need-body-requires-5
 body-requires-5 c κs = within (c .before .before .before .before .before .before .before .before .before .args .image .now) (c .before .before .before .before .before .before .before .before .before .args .f) (c .before .before .before .before .before .before .before .before .before .pre) .sc
 
--- src/lib.rt:64:33
 add-body-3 : tie.Need-add-body-3
 add-body-3 c = omega (arith, c .before .before .before .before .before .before .before .before .before .before .before .pre .entries)
 
--- src/lib.rt:64:9
 body-requires-6 : tie.Need-body-requires-6
 body-requires-6 c κs = within (c .before .before .before .before .before .before .before .before .before .before .before .args .image .now) (c .before .before .before .before .before .before .before .before .before .before .before .args .f) (c .before .before .before .before .before .before .before .before .before .before .before .pre) .sb
 
--- src/lib.rt:65:5
 trie-right-requires : tie.Need-trie-right-requires
 trie-right-requires c κs =
     let a = c .before .before .before .before .before .before .before .before .before .before .before .before .args in
@@ -72,7 +54,6 @@ trie-right-requires c κs =
       c .before .before .before .before .before .before .before .before .before .before .before .before .pre .entries,
     )
 
--- src/lib.rt:55:1
 returns : tie.Need-returns
 returns c =
     let a = c .before .before .before .before .before .before .before .before .before .before .before .before .before .args in

@@ -1,33 +1,25 @@
-use mathlib.Core.Path.{_≡_, sym, ap, _∙_}
+use mathlib.Core.Path.{sym, ap, _∙_}
 use mathlib.Core.List.{[], _++_}
 use Rattle.frame.specs.Records.{before, ends}
 use Rattle.frame.specs.Framed.{mark-of, none-then, found-then, found-within}
 use borrow.Author.Needs.{needs}
 use Rattle.frame.proofs.four_records.Statement.{statement}
 use Rattle.frame.proofs.four_records.Tie as tie
-use Rattle.frame.proofs.four_records.Reads as reads
-use Rattle.frame.proofs.four_records.Lts as lts
-use Rattle.frame.proofs.record_end.Reads as record-end-reads
 
--- src/lib.rt:91:27
 record-end-requires : tie.Need-record-end-requires
 record-end-requires c κs = search needs
 
--- src/lib.rt:91:22
 enum-known-a : tie.Need-enum-known-a
 enum-known-a c = search needs
 
--- src/lib.rt:92:9
 enum-told : tie.Need-enum-told
 enum-told c = search needs
 
--- src/lib.rt:92:9
 returns : tie.Need-returns
 returns c =
     let a = c .before .before .before .before .args in
     sym (none-then (a .m1 .now) (mark-of (a .m2 .now) ++ mark-of (a .m3 .now) ++ mark-of (a .m4 .now)) (a .image .now) (a .at) _ (c .enum-told .given .1) (c .before .before .record-end .ensures))
 
--- src/lib.rt:94:27
 record-end-requires-2 : tie.Need-record-end-requires-2
 record-end-requires-2 c κs =
     let a = c .before .before .before .before .before .args in
@@ -35,15 +27,12 @@ record-end-requires-2 c κs =
     let e1 = c .before .before .before .record-end .ensures in
     found-within (a .m1 .now) (a .image .now) (a .at) (k1 .0 .0) _ (c .before .before .before .before .before .pre) (k1 .1) e1
 
--- src/lib.rt:94:22
 enum-known-b : tie.Need-enum-known-b
 enum-known-b c = search needs
 
--- src/lib.rt:95:9
 enum-told-2 : tie.Need-enum-told-2
 enum-told-2 c = search needs
 
--- src/lib.rt:95:9
 returns-2 : tie.Need-returns-2
 returns-2 c =
     let a = c .before .before .before .before .before .before .before .before .args in
@@ -52,7 +41,6 @@ returns-2 c =
     sym (found-then (a .m1 .now) (mark-of (a .m2 .now) ++ mark-of (a .m3 .now) ++ mark-of (a .m4 .now)) (a .image .now) (a .at) (k1 .0 .0) _ (k1 .1) e1
     ∙ ap (before (k1 .0 .0)) (none-then (a .m2 .now) (mark-of (a .m3 .now) ++ mark-of (a .m4 .now)) (a .image .now) (k1 .0 .0) _ (c .enum-told2 .given .1) (c .before .before .record-end2 .ensures)))
 
--- src/lib.rt:97:27
 record-end-requires-3 : tie.Need-record-end-requires-3
 record-end-requires-3 c κs =
     let a = c .before .before .before .before .before .before .before .before .before .args in
@@ -62,15 +50,12 @@ record-end-requires-3 c κs =
     let e2 = c .before .before .before .record-end2 .ensures in
     found-within (a .m2 .now) (a .image .now) (k1 .0 .0) (k2 .0 .0) _ (found-within (a .m1 .now) (a .image .now) (a .at) (k1 .0 .0) _ (c .before .before .before .before .before .before .before .before .before .pre) (k1 .1) e1) (k2 .1) e2
 
--- src/lib.rt:97:22
 enum-known-c : tie.Need-enum-known-c
 enum-known-c c = search needs
 
--- src/lib.rt:98:9
 enum-told-3 : tie.Need-enum-told-3
 enum-told-3 c = search needs
 
--- src/lib.rt:98:9
 returns-3 : tie.Need-returns-3
 returns-3 c =
     let a = c .before .before .before .before .before .before .before .before .before .before .before .before .args in
@@ -82,7 +67,6 @@ returns-3 c =
     ∙ ap (before (k1 .0 .0)) (found-then (a .m2 .now) (mark-of (a .m3 .now) ++ mark-of (a .m4 .now)) (a .image .now) (k1 .0 .0) (k2 .0 .0) _ (k2 .1) e2
     ∙ ap (before (k2 .0 .0)) (none-then (a .m3 .now) (mark-of (a .m4 .now)) (a .image .now) (k2 .0 .0) _ (c .enum-told3 .given .1) (c .before .before .record-end3 .ensures))))
 
--- src/lib.rt:100:27
 record-end-requires-4 : tie.Need-record-end-requires-4
 record-end-requires-4 c κs =
     let a = c .before .before .before .before .before .before .before .before .before .before .before .before .before .args in
@@ -94,15 +78,12 @@ record-end-requires-4 c κs =
     let e3 = c .before .before .before .record-end3 .ensures in
     found-within (a .m3 .now) (a .image .now) (k2 .0 .0) (k3 .0 .0) _ (found-within (a .m2 .now) (a .image .now) (k1 .0 .0) (k2 .0 .0) _ (found-within (a .m1 .now) (a .image .now) (a .at) (k1 .0 .0) _ (c .before .before .before .before .before .before .before .before .before .before .before .before .before .pre) (k1 .1) e1) (k2 .1) e2) (k3 .1) e3
 
--- src/lib.rt:100:22
 enum-known-d : tie.Need-enum-known-d
 enum-known-d c = search needs
 
--- src/lib.rt:101:9
 enum-told-4 : tie.Need-enum-told-4
 enum-told-4 c = search needs
 
--- src/lib.rt:101:9
 returns-4 : tie.Need-returns-4
 returns-4 c =
     let a = c .before .before .before .before .before .before .before .before .before .before .before .before .before .before .before .before .args in
@@ -117,7 +98,6 @@ returns-4 c =
     ∙ ap (before (k2 .0 .0)) (found-then (a .m3 .now) (mark-of (a .m4 .now)) (a .image .now) (k2 .0 .0) (k3 .0 .0) _ (k3 .1) e3
     ∙ ap (before (k3 .0 .0)) (none-then (a .m4 .now) [] (a .image .now) (k3 .0 .0) _ (c .enum-told4 .given .1) (c .before .before .record-end4 .ensures)))))
 
--- src/lib.rt:87:1
 returns-5 : tie.Need-returns-5
 unfolding ends
 returns-5 c =

@@ -1,4 +1,4 @@
-use mathlib.Core.Path.{_≡_, refl}
+use mathlib.Core.Path.{refl}
 use mathlib.Core.Bool.{true, false}
 use mathlib.Core.Logic.{inr}
 use native.Mathlib.Omega.{arith}
@@ -7,112 +7,79 @@ use Rattle.frame.specs.FrameOf.{slots-fit, frame-found, frame-wrong}
 use borrow.Author.Needs.{needs}
 use Rattle.frame.proofs.judge_header.Statement.{statement}
 use Rattle.frame.proofs.judge_header.Tie as tie
-use Rattle.frame.proofs.judge_header.Reads as reads
-use Rattle.frame.proofs.judge_header.Lts as lts
-use Rattle.frame.proofs.back_sized.Reads as back-sized-reads
-use Rattle.frame.proofs.front_sized.Reads as front-sized-reads
-use Rattle.frame.proofs.middle_sized.Reads as middle-sized-reads
-use Rattle.bits.proofs.numbers.read32.Reads as read32-reads
-use Rattle.frame.proofs.settings_right.Reads as settings-right-reads
-use Rattle.bits.proofs.numbers.wide.Reads as wide-reads
 
--- src/lib.rt:154:23
 shared-slice-read-wide : tie.Need-shared-slice-read-wide
 shared-slice-read-wide c = search needs
 
--- src/lib.rt:154:9
 wide-requires : tie.Need-wide-requires
 wide-requires c κs = search needs
 
--- src/lib.rt:155:22
 shared-slice-read-wide-2 : tie.Need-shared-slice-read-wide-2
 shared-slice-read-wide-2 c = search needs
 
--- src/lib.rt:155:9
 wide-requires-2 : tie.Need-wide-requires-2
 wide-requires-2 c κs = search needs
 
--- src/lib.rt:156:9
 read32-requires : tie.Need-read32-requires
 read32-requires c κs = search needs
 
--- src/lib.rt:157:9
 read32-requires-2 : tie.Need-read32-requires-2
 read32-requires-2 c κs = search needs
 
--- src/lib.rt:158:9
 read32-requires-3 : tie.Need-read32-requires-3
 read32-requires-3 c κs = search needs
 
--- src/lib.rt:159:9
 read32-requires-4 : tie.Need-read32-requires-4
 read32-requires-4 c κs = search needs
 
--- src/lib.rt:160:17
 settings-right-requires : tie.Need-settings-right-requires
 settings-right-requires c κs = search needs
 
--- src/lib.rt:161:11
 front-sized-requires : tie.Need-front-sized-requires
 front-sized-requires c κs = search needs
 
--- src/lib.rt:162:24
 mul-middle-sized : tie.Need-mul-middle-sized
 mul-middle-sized c = omega (arith, slots-fit (c .before .before .before .before .before .read32 .result) (c .before .before .before .before .before .before .wide2 .result) (c .before .before .before .before .before .read32 .ensures .1) (c .before .before .before .before .before .before .wide2 .ensures .1))
 
--- src/lib.rt:162:11
 middle-sized-requires : tie.Need-middle-sized-requires
 middle-sized-requires c κs = (slots-fit (c .before .before .before .before .before .read32 .result) (c .before .before .before .before .before .before .wide2 .result) (c .before .before .before .before .before .read32 .ensures .1) (c .before .before .before .before .before .before .wide2 .ensures .1), search needs, search needs, search needs, search needs)
 
--- src/lib.rt:163:11
 back-sized-requires : tie.Need-back-sized-requires
 back-sized-requires c κs = search needs
 
--- src/lib.rt:173:17
 add-t32 : tie.Need-add-t32
 add-t32 c = search needs
 
--- src/lib.rt:174:17
 add-t33 : tie.Need-add-t33
 add-t33 c = search needs
 
--- src/lib.rt:175:17
 add-t34 : tie.Need-add-t34
 add-t34 c = search needs
 
--- src/lib.rt:176:17
 add-t35 : tie.Need-add-t35
 add-t35 c = search needs
 
--- src/lib.rt:177:17
 add-t36 : tie.Need-add-t36
 add-t36 c = search needs
 
--- src/lib.rt:178:17
 add-t37 : tie.Need-add-t37
 add-t37 c = search needs
 
--- src/lib.rt:179:17
 add-t38 : tie.Need-add-t38
 add-t38 c = search needs
 
--- src/lib.rt:180:17
 add-t39 : tie.Need-add-t39
 add-t39 c = search needs
 
--- src/lib.rt:181:17
 add-t40 : tie.Need-add-t40
 add-t40 c = search needs
 
--- src/lib.rt:182:17
 add-t41 : tie.Need-add-t41
 add-t41 c = search needs
 
--- src/lib.rt:183:17
 add-t42 : tie.Need-add-t42
 add-t42 c = search needs
 
--- src/lib.rt:150:1
 returns : tie.Need-returns
 returns c =
     let a = c .before .before .before .before .before .before .before .before .before .before .before .before .before .before .args in
@@ -128,7 +95,6 @@ returns c =
     (w₁ .ensures .0) (w₂ .ensures .0) (n₁ .ensures .0) (n₂ .ensures .0) (n₃ .ensures .0) (n₄ .ensures .0) (n₂ .ensures .1) (n₃ .ensures .1) (n₄ .ensures .1) (p .header) (p .found) (p .long)
     (four-tests _ _ _ _ _ _ _ _ true (c .before .before .before .before .settings-right .ensures) (c .before .before .before .front-sized .ensures) (c .before .before .middle-sized .ensures) (c .before .back-sized .ensures) (c .if1 .taken))
 
--- src/lib.rt:150:1
 returns-2 : tie.Need-returns-2
 returns-2 c =
     let a = c .before .before .before .before .before .before .before .before .before .before .before .before .before .before .args in

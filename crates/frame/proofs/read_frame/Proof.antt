@@ -7,51 +7,37 @@ use Rattle.frame.specs.Groups.{header-short, header-first, header-second
 use borrow.Author.Needs.{needs}
 use Rattle.frame.proofs.read_frame.Statement.{statement}
 use Rattle.frame.proofs.read_frame.Tie as tie
-use Rattle.frame.proofs.read_frame.Reads as reads
-use Rattle.frame.proofs.read_frame.Lts as lts
-use Rattle.frame.proofs.four_records.Reads as four-records-reads
-use Rattle.frame.proofs.judge_header.Reads as judge-header-reads
 
--- src/lib.rt:195:9
 returns : tie.Need-returns
 returns c = (inl refl, no-header (c .before .before .args .image .now) (header-short (c .before .before .args .image .now) (c .if1 .taken)))
 
--- src/lib.rt:197:8
 shared-slice-read-if2 : tie.Need-shared-slice-read-if2
 shared-slice-read-if2 c = search needs
 
--- src/lib.rt:198:9
 returns-2 : tie.Need-returns-2
 returns-2 c = (inl refl, no-header (c .before .before .before .before .args .image .now) (header-first (c .before .before .before .before .args .image .now) (c .if2 .taken)))
 
--- src/lib.rt:200:8
 shared-slice-read-if3 : tie.Need-shared-slice-read-if3
 shared-slice-read-if3 c = search needs
 
--- src/lib.rt:201:9
 returns-3 : tie.Need-returns-3
 returns-3 c = (inl refl, no-header (c .before .before .before .before .before .before .args .image .now) (header-second (c .before .before .before .before .before .before .args .image .now) (c .if3 .taken)))
 
--- src/lib.rt:203:41
 four-records-requires : tie.Need-four-records-requires
 four-records-requires c κs = search needs
 
--- src/lib.rt:203:23
 enum-known-e0 : tie.Need-enum-known-e0
 enum-known-e0 c = search needs
 
--- src/lib.rt:204:9
 enum-told : tie.Need-enum-told
 enum-told c = search needs
 
--- src/lib.rt:204:9
 returns-4 : tie.Need-returns-4
 returns-4 c =
     let s = c .before .before .before .before .before .before .before .before .before .before .before .before .before .args .image .now in
     let l : 22 ≤ length s = c .before .before .before .before .before .before .before .before .before .before .before .if1 .left in
     (inl refl, first-missing s l _ (c .before .before .four-records .ensures) (c .enum-told .given .1))
 
--- src/lib.rt:206:41
 four-records-requires-2 : tie.Need-four-records-requires-2
 four-records-requires-2 c κs =
     let s = c .before .before .before .before .before .before .before .before .before .before .before .before .before .before .before .before .before .before .args .image .now in
@@ -59,15 +45,12 @@ four-records-requires-2 c κs =
     let g1 = c .before .before .before .before .before .e0 .given in
     first-within s l _ (c .before .before .before .before .before .before .before .four-records .ensures) (g1 .0 .0) (g1 .0 .1 .0) (g1 .0 .1 .1 .0) (g1 .0 .1 .1 .1 .0) (g1 .1)
 
--- src/lib.rt:206:23
 enum-known-e4 : tie.Need-enum-known-e4
 enum-known-e4 c = search needs
 
--- src/lib.rt:207:9
 enum-told-2 : tie.Need-enum-told-2
 enum-told-2 c = search needs
 
--- src/lib.rt:207:9
 returns-5 : tie.Need-returns-5
 returns-5 c =
     let s = c .before .before .before .before .before .before .before .before .before .before .before .before .before .before .before .before .before .before .before .before .before .args .image .now in
@@ -75,7 +58,6 @@ returns-5 c =
     let g1 = c .before .before .before .before .before .before .before .before .e0 .given in
     (inl refl, second-missing s l _ (c .before .before .before .before .before .before .before .before .before .before .four-records .ensures) (g1 .0 .0) (g1 .0 .1 .0) (g1 .0 .1 .1 .0) (g1 .0 .1 .1 .1 .0) (g1 .1) _ (c .before .before .four-records2 .ensures) (c .enum-told2 .given .1))
 
--- src/lib.rt:209:43
 four-records-requires-3 : tie.Need-four-records-requires-3
 four-records-requires-3 c κs =
     let s = c .before .before .before .before .before .before .before .before .before .before .before .before .before .before .before .before .before .before .before .before .before .before .before .before .before .before .args .image .now in
@@ -84,15 +66,12 @@ four-records-requires-3 c κs =
     let g2 = c .before .before .before .before .before .e4 .given in
     second-within s l _ (c .before .before .before .before .before .before .before .before .before .before .before .before .before .before .before .four-records .ensures) (g1 .0 .0) (g1 .0 .1 .0) (g1 .0 .1 .1 .0) (g1 .0 .1 .1 .1 .0) (g1 .1) _ (c .before .before .before .before .before .before .before .four-records2 .ensures) (g2 .0 .0) (g2 .0 .1 .0) (g2 .0 .1 .1 .0) (g2 .0 .1 .1 .1 .0) (g2 .1)
 
--- src/lib.rt:209:23
 enum-known-e8 : tie.Need-enum-known-e8
 enum-known-e8 c = search needs
 
--- src/lib.rt:210:9
 enum-told-3 : tie.Need-enum-told-3
 enum-told-3 c = search needs
 
--- src/lib.rt:210:9
 returns-6 : tie.Need-returns-6
 returns-6 c =
     let s = c .before .before .before .before .before .before .before .before .before .before .before .before .before .before .before .before .before .before .before .before .before .before .before .before .before .before .before .before .before .args .image .now in
@@ -101,7 +80,6 @@ returns-6 c =
     let g2 = c .before .before .before .before .before .before .before .before .e4 .given in
     (inl refl, third-missing s l _ (c .before .before .before .before .before .before .before .before .before .before .before .before .before .before .before .before .before .before .four-records .ensures) (g1 .0 .0) (g1 .0 .1 .0) (g1 .0 .1 .1 .0) (g1 .0 .1 .1 .1 .0) (g1 .1) _ (c .before .before .before .before .before .before .before .before .before .before .four-records2 .ensures) (g2 .0 .0) (g2 .0 .1 .0) (g2 .0 .1 .1 .0) (g2 .0 .1 .1 .1 .0) (g2 .1) _ (c .before .before .four-records3 .ensures) (c .enum-told3 .given .1))
 
--- src/lib.rt:213:9
 returns-7 : tie.Need-returns-7
 returns-7 c =
     let s = c .before .before .before .before .before .before .before .before .before .before .before .before .before .before .before .before .before .before .before .before .before .before .before .before .before .before .before .before .before .before .before .args .image .now in
@@ -111,7 +89,6 @@ returns-7 c =
     let g3 = c .before .before .e8 .given in
     (inl refl, left-over s l _ (c .before .before .before .before .before .before .before .before .before .before .before .before .before .before .before .before .before .before .before .before .four-records .ensures) (g1 .0 .0) (g1 .0 .1 .0) (g1 .0 .1 .1 .0) (g1 .0 .1 .1 .1 .0) (g1 .1) _ (c .before .before .before .before .before .before .before .before .before .before .before .before .four-records2 .ensures) (g2 .0 .0) (g2 .0 .1 .0) (g2 .0 .1 .1 .0) (g2 .0 .1 .1 .1 .0) (g2 .1) _ (c .before .before .before .before .four-records3 .ensures) (g3 .0 .0) (g3 .0 .1 .0) (g3 .0 .1 .1 .0) (g3 .0 .1 .1 .1 .0) (g3 .1) (c .if4 .taken))
 
--- src/lib.rt:215:5
 judge-header-requires : tie.Need-judge-header-requires
 judge-header-requires c κs =
     let s = c .before .before .before .before .before .before .before .before .before .before .before .before .before .before .before .before .before .before .before .before .before .before .before .before .before .before .before .before .before .before .before .args .image .now in
@@ -122,7 +99,6 @@ judge-header-requires c κs =
     let found = all-found s l _ (c .before .before .before .before .before .before .before .before .before .before .before .before .before .before .before .before .before .before .before .before .four-records .ensures) (g1 .0 .0) (g1 .0 .1 .0) (g1 .0 .1 .1 .0) (g1 .0 .1 .1 .1 .0) (g1 .1) _ (c .before .before .before .before .before .before .before .before .before .before .before .before .four-records2 .ensures) (g2 .0 .0) (g2 .0 .1 .0) (g2 .0 .1 .1 .0) (g2 .0 .1 .1 .1 .0) (g2 .1) _ (c .before .before .before .before .four-records3 .ensures) (g3 .0 .0) (g3 .0 .1 .0) (g3 .0 .1 .1 .0) (g3 .0 .1 .1 .1 .0) (g3 .1) in
     standing s (g1 .0 .0) (g1 .0 .1 .0) (g1 .0 .1 .1 .0) (g1 .0 .1 .1 .1 .0) (g2 .0 .0) (g2 .0 .1 .0) (g2 .0 .1 .1 .0) (g2 .0 .1 .1 .1 .0) (g3 .0 .0) (g3 .0 .1 .0) (g3 .0 .1 .1 .0) l (header-stands s l (c .before .before .before .before .before .before .before .before .before .before .before .before .before .before .before .before .before .before .before .before .before .before .before .before .before .before .before .if2 .left) (c .before .before .before .before .before .before .before .before .before .before .before .before .before .before .before .before .before .before .before .before .before .before .before .before .before .if3 .left)) (rw (c .if4 .left) at found)
 
--- src/lib.rt:191:1
 returns-8 : tie.Need-returns-8
 returns-8 c = search needs
 

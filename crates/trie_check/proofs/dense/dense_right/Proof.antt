@@ -1,20 +1,14 @@
-use mathlib.Core.Path.{_≡_, refl, sym, ap, ap₂, _∙_}
-use Prim.Native.Nat.{ℕ, suc, _+_, _*_, _-_, _/_, _%_, _≤_, _<_}
-use mathlib.Core.Bool.{Bool, true, false, not, _&&_, _||_}
+use mathlib.Core.Path.{_≡_, sym, ap, _∙_}
+use Prim.Native.Nat.{_*_, _-_, _≤_}
+use mathlib.Core.Bool.{true}
 use borrow.Author.Needs.{needs}
 use native.Mathlib.Omega.{arith}
-use lib.ListN.{length, getD}
 use borrow.Author.Tests.{not-true, not-false}
 use Rattle.accept_laws.specs.DenseNodes.{dense-nodes-right}
 use Rattle.accept_laws.specs.Positions.{bits}
 use Rattle.accept_laws.specs.DensePositions.{dense-from, dense-all, dense-wrong, dense-next, dense-end}
 use Rattle.trie_check.proofs.dense.dense_right.Statement.{statement}
 use Rattle.trie_check.proofs.dense.dense_right.Tie as tie
-use Rattle.trie_check.proofs.dense.dense_right.Reads as reads
-use Rattle.trie_check.proofs.dense.dense_right.Lts as lts
-use Rattle.bits.proofs.ones.bit_at.Reads as bit-at-reads
-use Rattle.trie_check.proofs.dense.node_ones.Reads as node-ones-reads
-use Rattle.trie_check.proofs.dense.node_right.Reads as node-right-reads
 
 abbrev Inv-loop : tie.InvT-loop
 Inv-loop dl dc dp n i₀ root₀ i root = (i ≤ n) × (dense-nodes-right true (bits dl (256 * n)) (bits dc (256 * n)) (bits dp n) ≡ dense-from dl dc dp root i (n - i))
@@ -22,49 +16,39 @@ Inv-loop dl dc dp n i₀ root₀ i root = (i ≤ n) × (dense-nodes-right true (
 abbrev μ-loop : tie.MeasureT-loop
 μ-loop dl dc dp n i₀ root₀ i root = n - i
 
--- src/dense.rt:37:5
 loop-holds : tie.Need-loop-holds Inv-loop μ-loop
 loop-holds c = (omega arith, dense-all (c .before .before .before .args .dl .now) (c .before .before .before .args .dc .now) (c .before .before .before .args .dp .now) (c .before .before .before .args .n) (c .before .before .before .pre .2))
 
--- src/dense.rt:38:13
 node-ones-requires : tie.Need-node-ones-requires Inv-loop μ-loop
 node-ones-requires c κs = search needs
 
--- src/dense.rt:39:13
 node-ones-requires-2 : tie.Need-node-ones-requires-2 Inv-loop μ-loop
 node-ones-requires-2 c κs = search needs
 
--- src/dense.rt:40:21
 bit-at-requires : tie.Need-bit-at-requires Inv-loop μ-loop
 bit-at-requires c κs = search needs
 
--- src/dense.rt:41:13
 node-right-requires : tie.Need-node-right-requires Inv-loop μ-loop
 node-right-requires c κs = search needs
 
--- src/dense.rt:43:13
 returns : tie.Need-returns Inv-loop μ-loop
 returns c =
     let a = c .before .before .before .before .before .before .before .before .before .before .args in
     let l = c .before .before .before .before .before .before .loop in
     sym (l .inv .1 ∙ dense-wrong (a .dl .now) (a .dc .now) (a .dp .now) (l .root) (c .before .node-right .result) (a .n) (l .i) (c .before .before .before .before .node-ones .result) (c .before .before .before .node-ones2 .result) (c .before .before .bit-at .result) (c .before .before .before .before .before .loop-test .taken) (c .before .before .bit-at .ensures) (c .before .before .before .before .node-ones .ensures) (c .before .before .before .node-ones2 .ensures) (c .before .node-right .ensures) (not-true _ (c .if1 .taken)))
 
--- src/dense.rt:46:13
 add-i : tie.Need-add-i Inv-loop μ-loop
 add-i c = search needs
 
--- src/dense.rt:37:5
 loop-less : tie.Need-loop-less Inv-loop μ-loop
 loop-less c = search needs
 
--- src/dense.rt:37:5
 loop-again : tie.Need-loop-again Inv-loop μ-loop
 loop-again c =
     let a = c .before .before .before .before .before .before .before .before .before .before .args in
     let l = c .before .before .before .before .before .before .loop in
     (omega arith, l .inv .1 ∙ dense-next (a .dl .now) (a .dc .now) (a .dp .now) (l .root) (c .before .node-right .result) (a .n) (l .i) (c .before .before .before .before .node-ones .result) (c .before .before .before .node-ones2 .result) (c .before .before .bit-at .result) (c .before .before .before .before .before .loop-test .taken) (c .before .before .bit-at .ensures) (c .before .before .before .before .node-ones .ensures) (c .before .before .before .node-ones2 .ensures) (c .before .node-right .ensures) (not-false _ (c .if1 .left)))
 
--- src/dense.rt:31:1
 returns-2 : tie.Need-returns-2 Inv-loop μ-loop
 returns-2 c =
     let a = c .before .before .before .before .before .args in

@@ -1,73 +1,50 @@
 use Rattle.accept_laws.specs.DensePositions.{node-words}
-use mathlib.Core.Path.{_≡_, refl, sym, ap, ap₂, _∙_}
-use Prim.Native.Nat.{ℕ, suc, _+_, _*_, _-_, _/_, _%_, _≤_, _<_}
-use mathlib.Core.Bool.{Bool, true, false, not, _&&_, _||_}
-use native.Mathlib.Omega.{arith}
-use lib.ListN.{length, getD}
 use borrow.Author.Needs.{needs}
 use Rattle.trie_check.proofs.dense.node_ones.Statement.{statement}
 use Rattle.trie_check.proofs.dense.node_ones.Tie as tie
-use Rattle.trie_check.proofs.dense.node_ones.Reads as reads
-use Rattle.trie_check.proofs.dense.node_ones.Lts as lts
-use Rattle.bits.proofs.ones.ones_word.Reads as ones-word-reads
 
--- src/dense.rt:17:18
 mul-ones-word : tie.Need-mul-ones-word
 mul-ones-word c = search needs
 
--- src/dense.rt:17:5
 ones-word-requires : tie.Need-ones-word-requires
 ones-word-requires c κs = search needs
 
--- src/dense.rt:17:40
 mul-ones-word-2 : tie.Need-mul-ones-word-2
 mul-ones-word-2 c = search needs
 
--- src/dense.rt:17:40
 add-ones-word : tie.Need-add-ones-word
 add-ones-word c = search needs
 
--- src/dense.rt:17:27
 ones-word-requires-2 : tie.Need-ones-word-requires-2
 ones-word-requires-2 c κs = search needs
 
--- src/dense.rt:17:5
 add-result : tie.Need-add-result
 add-result c = search needs
 
--- src/dense.rt:17:66
 mul-ones-word-3 : tie.Need-mul-ones-word-3
 mul-ones-word-3 c = search needs
 
--- src/dense.rt:17:66
 add-ones-word-2 : tie.Need-add-ones-word-2
 add-ones-word-2 c = search needs
 
--- src/dense.rt:17:53
 ones-word-requires-3 : tie.Need-ones-word-requires-3
 ones-word-requires-3 c κs = search needs
 
--- src/dense.rt:17:5
 add-result-2 : tie.Need-add-result-2
 add-result-2 c = search needs
 
--- src/dense.rt:17:92
 mul-ones-word-4 : tie.Need-mul-ones-word-4
 mul-ones-word-4 c = search needs
 
--- src/dense.rt:17:92
 add-ones-word-3 : tie.Need-add-ones-word-3
 add-ones-word-3 c = search needs
 
--- src/dense.rt:17:79
 ones-word-requires-4 : tie.Need-ones-word-requires-4
 ones-word-requires-4 c κs = search needs
 
--- src/dense.rt:17:5
 add-result-3 : tie.Need-add-result-3
 add-result-3 c = search needs
 
--- src/dense.rt:13:1
 returns : tie.Need-returns
 returns c =
     node-words (c .before .before .before .before .before .args .s .now) (c .before .before .before .before .before .args .i) _ _ _ _ (c .before .before .before .ones-word .ensures .0) (c .before .before .ones-word2 .ensures .0) (c .before .ones-word3 .ensures .0) (c .ones-word4 .ensures .0)

@@ -7,51 +7,39 @@ use borrow.Author.Needs.{needs}
 use Rattle.trie_check.proofs.labels.ascents_of_eight.Statement.{statement}
 use Rattle.trie_check.proofs.labels.ascents_of_eight.Tie as tie
 
--- src/labels.rt:40:9
 read64-requires : tie.Need-read64-requires
 read64-requires c κs = search needs
 
--- src/labels.rt:41:9
 even-bytes-requires : tie.Need-even-bytes-requires
 even-bytes-requires c κs = search needs
 
--- src/labels.rt:42:9
 even-bytes-requires-2 : tie.Need-even-bytes-requires-2
 even-bytes-requires-2 c κs = search needs
 
--- src/labels.rt:43:38
 add-read64 : tie.Need-add-read64
 add-read64 c = search needs
 
--- src/labels.rt:43:27
 read64-requires-2 : tie.Need-read64-requires-2
 read64-requires-2 c κs = search needs
 
--- src/labels.rt:43:9
 even-bytes-requires-3 : tie.Need-even-bytes-requires-3
 even-bytes-requires-3 c κs = search needs
 
--- src/labels.rt:44:19
 sub-gather : tie.Need-sub-gather
 sub-gather c = search needs
 
--- src/labels.rt:44:12
 add-gather : tie.Need-add-gather
 add-gather c = search needs
 
--- src/labels.rt:44:46
 sub-gather-2 : tie.Need-sub-gather-2
 sub-gather-2 c = search needs
 
--- src/labels.rt:44:38
 add-gather-2 : tie.Need-add-gather-2
 add-gather-2 c = search needs
 
--- src/labels.rt:44:5
 gather-requires : tie.Need-gather-requires
 gather-requires c κs = search needs
 
--- src/labels.rt:36:1
 returns : tie.Need-returns
 returns c =
     let a = c .before .before .before .before .before .before .before .args in

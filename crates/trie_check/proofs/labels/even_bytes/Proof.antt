@@ -4,7 +4,6 @@ use Rattle.accept_laws.specs.LaneLaws.{low-bytes}
 use Rattle.trie_check.proofs.labels.even_bytes.Statement.{statement}
 use Rattle.trie_check.proofs.labels.even_bytes.Tie as tie
 
--- src/labels.rt:29:1
 returns : tie.Need-returns
 returns c = (refl, and-le-r (c .args .w) low-bytes)
 

@@ -15,30 +15,24 @@ Inv-loop sl at m₀ i₀ m i = (i ≤ 64) × (i % 8 ≡ 0) × (m ≡ mask (full 
 abbrev μ-loop : tie.MeasureT-loop
 μ-loop sl at m₀ i₀ m i = i
 
--- src/labels.rt:71:5
 loop-holds : tie.Need-loop-holds Inv-loop μ-loop
 loop-holds c = (omega arith, omega arith, sym (mask-none _))
 
--- src/labels.rt:72:13
 sub-i : tie.Need-sub-i Inv-loop μ-loop
 sub-i c = search needs
 
--- src/labels.rt:73:13
 mul-m : tie.Need-mul-m Inv-loop μ-loop
 mul-m c =
     let l = c .before .loop in
     let r = mask-room (full (c .before .before .before .args .sl .now) (c .before .before .before .args .at + l .i)) (l .i) (l .m) (omega arith) (l .inv .2) in
     search needs
 
--- src/labels.rt:73:41
 add-full-of-eight : tie.Need-add-full-of-eight Inv-loop μ-loop
 add-full-of-eight c = search needs
 
--- src/labels.rt:73:23
 full-of-eight-requires : tie.Need-full-of-eight-requires Inv-loop μ-loop
 full-of-eight-requires c κs = search needs
 
--- src/labels.rt:73:13
 add-m : tie.Need-add-m Inv-loop μ-loop
 add-m c =
     let l = c .before .before .loop in
@@ -48,18 +42,15 @@ add-m c =
     let b = mask-lt (full (a .sl .now) (a .at + (l .i - 8))) 8 in
     search needs
 
--- src/labels.rt:71:5
 loop-less : tie.Need-loop-less Inv-loop μ-loop
 loop-less c = search needs
 
--- src/labels.rt:71:5
 loop-again : tie.Need-loop-again Inv-loop μ-loop
 loop-again c =
     let l = c .before .before .loop in
     let a = c .before .before .before .before .args in
     (omega arith, omega arith, mask-eight (λ j. eqb (getD (a .sl .now) j 0) 255) (a .at) (l .i) (l .m) (c .full-of-eight .result) (omega arith) (omega arith) (l .inv .2) (c .full-of-eight .ensures))
 
--- src/labels.rt:65:1
 returns : tie.Need-returns Inv-loop μ-loop
 returns c =
     let l = c .before .loop in

@@ -7,31 +7,24 @@ use borrow.Author.Needs.{needs}
 use Rattle.trie_check.proofs.labels.full_of_eight.Statement.{statement}
 use Rattle.trie_check.proofs.labels.full_of_eight.Tie as tie
 
--- src/labels.rt:66:9
 read64-requires : tie.Need-read64-requires
 read64-requires c κs = search needs
 
--- src/labels.rt:67:9
 even-bytes-requires : tie.Need-even-bytes-requires
 even-bytes-requires c κs = search needs
 
--- src/labels.rt:68:9
 even-bytes-requires-2 : tie.Need-even-bytes-requires-2
 even-bytes-requires-2 c κs = search needs
 
--- src/labels.rt:69:12
 add-gather : tie.Need-add-gather
 add-gather c = search needs
 
--- src/labels.rt:69:26
 add-gather-2 : tie.Need-add-gather-2
 add-gather-2 c = search needs
 
--- src/labels.rt:69:5
 gather-requires : tie.Need-gather-requires
 gather-requires c κs = search needs
 
--- src/labels.rt:62:1
 returns : tie.Need-returns
 returns c =
     let a = c .before .before .before .before .before .args in

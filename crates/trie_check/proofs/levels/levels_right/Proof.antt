@@ -1,20 +1,13 @@
-use mathlib.Core.Path.{_≡_, refl, sym, ap, ap₂, _∙_}
-use Prim.Native.Nat.{ℕ, suc, _+_, _*_, _-_, _/_, _%_, _≤_, _<_}
-use mathlib.Core.Bool.{Bool, true, false, not, _&&_, _||_}
+use mathlib.Core.Path.{_≡_, refl, sym, ap, _∙_}
+use Prim.Native.Nat.{ℕ, _+_, _-_, _≤_}
 use borrow.Author.Needs.{needs}
 use native.Mathlib.Omega.{arith}
-use lib.ListN.{length, getD}
 use Rattle.bits.proofs.RankLaws.{rank-zero, rank-le}
 use Rattle.accept_laws.specs.Climb.{Climbing, climb-start, climb-next, climb-deep, climb-stuck, climb-over, climb-end, less-64}
 use Rattle.accept_laws.specs.NodeBranches.{node-branches, branches-le}
 use Rattle.trie_check.specs.Places.{ReachedAt, reached-root}
 use Rattle.trie_check.proofs.levels.levels_right.Statement.{statement}
 use Rattle.trie_check.proofs.levels.levels_right.Tie as tie
-use Rattle.trie_check.proofs.levels.levels_right.Reads as reads
-use Rattle.trie_check.proofs.levels.levels_right.Lts as lts
-use Rattle.bits.proofs.ones.rank_from.Reads as rank-from-reads
-use Rattle.trie_check.proofs.levels.pick.Reads as pick-reads
-use Rattle.trie_check.proofs.levels.reach.Reads as reach-reads
 
 abbrev Inv-loop : tie.InvT-loop
 Inv-loop dc sc sb levels n entries sparse total all at₀ e₀ d₀ above₀ at e d above = Climbing (node-branches n entries dc sc sb) (n + sparse) levels n d e above × ReachedAt n entries dc sc sb at × (at .node ≤ e)
@@ -22,25 +15,20 @@ Inv-loop dc sc sb levels n entries sparse total all at₀ e₀ d₀ above₀ at 
 abbrev μ-loop : tie.MeasureT-loop
 μ-loop dc sc sb levels n entries sparse total all at₀ e₀ d₀ above₀ at e d above = total - e
 
--- src/levels.rt:89:17
 add-total : tie.Need-add-total Inv-loop μ-loop
 add-total c = omega (arith, c .before .before .before .pre .3, rank-le (c .before .before .before .args .sb .now) (c .before .before .before .args .entries), c .before .before .before .pre .5, c .before .before .before .pre .6)
 
--- src/levels.rt:90:35
 mul-rank-from : tie.Need-mul-rank-from Inv-loop μ-loop
 mul-rank-from c = omega (arith, c .before .before .before .pre .5)
 
--- src/levels.rt:90:9
 rank-from-requires : tie.Need-rank-from-requires Inv-loop μ-loop
 rank-from-requires c κs = (c .before .before .before .pre .0, omega arith, sym (rank-zero (c .before .before .before .args .dc .now)))
 
--- src/levels.rt:101:5
 loop-holds : tie.Need-loop-holds Inv-loop μ-loop
 loop-holds c =
     let a = c .before .before .before .before .args in
     (climb-start (node-branches (a .n) (a .entries) (a .dc .now) (a .sc .now) (a .sb .now)) (a .n + a .sparse) (a .levels) (a .n) (c .before .before .before .before .pre .4), reached-root (a .n) (a .entries) (a .dc .now) (a .sc .now) (a .sb .now), omega arith)
 
--- src/levels.rt:103:13
 returns : tie.Need-returns Inv-loop μ-loop
 returns c =
     let a = c .before .before .before .before .before .before .before .args in
@@ -48,20 +36,17 @@ returns c =
     let z : _≡_ {A = ℕ} (node-branches (a .n) (a .entries) (a .dc .now) (a .sc .now) (a .sb .now) (l .e)) (node-branches (a .n) (a .entries) (a .dc .now) (a .sc .now) (a .sb .now) (l .e)) = refl in
     sym (climb-deep (node-branches (a .n) (a .entries) (a .dc .now) (a .sc .now) (a .sb .now)) (a .n + a .sparse) (a .levels) (a .n) (l .d) (l .e) (l .above) (node-branches (a .n) (a .entries) (a .dc .now) (a .sc .now) (a .sb .now) (l .e)) (l .inv .0) refl (c .before .loop-test .taken) (omega (arith, c .if1 .taken)))
 
--- src/levels.rt:105:9
 reach-requires : tie.Need-reach-requires Inv-loop μ-loop
 reach-requires c κs =
     let a = c .before .before .before .before .before .before .before .args in
     let l = c .before .before .loop in
     (c .before .before .before .before .before .before .before .pre .0, c .before .before .before .before .before .before .before .pre .1, c .before .before .before .before .before .before .before .pre .2, c .before .before .before .rank-from .ensures, l .inv .1, l .inv .2, omega (arith, c .before .loop-test .taken, c .before .before .before .before .before .before .before .pre .3), c .before .before .before .before .before .before .before .pre .5, c .before .before .before .before .before .before .before .pre .6)
 
--- src/levels.rt:106:20
 add-next : tie.Need-add-next Inv-loop μ-loop
 add-next c =
     let a = c .before .before .before .before .before .before .before .before .before .args in
     omega (arith, c .before .reach .ensures .0 .branches, branches-le (a .n) (a .entries) (a .dc .now) (a .sc .now) (a .sb .now) (c .before .reach .result .node), c .before .before .before .before .before .before .before .before .before .pre .5, c .before .before .before .before .before .before .before .before .before .pre .6)
 
--- src/levels.rt:108:13
 returns-2 : tie.Need-returns-2 Inv-loop μ-loop
 returns-2 c =
     let a = c .before .before .before .before .before .before .before .before .before .before .args in
@@ -69,7 +54,6 @@ returns-2 c =
     let k = c .before .before .reach .ensures .0 .branches ∙ ap (node-branches (a .n) (a .entries) (a .dc .now) (a .sc .now) (a .sb .now)) (c .before .before .reach .ensures .1) in
     sym (climb-stuck (node-branches (a .n) (a .entries) (a .dc .now) (a .sc .now) (a .sb .now)) (a .n + a .sparse) (a .levels) (a .n) (l .d) (l .e) (l .above) (c .before .before .reach .result .branches) (l .inv .0) k (c .before .before .before .before .loop-test .taken) (less-64 (l .d) (l .inv .0 .most) (c .before .before .before .if1 .left)) (c .if2 .taken))
 
--- src/levels.rt:111:13
 returns-3 : tie.Need-returns-3 Inv-loop μ-loop
 returns-3 c =
     let a = c .before .before .before .before .before .before .before .before .before .before .before .args in
@@ -77,19 +61,15 @@ returns-3 c =
     let k = c .before .before .before .reach .ensures .0 .branches ∙ ap (node-branches (a .n) (a .entries) (a .dc .now) (a .sc .now) (a .sb .now)) (c .before .before .before .reach .ensures .1) in
     sym (climb-over (node-branches (a .n) (a .entries) (a .dc .now) (a .sc .now) (a .sb .now)) (a .n + a .sparse) (a .levels) (a .n) (l .d) (l .e) (l .above) (c .before .before .before .reach .result .branches) (l .inv .0) k (c .before .before .before .before .before .loop-test .taken) (less-64 (l .d) (l .inv .0 .most) (c .before .before .before .before .if1 .left)) (c .if3 .taken))
 
--- src/levels.rt:113:9
 pick-requires : tie.Need-pick-requires Inv-loop μ-loop
 pick-requires c κs = search needs
 
--- src/levels.rt:115:13
 add-d : tie.Need-add-d Inv-loop μ-loop
 add-d c = omega (arith, c .before .before .before .before .before .before .before .loop .inv .0 .most)
 
--- src/levels.rt:101:5
 loop-less : tie.Need-loop-less Inv-loop μ-loop
 loop-less c = omega (arith, c .before .before .if2 .left, c .before .if3 .left, c .before .before .before .before .before .before .loop-test .taken)
 
--- src/levels.rt:101:5
 loop-again : tie.Need-loop-again Inv-loop μ-loop
 loop-again c =
     let a = c .before .before .before .before .before .before .before .before .before .before .before .before .args in
@@ -98,11 +78,9 @@ loop-again c =
     let next = climb-next (node-branches (a .n) (a .entries) (a .dc .now) (a .sc .now) (a .sb .now)) (a .n + a .sparse) (a .levels) (a .n) (l .d) (l .e) (l .above) (c .before .before .before .before .reach .result .branches) (l .inv .0) k (c .before .before .before .before .before .before .loop-test .taken) (less-64 (l .d) (l .inv .0 .most) (c .before .before .before .before .before .if1 .left)) (c .before .before .if2 .left) (c .before .if3 .left) in
     (rw (c .pick .ensures) next, c .before .before .before .before .reach .ensures .0, omega (arith, c .before .before .before .before .reach .ensures .1, c .before .before .if2 .left))
 
--- src/levels.rt:117:5
 pick-requires-2 : tie.Need-pick-requires-2 Inv-loop μ-loop
 pick-requires-2 c κs = search needs
 
--- src/levels.rt:85:1
 returns-4 : tie.Need-returns-4 Inv-loop μ-loop
 returns-4 c =
     let a = c .before .before .before .before .before .before .before .args in

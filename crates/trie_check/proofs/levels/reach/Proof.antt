@@ -1,28 +1,19 @@
 use mathlib.Core.Path.{_≡_, refl, sym, ap, ap₂, _∙_}
-use Prim.Native.Nat.{ℕ, suc, _+_, _*_, _-_, _/_, _%_, _≤_, _<_}
-use mathlib.Core.Bool.{Bool, true, false, not, _&&_, _||_}
+use Prim.Native.Nat.{_+_, _*_}
 use native.Mathlib.Omega.{arith}
-use lib.ListN.{length, getD}
 use Rattle.bits.specs.Bits.{rank}
 use Rattle.bits.proofs.RankLaws.{rank-le}
 use Rattle.accept_laws.specs.NodeBranches.{branches-dense, branches-sparse}
 use borrow.Author.Needs.{needs}
 use Rattle.trie_check.proofs.levels.reach.Statement.{statement}
 use Rattle.trie_check.proofs.levels.reach.Tie as tie
-use Rattle.trie_check.proofs.levels.reach.Reads as reads
-use Rattle.trie_check.proofs.levels.reach.Lts as lts
-use Rattle.bits.proofs.ones.rank_from.Reads as rank-from-reads
-use Rattle.trie_check.proofs.levels.to_place.Reads as to-place-reads
 
--- src/levels.rt:53:38
 mul-rank-from : tie.Need-mul-rank-from
 mul-rank-from c = search needs
 
--- src/levels.rt:53:63
 mul-rank-from-2 : tie.Need-mul-rank-from-2
 mul-rank-from-2 c = omega (arith, c .if1 .taken, c .before .before .before .before .pre .7)
 
--- src/levels.rt:53:13
 rank-from-requires : tie.Need-rank-from-requires
 rank-from-requires c κs =
     let a = c .before .before .before .before .args in
@@ -30,7 +21,6 @@ rank-from-requires c κs =
     let w : 256 * a .from .node ≡ 64 * (4 * a .from .node) = omega arith in
     (omega (arith, c .before .before .before .before .pre .0), omega (arith, c .before .before .before .before .pre .5), p .branches ∙ branches-dense (a .n) (a .entries) (a .dc .now) (a .sc .now) (a .sb .now) (a .from .node) (omega (arith, c .before .before .before .before .pre .5)) ∙ ap (rank (a .dc .now)) w)
 
--- src/levels.rt:54:9
 returns : tie.Need-returns
 returns c =
     let a = c .before .before .before .before .before .args in
@@ -45,21 +35,17 @@ returns c =
       refl,
     )
 
--- src/levels.rt:67:47
 sub-to-place : tie.Need-sub-to-place
 sub-to-place c = search needs
 
--- src/levels.rt:67:9
 to-place-requires : tie.Need-to-place-requires
 to-place-requires c κs = search needs
 
--- src/levels.rt:70:19
 add-t16 : tie.Need-add-t16
 add-t16 c =
     let a = c .before .before .before .before .before .before .args in
     omega (arith, c .before .to-place .ensures .0 .branches, c .before .to-place .ensures .0 .within, rank-le (a .sc .now) (c .before .to-place .result .bit), rank-le (a .dc .now) (256 * a .n), c .before .before .before .before .before .before .pre .3, c .before .before .before .before .before .before .pre .7, c .before .before .before .before .before .before .pre .8)
 
--- src/levels.rt:47:1
 returns-2 : tie.Need-returns-2
 returns-2 c =
     let a = c .before .before .before .before .before .before .args in

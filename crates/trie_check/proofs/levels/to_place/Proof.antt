@@ -1,28 +1,18 @@
-use mathlib.Core.Path.{_≡_, refl, sym, ap, ap₂, _∙_}
-use Prim.Native.Nat.{ℕ, suc, _+_, _*_, _-_, _/_, _%_, _≤_, _<_}
-use mathlib.Core.Bool.{Bool, true, false, not, _&&_, _||_}
+use mathlib.Core.Path.{_≡_, refl, sym, ap, _∙_}
+use Prim.Native.Nat.{_+_, _*_, _/_, _%_}
 use native.Mathlib.Omega.{arith}
-use lib.ListN.{length, getD}
 use Rattle.bits.specs.Bits.{rank}
 use Rattle.accept_laws.specs.NodeBranches.{select-behind, select-rank, rank-word-start}
 use borrow.Author.Needs.{needs}
 use Rattle.trie_check.proofs.levels.to_place.Statement.{statement}
 use Rattle.trie_check.proofs.levels.to_place.Tie as tie
-use Rattle.trie_check.proofs.levels.to_place.Reads as reads
-use Rattle.trie_check.proofs.levels.to_place.Lts as lts
-use Rattle.bits.proofs.ones.ones_before.Reads as ones-before-reads
-use Rattle.bits.proofs.ones.rank_from.Reads as rank-from-reads
-use Rattle.bits.proofs.select.select_from.Reads as select-from-reads
 
--- src/levels.rt:36:9
 select-from-requires : tie.Need-select-from-requires
 select-from-requires c κs = search needs
 
--- src/levels.rt:37:31
 ones-before-requires : tie.Need-ones-before-requires
 ones-before-requires c κs = search needs
 
--- src/levels.rt:37:15
 sub-low : tie.Need-sub-low
 sub-low c =
     let a = c .before .before .before .before .before .args in
@@ -30,7 +20,6 @@ sub-low c =
     let w : 64 * (a .from .bit / 64) + a .from .bit % 64 ≡ a .from .bit = omega arith in
     omega (arith, c .before .ones-before .ensures .0, p .branches, ap (rank (a .sc .now)) w)
 
--- src/levels.rt:38:9
 rank-from-requires : tie.Need-rank-from-requires
 rank-from-requires c κs =
     let a = c .before .before .before .before .before .args in
@@ -38,7 +27,6 @@ rank-from-requires c κs =
     let b = select-behind (a .sb .now) (a .entries) (a .m) (a .from .bit) (p .within) (omega (arith, p .starts, c .before .before .before .before .before .pre .3)) in
     (omega (arith, c .before .before .select-from .ensures .1, c .before .before .before .before .before .pre .1), omega (arith, b, c .before .before .select-from .ensures .0), rank-word-start (a .sc .now) (a .from .bit) (a .from .branches) (c .before .ones-before .result) (p .branches) (c .before .ones-before .ensures .0))
 
--- src/levels.rt:31:1
 returns : tie.Need-returns
 returns c =
     let a = c .before .before .before .before .before .before .args in

@@ -3,35 +3,27 @@ use borrow.Author.Needs.{needs}
 use Rattle.trie_check.proofs.sparse.entry_right.Statement.{statement}
 use Rattle.trie_check.proofs.sparse.entry_right.Tie as tie
 
--- src/sparse.rt:18:21
 bit-at-requires : tie.Need-bit-at-requires
 bit-at-requires c κs = search needs
 
--- src/sparse.rt:20:9
 returns : tie.Need-returns
 returns c = entry-last (c .before .before .before .before .args .sl .now) (c .before .before .before .before .args .sc .now) (c .before .before .before .before .args .j) (c .before .bit-at .result) (c .before .bit-at .ensures) (c .before .before .before .before .args .root) (c .before .before .before .before .args .start) (c .before .before .before .before .args .begins) (c .if1 .taken)
 
--- src/sparse.rt:22:17
 shared-slice-read-if2 : tie.Need-shared-slice-read-if2
 shared-slice-read-if2 c = search needs
 
--- src/sparse.rt:23:9
 returns-2 : tie.Need-returns-2
 returns-2 c = entry-extra (c .before .before .before .before .before .before .args .sl .now) (c .before .before .before .before .before .before .args .sc .now) (c .before .before .before .before .before .before .args .j) (c .before .before .before .bit-at .result) (c .before .before .before .bit-at .ensures) (c .before .before .before .before .before .before .args .root) (c .before .before .before .before .before .before .args .start) (c .before .before .before .before .before .before .args .begins) (c .before .before .if1 .left) (c .if2 .taken)
 
--- src/sparse.rt:25:5
 shared-slice-read-result : tie.Need-shared-slice-read-result
 shared-slice-read-result c = search needs
 
--- src/sparse.rt:25:16
 add-result : tie.Need-add-result
 add-result c = search needs
 
--- src/sparse.rt:25:13
 shared-slice-read-result-2 : tie.Need-shared-slice-read-result-2
 shared-slice-read-result-2 c = search needs
 
--- src/sparse.rt:14:1
 returns-3 : tie.Need-returns-3
 returns-3 c = entry-label (c .before .before .before .before .before .before .before .before .args .sl .now) (c .before .before .before .before .before .before .before .before .args .sc .now) (c .before .before .before .before .before .before .before .before .args .j) (c .before .before .before .before .before .bit-at .result) (c .before .before .before .before .before .bit-at .ensures) (c .before .before .before .before .before .before .before .before .args .root) (c .before .before .before .before .before .before .before .before .args .start) (c .before .before .before .before .before .before .before .before .args .begins) (c .before .before .before .before .if1 .left) (c .before .before .if2 .left)
 

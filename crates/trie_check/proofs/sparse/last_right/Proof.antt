@@ -1,4 +1,4 @@
-use mathlib.Core.Path.{sym, ap₂, _∙_}
+use mathlib.Core.Path.{ap₂}
 use Prim.Native.Nat.{ℕ}
 use mathlib.Core.Bool.{not, _||_}
 use lib.Dec.{eqb}
@@ -6,15 +6,12 @@ use borrow.Author.Needs.{needs}
 use Rattle.trie_check.proofs.sparse.last_right.Statement.{statement}
 use Rattle.trie_check.proofs.sparse.last_right.Tie as tie
 
--- src/sparse.rt:39:17
 bit-at-requires : tie.Need-bit-at-requires
 bit-at-requires c κs = search needs
 
--- src/sparse.rt:40:21
 bit-at-requires-2 : tie.Need-bit-at-requires-2
 bit-at-requires-2 c κs = search needs
 
--- src/sparse.rt:35:1
 returns : tie.Need-returns
 returns c =
     ap₂ (λ (a b : ℕ). not (eqb a 1) || eqb b 1) (c .before .bit-at .ensures) (c .bit-at2 .ensures)

@@ -6,37 +6,29 @@ use borrow.Author.Needs.{needs}
 use Rattle.trie_check.proofs.sparse.later_right.Statement.{statement}
 use Rattle.trie_check.proofs.sparse.later_right.Tie as tie
 
--- src/sparse.rt:145:9
 last-right-requires : tie.Need-last-right-requires
 last-right-requires c κs = search needs
 
--- src/sparse.rt:147:16
 run-right-requires : tie.Need-run-right-requires
 run-right-requires c κs = search needs
 
--- src/sparse.rt:147:9
 returns : tie.Need-returns
 returns c =
     let a = c .before .before .before .before .before .before .args in
     later-few (a .sl .now) (a .sc .now) (a .sb .now) (a .last) (c .before .before .last-right .result) (omega arith) (c .before .before .last-right .ensures) (c .run-right .result) (c .run-right .ensures)
 
--- src/sparse.rt:149:9
 run-right-requires-2 : tie.Need-run-right-requires-2
 run-right-requires-2 c κs = search needs
 
--- src/sparse.rt:150:9
 words-right-requires : tie.Need-words-right-requires
 words-right-requires c κs = search needs
 
--- src/sparse.rt:151:38
 mul-run-right : tie.Need-mul-run-right
 mul-run-right c = search needs
 
--- src/sparse.rt:151:9
 run-right-requires-3 : tie.Need-run-right-requires-3
 run-right-requires-3 c κs = search needs
 
--- src/sparse.rt:140:1
 returns-2 : tie.Need-returns-2
 returns-2 c =
     let a = c .before .before .before .before .before .before .before .before .args in

@@ -13,49 +13,39 @@ Inv-loop sl sc sb from to j₀ j = (from ≤ j) × (j ≤ to) × (run-right sl s
 abbrev μ-loop : tie.MeasureT-loop
 μ-loop sl sc sb from to j₀ j = to - j
 
--- src/sparse.rt:50:5
 loop-holds : tie.Need-loop-holds Inv-loop μ-loop
 loop-holds c = (omega arith, omega arith, refl)
 
--- src/sparse.rt:51:21
 bit-at-requires : tie.Need-bit-at-requires Inv-loop μ-loop
 bit-at-requires c κs = search needs
 
--- src/sparse.rt:52:33
 add-bit-at : tie.Need-add-bit-at Inv-loop μ-loop
 add-bit-at c = search needs
 
--- src/sparse.rt:52:22
 bit-at-requires-2 : tie.Need-bit-at-requires-2 Inv-loop μ-loop
 bit-at-requires-2 c κs = search needs
 
--- src/sparse.rt:53:13
 entry-right-requires : tie.Need-entry-right-requires Inv-loop μ-loop
 entry-right-requires c κs = search needs
 
--- src/sparse.rt:55:13
 returns : tie.Need-returns Inv-loop μ-loop
 returns c =
     let a = c .before .before .before .before .before .before .before .before .before .args in
     let l = c .before .before .before .before .before .loop in
     sym (l .inv .2 ∙ run-wrong (a .sl .now) (a .sc .now) (a .sb .now) (l .j) (a .to) (c .before .before .before .bit-at .result) (c .before .before .bit-at2 .result) (c .before .entry-right .result) (c .before .before .before .before .loop-test .taken) (c .before .before .before .bit-at .ensures) (c .before .before .bit-at2 .ensures) (c .before .entry-right .ensures) (not-true _ (c .if1 .taken)))
 
--- src/sparse.rt:57:13
 add-j : tie.Need-add-j Inv-loop μ-loop
 add-j c = search needs
 
--- src/sparse.rt:50:5
 loop-less : tie.Need-loop-less Inv-loop μ-loop
 loop-less c = search needs
 
--- src/sparse.rt:50:5
 loop-again : tie.Need-loop-again Inv-loop μ-loop
 loop-again c =
     let a = c .before .before .before .before .before .before .before .before .before .args in
     let l = c .before .before .before .before .before .loop in
     (omega arith, omega arith, l .inv .2 ∙ run-next (a .sl .now) (a .sc .now) (a .sb .now) (l .j) (a .to) (c .before .before .before .bit-at .result) (c .before .before .bit-at2 .result) (c .before .entry-right .result) (c .before .before .before .before .loop-test .taken) (c .before .before .before .bit-at .ensures) (c .before .before .bit-at2 .ensures) (c .before .entry-right .ensures) (not-false _ (c .if1 .left)))
 
--- src/sparse.rt:45:1
 returns-2 : tie.Need-returns-2 Inv-loop μ-loop
 returns-2 c =
     let a = c .before .before .before .before .before .args in

@@ -6,7 +6,6 @@ use native.Mathlib.Omega.{arith}
 use Rattle.trie_check.proofs.sparse.shift_in.Statement.{statement}
 use Rattle.trie_check.proofs.sparse.shift_in.Tie as tie
 
--- src/sparse.rt:98:1
 returns : tie.Need-returns
 returns c = ap (bitOr (c .args .x / 2)) (mod-eq-of-lt (omega arith))
 

@@ -9,17 +9,14 @@ use borrow.Author.Needs.{needs}
 use Rattle.trie_check.proofs.sparse.sparse_right.Statement.{statement}
 use Rattle.trie_check.proofs.sparse.sparse_right.Tie as tie
 
--- src/sparse.rt:161:9
 returns : tie.Need-returns
 returns c =
     let a = c .before .before .before .before .args in
     sym (sparse-none (a .sl .now) (a .sc .now) (a .sb .now) (a .n) (c .before .before .before .before .pre .0) (c .before .before .before .before .pre .1) (c .before .before .before .before .pre .2) (a .root) (c .if1 .taken))
 
--- src/sparse.rt:164:17
 bit-at-requires : tie.Need-bit-at-requires
 bit-at-requires c κs = search needs
 
--- src/sparse.rt:164:9
 returns-2 : tie.Need-returns-2
 returns-2 c =
     let a = c .before .before .before .before .before .before .args in
@@ -27,23 +24,18 @@ returns-2 c =
     ap (λ (k : ℕ). eqb k 1 || a .root) (c .bit-at .ensures)
     ∙ sym (sparse-some (a .sl .now) (a .sc .now) (a .sb .now) (a .n) (c .before .before .before .before .before .before .pre .0) (c .before .before .before .before .before .before .pre .1) (c .before .before .before .before .before .before .pre .2) (a .root) (omega arith) ∙ ap (entries-from (a .sl .now) (a .sc .now) (a .sb .now) (a .root) true 0) e ∙ entries-last (a .sl .now) (a .sc .now) (a .sb .now) (a .root) true 0)
 
--- src/sparse.rt:166:18
 bit-at-requires-2 : tie.Need-bit-at-requires-2
 bit-at-requires-2 c κs = search needs
 
--- src/sparse.rt:167:9
 entry-right-requires : tie.Need-entry-right-requires
 entry-right-requires c κs = search needs
 
--- src/sparse.rt:168:37
 sub-later-right : tie.Need-sub-later-right
 sub-later-right c = search needs
 
--- src/sparse.rt:168:13
 later-right-requires : tie.Need-later-right-requires
 later-right-requires c κs = search needs
 
--- src/sparse.rt:156:1
 returns-3 : tie.Need-returns-3
 returns-3 c =
     let a = c .before .before .before .before .before .before .before .before .args in

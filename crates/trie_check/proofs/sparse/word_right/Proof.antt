@@ -4,35 +4,27 @@ use borrow.Author.Needs.{needs}
 use Rattle.trie_check.proofs.sparse.word_right.Statement.{statement}
 use Rattle.trie_check.proofs.sparse.word_right.Tie as tie
 
--- src/sparse.rt:109:24
 mul-read64 : tie.Need-mul-read64
 mul-read64 c = search needs
 
--- src/sparse.rt:109:9
 read64-requires : tie.Need-read64-requires
 read64-requires c κs = search needs
 
--- src/sparse.rt:110:39
 add-read-word : tie.Need-add-read-word
 add-read-word c = search needs
 
--- src/sparse.rt:110:25
 read-word-requires : tie.Need-read-word-requires
 read-word-requires c κs = search needs
 
--- src/sparse.rt:110:9
 shift-in-requires : tie.Need-shift-in-requires
 shift-in-requires c κs = search needs
 
--- src/sparse.rt:111:24
 mul-read64-2 : tie.Need-mul-read64-2
 mul-read64-2 c = search needs
 
--- src/sparse.rt:111:9
 read64-requires-2 : tie.Need-read64-requires-2
 read64-requires-2 c κs = search needs
 
--- src/sparse.rt:114:9
 returns : tie.Need-returns
 returns c =
     let a = c .before .before .before .before .before .before .before .before .args in
@@ -42,15 +34,12 @@ returns c =
     word-lasts (a .sl .now) (a .sc .now) (a .sb .now) small₁ small₂ small₃ (a .q) (c .before .before .before .before .read64 .result) (c .before .before .before .read-word .result) (c .before .before .shift-in .result) (c .before .read642 .result)
     (c .before .before .before .before .read64 .ensures) (c .before .before .before .read-word .ensures) (c .before .before .shift-in .ensures) (c .before .read642 .ensures) (c .if1 .taken)
 
--- src/sparse.rt:116:38
 mul-ascents : tie.Need-mul-ascents
 mul-ascents c = search needs
 
--- src/sparse.rt:116:26
 ascents-requires : tie.Need-ascents-requires
 ascents-requires c κs = search needs
 
--- src/sparse.rt:118:9
 returns-2 : tie.Need-returns-2
 returns-2 c =
     let a = c .before .before .before .before .before .before .before .before .before .before .args in
@@ -60,15 +49,12 @@ returns-2 c =
     word-ascends (a .sl .now) (a .sc .now) (a .sb .now) small₁ small₂ small₃ (a .q) (c .before .before .before .before .before .before .read64 .result) (c .before .before .before .before .before .read-word .result) (c .before .before .before .before .shift-in .result) (c .before .before .before .read642 .result)
     (c .before .before .before .before .before .before .read64 .ensures) (c .before .before .before .before .before .read-word .ensures) (c .before .before .before .before .shift-in .ensures) (c .before .before .before .read642 .ensures) (c .before .ascents .result) (c .before .ascents .ensures) (c .if2 .taken)
 
--- src/sparse.rt:120:39
 mul-full-labels : tie.Need-mul-full-labels
 mul-full-labels c = search needs
 
--- src/sparse.rt:120:29
 full-labels-requires : tie.Need-full-labels-requires
 full-labels-requires c κs = search needs
 
--- src/sparse.rt:105:1
 returns-3 : tie.Need-returns-3
 returns-3 c =
     let a = c .before .before .before .before .before .before .before .before .before .before .before .args in

@@ -13,37 +13,30 @@ Inv-loop sl sc sb from to q₀ q = (from ≤ q) × (q ≤ to) × (run-right sl s
 abbrev μ-loop : tie.MeasureT-loop
 μ-loop sl sc sb from to q₀ q = to - q
 
--- src/sparse.rt:130:5
 loop-holds : tie.Need-loop-holds Inv-loop μ-loop
 loop-holds c = (omega arith, omega arith, refl)
 
--- src/sparse.rt:131:13
 word-right-requires : tie.Need-word-right-requires Inv-loop μ-loop
 word-right-requires c κs = search needs
 
--- src/sparse.rt:132:13
 returns : tie.Need-returns Inv-loop μ-loop
 returns c =
     let a = c .before .before .before .before .before .before .before .args in
     let l = c .before .before .before .loop in
     sym (l .inv .2 ∙ word-wrong (a .sl .now) (a .sc .now) (a .sb .now) (l .q) (a .to) (c .before .word-right .result) (c .before .before .loop-test .taken) (c .before .word-right .ensures) (not-true _ (c .if1 .taken)))
 
--- src/sparse.rt:134:13
 add-q : tie.Need-add-q Inv-loop μ-loop
 add-q c = search needs
 
--- src/sparse.rt:130:5
 loop-less : tie.Need-loop-less Inv-loop μ-loop
 loop-less c = search needs
 
--- src/sparse.rt:130:5
 loop-again : tie.Need-loop-again Inv-loop μ-loop
 loop-again c =
     let a = c .before .before .before .before .before .before .before .args in
     let l = c .before .before .before .loop in
     (omega arith, omega arith, l .inv .2 ∙ word-next (a .sl .now) (a .sc .now) (a .sb .now) (l .q) (a .to) (c .before .word-right .result) (c .before .before .loop-test .taken) (c .before .word-right .ensures) (not-false _ (c .if1 .left)))
 
--- src/sparse.rt:125:1
 returns-2 : tie.Need-returns-2 Inv-loop μ-loop
 returns-2 c =
     let a = c .before .before .before .before .before .args in

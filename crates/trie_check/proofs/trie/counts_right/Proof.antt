@@ -1,8 +1,7 @@
-use mathlib.Core.Path.{_≡_, refl, sym, ap, ap₂, _∙_}
-use Prim.Native.Nat.{ℕ, suc, _+_, _*_, _-_, _/_, _%_, _≤_, _<_}
-use mathlib.Core.Bool.{Bool, true, false, not, _&&_, _||_}
+use mathlib.Core.Path.{sym, _∙_}
+use Prim.Native.Nat.{_+_, _*_}
+use mathlib.Core.Bool.{true, false}
 use native.Mathlib.Omega.{arith}
-use lib.ListN.{length, getD}
 use mathlib.Core.List.{[]}
 use borrow.Author.Tests.{not-true, not-false}
 use Rattle.bits.proofs.RankLaws.{rank-le}
@@ -10,94 +9,73 @@ use Rattle.accept_laws.specs.BodyTests.{counts-none, counts-wrong, counts-level
 use borrow.Author.Needs.{needs}
 use Rattle.trie_check.proofs.trie.counts_right.Statement.{statement}
 use Rattle.trie_check.proofs.trie.counts_right.Tie as tie
-use Rattle.trie_check.proofs.trie.counts_right.Reads as reads
-use Rattle.trie_check.proofs.trie.counts_right.Lts as lts
-use Rattle.trie_check.proofs.levels.levels_right.Reads as levels-right-reads
-use Rattle.trie_check.proofs.trie.ones_of.Reads as ones-of-reads
 
--- src/trie.rt:42:17
 add-nodes : tie.Need-add-nodes
 add-nodes c =
     let a = c .before .before .before .before .before .args in
     omega (arith, rank-le (a .sb .now) (a .entries), c .before .before .before .before .before .pre .5, c .before .before .before .before .before .pre .7, c .before .before .before .before .before .pre .8)
 
--- src/trie.rt:44:9
 returns : tie.Need-returns
 returns c =
     let a = c .before .before .before .before .before .before .args in
     sym (counts-none (a .levels) (a .leaves) (a .n) (a .entries) (a .sparse) (a .dl .now) (a .dc .now) (a .dp .now) [] (a .sc .now) (a .sb .now) (c .before .before .before .before .before .before .pre .4) (c .if1 .taken))
 
--- src/trie.rt:46:30
 mul-ones-of : tie.Need-mul-ones-of
 mul-ones-of c = search needs
 
--- src/trie.rt:46:9
 ones-of-requires : tie.Need-ones-of-requires
 ones-of-requires c κs = search needs
 
--- src/trie.rt:47:9
 ones-of-requires-2 : tie.Need-ones-of-requires-2
 ones-of-requires-2 c κs = search needs
 
--- src/trie.rt:48:38
 mul-ones-of-2 : tie.Need-mul-ones-of-2
 mul-ones-of-2 c = search needs
 
--- src/trie.rt:48:9
 ones-of-requires-3 : tie.Need-ones-of-requires-3
 ones-of-requires-3 c κs = search needs
 
--- src/trie.rt:49:9
 ones-of-requires-4 : tie.Need-ones-of-requires-4
 ones-of-requires-4 c κs = search needs
 
--- src/trie.rt:50:17
 add-sums : tie.Need-add-sums
 add-sums c =
     let a = c .before .before .before .before .before .before .before .before .before .before .args in
     omega (arith, c .before .before .before .ones-of .ensures, c .before .before .ones-of2 .ensures, c .before .ones-of3 .ensures, c .ones-of4 .ensures, rank-le (a .dl .now) (256 * a .n), rank-le (a .dp .now) (a .n), rank-le (a .dc .now) (256 * a .n), rank-le (a .sc .now) (a .entries), c .before .before .before .before .before .before .before .before .before .before .pre .6, c .before .before .before .before .before .before .before .before .before .before .pre .7, c .before .before .before .before .before .before .before .before .before .before .pre .8, rank-le (a .sb .now) (a .entries), c .before .before .before .before .before .before .before .before .before .before .pre .5)
 
--- src/trie.rt:50:17
 add-sums-2 : tie.Need-add-sums-2
 add-sums-2 c =
     let a = c .before .before .before .before .before .before .before .before .before .before .args in
     omega (arith, c .before .before .before .ones-of .ensures, c .before .before .ones-of2 .ensures, c .before .ones-of3 .ensures, c .ones-of4 .ensures, rank-le (a .dl .now) (256 * a .n), rank-le (a .dp .now) (a .n), rank-le (a .dc .now) (256 * a .n), rank-le (a .sc .now) (a .entries), c .before .before .before .before .before .before .before .before .before .before .pre .6, c .before .before .before .before .before .before .before .before .before .before .pre .7, c .before .before .before .before .before .before .before .before .before .before .pre .8, rank-le (a .sb .now) (a .entries), c .before .before .before .before .before .before .before .before .before .before .pre .5)
 
--- src/trie.rt:50:45
 add-sums-3 : tie.Need-add-sums-3
 add-sums-3 c =
     let a = c .before .before .before .before .before .before .before .before .before .before .args in
     omega (arith, c .before .before .before .ones-of .ensures, c .before .before .ones-of2 .ensures, c .before .ones-of3 .ensures, c .ones-of4 .ensures, rank-le (a .dl .now) (256 * a .n), rank-le (a .dp .now) (a .n), rank-le (a .dc .now) (256 * a .n), rank-le (a .sc .now) (a .entries), c .before .before .before .before .before .before .before .before .before .before .pre .6, c .before .before .before .before .before .before .before .before .before .before .pre .7, c .before .before .before .before .before .before .before .before .before .before .pre .8, rank-le (a .sb .now) (a .entries), c .before .before .before .before .before .before .before .before .before .before .pre .5)
 
--- src/trie.rt:50:45
 add-sums-4 : tie.Need-add-sums-4
 add-sums-4 c =
     let a = c .before .before .before .before .before .before .before .before .before .before .args in
     omega (arith, c .before .before .before .ones-of .ensures, c .before .before .ones-of2 .ensures, c .before .ones-of3 .ensures, c .ones-of4 .ensures, rank-le (a .dl .now) (256 * a .n), rank-le (a .dp .now) (a .n), rank-le (a .dc .now) (256 * a .n), rank-le (a .sc .now) (a .entries), c .before .before .before .before .before .before .before .before .before .before .pre .6, c .before .before .before .before .before .before .before .before .before .before .pre .7, c .before .before .before .before .before .before .before .before .before .before .pre .8, rank-le (a .sb .now) (a .entries), c .before .before .before .before .before .before .before .before .before .before .pre .5)
 
--- src/trie.rt:52:21
 add-sums-5 : tie.Need-add-sums-5
 add-sums-5 c =
     let a = c .before .before .before .before .before .before .before .before .before .before .args in
     omega (arith, c .before .before .before .ones-of .ensures, c .before .before .ones-of2 .ensures, c .before .ones-of3 .ensures, c .ones-of4 .ensures, rank-le (a .dl .now) (256 * a .n), rank-le (a .dp .now) (a .n), rank-le (a .dc .now) (256 * a .n), rank-le (a .sc .now) (a .entries), c .before .before .before .before .before .before .before .before .before .before .pre .6, c .before .before .before .before .before .before .before .before .before .before .pre .7, c .before .before .before .before .before .before .before .before .before .before .pre .8, rank-le (a .sb .now) (a .entries), c .before .before .before .before .before .before .before .before .before .before .pre .5)
 
--- src/trie.rt:52:21
 add-sums-6 : tie.Need-add-sums-6
 add-sums-6 c =
     let a = c .before .before .before .before .before .before .before .before .before .before .args in
     omega (arith, c .before .before .before .ones-of .ensures, c .before .before .ones-of2 .ensures, c .before .ones-of3 .ensures, c .ones-of4 .ensures, rank-le (a .dl .now) (256 * a .n), rank-le (a .dp .now) (a .n), rank-le (a .dc .now) (256 * a .n), rank-le (a .sc .now) (a .entries), c .before .before .before .before .before .before .before .before .before .before .pre .6, c .before .before .before .before .before .before .before .before .before .before .pre .7, c .before .before .before .before .before .before .before .before .before .before .pre .8, rank-le (a .sb .now) (a .entries), c .before .before .before .before .before .before .before .before .before .before .pre .5)
 
--- src/trie.rt:54:9
 returns-2 : tie.Need-returns-2
 returns-2 c =
     let a = c .before .before .before .before .before .before .before .before .before .before .before .args in
     sym (counts-wrong (a .levels) (a .leaves) (a .n) (a .entries) (a .sparse) (a .dl .now) (a .dc .now) (a .dp .now) [] (a .sc .now) (a .sb .now) (c .before .before .before .before .before .before .before .before .before .before .before .pre .4) (some-nodes (a .n + a .sparse) (c .before .before .before .before .before .if1 .left)) (same-sums (a .entries) (a .leaves) (a .n + a .sparse) _ _ _ _ _ _ _ _ false (c .before .before .before .before .ones-of .ensures) (c .before .before .before .ones-of2 .ensures) (c .before .before .ones-of3 .ensures) (c .before .ones-of4 .ensures) (not-true _ (c .if2 .taken))))
 
--- src/trie.rt:56:5
 levels-right-requires : tie.Need-levels-right-requires
 levels-right-requires c κs = search needs
 
--- src/trie.rt:38:1
 returns-3 : tie.Need-returns-3
 returns-3 c =
     let a = c .before .before .before .before .before .before .before .before .before .before .before .before .args in

@@ -8,41 +8,32 @@ use borrow.Author.Needs.{needs}
 use Rattle.trie_check.proofs.trie.trie_right.Statement.{statement}
 use Rattle.trie_check.proofs.trie.trie_right.Tie as tie
 
--- src/trie.rt:64:8
 ones-of-requires : tie.Need-ones-of-requires
 ones-of-requires c κs = search needs
 
--- src/trie.rt:65:9
 returns : tie.Need-returns
 returns c =
     let a = c .before .before .before .before .before .before .before .before .args in
     sym (starts-wrong (a .levels) (a .leaves) (a .n) (a .entries) (a .sparse) (a .dl .now) (a .dc .now) (a .dp .now) (a .sl .now) (a .sc .now) (a .sb .now) (c .before .before .before .before .before .before .before .before .pre .5) (λ e. c .if1 .taken (c .before .ones-of .ensures ∙ e)))
 
--- src/trie.rt:67:9
 first-set-requires : tie.Need-first-set-requires
 first-set-requires c κs = search needs
 
--- src/trie.rt:68:34
 mul-covered : tie.Need-mul-covered
 mul-covered c = search needs
 
--- src/trie.rt:68:9
 covered-requires : tie.Need-covered-requires
 covered-requires c κs = search needs
 
--- src/trie.rt:69:9
 sparse-right-requires : tie.Need-sparse-right-requires
 sparse-right-requires c κs = search needs
 
--- src/trie.rt:70:9
 dense-right-requires : tie.Need-dense-right-requires
 dense-right-requires c κs = search needs
 
--- src/trie.rt:71:9
 counts-right-requires : tie.Need-counts-right-requires
 counts-right-requires c κs = search needs
 
--- src/trie.rt:60:1
 returns-2 : tie.Need-returns-2
 returns-2 c =
     let a = c .before .before .before .before .before .before .before .before .before .before .before .before .before .args in

@@ -1,0 +1,15 @@
+pub mod Ranges
+pub mod NodeSlots
+pub mod LevelSlots
+pub mod SlotBits
+pub mod DenseExact
+pub mod SparseExact
+pub mod LeavesBefore
+pub mod Judged
+pub mod LevelStarts
+pub mod SlotTests
+pub mod Words
+pub mod TableEntries
+pub mod Descent
+pub mod DenseSlots
+pub mod SparseWords

@@ -1,0 +1,4 @@
+pub mod Entries
+pub mod Ranks
+pub mod Samples
+pub mod Spare
