@@ -34,8 +34,15 @@ fn levels_of(body: Body, dense: usize) -> Levels
     }
 }
 
-// A body of so many bytes goes to the front of out, and all else stays; cnt are the counters that say where its levels start.
-fn fill_body(out: &mut [u8], len: usize, list: &[u8], cnt: &[u32; 65], st: Settings, body: Body)
+// A body of so many bytes, filled by a pass over the keys, goes to the front of out, and all else stays; cnt are the counters that say where its levels start.
+fn fill_from_keys(
+    out: &mut [u8],
+    len: usize,
+    list: &[u8],
+    cnt: &[u32; 65],
+    st: Settings,
+    body: Body,
+)
     requires { ⌜ Ready (now list) (st .dense) (st .width) × (now cnt ≡ counters-of body (keys-of (now list))) × (len ≡ length (body-of body (list-bodies (now list) (st .dense) (st .width)))) × (len ≤ length (now out)) ⌝ }
     ensures { λ _. ⌜ now (out .exit) ≡ body-of body (list-bodies (now (list .entry)) (st .dense) (st .width)) ++ drop len (now (out .entry)) ⌝ }
 {
@@ -44,6 +51,17 @@ fn fill_body(out: &mut [u8], len: usize, list: &[u8], cnt: &[u32; 65], st: Setti
     let mut cur = [0u32; 65];
     start_levels(&mut cur, cnt, l.lo);
     write_keys(out, &mut cur, list, l, st.width, body);
+}
+
+// A body of so many bytes goes to the front of out, and all else stays; an empty one takes no pass.
+fn fill_body(out: &mut [u8], len: usize, list: &[u8], cnt: &[u32; 65], st: Settings, body: Body)
+    requires { ⌜ Ready (now list) (st .dense) (st .width) × (now cnt ≡ counters-of body (keys-of (now list))) × (len ≡ length (body-of body (list-bodies (now list) (st .dense) (st .width)))) × (len ≤ length (now out)) ⌝ }
+    ensures { λ _. ⌜ now (out .exit) ≡ body-of body (list-bodies (now (list .entry)) (st .dense) (st .width)) ++ drop len (now (out .entry)) ⌝ }
+{
+    if len == 0 {
+        return;
+    }
+    fill_from_keys(out, len, list, cnt, st, body);
 }
 
 // The record of a body goes to out from `at`, and all else stays.
