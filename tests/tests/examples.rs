@@ -1,7 +1,7 @@
 //! The examples and refusals of document 01, with values written by hand.
 
-use reference::build::{build, judge_entries, Answer};
-use reference::check::check;
+use reference::build::{self, judge_entries, Answer};
+use reference::check;
 use reference::decode;
 use reference::image::{assemble, Header, DC, DL, DP, RC, RL, RP, RS, SB, SC, SL, SV, TS};
 use reference::keys;
@@ -133,6 +133,32 @@ fn assert_begins(image: &[u8], stem: &[u8], number: u32) {
 fn assert_seek(image: &[u8], start: &[u8], number: u32, key: &[u8]) {
     let replies = asked(image, &one_key(b"QS", start));
     assert_eq!(replies, Ok(reply(b'S', number, key)), "seek {start:?}");
+}
+
+/// Builds with the reference, and with the library where it is linked; both answer
+/// alike and leave the same output.
+fn build(list: &[u8], dense: u64, n: u64, out: &mut [u8]) -> Answer {
+    #[cfg(feature = "build")]
+    let mut again = out.to_vec();
+    let answer = build::build(list, dense, n, out);
+    #[cfg(feature = "build")]
+    {
+        assert_eq!(
+            reference::library::build(list, dense, n, &mut again),
+            answer
+        );
+        assert_eq!(again, out);
+    }
+    answer
+}
+
+/// Checks with the reference, and with the library where it is linked; both give the
+/// same number.
+fn check(image: &[u8]) -> u32 {
+    let number = check::check(image);
+    #[cfg(feature = "check")]
+    assert_eq!(reference::library::check(image), number);
+    number
 }
 
 /// Asserts the number that every call gives for an image that is turned down.
