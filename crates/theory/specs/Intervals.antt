@@ -259,7 +259,7 @@ possible-interval-exactly l o k w = (
 
 -- ---- the ends
 
-bytes-filled : (b : Bool) (m : ℕ) (s : Bits) → Is-bytes (filled b m s)
+pub bytes-filled : (b : Bool) (m : ℕ) (s : Bits) → Is-bytes (filled b m s)
 unfolding filled
 bytes-filled b zero s = tt
 bytes-filled true (suc m) s = (fill-order 8 s .1, bytes-filled true m (drop 8 s))

@@ -1,0 +1,5 @@
+pub mod Accepted
+pub mod Tables
+pub mod Positions
+pub mod NextBranch
+pub mod FromCheck

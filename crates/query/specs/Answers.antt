@@ -1,0 +1,128 @@
+-- What an accepted image's nodes say of its leaf list, by where a key leads: the laws that join the questions' code to their definitions.
+use Prim.Native.Nat.{ℕ, zero, suc, _+_, _-_, _<_, _≤_}
+use mathlib.Core.Path.{_≡_, refl, sym, ap, _∙_}
+use mathlib.Core.Bool.{true, false, not, _&&_}
+use mathlib.Core.List.{List, [], _∷_, _++_, append-assoc}
+use mathlib.Core.Logic.{_⊎_, inl, inr}
+use native.Mathlib.Omega.{arith}
+use native.Mathlib.Numerals.{add-one}
+use lib.ListN.{length, getD, take, drop, set, replicate, length-append}
+use lib.Seq.{take-at, take-all, take-suc, take-append-add, set-at, length-take-le}
+use borrow.Author.Tests.{lt-ltb}
+use Rattle.spec.specs.Bytes.{Bytes, bit}
+use Rattle.spec.specs.Leaves.{Leaf}
+use Rattle.spec.specs.Nodes.{read-leaves}
+use Rattle.spec.specs.Questions.{point, range, counted, begins-with, stem-end}
+use Rattle.theory.specs.Words.{Is-bytes, Bound}
+use Rattle.frame.specs.declared.Frame.{Frame}
+use Rattle.query_laws.specs.Slots.{slot-of}
+use Rattle.query_laws.specs.Descent.{Stop, descend, leaves-below, value}
+use Rattle.query_laws.specs.Bounds.{high-passed, low-reached}
+use Rattle.query_laws.specs.Ordered.{passed, reached, counted-is, range-counted}
+use Rattle.query_laws.specs.Root.{point-value, point-is, passed-is, reached-is}
+use Rattle.query_laws.specs.Steps.{stop-of}
+use Rattle.navigate.specs.Accepted.{Accepted, nodes}
+
+-- bytes by position are bytes
+pub all-small : (k : Bytes) → ((i : ℕ) → getD k i 0 < 256) → Is-bytes k
+all-small [] h = tt
+all-small (x ∷ k) h = (h 0, all-small k (λ i. h (suc i)))
+
+-- a key of at most 64 bytes
+pub bound : (k : Bytes) → ((i : ℕ) → getD k i 0 < 256) → length k ≤ 64 → Bound k
+bound k h l = record { fits = l; bytes = all-small k h }
+
+module _ (s : Bytes) (f : Frame) (a : Accepted s f) (k : Bytes) where
+  point-stops : Bound k → point (read-leaves s) k ≡ point-value (f .width) (nodes s f) (length k) (descend (nodes s f) 0 k)
+  point-stops b = point-is (f .width) (f .width) (read-leaves s) (nodes s f) (a .realizable) (a .well-sized) (a .trie-is) (a .writable .wide) k b
+
+  passed-stops : passed (read-leaves s) k ≡ leaves-below (nodes s f) 64 0 0 k + value false (high-passed (length k)) (f .width) (nodes s f) (descend (nodes s f) 0 k)
+  passed-stops = passed-is (f .width) (f .width) (read-leaves s) (nodes s f) (a .realizable) (a .well-sized) (a .trie-is) (a .writable .wide) k
+
+  reached-stops : reached (read-leaves s) k ≡ leaves-below (nodes s f) 64 0 0 k + value true (low-reached (length k)) (f .width) (nodes s f) (descend (nodes s f) 0 k)
+  reached-stops = reached-is (f .width) (f .width) (read-leaves s) (nodes s f) (a .realizable) (a .well-sized) (a .trie-is) (a .writable .wide) k
+
+  module _ (kind v d : ℕ) (e : descend (nodes s f) 0 k ≡ stop-of kind v (drop d k)) where
+    -- nowhere: no leaf has the key
+    pub point-none : Bound k → kind ≡ 0 → point (read-leaves s) k ≡ 0
+    unfolding point-value
+    point-none b h = point-stops b ∙ ap (point-value (f .width) (nodes s f) (length k)) e ∙ rw h
+
+    -- an exact leaf has it
+    pub point-exact : Bound k → kind ≡ 1 → point (read-leaves s) k ≡ 1
+    unfolding point-value
+    point-exact b h = point-stops b ∙ ap (point-value (f .width) (nodes s f) (length k)) e ∙ rw h
+
+    -- an open one has it if it lies between its lowest and its highest key
+    pub point-open : Bound k → kind ≡ 2 → point (read-leaves s) k ≡ bit (low-reached (length k) (slot-of (f .width) (nodes s f) v) (drop d k) && not (high-passed (length k) (slot-of (f .width) (nodes s f) v) (drop d k)))
+    unfolding point-value
+    point-open b h = point-stops b ∙ ap (point-value (f .width) (nodes s f) (length k)) e ∙ rw h
+
+    -- the leaves that the key has passed: those before it
+    pub passed-plain : (kind ≡ 0) ⊎ (kind ≡ 1) → passed (read-leaves s) k ≡ leaves-below (nodes s f) 64 0 0 k
+    unfolding value
+    passed-plain (inl h) = passed-stops ∙ ap (λ (z : Stop). leaves-below (nodes s f) 64 0 0 k + value false (high-passed (length k)) (f .width) (nodes s f) z) e ∙ rw h (omega arith)
+    passed-plain (inr h) = passed-stops ∙ ap (λ (z : Stop). leaves-below (nodes s f) 64 0 0 k + value false (high-passed (length k)) (f .width) (nodes s f) z) e ∙ rw h (omega arith)
+
+    -- and an open leaf whose highest key lies below it
+    pub passed-open : kind ≡ 2 → passed (read-leaves s) k ≡ leaves-below (nodes s f) 64 0 0 k + bit (high-passed (length k) (slot-of (f .width) (nodes s f) v) (drop d k))
+    unfolding value
+    passed-open h = passed-stops ∙ ap (λ (z : Stop). leaves-below (nodes s f) 64 0 0 k + value false (high-passed (length k)) (f .width) (nodes s f) z) e ∙ rw h
+
+    -- the leaves that it has reached: those before it
+    pub reached-none : kind ≡ 0 → reached (read-leaves s) k ≡ leaves-below (nodes s f) 64 0 0 k
+    unfolding value
+    reached-none h = reached-stops ∙ ap (λ (z : Stop). leaves-below (nodes s f) 64 0 0 k + value true (low-reached (length k)) (f .width) (nodes s f) z) e ∙ rw h (omega arith)
+
+    -- an exact leaf that has it
+    pub reached-exact : kind ≡ 1 → reached (read-leaves s) k ≡ leaves-below (nodes s f) 64 0 0 k + 1
+    unfolding value
+    reached-exact h = reached-stops ∙ ap (λ (z : Stop). leaves-below (nodes s f) 64 0 0 k + value true (low-reached (length k)) (f .width) (nodes s f) z) e ∙ rw h
+
+    -- and an open leaf whose lowest key does not lie above it
+    pub reached-open : kind ≡ 2 → reached (read-leaves s) k ≡ leaves-below (nodes s f) 64 0 0 k + bit (low-reached (length k) (slot-of (f .width) (nodes s f) v) (drop d k))
+    unfolding value
+    reached-open h = reached-stops ∙ ap (λ (z : Stop). leaves-below (nodes s f) 64 0 0 k + value true (low-reached (length k)) (f .width) (nodes s f) z) e ∙ rw h
+
+-- Count: the leaves that the upper bound has reached, less those that the lower one has passed.
+pub count-is : (s : Bytes) (f : Frame) → Accepted s f → (lo hi : Bytes) → counted (read-leaves s) lo hi ≡ reached (read-leaves s) hi - passed (read-leaves s) lo
+count-is s f a lo hi = counted-is (f .width) (read-leaves s) lo hi (a .realizable .ordered) (a .well-sized)
+
+-- Range: 1 exactly if the count is not 0.
+pub range-none : (s lo hi : Bytes) → counted (read-leaves s) lo hi ≡ 0 → range (read-leaves s) lo hi ≡ 0
+range-none s lo hi h = range-counted (read-leaves s) lo hi ∙ rw h
+
+pub range-some : (s lo hi : Bytes) → 0 < counted (read-leaves s) lo hi → range (read-leaves s) lo hi ≡ 1
+range-some s lo hi h = range-counted (read-leaves s) lo hi ∙ rw (lt-ltb 0 (counted (read-leaves s) lo hi) h)
+
+-- a number below two
+pub none-or-one : (n : ℕ) → n < 2 → (n ≡ 0) ⊎ (n ≡ 1)
+none-or-one zero h = inl refl
+none-or-one (suc zero) h = inr refl
+none-or-one (suc (suc n)) h = absurd (omega arith)
+
+-- A begins-with question is the range to its stem's end.
+pub stem-range : (ls : List Leaf) (stem : Bytes) → begins-with ls stem ≡ range ls stem (stem-end stem)
+unfolding begins-with
+stem-range ls stem = refl
+
+-- a stem of 64 bytes is its own end
+pub stem-whole : (stem : Bytes) → length stem ≡ 64 → stem-end stem ≡ stem
+stem-whole stem h = take-at stem (255 ∷ []) 64 h
+
+-- A shorter one is followed by one FF; filled with FF to 64 bytes, it has that end.
+pub stem-longer : (stem : Bytes) (i : ℕ) → i ≡ length stem → length stem < 64 → take (i + 1) (take i stem ++ replicate (64 - i) 255) ≡ stem-end stem
+stem-longer stem i e h =
+    let z : 64 - i ≡ suc (64 - (i + 1)) = omega arith in
+    let w : take i stem ≡ stem = take-all i stem (omega arith) in
+    rw (w, z, e) (take-append-add stem (255 ∷ replicate (64 - (length stem + 1)) 255) 1 ∙ sym (take-all 64 (stem ++ (255 ∷ [])) (omega (arith, length-append stem (255 ∷ [])))))
+
+-- one byte of it more
+pub stem-step : (stem end : Bytes) (i : ℕ) → i < length stem → i < 64 → end ≡ take i stem ++ replicate (64 - i) 255 → set end i (getD stem i 0) ≡ take (i + 1) stem ++ replicate (64 - (i + 1)) 255
+stem-step stem end i h l e =
+    let z : 64 - i ≡ suc (64 - (i + 1)) = omega arith in
+    rw (e, z, add-one i) (set-at (take i stem) 255 (replicate (64 - suc i) 255) (getD stem i 0) i (length-take-le i stem (omega arith))
+    ∙ (append-cons (take i stem) (getD stem i 0) (replicate (64 - suc i) 255) ∙ ap (λ (x : Bytes). x ++ replicate (64 - suc i) 255) (sym (take-suc stem i 0 h))))
+  where
+    append-cons : (a : Bytes) (x : ℕ) (b : Bytes) → a ++ x ∷ b ≡ (a ++ (x ∷ [])) ++ b
+    append-cons a x b = sym (append-assoc a (x ∷ []) b)

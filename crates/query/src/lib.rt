@@ -1,0 +1,8 @@
+// The five questions over an accepted image.
+
+pub mod suffix; // suffix.rt: the suffix of an open leaf against a key
+pub mod descent; // descent.rt: where a key leads from the root
+pub mod point; // point.rt: the point question
+pub mod counts; // counts.rt: the leaves before a key
+pub mod ranges; // ranges.rt: count, range and begins-with
+pub mod seeking; // seeking.rt: the first leaf that a key has not passed

@@ -1,0 +1,13 @@
+pub mod Counting
+pub mod Slots
+pub mod Descent
+pub mod Bounds
+pub mod Ordered
+pub mod Stored
+pub mod LabelMaps
+pub mod DensePositions
+pub mod SparsePositions
+pub mod NextLabel
+pub mod Root
+pub mod Steps
+pub mod SuffixBytes

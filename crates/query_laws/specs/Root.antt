@@ -1,0 +1,228 @@
+-- The law of a descent from the root: what an image's nodes say of its leaf list, question by question; and that node numbers and counts stay in range.
+use Prim.Native.Nat.{ℕ, zero, suc, _+_, _-_, _<_, _≤_}
+use mathlib.Core.Path.{_≡_, refl, sym, ap, _∙_}
+use mathlib.Core.Bool.{Bool, true, false, not, _&&_, true≢false}
+use mathlib.Core.List.{List, [], _∷_}
+use native.Mathlib.Omega.{arith}
+use lib.ListN.{length, take, drop, length-append}
+use lib.Seq.{take-nil, take-take}
+use lib.Dec.{ltb}
+use Rattle.spec.specs.Bytes.{Bytes, Bits, bit, count, concat}
+use Rattle.spec.specs.Keys.{below}
+use Rattle.spec.specs.Leaves.{Leaf, highest, lowest}
+use Rattle.spec.specs.Nodes.{Branch, to-node, to-leaf, Node, node, branches-of, is-exact, children, total, children-of}
+use Rattle.spec.specs.Trie.{open-leaves, leaf-count}
+use Rattle.spec.specs.Questions.{point}
+use Rattle.query_laws.specs.Counting.{labels-below, counts}
+use Rattle.query_laws.specs.Slots.{node-at, leaves-before, slot-number, slot-of}
+use Rattle.query_laws.specs.Descent.{children-before, child-number, goes-on, ends-at, Stop, miss, at-exact, at-open, descend, leaves-below, between-same, value, level-counted, kids-append, kids-take}
+use Rattle.query_laws.specs.Bounds.{high-passed, low-reached, highest-counts, lowest-counts}
+use Rattle.query_laws.specs.Ordered.{passed, reached, counted-is, range-counted, point-range}
+use Rattle.theory.specs.LeafLists.{Realizable, All-well-sized}
+use Rattle.theory.specs.Words.{All, Bound}
+use Rattle.theory.specs.LevelTrie.{trie}
+use Rattle.theory.specs.NodeBits.{Slots-width}
+use Rattle.theory.specs.Levels.{leaves-in, leaf-count-root}
+use Rattle.theory.specs.TrieTests.{realizable-trie, Empty-or-right, empty-list, right-trie}
+use Rattle.theory.specs.LinkedLevels.{first-width, levels-back, Linked}
+
+-- ---- an image without nodes
+
+-- has no leaf below a key
+pub below-empty : (l : ℕ) (k : Bytes) → leaves-below [] l 0 0 k ≡ 0
+unfolding leaves-below labels-below goes-on child-number slot-number leaves-before children-before total leaf-count open-leaves children
+below-empty l [] = between-same [] l 0
+below-empty l (y ∷ k) = omega (arith, between-same [] (l - 1) 1)
+
+-- and no key leads to one
+pub descend-empty : (k : Bytes) → descend [] 0 k ≡ miss
+unfolding descend labels-below goes-on ends-at
+descend-empty [] = refl
+descend-empty (y ∷ k) = refl
+
+none-counted : (ends : Bool) (q : Bits → Bytes → Bool) (w l : ℕ) (k : Bytes) → 0 ≡ leaves-below [] l 0 0 k + value ends q w [] (descend [] 0 k)
+unfolding value
+none-counted ends q w l k = rw (below-empty l k, descend-empty k)
+
+-- ---- the leaves that count before a key
+
+-- By the nodes of a good leaf list's trie.
+pub trie-counted : (n w : ℕ) (ls : List Leaf) (ns : List Node) → Realizable n ls → All-well-sized n ls → ns ≡ concat (trie ls) → All (Slots-width w) ns → (ends : Bool) (q : Bits → Bytes → Bool) (k : Bytes)
+    → count (counts ends q k) ls ≡ leaves-below ns 64 0 0 k + value ends q w ns (descend ns 0 k)
+unfolding count trie concat total leaves-in
+trie-counted n w ls ns g o e wide ends q k = go (realizable-trie n ls g o) e
+  where
+    go : {ls : List Leaf} → Empty-or-right ls → ns ≡ concat (trie ls) → count (counts ends q k) ls ≡ leaves-below ns 64 0 0 k + value ends q w ns (descend ns 0 k)
+    go empty-list e = rw e (none-counted ends q w 64 k)
+    go (right-trie {ls = ls} t) e =
+        let z : first-width (trie ls) ≡ 1 = sym (levels-back (trie ls) (t .linked) .wide) ∙ ap length (t .root) in
+        let r = level-counted ends q w ns wide (trie ls) 64 [] 0 k (t .shallow) (t .linked) (e, root z) (omega arith) in
+        sym (ap (λ (z : ℕ). z + count (counts ends q k) ls) zero-leaves ∙ omega arith) ∙ (rw (t .root) at r)
+      where
+        root : first-width (trie ls) ≡ 1 → length {A = Node} [] + first-width (trie ls) ≡ 1 + total children-of []
+        root z = omega arith
+
+        zero-leaves : leaves-in (take 0 (ls ∷ [])) ≡ 0
+        zero-leaves = refl
+
+count-same : {A : Type 0} (p r : A → Bool) (xs : List A) → ((x : A) → p x ≡ r x) → count p xs ≡ count r xs
+unfolding count
+count-same p r [] h = refl
+count-same p r (x ∷ xs) h = rw (h x, count-same p r xs h)
+
+-- The answer to a point question where the key leads, a key of n bytes.
+unfoldable pub point-value : ℕ → List Node → ℕ → Stop → ℕ
+unfolding low-reached high-passed slot-of
+point-value w ns n miss = 0
+point-value w ns n at-exact = 1
+point-value w ns n (at-open v r) = bit (low-reached n (slot-of w ns v) r && not (high-passed n (slot-of w ns v) r))
+
+module _ (n w : ℕ) (ls : List Leaf) (ns : List Node) (g : Realizable n ls) (o : All-well-sized n ls) (e : ns ≡ concat (trie ls)) (wide : All (Slots-width w) ns) where
+  -- The leaves whose highest key lies below the key.
+  pub passed-is : (k : Bytes) → passed ls k ≡ leaves-below ns 64 0 0 k + value false (high-passed (length k)) w ns (descend ns 0 k)
+  unfolding passed
+  passed-is k = count-same (λ l. below (highest l) k) (counts false (high-passed (length k)) k) ls (λ l. highest-counts l k) ∙ trie-counted n w ls ns g o e wide false (high-passed (length k)) k
+
+  -- The leaves whose lowest key does not lie above the key.
+  pub reached-is : (k : Bytes) → reached ls k ≡ leaves-below ns 64 0 0 k + value true (low-reached (length k)) w ns (descend ns 0 k)
+  unfolding reached
+  reached-is k = count-same (λ l. not (below k (lowest l))) (counts true (low-reached (length k)) k) ls (λ l. lowest-counts l k) ∙ trie-counted n w ls ns g o e wide true (low-reached (length k)) k
+
+  -- The point question, by where the key leads.
+  pub point-is : (k : Bytes) → Bound k → point ls k ≡ point-value w ns (length k) (descend ns 0 k)
+  unfolding point-value value
+  point-is k b =
+      point-range n ls k o b ∙ range-counted ls k k ∙ ap (λ (c : ℕ). bit (ltb 0 c)) (counted-is n ls k k (g .ordered) o)
+      ∙ go (descend ns 0 k) (reached ls k) (passed ls k) (reached-is k) (passed-is k)
+    where
+      less : (a x y : ℕ) (r p : ℕ) → r ≡ a + x → p ≡ a + y → r - p ≡ x - y
+      less a x y r p u v = omega arith
+
+      both : (a b : Bool) → bit (ltb 0 (bit a - bit b)) ≡ bit (a && not b)
+      both true true = refl
+      both true false = refl
+      both false true = refl
+      both false false = refl
+
+      go : (s : Stop) (r p : ℕ) → r ≡ leaves-below ns 64 0 0 k + value true (low-reached (length k)) w ns s → p ≡ leaves-below ns 64 0 0 k + value false (high-passed (length k)) w ns s
+          → bit (ltb 0 (r - p)) ≡ point-value w ns (length k) s
+      go miss r p u v = ap (λ (c : ℕ). bit (ltb 0 c)) (less (leaves-below ns 64 0 0 k) 0 0 r p u v)
+      go at-exact r p u v = ap (λ (c : ℕ). bit (ltb 0 c)) (less (leaves-below ns 64 0 0 k) 1 0 r p u v)
+      go (at-open t j) r p u v =
+          ap (λ (c : ℕ). bit (ltb 0 c)) (less (leaves-below ns 64 0 0 k) (bit (low-reached (length k) (slot-of w ns t) j)) (bit (high-passed (length k) (slot-of w ns t) j)) r p u v)
+          ∙ both (low-reached (length k) (slot-of w ns t) j) (high-passed (length k) (slot-of w ns t) j)
+
+-- ---- numbers in range
+
+linked-size : (ls : List (List Node)) → Linked ls → length (concat ls) ≡ first-width ls + total children-of (concat ls)
+unfolding concat total
+linked-size [] k = refl
+linked-size (ns ∷ ls) k = omega (arith, length-append ns (concat ls), kids-append ns (concat ls), linked-size ls (k .3), k .1)
+
+-- Nodes are continuing branches plus one, where there are nodes.
+pub node-total : (n : ℕ) (ls : List Leaf) (ns : List Node) → Realizable n ls → All-well-sized n ls → ns ≡ concat (trie ls) → 0 < length ns → length ns ≡ 1 + total children-of ns
+unfolding trie concat
+node-total n ls ns g o e h = go (realizable-trie n ls g o) e
+  where
+    go : {ls : List Leaf} → Empty-or-right ls → ns ≡ concat (trie ls) → length ns ≡ 1 + total children-of ns
+    go empty-list e = absurd (omega (arith, ap length e))
+    go (right-trie {ls = ls} t) e =
+        let z : first-width (trie ls) ≡ 1 = sym (levels-back (trie ls) (t .linked) .wide) ∙ ap length (t .root) in
+        rw e (omega (arith, linked-size (trie ls) (t .linked)))
+
+-- the leaves of the nodes are those of the list
+pub leaf-total : (n : ℕ) (ls : List Leaf) (ns : List Node) → Realizable n ls → All-well-sized n ls → ns ≡ concat (trie ls) → leaf-count ns ≡ length ls
+unfolding trie concat leaf-count
+leaf-total n ls ns g o e = go (realizable-trie n ls g o) e
+  where
+    go : {ls : List Leaf} → Empty-or-right ls → ns ≡ concat (trie ls) → leaf-count ns ≡ length ls
+    go empty-list e = rw e
+    go (right-trie {ls = ls} t) e = rw e (sym (leaf-count-root (trie ls) ls (t .linked) (t .root)))
+
+module _ (ns : List Node) where
+  kids-more : (lo d : ℕ) → total children-of (take lo ns) ≤ total children-of (take (lo + d) ns)
+  kids-more lo d = let e : take lo (take (lo + d) ns) ≡ take lo ns = take-take lo (lo + d) ns (omega arith) in rw (← e) (kids-take lo (take (lo + d) ns))
+
+  leaf-take : (m : ℕ) (ms : List Node) → leaf-count (take m ms) ≤ leaf-count ms
+  unfolding leaf-count
+  leaf-take zero ms = omega arith
+  leaf-take (suc m) [] = omega arith
+  leaf-take (suc m) (n ∷ ms) = omega (arith, leaf-take m ms)
+
+  -- later nodes have no fewer continuing branches before them
+  pub children-up : (lo hi : ℕ) → lo ≤ hi → children-before ns lo ≤ children-before ns hi
+  unfolding children-before
+  children-up lo hi h = let e : lo + (hi - lo) ≡ hi = omega arith in rw e at (kids-more lo (hi - lo))
+
+  -- nor fewer leaves
+  pub leaves-up : (lo hi : ℕ) → lo ≤ hi → leaves-before ns lo ≤ leaves-before ns hi
+  unfolding leaves-before
+  leaves-up lo hi h = let e : take lo (take hi ns) ≡ take lo ns = take-take lo hi ns h in rw (← e) (leaf-take lo (take hi ns))
+
+  -- and no more than all
+  pub children-all : (m : ℕ) → children-before ns m ≤ total children-of ns
+  unfolding children-before
+  children-all m = kids-take m ns
+
+  pub leaves-all : (m : ℕ) → leaves-before ns m ≤ leaf-count ns
+  unfolding leaves-before
+  leaves-all m = leaf-take m ns
+
+-- the branches of a node among those of all nodes
+branch-kids : (ns : List Node) (m : ℕ) → total children-of (take m ns) + children (branches-of (node-at ns m)) ≤ total children-of ns
+unfolding total children
+branch-kids [] m = rw (take-nil {A = Node} m) (omega arith)
+branch-kids (node o es ∷ ns) zero = omega arith
+branch-kids (n ∷ ns) (suc m) = omega (arith, branch-kids ns m)
+
+branch-leaves : (ns : List Node) (m : ℕ) → leaf-count (take m ns) + bit (is-exact (node-at ns m)) + open-leaves (branches-of (node-at ns m)) ≤ leaf-count ns
+unfolding leaf-count open-leaves
+branch-leaves [] m = rw (take-nil {A = Node} m) (omega arith)
+branch-leaves (n ∷ ns) zero = omega arith
+branch-leaves (n ∷ ns) (suc m) = omega (arith, branch-leaves ns m)
+
+taken-kids : (i : ℕ) (es : List Branch) → children (take i es) + children (drop i es) ≡ children es
+unfolding children
+taken-kids zero es = omega arith
+taken-kids (suc i) [] = refl
+taken-kids (suc i) (to-leaf x s ∷ es) = taken-kids i es
+taken-kids (suc i) (to-node x ∷ es) = omega (arith, taken-kids i es)
+
+taken-leaves : (i : ℕ) (es : List Branch) → open-leaves (take i es) + open-leaves (drop i es) ≡ open-leaves es
+unfolding open-leaves
+taken-leaves zero es = omega arith
+taken-leaves (suc i) [] = refl
+taken-leaves (suc i) (to-node x ∷ es) = taken-leaves i es
+taken-leaves (suc i) (to-leaf x s ∷ es) = omega (arith, taken-leaves i es)
+
+-- The first node behind a branch: no earlier than that behind the node's first, and at most the number of all branches plus one.
+pub child-range : (ns : List Node) (m i : ℕ) → (1 + children-before ns m ≤ child-number ns m i) × (child-number ns m i ≤ 1 + total children-of ns)
+unfolding child-number children-before
+child-range ns m i = (omega arith, omega (arith, branch-kids ns m, taken-kids i (branches-of (node-at ns m))))
+
+goes-children : (y : ℕ) (fs : List Branch) → goes-on y fs ≡ true → 0 < children fs
+unfolding goes-on children
+goes-children y [] h = absurd (true≢false (sym h))
+goes-children y (to-leaf x s ∷ fs) h = absurd (true≢false (sym h))
+goes-children y (to-node x ∷ fs) h = omega arith
+
+-- A continuing branch leads to a node.
+pub child-in : (ns : List Node) (m i y : ℕ) → length ns ≡ 1 + total children-of ns → goes-on y (drop i (branches-of (node-at ns m))) ≡ true → child-number ns m i < length ns
+unfolding child-number children-before
+child-in ns m i y e h = omega (arith, branch-kids ns m, taken-kids i (branches-of (node-at ns m)), goes-children y (drop i (branches-of (node-at ns m))) h)
+
+-- A slot number is at least the leaves before its node, and at most all leaves.
+pub slot-range : (ns : List Node) (m i : ℕ) → (leaves-before ns m ≤ slot-number ns m i) × (slot-number ns m i ≤ leaf-count ns)
+unfolding slot-number leaves-before
+slot-range ns m i = (omega arith, omega (arith, branch-leaves ns m, taken-leaves i (branches-of (node-at ns m))))
+
+ends-leaves : (y : ℕ) (fs : List Branch) → ends-at y fs ≡ true → 0 < open-leaves fs
+unfolding ends-at open-leaves
+ends-leaves y [] h = absurd (true≢false (sym h))
+ends-leaves y (to-node x ∷ fs) h = absurd (true≢false (sym h))
+ends-leaves y (to-leaf x s ∷ fs) h = omega arith
+
+-- The slot of an open leaf is one of the leaves.
+pub branch-leaves-in : (ns : List Node) (m i y : ℕ) → ends-at y (drop i (branches-of (node-at ns m))) ≡ true → slot-number ns m i < leaf-count ns
+unfolding slot-number leaves-before
+branch-leaves-in ns m i y h = omega (arith, branch-leaves ns m, taken-leaves i (branches-of (node-at ns m)), ends-leaves y (drop i (branches-of (node-at ns m))) h)

@@ -1,0 +1,6 @@
+pub mod KeyAt
+pub mod QuestionAt
+pub mod FileLaws
+pub mod AskedAt
+pub mod ReplyLaws
+pub mod AskJoined

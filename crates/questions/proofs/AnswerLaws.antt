@@ -1,0 +1,91 @@
+-- A question that was matched: its keys as the parts of the file that are lent, and the reply by value that its number makes. The functions that answer a question of a file rest on it.
+use mathlib.Core.Path.{_≡_, sym, ap, ap₂, subst, _∙_}
+use mathlib.Core.List.{List, []}
+use Prim.Native.Nat.{ℕ, _+_, _-_, _≤_}
+use native.Mathlib.Omega.{arith}
+use lib.ListN.{length, take, drop, length-take}
+use Rattle.spec.specs.Bytes.{Bytes}
+use Rattle.spec.specs.Leaves.{Leaf}
+use Rattle.spec.specs.Questions.{QS, Reply, point, begins-with, range, counted, reply, reply-bytes, replies, questions-of}
+use Rattle.bits.specs.Bits.{placed}
+use Rattle.keys.specs.Keys.{key}
+use Rattle.question_laws.specs.AskedAt.{Key-part, Followed}
+use Rattle.question_laws.specs.ReplyLaws.{answer, point-reply, begins-reply, range-reply, count-reply, Replied, replied-room, replied-more}
+use Rattle.questions.specs.Questions.{question-of, Inside, Sized, reply-of}
+use Rattle.questions.specs.declared.file.QuestionAt.{QuestionAt}
+use Rattle.questions.specs.declared.file.QuestionAt.the-variants.{Point, Seek, Begins, Range, Count}
+use Rattle.questions.specs.declared.reply.Answered.{Answered}
+use Rattle.questions.proofs.PlacedLaws.{key-length}
+
+-- the bytes from a to a + n, as a part that is lent
+abbrev pub lent : Bytes → ℕ → ℕ → Bytes
+lent file a n = take (a + n - a) (drop a file)
+
+lent-is : (file : Bytes) (a n : ℕ) → lent file a n ≡ key file a n
+lent-is file a n = let e : a + n - a ≡ n = omega arith in ap (λ (m : ℕ). take m (drop a file)) e
+
+-- a key that is lent has at most 64 bytes
+pub lent-small : (file : Bytes) (a n : ℕ) → Key-part file a n → length (lent file a n) ≤ 64
+lent-small file a n k = omega (arith, length-take (a + n - a) (drop a file), k .small)
+
+-- what is known of a question, after a match
+pub inside-told : (file : Bytes) {q x : QuestionAt} → q ≡ x → Inside file q → Inside file x
+inside-told file h i = subst (Inside file) h i
+
+-- a question that is no seek
+abbrev pub Not-seek : QuestionAt → Type 0
+Not-seek (Point a n) = Unit
+Not-seek (Seek a n) = ⊥
+Not-seek (Begins a n) = Unit
+Not-seek (Range a n b m) = Unit
+Not-seek (Count a n b m) = Unit
+
+module _ (ls : List Leaf) (file : Bytes) where
+  -- the reply to a question, after a match
+  pub reply-told : {q x : QuestionAt} → q ≡ x → reply ls (question-of file x) ≡ reply ls (question-of file q)
+  reply-told h = ap (λ (z : QuestionAt). reply ls (question-of file z)) (sym h)
+
+  -- the length of its key
+  pub reply-key : (a : Answered) (q : QuestionAt) → Sized a → reply-of a ≡ reply ls (question-of file q) → a .n ≡ length (reply ls (question-of file q) .key)
+  reply-key a q s e = sym (key-length a s) ∙ ap (λ r. length (r .key)) e
+
+  module _ (a n : ℕ) where
+    pub point-told : (x : ℕ) → x ≡ point ls (lent file a n) → answer 80 x [] ≡ reply ls (question-of file (Point a n))
+    point-told x h = ap (λ (m : ℕ). answer 80 m []) (h ∙ ap (point ls) (lent-is file a n)) ∙ sym (point-reply ls (key file a n))
+
+    pub begins-told : (x : ℕ) → x ≡ begins-with ls (lent file a n) → answer 66 x [] ≡ reply ls (question-of file (Begins a n))
+    begins-told x h = ap (λ (m : ℕ). answer 66 m []) (h ∙ ap (begins-with ls) (lent-is file a n)) ∙ sym (begins-reply ls (key file a n))
+
+    pub seek-told : reply ls (QS (lent file a n)) ≡ reply ls (question-of file (Seek a n))
+    seek-told = ap (λ (k : Bytes). reply ls (QS k)) (lent-is file a n)
+
+    module _ (b m : ℕ) where
+      pub range-told : (x : ℕ) → x ≡ range ls (lent file a n) (lent file b m) → answer 82 x [] ≡ reply ls (question-of file (Range a n b m))
+      range-told x h = ap (λ (i : ℕ). answer 82 i []) (h ∙ ap₂ (range ls) (lent-is file a n) (lent-is file b m)) ∙ sym (range-reply ls (key file a n) (key file b m))
+
+      pub count-told : (x : ℕ) → x ≡ counted ls (lent file a n) (lent file b m) → answer 67 x [] ≡ reply ls (question-of file (Count a n b m))
+      count-told x h = ap (λ (i : ℕ). answer 67 i []) (h ∙ ap₂ (counted ls) (lent-is file a n) (lent-is file b m)) ∙ sym (count-reply ls (key file a n) (key file b m))
+
+  -- only a seek's reply has a key
+  keyless : (q : QuestionAt) → Not-seek q → length (reply ls (question-of file q) .key) ≡ 0
+  keyless (Point a n) t = ap (λ r. length (r .key)) (point-reply ls (key file a n))
+  keyless (Seek a n) t = absurd t
+  keyless (Begins a n) t = ap (λ r. length (r .key)) (begins-reply ls (key file a n))
+  keyless (Range a n b m) t = ap (λ r. length (r .key)) (range-reply ls (key file a n) (key file b m))
+  keyless (Count a n b m) t = ap (λ r. length (r .key)) (count-reply ls (key file a n) (key file b m))
+
+  -- the same of a question that was matched
+  pub keyless-told : {q x : QuestionAt} → q ≡ x → Not-seek x → 0 ≡ length (reply ls (question-of file q) .key)
+  keyless-told {q} {x} h t = sym (ap (λ (z : QuestionAt). length (reply ls (question-of file z) .key)) h ∙ keyless x t)
+
+-- ask's second pass with replies by value: room for the next one, and the buffer with it
+module _ (ls : List Leaf) (file out : Bytes) (room : length (replies ls (questions-of file)) ≤ length out) (at to : ℕ) (new : Bytes) (p : Replied ls file out at to new) (next : ℕ) (q : QuestionAt) (w : Followed file at (question-of file q) next) (a : Answered) (s : Sized a) (e : reply-of a ≡ reply ls (question-of file q)) where
+  pub answered-room : to + 8 + a .n ≤ length new
+  answered-room = omega (arith, reply-key ls file a q s e, replied-room ls file out room at to new p next (question-of file q) w)
+
+  pub answered-more : (end : ℕ) (written : Bytes) → end ≡ to + 8 + a .n → written ≡ placed new to (reply-bytes (reply-of a)) → Replied ls file out next end written
+  answered-more end written f g =
+      let h : to + 8 + length (reply ls (question-of file q) .key) ≡ end = ap (λ (k : ℕ). to + 8 + k) (sym (reply-key ls file a q s e)) ∙ sym f in
+      let i : placed new to (reply-bytes (reply ls (question-of file q))) ≡ written = ap (λ (r : Reply). placed new to (reply-bytes r)) (sym e) ∙ sym g in
+      subst (λ (z : Bytes). Replied ls file out next end z) i
+      (subst (λ (k : ℕ). Replied ls file out next k (placed new to (reply-bytes (reply ls (question-of file q))))) h (replied-more ls file out room at to new p next (question-of file q) w))

@@ -1,0 +1,4 @@
+pub mod StepLaws
+pub mod JudgeLaws
+pub mod PlacedLaws
+pub mod AnswerLaws
