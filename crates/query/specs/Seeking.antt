@@ -1,25 +1,30 @@
 -- What a seek keeps on its way along the key: the last turn to a higher label, and where the key has led.
 use Prim.Native.Nat.{ℕ, zero, suc, _+_, _-_, _<_, _≤_}
-use mathlib.Core.Path.{_≡_, refl, sym, _∙_}
+use mathlib.Core.Path.{_≡_, refl, sym, ap, _∙_}
 use mathlib.Core.Bool.{Bool, true, false, cond}
 use mathlib.Core.List.{List, [], _∷_, _++_}
 use mathlib.Core.Option.{Option, none, some}
 use native.Mathlib.Omega.{arith}
 use native.Mathlib.Numerals.{add-one}
-use lib.ListN.{length, getD, take, drop}
-use lib.Seq.{take-suc, take-nil}
+use lib.ListN.{length, getD, take, drop, length-append}
+use lib.Seq.{take-suc, take-nil, take-length, take-append-le, length-front, length-take-le}
 use Rattle.spec.specs.Bytes.{Bytes, Bits, bit}
-use Rattle.spec.specs.Leaves.{Leaf}
-use Rattle.spec.specs.Nodes.{Branch, to-node, to-leaf, Node, node, branches-of, is-exact, children, total, children-of}
+use Rattle.spec.specs.Leaves.{Leaf, lowest}
+use Rattle.spec.specs.Nodes.{Branch, to-node, to-leaf, Node, node, branches-of, is-exact, children, total, children-of, read-leaves}
 use Rattle.spec.specs.Trie.{open-leaves, leaf-count}
+use Rattle.theory.specs.Lists.{nil-of}
+use Rattle.frame.specs.declared.Frame.{Frame}
+use Rattle.query_laws.specs.Bounds.{low-rest, high-passed}
 use Rattle.query_laws.specs.Counting.{labels-below}
 use Rattle.query_laws.specs.Slots.{node-at, leaves-before, slot-number, slot-of}
 use Rattle.query_laws.specs.Descent.{children-before, child-number, goes-on, ends-at}
 use Rattle.query_laws.specs.LabelMaps.{matches}
 use Rattle.query_laws.specs.NextLabel.{first-kind}
+use Rattle.query_laws.specs.Ordered.{next-leaf}
 use Rattle.query_laws.specs.Steps.{says}
+use Rattle.navigate.specs.Accepted.{Accepted, nodes, dense-nodes, sparse-nodes}
 use Rattle.seek_laws.specs.Next.{behind-each, first-leaf, turn-at, next-from}
-use Rattle.seek_laws.specs.Seeks.{behind-label}
+use Rattle.seek_laws.specs.Seeks.{low-each, low-of, none-left, next-trie, behind-label}
 
 -- the leaf behind the last turn: none, or behind the first label not below y of a node, d bytes of the key before it
 abbrev pub turn-leaf : List Node → Bytes → ℕ → ℕ → ℕ → ℕ → Option Leaf
@@ -133,3 +138,42 @@ kind-slot ns m i kind e h = omega (arith, branch-leaves ns m, taken-leaves i (br
 pub kind-child : (ns : List Node) (m i kind : ℕ) → kind ≡ first-kind (drop i (branches-of (node-at ns m))) → (kind ≡ 0 → ⊥) → (kind ≡ 1 → ⊥) → length ns ≡ 1 + total children-of ns → child-number ns m i < length ns
 unfolding child-number children-before
 kind-child ns m i kind e g h t = omega (arith, branch-kids ns m, taken-kids i (branches-of (node-at ns m)), child-there (drop i (branches-of (node-at ns m))) (λ q. g (e ∙ q)) (λ q. h (e ∙ q)))
+
+-- ---- the leaf that the key has led to
+
+-- the first bytes of a buffer into which the key was copied
+pub copied : (start key : Bytes) (d : ℕ) → d ≤ length start → take d (take (length start) start ++ drop (length start) key) ≡ take d start
+copied start key d h = rw (take-length start) (take-append-le d start (drop (length start) key) h)
+
+-- its length
+pub copied-length : (start key : Bytes) → length start ≤ length key → length (take (length start) start ++ drop (length start) key) ≡ length key
+copied-length start key h = length-front key (take (length start) start) (length start) (ap length (take-length start) ∙ sym (length-take-le (length start) key h))
+
+module _ (s : Bytes) (f : Frame) (a : Accepted s f) (start : Bytes) where
+  next-nodes : next-leaf (read-leaves s) start ≡ next-from (high-passed (length start)) (f .width) (nodes s f) 64 0 [] start none
+  next-nodes = next-trie (f .width) (f .width) (read-leaves s) (nodes s f) (a .realizable) (a .well-sized) (a .trie-is) (a .writable .wide) start
+
+  -- an image without nodes has no leaf
+  pub led-nowhere : f .dense + f .sparse ≡ 0 → low-each (next-leaf (read-leaves s) start) ≡ none
+  led-nowhere h =
+      let empty : nodes s f ≡ [] = nil-of (nodes s f) (omega (arith, length-append (dense-nodes s f) (sparse-nodes s f), a .dense-size, a .sparse-size)) in
+      ap low-each (next-nodes ∙ ap (λ (ns : List Node). next-from (high-passed (length start)) (f .width) ns 64 0 [] start none) empty ∙ sym (none-left (high-passed (length start)) (f .width) start))
+
+  module _ (kind m v d some-turn node label depth : ℕ)
+      (is : next-from (high-passed (length start)) (f .width) (nodes s f) 64 0 [] start none ≡ led-leaf (f .width) (nodes s f) start kind m v d (turn-leaf (nodes s f) start some-turn node label depth)) where
+    -- an open leaf
+    pub led-open : kind ≡ 2 → low-each (next-leaf (read-leaves s) start) ≡ low-of (f .width) (nodes s f) 2 v (take d start)
+    unfolding lowest low-rest
+    led-open h = ap low-each (next-nodes ∙ is) ∙ rw h
+
+    -- the first leaf at or below the node at the key's end
+    pub led-node : kind ≡ 1 → low-each (next-leaf (read-leaves s) start) ≡ low-each (behind-each (take d start) (first-leaf (nodes s f) (64 - d) m))
+    led-node h = ap low-each (next-nodes ∙ is) ∙ rw h
+
+    -- past all leaves, with no turn
+    pub led-past : kind ≡ 0 → some-turn ≡ 0 → low-each (next-leaf (read-leaves s) start) ≡ none
+    led-past h t = ap low-each (next-nodes ∙ is) ∙ rw (h, t)
+
+    -- the first leaf behind the last turn
+    pub led-turn : kind ≡ 0 → some-turn ≡ 1 → low-each (next-leaf (read-leaves s) start) ≡ low-each (behind-label (nodes s f) node label depth (take depth start))
+    led-turn h t = ap low-each (next-nodes ∙ is) ∙ rw (h, t)

@@ -61,7 +61,8 @@ behind-nothing : (o : Option Leaf) → or-else (behind-each [] o) none ≡ o
 behind-nothing none = refl
 behind-nothing (some l) = refl
 
-none-left : (q : Bits → Bytes → Bool) (w : ℕ) (k : Bytes) → none ≡ next-from q w [] 64 0 [] k none
+-- no nodes, no leaf
+pub none-left : (q : Bits → Bytes → Bool) (w : ℕ) (k : Bytes) → none ≡ next-from q w [] 64 0 [] k none
 unfolding next-from first-leaf branch-first turn-at labels-below goes-on ends-at
 none-left q w [] = refl
 none-left q w (y ∷ k) = refl

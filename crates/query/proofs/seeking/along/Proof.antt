@@ -19,14 +19,14 @@ use Rattle.query.proofs.seeking.along.Statement.{statement}
 use Rattle.query.proofs.seeking.along.Tie as tie
 
 abbrev Inv-loop : tie.InvT-loop
-Inv-loop image f start m₀ d₀ last₀ m d last = (m < f .dense + f .sparse) × (d ≤ length start) × (last .some ≤ 1) × (last .some ≡ 1 → (last .node < f .dense + f .sparse) × (last .label ≤ 256) × (last .depth < 64)) × (next-from (high-passed (length start)) (f .width) (nodes image f) 64 0 [] start none ≡ next-from (high-passed (length start)) (f .width) (nodes image f) (64 - d) m (take d start) (drop d start) (turn-leaf (nodes image f) start (last .some) (last .node) (last .label) (last .depth)))
+Inv-loop image f start m₀ d₀ last₀ m d last = (m < f .dense + f .sparse) × (d ≤ length start) × (last .some ≤ 1) × (last .some ≡ 1 → (last .node < f .dense + f .sparse) × (last .label ≤ 256) × (last .depth < 64)) × (next-from (high-passed (length start)) (f .width) (nodes image f) 64 0 [] start none ≡ next-from (high-passed (length start)) (f .width) (nodes image f) (64 - d) m (take d start) (drop d start) (turn-leaf (nodes image f) start (last .some) (last .node) (last .label) (last .depth))) × (last .depth ≤ d)
 
 abbrev μ-loop : tie.MeasureT-loop
 μ-loop image f start m₀ d₀ last₀ m d last = length start - d
 
 loop-holds : tie.Need-loop-holds Inv-loop μ-loop
 loop-holds c =
-    (c .before .before .pre .1, omega arith, omega arith, λ q. absurd (omega arith), refl)
+    (c .before .before .pre .1, omega arith, omega arith, λ q. absurd (omega arith), refl, omega arith)
 
 shared-slice-read-wide : tie.Need-shared-slice-read-wide Inv-loop μ-loop
 shared-slice-read-wide c =
@@ -43,7 +43,7 @@ find-requires c κs =
 turn-from-requires : tie.Need-turn-from-requires Inv-loop μ-loop
 turn-from-requires c κs =
     let l = c .before .before .before .before .loop in
-    (c .before .before .before .before .before .before .before .pre .0, l .inv .0, c .before .wide .ensures .1, omega (arith, c .before .before .before .before .before .before .before .pre .2), l .inv .2, l .inv .3)
+    (c .before .before .before .before .before .before .before .pre .0, l .inv .0, c .before .wide .ensures .1, omega (arith, c .before .before .before .before .before .before .before .pre .2), l .inv .2, l .inv .3, l .inv .5)
 
 add-d : tie.Need-add-d Inv-loop μ-loop
 add-d c =
@@ -63,6 +63,7 @@ returns c =
       λ q. absurd (omega arith),
       g .1,
       g .2,
+      omega (arith, g .3),
     )
 
 slot-requires : tie.Need-slot-requires Inv-loop μ-loop
@@ -91,6 +92,7 @@ returns-2 c =
       λ q. absurd (omega arith),
       g .1,
       g .2,
+      omega (arith, g .3),
     )
 
 returns-3 : tie.Need-returns-3 Inv-loop μ-loop
@@ -109,6 +111,7 @@ returns-3 c =
       λ q. omega (arith, v, slot-in (nodes (a .image .now) (a .f)) (l .m) (c .before .before .before .before .before .before .before .before .before .wide .result) (c .before .before .before .before .before .before .before .before .find .result .kind) (c .before .before .before .before .before .before .before .before .find .ensures .1) (c .before .before .before .if2 .taken), c .before .before .before .before .before .before .before .before .before .before .before .before .before .before .before .pre .0 .writable .leaf-total),
       g .1,
       g .2,
+      omega (arith, g .3),
     )
 
 child-requires : tie.Need-child-requires Inv-loop μ-loop
@@ -137,6 +140,7 @@ loop-again c =
       g .2,
       z ∙ seek-on (high-passed (length (a .start .now))) (a .f .width) (nodes (a .image .now) (a .f)) (l .m) (l .d) (c .before .before .before .before .before .before .before .wide .result) (a .start .now) (c .before .before .before .before .before .before .find .result .kind) (turn-leaf (nodes (a .image .now) (a .f)) (a .start .now) (l .last .some) (l .last .node) (l .last .label) (l .last .depth)) (turn-leaf (nodes (a .image .now) (a .f)) (a .start .now) (t .some) (t .node) (t .label) (t .depth)) (omega arith) (c .before .before .before .before .before .before .before .wide .ensures .0) (c .before .before .before .before .before .before .find .ensures .1) (g .0 (a .start .now)) (drop (l .d + 1) (a .start .now)) (c .before .before .before .if1 .left) (c .before .if2 .left)
           ∙ ap (λ (x : ℕ). next-from (high-passed (length (a .start .now))) (a .f .width) (nodes (a .image .now) (a .f)) (64 - (l .d + 1)) x (take (l .d + 1) (a .start .now)) (drop (l .d + 1) (a .start .now)) (turn-leaf (nodes (a .image .now) (a .f)) (a .start .now) (t .some) (t .node) (t .label) (t .depth))) (sym v),
+      omega (arith, g .3),
     )
 
 returns-4 : tie.Need-returns-4 Inv-loop μ-loop
@@ -145,7 +149,7 @@ returns-4 c =
     let l = c .before .loop in
     let e = drop-of-length-le (a .start .now) {i = l .d} (omega arith) in
     let z = l .inv .4 ∙ ap (λ (x : List ℕ). next-from (high-passed (length (a .start .now))) (a .f .width) (nodes (a .image .now) (a .f)) (64 - l .d) (l .m) (take (l .d) (a .start .now)) x (turn-leaf (nodes (a .image .now) (a .f)) (a .start .now) (l .last .some) (l .last .node) (l .last .label) (l .last .depth))) e in
-    (z ∙ seek-end (high-passed (length (a .start .now))) (a .f .width) (nodes (a .image .now) (a .f)) (64 - l .d) (l .m) (take (l .d) (a .start .now)) (turn-leaf (nodes (a .image .now) (a .f)) (a .start .now) (l .last .some) (l .last .node) (l .last .label) (l .last .depth)), omega arith, l .inv .1, l .inv .0, λ q. absurd (omega arith), l .inv .2, l .inv .3)
+    (z ∙ seek-end (high-passed (length (a .start .now))) (a .f .width) (nodes (a .image .now) (a .f)) (64 - l .d) (l .m) (take (l .d) (a .start .now)) (turn-leaf (nodes (a .image .now) (a .f)) (a .start .now) (l .last .some) (l .last .node) (l .last .label) (l .last .depth)), omega arith, l .inv .1, l .inv .0, λ q. absurd (omega arith), l .inv .2, l .inv .3, omega (arith, l .inv .5))
 
 pub along-spec : {M : Type 1} → statement M
 along-spec =

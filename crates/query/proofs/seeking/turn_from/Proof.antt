@@ -21,7 +21,7 @@ returns : tie.Need-returns
 returns c =
     let a = c .before .before .before .before .args in
     let n = c .before .before .next-branch .ensures .kind-is in
-    (λ start. sym (turn-kept (drop (labels-below (a .y + 1) (branches (a .image .now) (a .f) (a .m .0))) (branches (a .image .now) (a .f) (a .m .0))) (behind-label (nodes (a .image .now) (a .f)) (a .m .0) (a .y + 1) (a .d) (take (a .d) start)) (turn-leaf (nodes (a .image .now) (a .f)) start (a .last .some) (a .last .node) (a .last .label) (a .last .depth)) (sym (c .if1 .taken) ∙ n)), c .before .before .before .before .pre .4, c .before .before .before .before .pre .5)
+    (λ start. sym (turn-kept (drop (labels-below (a .y + 1) (branches (a .image .now) (a .f) (a .m .0))) (branches (a .image .now) (a .f) (a .m .0))) (behind-label (nodes (a .image .now) (a .f)) (a .m .0) (a .y + 1) (a .d) (take (a .d) start)) (turn-leaf (nodes (a .image .now) (a .f)) start (a .last .some) (a .last .node) (a .last .label) (a .last .depth)) (sym (c .if1 .taken) ∙ n)), c .before .before .before .before .pre .4, c .before .before .before .before .pre .5, c .before .before .before .before .pre .6)
 
 add-t8 : tie.Need-add-t8
 add-t8 c = search needs
@@ -30,7 +30,7 @@ returns-2 : tie.Need-returns-2
 returns-2 c =
     let a = c .before .before .before .before .args in
     let n = c .before .before .next-branch .ensures .kind-is in
-    (λ start. sym (turn-taken (drop (labels-below (a .y + 1) (branches (a .image .now) (a .f) (a .m .0))) (branches (a .image .now) (a .f) (a .m .0))) (behind-label (nodes (a .image .now) (a .f)) (a .m .0) (a .y + 1) (a .d) (take (a .d) start)) (turn-leaf (nodes (a .image .now) (a .f)) start (a .last .some) (a .last .node) (a .last .label) (a .last .depth)) (c .before .before .next-branch .result .kind) n (c .if1 .left)), omega arith, λ q. (c .before .before .before .before .pre .1, omega (arith, c .before .before .before .before .pre .2), c .before .before .before .before .pre .3))
+    (λ start. sym (turn-taken (drop (labels-below (a .y + 1) (branches (a .image .now) (a .f) (a .m .0))) (branches (a .image .now) (a .f) (a .m .0))) (behind-label (nodes (a .image .now) (a .f)) (a .m .0) (a .y + 1) (a .d) (take (a .d) start)) (turn-leaf (nodes (a .image .now) (a .f)) start (a .last .some) (a .last .node) (a .last .label) (a .last .depth)) (c .before .before .next-branch .result .kind) n (c .if1 .left)), omega arith, λ q. (c .before .before .before .before .pre .1, omega (arith, c .before .before .before .before .pre .2), c .before .before .before .before .pre .3), omega arith)
 
 pub turn-from-spec : {M : Type 1} → statement M
 turn-from-spec = tie.close (tie.spec add-next-branch next-branch-requires returns add-t8 returns-2)

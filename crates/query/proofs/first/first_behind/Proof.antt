@@ -12,8 +12,8 @@ use mathlib.Core.List.{[], _∷_, _++_}
 use Prim.Native.Nat.{_+_, _-_, _<_, _≤_}
 use native.Mathlib.Omega.{arith}
 use mathlib.Core.Path.{_≡_, refl, sym, ap, ap₂, _∙_}
-use Rattle.query.proofs.seeking.first_behind.Statement.{statement}
-use Rattle.query.proofs.seeking.first_behind.Tie as tie
+use Rattle.query.proofs.first.first_behind.Statement.{statement}
+use Rattle.query.proofs.first.first_behind.Tie as tie
 
 abbrev Inv-loop : tie.InvT-loop
 Inv-loop image f y key₀ depth node₀ from₀ d₀ key node from d = (d < 64) × (node < f .dense + f .sparse) × (from ≤ 256) × (length key ≡ 64) × (low-each (behind-label (nodes image f) node₀ from₀ d₀ (take d₀ key₀)) ≡ low-each (behind-label (nodes image f) node from d (take d key)))

@@ -1,0 +1,135 @@
+use Rattle.query.specs.Seeking.{copied, copied-length, led-nowhere, led-open, led-node, led-past, led-turn}
+use Rattle.navigate.specs.Accepted.{nodes}
+use Rattle.seek_laws.specs.Next.{behind-each, first-leaf}
+use Rattle.seek_laws.specs.Seeks.{low-each, low-of, behind-label}
+use Rattle.spec.specs.Bytes.{Bytes}
+use lib.ListN.{length, take}
+use Prim.Native.Nat.{_-_, _≤_}
+use native.Mathlib.Omega.{arith}
+use mathlib.Core.Path.{_≡_, sym, ap, _∙_}
+use borrow.Author.Needs.{needs}
+use Rattle.query.proofs.seeking.next_leaf.Statement.{statement}
+use Rattle.query.proofs.seeking.next_leaf.Tie as tie
+
+copy-requires : tie.Need-copy-requires
+copy-requires c κs = search needs
+
+add-if1 : tie.Need-add-if1
+add-if1 c = search needs
+
+same-length : tie.Need-same-length
+same-length c = search needs
+
+returns : tie.Need-returns
+returns c =
+    let a = c .before .before .before .before .before .before .before .before .before .args in
+    let p = c .before .before .before .before .before .before .before .before .before .pre in
+    let k = c .before .before .before .before .copy .ensures .1 in
+    (led-nowhere (a .image .now) (a .f) (p .0) (a .start .now) (c .if1 .taken), ap length k ∙ copied-length (a .start .now) (a .key .now) (omega arith) ∙ p .2, omega arith, omega arith, λ q. absurd (omega arith))
+
+along-requires : tie.Need-along-requires
+along-requires c κs = search needs
+
+same-length-2 : tie.Need-same-length-2
+same-length-2 c = search needs
+
+returns-2 : tie.Need-returns-2
+returns-2 c =
+    let a = c .before .before .before .before .before .before .before .before .before .before .before .before .before .args in
+    let p = c .before .before .before .before .before .before .before .before .before .before .before .before .before .pre in
+    let k = c .before .before .before .before .before .before .before .before .copy .ensures .1 in
+    let led = c .before .before .before .along .result in
+    let g = c .before .before .before .along .ensures in
+    let cut = ap (take (led .depth)) k ∙ copied (a .start .now) (a .key .now) (led .depth) (g .2) in (
+      led-open (a .image .now) (a .f) (p .0) (a .start .now) (led .kind) (led .node) (led .slot .0) (led .depth) (led .turn .some) (led .turn .node) (led .turn .label) (led .turn .depth) (g .0) (c .before .if2 .taken) ∙ ap (low-of (a .f .width) (nodes (a .image .now) (a .f)) 2 (led .slot .0)) (sym cut),
+      ap length k ∙ copied-length (a .start .now) (a .key .now) (omega arith) ∙ p .2,
+      omega (arith, g .2),
+      omega arith,
+      λ q. g .4 (c .before .if2 .taken),
+    )
+
+first-at-requires : tie.Need-first-at-requires
+first-at-requires c κs = search needs
+
+same-length-3 : tie.Need-same-length-3
+same-length-3 c = search needs
+
+returns-3 : tie.Need-returns-3
+returns-3 c =
+    let a = c .before .before .before .before .before .before .before .before .before .before .before .before .before .before .before .before .before .before .args in
+    let p = c .before .before .before .before .before .before .before .before .before .before .before .before .before .before .before .before .before .before .pre in
+    let k = c .before .before .before .before .before .before .before .before .before .before .before .before .before .copy .ensures .1 in
+    let led = c .before .before .before .before .before .before .before .before .along .result in
+    let g = c .before .before .before .before .before .before .before .before .along .ensures in
+    let e = c .before .before .first-at .ensures in
+    let path = ap (take (led .depth)) k ∙ copied (a .start .now) (a .key .now) (led .depth) (g .2) in (
+      led-node (a .image .now) (a .f) (p .0) (a .start .now) (led .kind) (led .node) (led .slot .0) (led .depth) (led .turn .some) (led .turn .node) (led .turn .label) (led .turn .depth) (g .0) (c .before .before .before .before .if3 .taken) ∙ ap (λ (x : Bytes). low-each (behind-each x (first-leaf (nodes (a .image .now) (a .f)) (64 - led .depth) (led .node)))) (sym path) ∙ e .0,
+      e .1,
+      e .2,
+      e .3,
+      e .4,
+    )
+
+same-length-4 : tie.Need-same-length-4
+same-length-4 c = search needs
+
+returns-4 : tie.Need-returns-4
+returns-4 c =
+    let a = c .before .before .before .before .before .before .before .before .before .before .before .before .before .before .before .before .before .args in
+    let p = c .before .before .before .before .before .before .before .before .before .before .before .before .before .before .before .before .before .pre in
+    let k = c .before .before .before .before .before .before .before .before .before .before .before .before .copy .ensures .1 in
+    let led = c .before .before .before .before .before .before .before .along .result in
+    let g = c .before .before .before .before .before .before .before .along .ensures in
+    let past : led .kind ≡ 0 = omega (arith, g .1, c .before .before .before .before .before .if2 .left, c .before .before .before .if3 .left) in
+    (led-past (a .image .now) (a .f) (p .0) (a .start .now) (led .kind) (led .node) (led .slot .0) (led .depth) (led .turn .some) (led .turn .node) (led .turn .label) (led .turn .depth) (g .0) past (c .if4 .taken), ap length k ∙ copied-length (a .start .now) (a .key .now) (omega arith) ∙ p .2, omega arith, omega arith, λ q. absurd (omega arith))
+
+first-behind-requires : tie.Need-first-behind-requires
+first-behind-requires c κs =
+    let a = c .before .before .before .before .before .before .before .before .before .before .before .before .before .before .before .before .before .before .args in
+    let p = c .before .before .before .before .before .before .before .before .before .before .before .before .before .before .before .before .before .before .pre in
+    let k = c .before .before .before .before .before .before .before .before .before .before .before .before .before .copy .ensures .1 in
+    let led = c .before .before .before .before .before .before .before .before .along .result in
+    let g = c .before .before .before .before .before .before .before .before .along .ensures in
+    let t = g .6 (omega (arith, g .5, c .before .if4 .left)) in
+    (p .0, t .0, t .1, ap length k ∙ copied-length (a .start .now) (a .key .now) (omega arith) ∙ p .2, t .2)
+
+same-length-5 : tie.Need-same-length-5
+same-length-5 c = search needs
+
+returns-5 : tie.Need-returns-5
+returns-5 c =
+    let a = c .before .before .before .before .before .before .before .before .before .before .before .before .before .before .before .before .before .before .before .before .before .args in
+    let p = c .before .before .before .before .before .before .before .before .before .before .before .before .before .before .before .before .before .before .before .before .before .pre in
+    let k = c .before .before .before .before .before .before .before .before .before .before .before .before .before .before .before .before .copy .ensures .1 in
+    let led = c .before .before .before .before .before .before .before .before .before .before .before .along .result in
+    let g = c .before .before .before .before .before .before .before .before .before .before .before .along .ensures in
+    let e = c .before .before .first-behind .ensures in
+    let past : led .kind ≡ 0 = omega (arith, g .1, c .before .before .before .before .before .before .before .before .before .if2 .left, c .before .before .before .before .before .before .before .if3 .left) in
+    let turn : led .turn .some ≡ 1 = omega (arith, g .5, c .before .before .before .before .if4 .left) in
+    let path = ap (take (led .turn .depth)) k ∙ copied (a .start .now) (a .key .now) (led .turn .depth) (g .7) in (
+      led-turn (a .image .now) (a .f) (p .0) (a .start .now) (led .kind) (led .node) (led .slot .0) (led .depth) (led .turn .some) (led .turn .node) (led .turn .label) (led .turn .depth) (g .0) past turn ∙ ap (λ (x : Bytes). low-each (behind-label (nodes (a .image .now) (a .f)) (led .turn .node) (led .turn .label) (led .turn .depth) x)) (sym path) ∙ e .0,
+      e .1,
+      e .2,
+      e .3,
+      e .4,
+    )
+
+pub next-leaf-spec : {M : Type 1} → statement M
+next-leaf-spec =
+    tie.close
+    (tie.spec
+    copy-requires
+    add-if1
+    same-length
+    returns
+    along-requires
+    same-length-2
+    returns-2
+    first-at-requires
+    same-length-3
+    returns-3
+    same-length-4
+    returns-4
+    first-behind-requires
+    same-length-5
+    returns-5)
