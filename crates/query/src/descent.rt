@@ -21,6 +21,13 @@ pub struct Stop {
     pub depth: usize,
 }
 
+// Nowhere: no leaf.
+pub const NOWHERE: Stop = Stop {
+    kind: 0,
+    slot: ValuePos(0),
+    depth: 0,
+};
+
 // The leaf that a key leads to, one label search a level.
 pub fn descend(image: &[u8], f: Frame, key: &[u8]) -> Stop
     requires { ⌜ Accepted (now image) f ⌝ }
@@ -30,21 +37,13 @@ pub fn descend(image: &[u8], f: Frame, key: &[u8]) -> Stop
     let mut m = 0usize;
     let mut d = 0usize;
     if f.dense + f.sparse == 0 {
-        return Stop {
-            kind: 0,
-            slot: ValuePos(0),
-            depth: 0,
-        };
+        return NOWHERE;
     }
     while d < key.len() {
         let b = find(image, f, NodeNum(m), wide(key[d]));
         d = d + 1;
         if b.kind == 0 {
-            return Stop {
-                kind: 0,
-                slot: ValuePos(0),
-                depth: 0,
-            };
+            return NOWHERE;
         }
         if b.kind == 1 {
             return Stop {

@@ -5,6 +5,7 @@ ghost use lib.ListN.{length, take};
 ghost use Rattle.seek_laws.specs.Next.{behind-each, first-leaf};
 ghost use Rattle.seek_laws.specs.Seeks.{low-each, low-of, behind-label};
 ghost use Rattle.navigate.specs.Accepted.{Accepted, nodes};
+use super::descent::NOWHERE;
 use super::descent::Stop;
 use bits::NodeNum;
 use bits::ValuePos;
@@ -33,11 +34,7 @@ pub fn first_behind(
     while d < 64 {
         let n = next_branch(image, f, NodeNum(node), from);
         if n.kind == 0 {
-            return Stop {
-                kind: 0,
-                slot: ValuePos(0),
-                depth: 0,
-            };
+            return NOWHERE;
         }
         key[d] = n.label as u8;
         d = d + 1;
@@ -51,11 +48,7 @@ pub fn first_behind(
         node = child(image, f, NodeNum(node), n.at).0;
         from = 0;
         if d == 64 {
-            return Stop {
-                kind: 0,
-                slot: ValuePos(0),
-                depth: 0,
-            };
+            return NOWHERE;
         }
         if exact(image, f, NodeNum(node)) == 1 {
             return Stop {
@@ -65,11 +58,7 @@ pub fn first_behind(
             };
         }
     }
-    Stop {
-        kind: 0,
-        slot: ValuePos(0),
-        depth: 0,
-    }
+    NOWHERE
 }
 
 // The first leaf at or below node m, to which the first `depth` bytes of the key lead: the exact leaf that the node is, or else the one behind its first branch.
@@ -79,11 +68,7 @@ pub fn first_at(image: &[u8], f: Frame, m: NodeNum, key: &mut [u8], depth: usize
         × (length (now (key .exit)) ≡ 64) × (r .depth ≤ 64) × (r .kind ≤ 2) × (r .kind ≡ 2 → r .slot .0 < f .leaves) ⌝ }
 {
     if depth == 64 {
-        return Stop {
-            kind: 0,
-            slot: ValuePos(0),
-            depth: 0,
-        };
+        return NOWHERE;
     }
     if exact(image, f, m) == 1 {
         return Stop {

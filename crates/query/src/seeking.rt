@@ -13,6 +13,7 @@ ghost use Rattle.seek_laws.specs.Seeks.{low-each, low-of, behind-label};
 ghost use Rattle.navigate.specs.Accepted.{Accepted, nodes};
 ghost use Rattle.navigate.specs.Positions.{branches};
 ghost use Rattle.query.specs.Seeking.{turn-leaf, led-leaf};
+use super::descent::NOWHERE;
 use super::descent::Stop;
 use super::first::first_at;
 use super::first::first_behind;
@@ -134,11 +135,7 @@ pub fn next_leaf(image: &[u8], f: Frame, start: &[u8], key: &mut [u8]) -> Stop
 {
     copy(start, key);
     if f.dense + f.sparse == 0 {
-        return Stop {
-            kind: 0,
-            slot: ValuePos(0),
-            depth: 0,
-        };
+        return NOWHERE;
     }
     let led = along(image, f, start);
     if led.kind == 2 {
@@ -154,11 +151,7 @@ pub fn next_leaf(image: &[u8], f: Frame, start: &[u8], key: &mut [u8]) -> Stop
     }
     let turn = led.turn;
     if turn.some == 0 {
-        return Stop {
-            kind: 0,
-            slot: ValuePos(0),
-            depth: 0,
-        };
+        return NOWHERE;
     }
     first_behind(image, f, NodeNum(turn.node), turn.label, key, turn.depth)
 }
