@@ -36,6 +36,14 @@ struct Turn {
     depth: usize,
 }
 
+// No turn yet.
+const NO_TURN: Turn = Turn {
+    some: 0,
+    node: 0,
+    label: 0,
+    depth: 0,
+};
+
 // The last turn at node m, whose level is d and from which the key goes on with the byte y.
 fn turn_from(image: &[u8], f: Frame, m: NodeNum, y: usize, d: usize, last: Turn) -> Turn
     requires { ⌜ Accepted (now image) f × (m .0 < f .dense + f .sparse) × (y < 256) × (d < 64) × (last .some ≤ 1) × (last .some ≡ 1 → (last .node < f .dense + f .sparse) × (last .label ≤ 256) × (last .depth < 64)) × (last .depth ≤ d) ⌝ }
@@ -77,12 +85,7 @@ fn along(image: &[u8], f: Frame, start: &[u8]) -> Led
 {
     let mut m = 0usize;
     let mut d = 0usize;
-    let mut last = Turn {
-        some: 0,
-        node: 0,
-        label: 0,
-        depth: 0,
-    };
+    let mut last = NO_TURN;
     while d < start.len() {
         let y = wide(start[d]);
         let b = find(image, f, NodeNum(m), y);
@@ -99,17 +102,12 @@ fn along(image: &[u8], f: Frame, start: &[u8]) -> Led
         }
         if b.kind == 1 {
             let v = slot(image, f, NodeNum(m), b.at);
+            let mut kind = 2usize;
             if high_below(image, f, v, start, d) {
-                return Led {
-                    kind: 0,
-                    node: 0,
-                    slot: v,
-                    depth: d,
-                    turn: last,
-                };
+                kind = 0;
             }
             return Led {
-                kind: 2,
+                kind: kind,
                 node: 0,
                 slot: v,
                 depth: d,
