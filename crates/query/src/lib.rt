@@ -7,3 +7,4 @@ pub mod counts; // counts.rt: the leaves before a key
 pub mod ranges; // ranges.rt: count, range and begins-with
 mod first; // first.rt: the first leaf at or below a node
 pub mod seeking; // seeking.rt: the first leaf that a key has not passed
+pub mod seek; // seek.rt: the seek question
