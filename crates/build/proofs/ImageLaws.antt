@@ -17,7 +17,7 @@ use Rattle.build_laws.specs.Lengths.{length-DL, length-DC, length-DP, length-SL
 use Rattle.build_laws.specs.ImageRecords.{records-of, image-written, length-image}
 use Rattle.records.specs.declared.frame.Counts.{Counts}
 use Rattle.records.specs.Records.{settings, rank-entries, sample-entries}
-use Rattle.records.proofs.Placed.{placed-behind, length-placed}
+use Rattle.bits.specs.Placing.{placed-behind, length-placed}
 use Rattle.fill_laws.specs.TableBodies.{RL-entries, RC-entries, RP-entries, RS-entries, SB-rank, TS-entries}
 use Rattle.build.specs.declared.image.Layout.{Layout}
 use Rattle.build.specs.declared.Built.the-variants.{Bytes as Written-bytes, Refused}

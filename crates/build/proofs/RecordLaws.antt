@@ -10,7 +10,8 @@ use Rattle.spec.specs.Bytes.{Bytes, le32}
 use Rattle.spec.specs.Image.{marked}
 use Rattle.bits.specs.Bits.{placed}
 use Rattle.records.specs.Records.{mark-bytes}
-use Rattle.records.proofs.Placed.{length-placed, placed-behind, take-placed, lent-placed, length-le32}
+use Rattle.bits.specs.Placing.{length-placed, placed-behind}
+use Rattle.records.proofs.Placed.{take-placed, lent-placed, length-le32}
 use Rattle.build.specs.Build.{part}
 
 -- a mark and a length

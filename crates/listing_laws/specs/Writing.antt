@@ -1,12 +1,13 @@
 -- Text written into a buffer at a place, piece behind piece.
-use mathlib.Core.Path.{_≡_, refl, sym, ap, ap₂, subst, _∙_}
-use mathlib.Core.List.{[], _∷_, _++_, append-assoc}
+use mathlib.Core.Path.{_≡_, refl, ap₂, subst, _∙_}
+use mathlib.Core.List.{[], _∷_, _++_}
 use Prim.Native.Nat.{ℕ, _+_, _≤_, _<_}
 use native.Mathlib.Omega.{arith}
-use lib.ListN.{length, take, drop, set, length-append, length-set}
-use lib.Seq.{sets-eq, take-at, drop-append-add, drop-drop, length-take-le}
+use lib.ListN.{length, set, length-append, length-set}
+use lib.Seq.{sets-eq}
 use Rattle.spec.specs.Bytes.{Bytes}
 use Rattle.bits.specs.Bits.{placed}
+use Rattle.bits.specs.Placing.{placed-placed}
 
 -- `after` is `out` with xs from `at` on, and r is the place behind xs, at its end at most
 pub record Written (out : Bytes) (at : ℕ) (xs after : Bytes) (r : ℕ) : Type 0 where
@@ -22,24 +23,11 @@ written-none out at h = record { text = sets-eq [] out at (omega arith); next = 
 pub written-byte : (out : Bytes) (at x : ℕ) → at < length out → Written out at (x ∷ []) (set out at x) (at + 1)
 written-byte out at x h = record { text = sets-eq (x ∷ []) out at (omega arith); next = refl; within = simp length-set (omega arith) }
 
--- bytes placed behind bytes that were placed
-placed-placed : (out xs ys : Bytes) (at : ℕ) → at + length xs ≤ length out → placed (placed out at xs) (at + length xs) ys ≡ placed out at (xs ++ ys)
-placed-placed out xs ys at h =
-    let p : Bytes = take at out ++ xs in
-    let k : ℕ = at + length xs in
-    let lp : length p ≡ k = length-append (take at out) xs ∙ ap (λ (n : ℕ). n + length xs) (length-take-le at out (omega arith)) in
-    let t : take k (p ++ drop k out) ≡ p = take-at p _ k lp in
-    let w : k + length ys ≡ at + length (xs ++ ys) = omega (arith, length-append xs ys) in
-    let d : drop (k + length ys) (p ++ drop k out) ≡ drop (at + length (xs ++ ys)) out =
-    ap (λ (n : ℕ). drop (n + length ys) (p ++ drop k out)) (sym lp) ∙ drop-append-add p (drop k out) (length ys)
-    ∙ drop-drop (length ys) k out ∙ ap (λ (n : ℕ). drop n out) w in
-    ap₂ (λ (a b : Bytes). a ++ ys ++ b) t d ∙ ap (λ (a : Bytes). a ++ drop (at + length (xs ++ ys)) out) (append-assoc (take at out) xs ys)
-
 -- one piece behind another
 pub written-append : {out mid after xs ys : Bytes} {at m r : ℕ} → at + length xs ≤ length out → Written out at xs mid m → Written mid m ys after r → Written out at (xs ++ ys) after r
 written-append {out} {mid} {after} {xs} {ys} {at} h f g =
     record {
-      text = g .text ∙ ap₂ (λ (o : Bytes) (k : ℕ). placed o k ys) (f .text) (f .next) ∙ placed-placed out xs ys at h;
+      text = g .text ∙ ap₂ (λ (o : Bytes) (k : ℕ). placed o k ys) (f .text) (f .next) ∙ placed-placed out xs ys at (at + length xs) refl h;
       next = omega (arith, length-append xs ys);
       within = g .within;
     }

@@ -7,30 +7,11 @@ use native.Mathlib.Numerals.{add-one}
 use native.Mathlib.Nat.{add-zero}
 use borrow.Rule.Slice.PartMut.{putMid, midOf, postOf}
 use lib.ListN.{length, getD, take, drop, set, replicate, length-replicate, drop-of-length-le, length-append, length-drop}
-use lib.Seq.{take-all, take-at, take-take, take-append-le, drop-append-add, drop-drop, length-take-le, take-add, drop-cons, set-at}
+use lib.Seq.{take-all, take-take, take-append-le, drop-drop, length-take-le, take-add, drop-cons, set-at}
 use Rattle.spec.specs.Bytes.{Bytes, concat, iota, le32}
 use Rattle.bits.specs.Bits.{placed}
+use Rattle.bits.specs.Placing.{placed-placed}
 use Rattle.records.specs.Records.{entries}
-
--- placing keeps the length
-pub length-placed : (out : Bytes) (at : ℕ) (xs : Bytes) → at + length xs ≤ length out → length (placed out at xs) ≡ length out
-length-placed out at xs h =
-    omega (arith, length-append (take at out ++ xs) (drop (at + length xs) out), length-append (take at out) xs, length-take-le at out (bound at xs h), length-drop (at + length xs) out)
-  where
-    bound : (at : ℕ) (xs : Bytes) → at + length xs ≤ length out → at ≤ length out
-    bound at xs h = omega arith
-
--- a run placed behind a run that was placed
-pub placed-placed : (out xs ys : Bytes) (at k : ℕ) → k ≡ at + length xs → k + length ys ≤ length out → placed (placed out at xs) k ys ≡ placed out at (xs ++ ys)
-placed-placed out xs ys at k e h =
-    let p : Bytes = take at out ++ xs in
-    let lp : length p ≡ k = length-append (take at out) xs ∙ ap (λ (n : ℕ). n + length xs) (length-take-le at out (omega arith)) ∙ sym e in
-    let t : take k (p ++ drop (at + length xs) out) ≡ p = take-at p _ k lp in
-    let w : at + length xs + length ys ≡ at + length (xs ++ ys) = omega (arith, length-append xs ys) in
-    let d : drop (k + length ys) (p ++ drop (at + length xs) out) ≡ drop (at + length (xs ++ ys)) out =
-    ap (λ (n : ℕ). drop (n + length ys) (p ++ drop (at + length xs) out)) (sym lp) ∙ drop-append-add p (drop (at + length xs) out) (length ys)
-    ∙ drop-drop (length ys) (at + length xs) out ∙ ap (λ (n : ℕ). drop n out) w in
-    ap₂ (λ (a b : Bytes). a ++ ys ++ b) t d ∙ ap (λ (a : Bytes). a ++ drop (at + length (xs ++ ys)) out) (append-assoc (take at out) xs ys)
 
 -- nothing placed
 pub placed-nil : (out : Bytes) (at : ℕ) → out ≡ placed out at []
@@ -105,9 +86,3 @@ pub cleared-more : (was out : Bytes) (i : ℕ) → i < length was → out ≡ re
 cleared-more was out i h e =
     ap (λ (z : Bytes). set z i 0) (e ∙ ap (λ (z : Bytes). replicate i 0 ++ z) (drop-cons was i 0 h)) ∙ set-at (replicate i 0) (getD was i 0) (drop (suc i) was) 0 i (length-replicate i 0)
     ∙ zeros-more i (drop (suc i) was) ∙ ap (λ (n : ℕ). replicate n 0 ++ drop n was) (sym (add-one i))
-
--- ---- one placed run behind another
-
--- a run placed behind what was placed already
-pub placed-behind : (out o p xs ys : Bytes) (at k : ℕ) → k ≡ at + length xs → k + length ys ≤ length out → o ≡ placed out at xs → p ≡ placed o k ys → p ≡ placed out at (xs ++ ys)
-placed-behind out o p xs ys at k e h f g = g ∙ ap (λ (z : Bytes). placed z k ys) f ∙ placed-placed out xs ys at k e h

@@ -3,7 +3,8 @@ use borrow.Author.Needs.{needs}
 use Rattle.spec.specs.Bytes.{le32}
 use Rattle.bits.specs.Bits.{placed}
 use Rattle.records.specs.Records.{mark-bytes}
-use Rattle.records.proofs.Placed.{placed-placed, length-le32}
+use Rattle.bits.specs.Placing.{placed-placed}
+use Rattle.records.proofs.Placed.{length-le32}
 use mathlib.Core.Path.{refl, ap, _∙_}
 use mathlib.Core.List.{List}
 use Prim.Native.Nat.{ℕ, _+_}

@@ -5,7 +5,8 @@ use Rattle.spec.specs.Bytes.{le32}
 use Rattle.spec.specs.Image.{header}
 use Rattle.bits.specs.Bits.{placed}
 use Rattle.records.specs.Records.{first-bytes}
-use Rattle.records.proofs.Placed.{placed-behind, length-le32}
+use Rattle.bits.specs.Placing.{placed-behind}
+use Rattle.records.proofs.Placed.{length-le32}
 use mathlib.Core.List.{append-assoc, List, _++_}
 use mathlib.Core.Path.{_≡_, refl, ap, _∙_}
 use Prim.Native.Nat.{ℕ}

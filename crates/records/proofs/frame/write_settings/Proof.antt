@@ -3,7 +3,7 @@ use borrow.Author.Needs.{needs}
 use lib.ListN.{length-set}
 use lib.Seq.{sets, sets-eq}
 use Rattle.bits.specs.Bits.{placed}
-use Rattle.records.proofs.Placed.{placed-placed}
+use Rattle.bits.specs.Placing.{placed-placed}
 use mathlib.Core.Path.{_≡_, refl, ap, _∙_}
 use mathlib.Core.List.{List, [], _∷_}
 use Prim.Native.Nat.{ℕ}
