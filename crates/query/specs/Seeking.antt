@@ -6,8 +6,9 @@ use mathlib.Core.List.{List, [], _∷_, _++_}
 use mathlib.Core.Option.{Option, none, some}
 use native.Mathlib.Omega.{arith}
 use native.Mathlib.Numerals.{add-one}
-use lib.ListN.{length, getD, take, drop, length-append}
-use lib.Seq.{take-suc, take-nil, take-length, take-append-le, length-front, length-take-le}
+use borrow.Author.Count.{below-more}
+use lib.ListN.{length, getD, set, take, drop, length-append}
+use lib.Seq.{take-suc, take-nil, take-length, take-append-le, length-front, length-take-le, getD-set-same, getD-set-other}
 use Rattle.spec.specs.Bytes.{Bytes, Bits, bit}
 use Rattle.spec.specs.Leaves.{Leaf, lowest}
 use Rattle.spec.specs.Nodes.{Branch, to-node, to-leaf, Node, node, branches-of, is-exact, children, total, children-of, read-leaves}
@@ -22,6 +23,7 @@ use Rattle.query_laws.specs.LabelMaps.{matches}
 use Rattle.query_laws.specs.NextLabel.{first-kind}
 use Rattle.query_laws.specs.Ordered.{next-leaf}
 use Rattle.query_laws.specs.Steps.{says}
+use Rattle.query_laws.specs.SuffixBytes.{key-next}
 use Rattle.navigate.specs.Accepted.{Accepted, nodes, dense-nodes, sparse-nodes}
 use Rattle.seek_laws.specs.Next.{behind-each, first-leaf, turn-at, next-from}
 use Rattle.seek_laws.specs.Seeks.{low-each, low-of, none-left, next-trie, behind-label}
@@ -31,6 +33,16 @@ abbrev pub turn-leaf : List Node → Bytes → ℕ → ℕ → ℕ → ℕ → O
 turn-leaf ns start zero m y d = none
 turn-leaf ns start (suc i) m y d = behind-label ns m y d (take d start)
 
+-- the leaf behind the last turn on the first d levels of the key's way, where the path has the node of each level
+unfoldable pub turns : List Node → Bytes → List ℕ → ℕ → Option Leaf
+turns ns start path zero = none
+turns ns start path (suc d) =
+    turn-at (drop (labels-below (getD start d 0 + 1) (branches-of (node-at ns (getD path d 0)))) (branches-of (node-at ns (getD path d 0)))) (behind-label ns (getD path d 0) (getD start d 0 + 1) d (take d start)) (turns ns start path d)
+
+-- the first d of the path are numbers of nodes, of which there are n
+abbrev pub Nodes-below : ℕ → List ℕ → ℕ → Type 0
+Nodes-below n path d = (i : ℕ) → i < d → getD path i 0 < n
+
 -- where the key has led: past all leaves below it; to a node at its end; to an open leaf
 abbrev pub led-leaf : ℕ → List Node → Bytes → ℕ → ℕ → ℕ → ℕ → Option Leaf → Option Leaf
 led-leaf w ns start zero m v d turn = turn
@@ -38,52 +50,91 @@ led-leaf w ns start (suc zero) m v d turn = behind-each (take d start) (first-le
 led-leaf w ns start (suc (suc i)) m v d turn = some (record { cut = take d start; exact = false; suffix = slot-of w ns v })
 
 -- a node without a higher label keeps the last turn
-pub turn-kept : (fs : List Branch) (here turn : Option Leaf) → 0 ≡ first-kind fs → turn-at fs here turn ≡ turn
+turn-kept : (fs : List Branch) (here turn : Option Leaf) → 0 ≡ first-kind fs → turn-at fs here turn ≡ turn
 unfolding turn-at first-kind
 turn-kept [] here turn e = refl
 turn-kept (to-leaf x s ∷ fs) here turn e = absurd (omega arith)
 turn-kept (to-node x ∷ fs) here turn e = absurd (omega arith)
 
 -- one that has it takes its place
-pub turn-taken : (fs : List Branch) (here turn : Option Leaf) (k : ℕ) → k ≡ first-kind fs → (k ≡ 0 → ⊥) → turn-at fs here turn ≡ here
+turn-taken : (fs : List Branch) (here turn : Option Leaf) (k : ℕ) → k ≡ first-kind fs → (k ≡ 0 → ⊥) → turn-at fs here turn ≡ here
 unfolding turn-at first-kind
 turn-taken [] here turn k e n = absurd (n e)
 turn-taken (b ∷ fs) here turn k e n = refl
 
-module _ (q : Bits → Bytes → Bool) (w : ℕ) (ns : List Node) (m d y : ℕ) (start : Bytes) (kind : ℕ) (turn up : Option Leaf) (h : d < length start) (byte : y ≡ getD start d 0)
-    (is : kind ≡ bit (matches y (drop (labels-below y (branches-of (node-at ns m))) (branches-of (node-at ns m)))) + bit (goes-on y (drop (labels-below y (branches-of (node-at ns m))) (branches-of (node-at ns m)))))
-    (is-up : up ≡ turn-at (drop (labels-below (y + 1) (branches-of (node-at ns m))) (branches-of (node-at ns m))) (behind-label ns m (y + 1) d (take d start)) turn) where
+module _ (ns : List Node) (start : Bytes) (path : List ℕ) where
+  -- no level, no turn
+  pub turns-none : turns ns start path 0 ≡ none
+  unfolding turns
+  turns-none = refl
+
+  -- the turns of the first levels do not depend on the nodes behind them
+  turns-before : (m d i : ℕ) → d ≤ i → turns ns start (set path i m) d ≡ turns ns start path d
+  unfolding turns
+  turns-before m zero i h = refl
+  turns-before m (suc d) i h = rw (getD-set-other path i d m 0 (λ e. omega arith), turns-before m d i (omega arith))
+
+  -- one level more, whose node is stored
+  turns-stored : (m d : ℕ) → d < length path → turns ns start (set path d m) (d + 1)
+      ≡ turn-at (drop (labels-below (getD start d 0 + 1) (branches-of (node-at ns m))) (branches-of (node-at ns m))) (behind-label ns m (getD start d 0 + 1) d (take d start)) (turns ns start path d)
+  unfolding turns
+  turns-stored m d h = ap (turns ns start (set path d m)) (add-one d) ∙ rw (getD-set-same path d m 0 h, turns-before m d d (omega arith))
+
+  module _ (d y kind : ℕ) (some-level : 0 < d) (byte : y ≡ getD start (d - 1) 0)
+      (is : kind ≡ first-kind (drop (labels-below (y + 1) (branches-of (node-at ns (getD path (d - 1) 0)))) (branches-of (node-at ns (getD path (d - 1) 0))))) where
+    turns-level : turns ns start path d
+        ≡ turn-at (drop (labels-below (y + 1) (branches-of (node-at ns (getD path (d - 1) 0)))) (branches-of (node-at ns (getD path (d - 1) 0)))) (behind-label ns (getD path (d - 1) 0) (y + 1) (d - 1) (take (d - 1) start)) (turns ns start path (d - 1))
+    unfolding turns
+    turns-level = let e : d ≡ suc (d - 1) = omega arith in ap (turns ns start path) e ∙ rw byte
+
+    -- a last level without a higher label: the turns above it
+    pub turns-above : kind ≡ 0 → turns ns start path d ≡ turns ns start path (d - 1)
+    turns-above e = turns-level ∙ turn-kept (drop (labels-below (y + 1) (branches-of (node-at ns (getD path (d - 1) 0)))) (branches-of (node-at ns (getD path (d - 1) 0)))) (behind-label ns (getD path (d - 1) 0) (y + 1) (d - 1) (take (d - 1) start)) (turns ns start path (d - 1)) (sym e ∙ is)
+
+    -- one with it: the turn there
+    pub turns-here : (kind ≡ 0 → ⊥) → turns ns start path d ≡ behind-label ns (getD path (d - 1) 0) (y + 1) (d - 1) (take (d - 1) start)
+    turns-here n = turns-level ∙ turn-taken (drop (labels-below (y + 1) (branches-of (node-at ns (getD path (d - 1) 0)))) (branches-of (node-at ns (getD path (d - 1) 0)))) (behind-label ns (getD path (d - 1) 0) (y + 1) (d - 1) (take (d - 1) start)) (turns ns start path (d - 1)) kind is n
+
+-- one node more is stored
+pub node-stored : (n : ℕ) (path : List ℕ) (d m : ℕ) → d < length path → m < n → Nodes-below n path d → Nodes-below n (set path d m) (d + 1)
+node-stored n path d m h b e = below-more (λ (i : ℕ). getD (set path d m) i 0 < n) d (λ i l. rw (getD-set-other path d i m 0 (λ z. omega arith)) (e i l)) (rw (getD-set-same path d m 0 h) b)
+
+module _ (q : Bits → Bytes → Bool) (w : ℕ) (ns : List Node) (start : Bytes) (path : List ℕ) (m d y kind : ℕ) (h : d < length start) (fits : d < length path) (byte : y ≡ getD start d 0)
+    (is : kind ≡ bit (matches y (drop (labels-below y (branches-of (node-at ns m))) (branches-of (node-at ns m)))) + bit (goes-on y (drop (labels-below y (branches-of (node-at ns m))) (branches-of (node-at ns m))))) where
   path-next : take d start ++ (y ∷ []) ≡ take (d + 1) start
   path-next = rw (byte, add-one d) (sym (take-suc start d 0 h))
 
   level-next : 64 - d - 1 ≡ 64 - (d + 1)
   level-next = omega arith
 
+  is-up : turns ns start (set path d m) (d + 1) ≡ turn-at (drop (labels-below (y + 1) (branches-of (node-at ns m))) (branches-of (node-at ns m))) (behind-label ns m (y + 1) d (take d start)) (turns ns start path d)
+  is-up = rw byte (turns-stored ns start path m d fits)
+
   -- the step along the key, whatever stands there
-  step : (k : Bytes) → next-from q w ns (64 - d) m (take d start) (y ∷ k) turn
-      ≡ cond (goes-on y (drop (labels-below y (branches-of (node-at ns m))) (branches-of (node-at ns m)))) (next-from q w ns (64 - (d + 1)) (child-number ns m (labels-below y (branches-of (node-at ns m)))) (take (d + 1) start) k up)
+  step : next-from q w ns (64 - d) m (take d start) (drop d start) (turns ns start path d)
+      ≡ cond (goes-on y (drop (labels-below y (branches-of (node-at ns m))) (branches-of (node-at ns m)))) (next-from q w ns (64 - (d + 1)) (child-number ns m (labels-below y (branches-of (node-at ns m)))) (take (d + 1) start) (drop (d + 1) start) (turns ns start (set path d m) (d + 1)))
       (cond (ends-at y (drop (labels-below y (branches-of (node-at ns m))) (branches-of (node-at ns m))))
-      (cond (q (slot-of w ns (slot-number ns m (labels-below y (branches-of (node-at ns m))))) k) up (some (record { cut = take (d + 1) start; exact = false; suffix = slot-of w ns (slot-number ns m (labels-below y (branches-of (node-at ns m)))) }))) up)
+      (cond (q (slot-of w ns (slot-number ns m (labels-below y (branches-of (node-at ns m))))) (drop (d + 1) start)) (turns ns start (set path d m) (d + 1)) (some (record { cut = take (d + 1) start; exact = false; suffix = slot-of w ns (slot-number ns m (labels-below y (branches-of (node-at ns m)))) }))) (turns ns start (set path d m) (d + 1)))
   unfolding next-from
-  step k = rw (is-up, ← path-next, add-one y, level-next)
+  step = rw (is-up, key-next start d h, ← byte, ← path-next, add-one y, level-next)
 
   -- no branch: the turn
-  pub seek-none : (k : Bytes) → kind ≡ 0 → next-from q w ns (64 - d) m (take d start) (y ∷ k) turn ≡ up
-  seek-none k e = let r = says y (drop (labels-below y (branches-of (node-at ns m))) (branches-of (node-at ns m))) kind is .0 e in step k ∙ rw (r .0, r .1)
+  pub seek-none : kind ≡ 0 → next-from q w ns (64 - d) m (take d start) (drop d start) (turns ns start path d) ≡ turns ns start (set path d m) (d + 1)
+  seek-none e = let r = says y (drop (labels-below y (branches-of (node-at ns m))) (branches-of (node-at ns m))) kind is .0 e in step ∙ rw (r .0, r .1)
 
   -- an open leaf that the key has passed: the turn
-  pub seek-passed : (k : Bytes) → kind ≡ 1 → q (slot-of w ns (slot-number ns m (labels-below y (branches-of (node-at ns m))))) k ≡ true → next-from q w ns (64 - d) m (take d start) (y ∷ k) turn ≡ up
-  seek-passed k e t = let r = says y (drop (labels-below y (branches-of (node-at ns m))) (branches-of (node-at ns m))) kind is .1 e in step k ∙ rw (r .0, r .1, t)
+  pub seek-passed : kind ≡ 1 → q (slot-of w ns (slot-number ns m (labels-below y (branches-of (node-at ns m))))) (drop (d + 1) start) ≡ true → next-from q w ns (64 - d) m (take d start) (drop d start) (turns ns start path d) ≡ turns ns start (set path d m) (d + 1)
+  seek-passed e t = let r = says y (drop (labels-below y (branches-of (node-at ns m))) (branches-of (node-at ns m))) kind is .1 e in step ∙ rw (r .0, r .1, t)
 
   -- one that it has not
-  pub seek-open : (k : Bytes) → kind ≡ 1 → q (slot-of w ns (slot-number ns m (labels-below y (branches-of (node-at ns m))))) k ≡ false
-      → next-from q w ns (64 - d) m (take d start) (y ∷ k) turn ≡ some (record { cut = take (d + 1) start; exact = false; suffix = slot-of w ns (slot-number ns m (labels-below y (branches-of (node-at ns m)))) })
-  seek-open k e t = let r = says y (drop (labels-below y (branches-of (node-at ns m))) (branches-of (node-at ns m))) kind is .1 e in step k ∙ rw (r .0, r .1, t)
+  pub seek-open : kind ≡ 1 → q (slot-of w ns (slot-number ns m (labels-below y (branches-of (node-at ns m))))) (drop (d + 1) start) ≡ false
+      → next-from q w ns (64 - d) m (take d start) (drop d start) (turns ns start path d) ≡ some (record { cut = take (d + 1) start; exact = false; suffix = slot-of w ns (slot-number ns m (labels-below y (branches-of (node-at ns m)))) })
+  seek-open e t = let r = says y (drop (labels-below y (branches-of (node-at ns m))) (branches-of (node-at ns m))) kind is .1 e in step ∙ rw (r .0, r .1, t)
 
   -- a branch that continues
-  pub seek-on : (k : Bytes) → (kind ≡ 0 → ⊥) → (kind ≡ 1 → ⊥)
-      → next-from q w ns (64 - d) m (take d start) (y ∷ k) turn ≡ next-from q w ns (64 - (d + 1)) (child-number ns m (labels-below y (branches-of (node-at ns m)))) (take (d + 1) start) k up
-  seek-on k a b = let r = says y (drop (labels-below y (branches-of (node-at ns m))) (branches-of (node-at ns m))) kind is .3 a b in step k ∙ rw r
+  pub seek-on : (kind ≡ 0 → ⊥) → (kind ≡ 1 → ⊥)
+      → next-from q w ns (64 - d) m (take d start) (drop d start) (turns ns start path d) ≡ next-from q w ns (64 - (d + 1)) (child-number ns m (labels-below y (branches-of (node-at ns m)))) (take (d + 1) start) (drop (d + 1) start) (turns ns start (set path d m) (d + 1))
+  seek-on a b = let r = says y (drop (labels-below y (branches-of (node-at ns m))) (branches-of (node-at ns m))) kind is .3 a b in step ∙ rw r
 
 -- the end of the key
 pub seek-end : (q : Bits → Bytes → Bool) (w : ℕ) (ns : List Node) (l m : ℕ) (path : Bytes) (turn : Option Leaf) → next-from q w ns l m path [] turn ≡ behind-each path (first-leaf ns l m)
@@ -159,8 +210,7 @@ module _ (s : Bytes) (f : Frame) (a : Accepted s f) (start : Bytes) where
       let empty : nodes s f ≡ [] = nil-of (nodes s f) (omega (arith, length-append (dense-nodes s f) (sparse-nodes s f), a .dense-size, a .sparse-size)) in
       ap low-each (next-nodes ∙ ap (λ (ns : List Node). next-from (high-passed (length start)) (f .width) ns 64 0 [] start none) empty ∙ sym (none-left (high-passed (length start)) (f .width) start))
 
-  module _ (kind m v d some-turn node label depth : ℕ)
-      (is : next-from (high-passed (length start)) (f .width) (nodes s f) 64 0 [] start none ≡ led-leaf (f .width) (nodes s f) start kind m v d (turn-leaf (nodes s f) start some-turn node label depth)) where
+  module _ (kind m v d : ℕ) (turn : Option Leaf) (is : next-from (high-passed (length start)) (f .width) (nodes s f) 64 0 [] start none ≡ led-leaf (f .width) (nodes s f) start kind m v d turn) where
     -- an open leaf
     pub led-open : kind ≡ 2 → low-each (next-leaf (read-leaves s) start) ≡ low-of (f .width) (nodes s f) 2 v (take d start)
     unfolding lowest low-rest
@@ -170,10 +220,6 @@ module _ (s : Bytes) (f : Frame) (a : Accepted s f) (start : Bytes) where
     pub led-node : kind ≡ 1 → low-each (next-leaf (read-leaves s) start) ≡ low-each (behind-each (take d start) (first-leaf (nodes s f) (64 - d) m))
     led-node h = ap low-each (next-nodes ∙ is) ∙ rw h
 
-    -- past all leaves, with no turn
-    pub led-past : kind ≡ 0 → some-turn ≡ 0 → low-each (next-leaf (read-leaves s) start) ≡ none
-    led-past h t = ap low-each (next-nodes ∙ is) ∙ rw (h, t)
-
-    -- the first leaf behind the last turn
-    pub led-turn : kind ≡ 0 → some-turn ≡ 1 → low-each (next-leaf (read-leaves s) start) ≡ low-each (behind-label (nodes s f) node label depth (take depth start))
-    led-turn h t = ap low-each (next-nodes ∙ is) ∙ rw (h, t)
+    -- past all leaves: the one behind the last turn
+    pub led-turn : kind ≡ 0 → low-each (next-leaf (read-leaves s) start) ≡ low-each turn
+    led-turn h = ap low-each (next-nodes ∙ is) ∙ rw h

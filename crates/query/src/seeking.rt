@@ -1,18 +1,16 @@
-// The first leaf that a key has not passed: along the key with the last turn to a higher label, and from there the first leaf.
+// The first leaf that a key has not passed: along the key, from there back to the last turn to a higher label, and behind it the first leaf.
 ghost use mathlib.Core.Path.{_≡_};
-ghost use mathlib.Core.List.{List, []};
+ghost use mathlib.Core.List.{[]};
 ghost use mathlib.Core.Option.{none};
-ghost use Prim.Native.Nat.{ℕ, _+_, _≤_, _<_};
-ghost use lib.ListN.{length, take, drop};
+ghost use Prim.Native.Nat.{_+_, _≤_, _<_};
+ghost use lib.ListN.{length, take};
 ghost use Rattle.spec.specs.Nodes.{read-leaves};
-ghost use Rattle.query_laws.specs.Counting.{labels-below};
 ghost use Rattle.query_laws.specs.Bounds.{high-passed};
 ghost use Rattle.query_laws.specs.Ordered.{next-leaf};
-ghost use Rattle.seek_laws.specs.Next.{turn-at, next-from};
-ghost use Rattle.seek_laws.specs.Seeks.{low-each, low-of, behind-label};
+ghost use Rattle.seek_laws.specs.Next.{next-from};
+ghost use Rattle.seek_laws.specs.Seeks.{low-each, low-of};
 ghost use Rattle.navigate.specs.Accepted.{Accepted, nodes};
-ghost use Rattle.navigate.specs.Positions.{branches};
-ghost use Rattle.query.specs.Seeking.{turn-leaf, led-leaf};
+ghost use Rattle.query.specs.Seeking.{turn-leaf, turns, Nodes-below, led-leaf};
 use super::descent::NOWHERE;
 use super::descent::Stop;
 use super::first::first_at;
@@ -44,60 +42,35 @@ const NO_TURN: Turn = Turn {
     depth: 0,
 };
 
-// The last turn at node m, whose level is d and from which the key goes on with the byte y.
-fn turn_from(image: &[u8], f: Frame, m: NodeNum, y: usize, d: usize, last: Turn) -> Turn
-    requires { ⌜ Accepted (now image) f × (m .0 < f .dense + f .sparse) × (y < 256) × (d < 64) × (last .some ≤ 1) × (last .some ≡ 1 → (last .node < f .dense + f .sparse) × (last .label ≤ 256) × (last .depth < 64)) × (last .depth ≤ d) ⌝ }
-    ensures { λ r. ⌜ ((start : List ℕ) → turn-leaf (nodes (now (image .entry)) f) start (r .some) (r .node) (r .label) (r .depth)
-        ≡ turn-at (drop (labels-below (y + 1) (branches (now (image .entry)) f (m .0))) (branches (now (image .entry)) f (m .0))) (behind-label (nodes (now (image .entry)) f) (m .0) (y + 1) d (take d start))
-        (turn-leaf (nodes (now (image .entry)) f) start (last .some) (last .node) (last .label) (last .depth)))
-        × (r .some ≤ 1) × (r .some ≡ 1 → (r .node < f .dense + f .sparse) × (r .label ≤ 256) × (r .depth < 64)) × (r .depth ≤ d) ⌝ }
-{
-    let n = next_branch(image, f, m, y + 1);
-    if n.kind == 0 {
-        return last;
-    }
-    Turn {
-        some: 1,
-        node: m.0,
-        label: y + 1,
-        depth: d,
-    }
-}
-
 // Where the key of a seek has led: 0, past all leaves below it; 1, to a node at its end; 2, to an open leaf that it has not passed, with its slot;
-// how many bytes of the key are passed, and the last turn.
+// and how many bytes of the key are passed.
 struct Led {
     kind: usize,
     node: usize,
     slot: ValuePos,
     depth: usize,
-    turn: Turn,
 }
 
-// Along the key from the root, with the last turn to a higher label.
-fn along(image: &[u8], f: Frame, start: &[u8]) -> Led
-    requires { ⌜ Accepted (now image) f × (0 < f .dense + f .sparse) × (length (now start) ≤ 64) ⌝ }
+// Along the key from the root; the node from which it goes on with each byte passed goes to the path.
+fn along(image: &[u8], f: Frame, start: &[u8], path: &mut [usize; 64]) -> Led
+    requires { ⌜ Accepted (now image) f × (0 < f .dense + f .sparse) × (length (now start) ≤ 64) × (length (now path) ≡ 64) ⌝ }
     ensures { λ r. ⌜ (next-from (high-passed (length (now (start .entry)))) (f .width) (nodes (now (image .entry)) f) 64 0 [] (now (start .entry)) none
-        ≡ led-leaf (f .width) (nodes (now (image .entry)) f) (now (start .entry)) (r .kind) (r .node) (r .slot .0) (r .depth)
-        (turn-leaf (nodes (now (image .entry)) f) (now (start .entry)) (r .turn .some) (r .turn .node) (r .turn .label) (r .turn .depth)))
+        ≡ led-leaf (f .width) (nodes (now (image .entry)) f) (now (start .entry)) (r .kind) (r .node) (r .slot .0) (r .depth) (turns (nodes (now (image .entry)) f) (now (start .entry)) (now (path .exit)) (r .depth)))
         × (r .kind ≤ 2) × (r .depth ≤ length (now (start .entry))) × (r .node < f .dense + f .sparse) × (r .kind ≡ 2 → r .slot .0 < f .leaves)
-        × (r .turn .some ≤ 1) × (r .turn .some ≡ 1 → (r .turn .node < f .dense + f .sparse) × (r .turn .label ≤ 256) × (r .turn .depth < 64)) × (r .turn .depth ≤ length (now (start .entry))) ⌝ }
+        × (length (now (path .exit)) ≡ 64) × Nodes-below (f .dense + f .sparse) (now (path .exit)) (r .depth) ⌝ }
 {
     let mut m = 0usize;
     let mut d = 0usize;
-    let mut last = NO_TURN;
     while d < start.len() {
-        let y = wide(start[d]);
-        let b = find(image, f, NodeNum(m), y);
-        last = turn_from(image, f, NodeNum(m), y, d, last);
+        path[d] = m;
+        let b = find(image, f, NodeNum(m), wide(start[d]));
         d = d + 1;
         if b.kind == 0 {
             return Led {
                 kind: 0,
                 node: 0,
                 slot: ValuePos(0),
-                depth: 0,
-                turn: last,
+                depth: d,
             };
         }
         if b.kind == 1 {
@@ -111,7 +84,6 @@ fn along(image: &[u8], f: Frame, start: &[u8]) -> Led
                 node: 0,
                 slot: v,
                 depth: d,
-                turn: last,
             };
         }
         m = child(image, f, NodeNum(m), b.at).0;
@@ -121,8 +93,31 @@ fn along(image: &[u8], f: Frame, start: &[u8]) -> Led
         node: m,
         slot: ValuePos(0),
         depth: d,
-        turn: last,
     }
+}
+
+// The last turn on the first `passed` levels of the key's way: from the lowest level upwards, the first node with a label above the key's byte.
+fn last_turn(image: &[u8], f: Frame, start: &[u8], path: &[usize; 64], passed: usize) -> Turn
+    requires { ⌜ Accepted (now image) f × (passed ≤ length (now start)) × (passed ≤ 64) × Nodes-below (f .dense + f .sparse) (now path) passed ⌝ }
+    ensures { λ r. ⌜ (turns (nodes (now (image .entry)) f) (now (start .entry)) (now (path .entry)) passed ≡ turn-leaf (nodes (now (image .entry)) f) (now (start .entry)) (r .some) (r .node) (r .label) (r .depth))
+        × (r .some ≤ 1) × (r .some ≡ 1 → (r .node < f .dense + f .sparse) × (r .label ≤ 256) × (r .depth < passed)) ⌝ }
+{
+    let mut d = passed;
+    while d > 0 {
+        d = d - 1;
+        let m = path[d];
+        let label = wide(start[d]) + 1;
+        let n = next_branch(image, f, NodeNum(m), label);
+        if n.kind != 0 {
+            return Turn {
+                some: 1,
+                node: m,
+                label: label,
+                depth: d,
+            };
+        }
+    }
+    NO_TURN
 }
 
 // The first leaf that the start of a seek has not passed, if there is one: its cut key goes to the first bytes of the key, and what else it has is in the result.
@@ -135,7 +130,8 @@ pub fn next_leaf(image: &[u8], f: Frame, start: &[u8], key: &mut [u8]) -> Stop
     if f.dense + f.sparse == 0 {
         return NOWHERE;
     }
-    let led = along(image, f, start);
+    let mut path = [0usize; 64];
+    let led = along(image, f, start, &mut path);
     if led.kind == 2 {
         let v = led.slot;
         return Stop {
@@ -147,7 +143,7 @@ pub fn next_leaf(image: &[u8], f: Frame, start: &[u8], key: &mut [u8]) -> Stop
     if led.kind == 1 {
         return first_at(image, f, NodeNum(led.node), key, led.depth);
     }
-    let turn = led.turn;
+    let turn = last_turn(image, f, start, &path, led.depth);
     if turn.some == 0 {
         return NOWHERE;
     }
