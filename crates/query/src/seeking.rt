@@ -26,7 +26,7 @@ use navigate::branches::find;
 use navigate::branches::next_branch;
 use navigate::branches::slot;
 
-// The last turn to a higher label: 1 if there is one, the node, the label that it is not below, and the bytes of the key before it.
+// The last turn to a higher label: 1 if there is one, its node, the label that it is not below, and how many bytes of the key lead to the node.
 struct Turn {
     some: usize,
     node: usize,
@@ -34,7 +34,7 @@ struct Turn {
     depth: usize,
 }
 
-// No turn yet.
+// No turn.
 const NO_TURN: Turn = Turn {
     some: 0,
     node: 0,

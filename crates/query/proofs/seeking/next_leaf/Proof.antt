@@ -85,7 +85,8 @@ returns-4 c =
     let g = c .before .before .before .before .before .before .before .before .along .ensures in
     let turn = c .before .before .last-turn in
     let past : led .kind ≡ 0 = omega (arith, g .1, c .before .before .before .before .before .before .if2 .left, c .before .before .before .before .if3 .left) in
-    let nowhere = ap (λ (x : ℕ). low-each (turn-leaf (nodes (a .image .now) (a .f)) (a .start .now) x (turn .result .node) (turn .result .label) (turn .result .depth))) (c .if4 .taken) in
+    let absent : turn .result .some ≡ 0 = omega (arith, c .if4 .taken) in
+    let nowhere = ap (λ (x : ℕ). low-each (turn-leaf (nodes (a .image .now) (a .f)) (a .start .now) x (turn .result .node) (turn .result .label) (turn .result .depth))) absent in
     (led-turn (a .image .now) (a .f) (p .0) (a .start .now) (led .kind) (led .node) (led .slot .0) (led .depth) _ (g .0) past ∙ ap low-each (turn .ensures .0) ∙ nowhere, ap length k ∙ copied-length (a .start .now) (a .key .now) (omega (arith, p .1, p .2)) ∙ p .2, omega arith, omega arith, λ q. absurd (omega arith))
 
 first-behind-requires : tie.Need-first-behind-requires
