@@ -1,4 +1,4 @@
--- What a seek keeps on its way along the key: the last turn to a higher label, and where the key has led.
+-- What a seek keeps on its way along the key: the nodes passed, the last turn to a higher label on them, and where the key has led.
 use Prim.Native.Nat.{ℕ, zero, suc, _+_, _-_, _<_, _≤_}
 use mathlib.Core.Path.{_≡_, refl, sym, ap, _∙_}
 use mathlib.Core.Bool.{Bool, true, false, cond}
@@ -94,6 +94,10 @@ module _ (ns : List Node) (start : Bytes) (path : List ℕ) where
     -- one with it: the turn there
     pub turns-here : (kind ≡ 0 → ⊥) → turns ns start path d ≡ behind-label ns (getD path (d - 1) 0) (y + 1) (d - 1) (take (d - 1) start)
     turns-here n = turns-level ∙ turn-taken (drop (labels-below (y + 1) (branches-of (node-at ns (getD path (d - 1) 0)))) (branches-of (node-at ns (getD path (d - 1) 0)))) (behind-label ns (getD path (d - 1) 0) (y + 1) (d - 1) (take (d - 1) start)) (turns ns start path (d - 1)) kind is n
+
+-- past all leaves: the turns on the levels passed
+pub past-turns : (w : ℕ) (ns : List Node) (start : Bytes) (path : List ℕ) (kind m v d passed : ℕ) → kind ≡ 0 → d ≡ passed → turns ns start path passed ≡ led-leaf w ns start kind m v d (turns ns start path d)
+past-turns w ns start path kind m v d passed k e = rw (k, e)
 
 -- one node more is stored
 pub node-stored : (n : ℕ) (path : List ℕ) (d m : ℕ) → d < length path → m < n → Nodes-below n path d → Nodes-below n (set path d m) (d + 1)

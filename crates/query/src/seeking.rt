@@ -51,6 +51,18 @@ struct Led {
     depth: usize,
 }
 
+// Past all leaves below the first d bytes of the key.
+fn past(d: usize) -> Led
+    ensures { λ r. ⌜ (r .kind ≡ 0) × (r .node ≡ 0) × (r .depth ≡ d) ⌝ }
+{
+    Led {
+        kind: 0,
+        node: 0,
+        slot: ValuePos(0),
+        depth: d,
+    }
+}
+
 // Along the key from the root; the node from which it goes on with each byte passed goes to the path.
 fn along(image: &[u8], f: Frame, start: &[u8], path: &mut [usize; 64]) -> Led
     requires { ⌜ Accepted (now image) f × (0 < f .dense + f .sparse) × (length (now start) ≤ 64) × (length (now path) ≡ 64) ⌝ }
@@ -66,21 +78,15 @@ fn along(image: &[u8], f: Frame, start: &[u8], path: &mut [usize; 64]) -> Led
         let b = find(image, f, NodeNum(m), wide(start[d]));
         d = d + 1;
         if b.kind == 0 {
-            return Led {
-                kind: 0,
-                node: 0,
-                slot: ValuePos(0),
-                depth: d,
-            };
+            return past(d);
         }
         if b.kind == 1 {
             let v = slot(image, f, NodeNum(m), b.at);
-            let mut kind = 2usize;
             if high_below(image, f, v, start, d) {
-                kind = 0;
+                return past(d);
             }
             return Led {
-                kind: kind,
+                kind: 2,
                 node: 0,
                 slot: v,
                 depth: d,

@@ -1,5 +1,5 @@
 use borrow.Author.Needs.{needs}
-use Rattle.query.specs.Seeking.{turns, Nodes-below, turns-none, node-stored, seek-none, seek-passed, seek-open, seek-on, seek-end}
+use Rattle.query.specs.Seeking.{turns, Nodes-below, turns-none, past-turns, node-stored, seek-none, seek-passed, seek-open, seek-on, seek-end}
 use Rattle.navigate.specs.Positions.{place}
 use Rattle.navigate.specs.Accepted.{nodes, dense-nodes, sparse-nodes}
 use Rattle.seek_laws.specs.Next.{next-from}
@@ -48,23 +48,28 @@ find-requires c κs = search needs
 add-d : tie.Need-add-d Inv-loop μ-loop
 add-d c = search needs
 
+past-requires : tie.Need-past-requires Inv-loop μ-loop
+past-requires c κs = search needs
+
 returns : tie.Need-returns Inv-loop μ-loop
 returns c =
-    let a = c .before .before .before .before .before .before .before .before .before .args in
-    let p = c .before .before .before .before .before .before .before .before .before .pre in
-    let l = c .before .before .before .before .before .before .loop in
-    let y = c .before .before .before .wide .result in
-    let byte = c .before .before .before .wide .ensures .0 in
-    let found = c .before .before .find in
-    let more : l .d < length (a .start .now) = c .before .before .before .before .before .loop-test .taken in
-    let fits : l .d < length (l .path) = omega (arith, p .2, l .inv .2) in (
-      l .inv .4 ∙ seek-none (high-passed (length (a .start .now))) (a .f .width) (nodes (a .image .now) (a .f)) (a .start .now) (l .path) (l .m) (l .d) y (found .result .kind) more fits byte (found .ensures .1) (c .if1 .taken),
-      omega arith,
-      omega arith,
-      p .1,
-      λ q. absurd (omega arith),
+    let a = c .before .before .before .before .before .before .before .before .before .before .args in
+    let p = c .before .before .before .before .before .before .before .before .before .before .pre in
+    let l = c .before .before .before .before .before .before .before .loop in
+    let y = c .before .before .before .before .wide .result in
+    let byte = c .before .before .before .before .wide .ensures .0 in
+    let found = c .before .before .before .find in
+    let more : l .d < length (a .start .now) = c .before .before .before .before .before .before .loop-test .taken in
+    let fits : l .d < length (l .path) = omega (arith, p .2, l .inv .2) in
+    let e = c .past .ensures in (
+      l .inv .4 ∙ seek-none (high-passed (length (a .start .now))) (a .f .width) (nodes (a .image .now) (a .f)) (a .start .now) (l .path) (l .m) (l .d) y (found .result .kind) more fits byte (found .ensures .1) (c .before .if1 .taken)
+          ∙ past-turns (a .f .width) (nodes (a .image .now) (a .f)) (a .start .now) (set (l .path) (l .d) (l .m)) (c .past .result .kind) (c .past .result .node) (c .past .result .slot .0) (c .past .result .depth) (l .d + 1) (e .0) (e .2),
+      omega (arith, e .0),
+      omega (arith, e .2),
+      omega (arith, e .1, p .1),
+      λ q. absurd (omega (arith, e .0)),
       length-set (l .path) (l .d) (l .m) ∙ l .inv .2,
-      node-stored (a .f .dense + a .f .sparse) (l .path) (l .d) (l .m) fits (l .inv .0) (l .inv .3),
+      λ i h. node-stored (a .f .dense + a .f .sparse) (l .path) (l .d) (l .m) fits (l .inv .0) (l .inv .3) i (omega (arith, h, e .2)),
     )
 
 slot-requires : tie.Need-slot-requires Inv-loop μ-loop
@@ -79,25 +84,30 @@ high-below-requires c κs =
     let v = c .slot .ensures ∙ found .ensures .0 .slot-is in
     (p .0, omega (arith, v, slot-in (nodes (a .image .now) (a .f)) (l .m) (c .before .before .before .before .before .before .wide .result) (found .result .kind) (found .ensures .1) (c .before .if2 .taken), p .0 .writable .leaf-total), omega arith, p .2)
 
+past-requires-2 : tie.Need-past-requires-2 Inv-loop μ-loop
+past-requires-2 c κs = search needs
+
 returns-2 : tie.Need-returns-2 Inv-loop μ-loop
 returns-2 c =
-    let a = c .before .before .before .before .before .before .before .before .before .before .before .before .before .before .args in
-    let p = c .before .before .before .before .before .before .before .before .before .before .before .before .before .before .pre in
-    let l = c .before .before .before .before .before .before .before .before .before .before .before .loop in
-    let y = c .before .before .before .before .before .before .before .before .wide .result in
-    let byte = c .before .before .before .before .before .before .before .before .wide .ensures .0 in
-    let found = c .before .before .before .before .before .before .before .find in
-    let more : l .d < length (a .start .now) = c .before .before .before .before .before .before .before .before .before .before .loop-test .taken in
+    let a = c .before .before .before .before .before .before .before .before .before .before .before .before .before .before .before .args in
+    let p = c .before .before .before .before .before .before .before .before .before .before .before .before .before .before .before .pre in
+    let l = c .before .before .before .before .before .before .before .before .before .before .before .before .loop in
+    let y = c .before .before .before .before .before .before .before .before .before .wide .result in
+    let byte = c .before .before .before .before .before .before .before .before .before .wide .ensures .0 in
+    let found = c .before .before .before .before .before .before .before .before .find in
+    let more : l .d < length (a .start .now) = c .before .before .before .before .before .before .before .before .before .before .before .loop-test .taken in
     let fits : l .d < length (l .path) = omega (arith, p .2, l .inv .2) in
-    let v = c .before .before .slot .ensures ∙ found .ensures .0 .slot-is in
-    let passed = ap (λ (x : ℕ). high-passed (length (a .start .now)) (slot-of (a .f .width) (nodes (a .image .now) (a .f)) x) (drop (l .d + 1) (a .start .now))) (sym v) ∙ sym (c .before .high-below .ensures) ∙ c .if3 .taken in (
-      l .inv .4 ∙ seek-passed (high-passed (length (a .start .now))) (a .f .width) (nodes (a .image .now) (a .f)) (a .start .now) (l .path) (l .m) (l .d) y (found .result .kind) more fits byte (found .ensures .1) (c .before .before .before .if2 .taken) passed,
-      omega arith,
-      omega arith,
-      p .1,
-      λ q. absurd (omega arith),
+    let e = c .past2 .ensures in
+    let v = c .before .before .before .slot .ensures ∙ found .ensures .0 .slot-is in
+    let passed = ap (λ (x : ℕ). high-passed (length (a .start .now)) (slot-of (a .f .width) (nodes (a .image .now) (a .f)) x) (drop (l .d + 1) (a .start .now))) (sym v) ∙ sym (c .before .before .high-below .ensures) ∙ c .before .if3 .taken in (
+      l .inv .4 ∙ seek-passed (high-passed (length (a .start .now))) (a .f .width) (nodes (a .image .now) (a .f)) (a .start .now) (l .path) (l .m) (l .d) y (found .result .kind) more fits byte (found .ensures .1) (c .before .before .before .before .if2 .taken) passed
+          ∙ past-turns (a .f .width) (nodes (a .image .now) (a .f)) (a .start .now) (set (l .path) (l .d) (l .m)) (c .past2 .result .kind) (c .past2 .result .node) (c .past2 .result .slot .0) (c .past2 .result .depth) (l .d + 1) (e .0) (e .2),
+      omega (arith, e .0),
+      omega (arith, e .2),
+      omega (arith, e .1, p .1),
+      λ q. absurd (omega (arith, e .0)),
       length-set (l .path) (l .d) (l .m) ∙ l .inv .2,
-      node-stored (a .f .dense + a .f .sparse) (l .path) (l .d) (l .m) fits (l .inv .0) (l .inv .3),
+      λ i h. node-stored (a .f .dense + a .f .sparse) (l .path) (l .d) (l .m) fits (l .inv .0) (l .inv .3) i (omega (arith, h, e .2)),
     )
 
 returns-3 : tie.Need-returns-3 Inv-loop μ-loop
@@ -171,9 +181,11 @@ along-spec =
     wide-requires
     find-requires
     add-d
+    past-requires
     returns
     slot-requires
     high-below-requires
+    past-requires-2
     returns-2
     returns-3
     child-requires
