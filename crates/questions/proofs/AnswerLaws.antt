@@ -1,32 +1,21 @@
--- A question that was matched: its keys as the parts of the file that are lent, and the reply by value that its number makes. The functions that answer a question of a file rest on it.
+-- A question that was matched: its keys as they are lent, and the reply by value that its number makes. The functions that answer a question of a file rest on it.
 use mathlib.Core.Path.{_≡_, sym, ap, ap₂, subst, _∙_}
 use mathlib.Core.List.{List, []}
-use Prim.Native.Nat.{ℕ, _+_, _-_, _≤_}
+use Prim.Native.Nat.{ℕ, _+_, _≤_}
 use native.Mathlib.Omega.{arith}
-use lib.ListN.{length, take, drop, length-take}
+use lib.ListN.{length}
 use Rattle.spec.specs.Bytes.{Bytes}
 use Rattle.spec.specs.Leaves.{Leaf}
 use Rattle.spec.specs.Questions.{QS, Reply, point, begins-with, range, counted, reply, reply-bytes, replies, questions-of}
 use Rattle.bits.specs.Bits.{placed}
 use Rattle.keys.specs.Keys.{key}
-use Rattle.question_laws.specs.AskedAt.{Key-part, Followed}
+use Rattle.question_laws.specs.AskedAt.{Followed}
 use Rattle.question_laws.specs.ReplyLaws.{answer, point-reply, begins-reply, range-reply, count-reply, Replied, replied-room, replied-more}
 use Rattle.questions.specs.Questions.{question-of, Inside, Sized, reply-of}
 use Rattle.questions.specs.declared.file.QuestionAt.{QuestionAt}
 use Rattle.questions.specs.declared.file.QuestionAt.the-variants.{Point, Seek, Begins, Range, Count}
 use Rattle.questions.specs.declared.reply.Answered.{Answered}
 use Rattle.questions.proofs.PlacedLaws.{key-length}
-
--- the bytes from a to a + n, as a part that is lent
-abbrev pub lent : Bytes → ℕ → ℕ → Bytes
-lent file a n = take (a + n - a) (drop a file)
-
-lent-is : (file : Bytes) (a n : ℕ) → lent file a n ≡ key file a n
-lent-is file a n = let e : a + n - a ≡ n = omega arith in ap (λ (m : ℕ). take m (drop a file)) e
-
--- a key that is lent has at most 64 bytes
-pub lent-small : (file : Bytes) (a n : ℕ) → Key-part file a n → length (lent file a n) ≤ 64
-lent-small file a n k = omega (arith, length-take (a + n - a) (drop a file), k .small)
 
 -- what is known of a question, after a match
 pub inside-told : (file : Bytes) {q x : QuestionAt} → q ≡ x → Inside file q → Inside file x
@@ -49,22 +38,23 @@ module _ (ls : List Leaf) (file : Bytes) where
   pub reply-key : (a : Answered) (q : QuestionAt) → Sized a → reply-of a ≡ reply ls (question-of file q) → a .n ≡ length (reply ls (question-of file q) .key)
   reply-key a q s e = sym (key-length a s) ∙ ap (λ r. length (r .key)) e
 
-  module _ (a n : ℕ) where
-    pub point-told : (x : ℕ) → x ≡ point ls (lent file a n) → answer 80 x [] ≡ reply ls (question-of file (Point a n))
-    point-told x h = ap (λ (m : ℕ). answer 80 m []) (h ∙ ap (point ls) (lent-is file a n)) ∙ sym (point-reply ls (key file a n))
+  -- the reply to each kind of question, with its keys as they are lent
+  module _ (a n : ℕ) (k : Bytes) (lent : k ≡ key file a n) where
+    pub point-told : (x : ℕ) → x ≡ point ls k → answer 80 x [] ≡ reply ls (question-of file (Point a n))
+    point-told x h = ap (λ (m : ℕ). answer 80 m []) (h ∙ ap (point ls) lent) ∙ sym (point-reply ls (key file a n))
 
-    pub begins-told : (x : ℕ) → x ≡ begins-with ls (lent file a n) → answer 66 x [] ≡ reply ls (question-of file (Begins a n))
-    begins-told x h = ap (λ (m : ℕ). answer 66 m []) (h ∙ ap (begins-with ls) (lent-is file a n)) ∙ sym (begins-reply ls (key file a n))
+    pub begins-told : (x : ℕ) → x ≡ begins-with ls k → answer 66 x [] ≡ reply ls (question-of file (Begins a n))
+    begins-told x h = ap (λ (m : ℕ). answer 66 m []) (h ∙ ap (begins-with ls) lent) ∙ sym (begins-reply ls (key file a n))
 
-    pub seek-told : reply ls (QS (lent file a n)) ≡ reply ls (question-of file (Seek a n))
-    seek-told = ap (λ (k : Bytes). reply ls (QS k)) (lent-is file a n)
+    pub seek-told : reply ls (QS k) ≡ reply ls (question-of file (Seek a n))
+    seek-told = ap (λ (z : Bytes). reply ls (QS z)) lent
 
-    module _ (b m : ℕ) where
-      pub range-told : (x : ℕ) → x ≡ range ls (lent file a n) (lent file b m) → answer 82 x [] ≡ reply ls (question-of file (Range a n b m))
-      range-told x h = ap (λ (i : ℕ). answer 82 i []) (h ∙ ap₂ (range ls) (lent-is file a n) (lent-is file b m)) ∙ sym (range-reply ls (key file a n) (key file b m))
+    module _ (b m : ℕ) (l : Bytes) (lent-too : l ≡ key file b m) where
+      pub range-told : (x : ℕ) → x ≡ range ls k l → answer 82 x [] ≡ reply ls (question-of file (Range a n b m))
+      range-told x h = ap (λ (i : ℕ). answer 82 i []) (h ∙ ap₂ (range ls) lent lent-too) ∙ sym (range-reply ls (key file a n) (key file b m))
 
-      pub count-told : (x : ℕ) → x ≡ counted ls (lent file a n) (lent file b m) → answer 67 x [] ≡ reply ls (question-of file (Count a n b m))
-      count-told x h = ap (λ (i : ℕ). answer 67 i []) (h ∙ ap₂ (counted ls) (lent-is file a n) (lent-is file b m)) ∙ sym (count-reply ls (key file a n) (key file b m))
+      pub count-told : (x : ℕ) → x ≡ counted ls k l → answer 67 x [] ≡ reply ls (question-of file (Count a n b m))
+      count-told x h = ap (λ (i : ℕ). answer 67 i []) (h ∙ ap₂ (counted ls) lent lent-too) ∙ sym (count-reply ls (key file a n) (key file b m))
 
   -- only a seek's reply has a key
   keyless : (q : QuestionAt) → Not-seek q → length (reply ls (question-of file q) .key) ≡ 0

@@ -3,7 +3,9 @@ ghost use mathlib.Core.Path.{_≡_};
 ghost use Prim.Native.Nat.{_<_, _≤_};
 ghost use lib.ListN.{length};
 ghost use Rattle.spec.specs.Questions.{parse-questions};
+ghost use Rattle.keys.specs.Keys.{key};
 ghost use Rattle.question_laws.specs.FileLaws.{Taken-from};
+ghost use Rattle.question_laws.specs.AskedAt.{Key-part};
 ghost use Rattle.questions.specs.Questions.{Reads-key, Reads-upper, Reads-bounds, Asks, Reads-question, judgement, Located};
 use bits::numbers::wide;
 use keys::compare::Order;
@@ -186,4 +188,13 @@ pub fn question_at(file: &[u8], at: usize) -> Asked
     }
     let question = QuestionAt::Count(key, n, upper, m);
     Asked { question, next }
+}
+
+// The bytes of a question's key, n of them from `at`.
+pub fn key_at(file: &[u8], at: usize, n: usize) -> &[u8]
+    requires { ⌜ Key-part (now file) at n ⌝ }
+    ensures { λ r. ⌜ (now r ≡ key (now (file .entry)) at n) × (length (now r) ≤ 64) ⌝ }
+{
+    let end = at + n;
+    &file[at..end]
 }
