@@ -4,3 +4,4 @@ pub mod FileLaws
 pub mod AskedAt
 pub mod ReplyLaws
 pub mod AskJoined
+pub mod ReplyBound

@@ -155,11 +155,16 @@ module _ (ls : List Leaf) (file out : Bytes) where
             bytes = ap (λ (x : Bytes). placed x to b) (p .bytes) ∙ placed-bytes r out b rest to split (p .inside) room;
           })
 
-  -- behind the last question: the buffer as success leaves it
+  -- behind the last question: all replies are written
+  pub replied-size : (at to : ℕ) (new : Bytes) → Replied ls file out at to new → length file ≤ at → to ≡ length (replies ls (questions-of file))
+  replied-size at to new p h =
+      let none : drop to (replies ls (questions-of file)) ≡ [] = p .left ∙ ap (replies ls) (taken-end file at h) ∙ replies-none ls in
+      omega (arith, p .inside, ap length none, length-drop to (replies ls (questions-of file)))
+
+  -- the buffer as success leaves it
   pub replied-end : (at to : ℕ) (new : Bytes) → Replied ls file out at to new → length file ≤ at
       → new ≡ replies ls (questions-of file) ++ drop (length (replies ls (questions-of file))) out
   replied-end at to new p h =
       let r : Bytes = replies ls (questions-of file) in
-      let none : drop to r ≡ [] = p .left ∙ ap (replies ls) (taken-end file at h) ∙ replies-none ls in
-      let e : to ≡ length r = omega (arith, p .inside, ap length none, length-drop to r) in
+      let e : to ≡ length r = replied-size at to new p h in
       p .bytes ∙ ap₂ (λ (x : Bytes) (n : ℕ). x ++ drop n out) (take-all to r (omega arith)) e
