@@ -1,11 +1,14 @@
 // The face of the library: the calls for programs in other languages.
 ghost use mathlib.Core.Path.{_≡_};
+ghost use Rattle.spec.specs.Ask.{ask};
 ghost use Rattle.spec.specs.Build.{build};
 ghost use Rattle.spec.specs.Check.{check};
 ghost use Rattle.records.specs.Records.{settings};
 ghost use Rattle.filter.specs.Filter.{coded, number-of};
 use accept::Checked;
 use accept::check;
+use ask::Answer;
+use ask::ask;
 use build::Built;
 use build::build;
 
@@ -30,5 +33,17 @@ pub extern "C" fn range_filter_check(image: &[u8]) -> u32
     match checked {
         Checked::Accepted => 0,
         Checked::Refused(number) => number,
+    }
+}
+
+// Replies to a question file over an image into the reply buffer. The answer is the number of a refusal, 0 for success, times 2^32, plus the bytes written, 0 for a refusal.
+#[no_mangle]
+pub extern "C" fn range_filter_ask(image: &[u8], questions: &[u8], replies: &mut [u8]) -> u64
+    ensures { λ r. ⌜ coded r (now (replies .exit)) (ask (now (image .entry)) (now (questions .entry)) (now (replies .entry))) ⌝ }
+{
+    let answer = ask(image, questions, replies);
+    match answer {
+        Answer::Written(written) => written as u64,
+        Answer::Refused(number) => (number as u64) * 4294967296,
     }
 }

@@ -1,0 +1,28 @@
+-- None, or the leaf that the seek found.
+use mathlib.Core.Path.{_∙_}
+use borrow.Author.Needs.{needs}
+use Rattle.spec.specs.Nodes.{read-leaves}
+use Rattle.ask.proofs.SoughtLaws.{none-sought, some-sought}
+use Rattle.ask.proofs.replies.seek_reply.Statement.{statement}
+use Rattle.ask.proofs.replies.seek_reply.Tie as tie
+
+seek-requires : tie.Need-seek-requires
+seek-requires c κs = search needs
+
+told-requires : tie.Need-told-requires
+told-requires c κs = search needs
+
+returns : tie.Need-returns
+returns c =
+    let a = c .before .before .before .before .before .before .args in
+    let s = c .before .before .before .seek in
+    (c .told .ensures .0, c .told .ensures .1 ∙ none-sought (read-leaves (a .image .now)) (a .start .now) (s .result .some) (s .result .number) _ (s .ensures .0) (c .before .if1 .taken))
+
+returns-2 : tie.Need-returns-2
+returns-2 c =
+    let a = c .before .before .before .before .before .before .args in
+    let s = c .before .before .before .seek in
+    (search needs, some-sought (read-leaves (a .image .now)) (a .start .now) (s .result .some) (s .result .number) _ (s .ensures .0) (c .before .if1 .left))
+
+pub seek-reply-spec : {M : Type 1} → statement M
+seek-reply-spec = tie.close (tie.spec seek-requires told-requires returns returns-2)

@@ -1,0 +1,60 @@
+// Whether all replies to a question file fit into the reply buffer.
+ghost use mathlib.Core.Path.{_≡_};
+ghost use Prim.Native.Nat.{_≤_};
+ghost use lib.ListN.{length};
+ghost use lib.Dec.{leb};
+ghost use Rattle.spec.specs.Nodes.{read-leaves};
+ghost use Rattle.spec.specs.Questions.{reply, questions-of};
+ghost use Rattle.navigate.specs.Accepted.{Accepted};
+ghost use Rattle.question_laws.specs.FileLaws.{Taken-from};
+ghost use Rattle.questions.specs.Questions.{Inside, question-of};
+ghost use Rattle.ask.specs.Outcomes.{file-replies};
+use super::replies::seek_reply;
+use frame::Frame;
+use questions::file::QuestionAt;
+use questions::file::key_at;
+use questions::file::question_at;
+
+// The length of the key in the reply to a question. Only a seek's reply has one, so no other question is answered for it.
+fn key_length(image: &[u8], f: Frame, file: &[u8], question: QuestionAt) -> usize
+    requires { ⌜ Accepted (now image) f × Inside (now file) question ⌝ }
+    ensures { λ r. ⌜ (r ≡ length (reply (read-leaves (now (image .entry))) (question-of (now (file .entry)) question) .key)) × (r ≤ 64) ⌝ }
+{
+    match question {
+        QuestionAt::Seek(at, n) => {
+            let a = seek_reply(image, f, key_at(file, at, n));
+            a.n
+        }
+        QuestionAt::Point(_, _) => 0,
+        QuestionAt::Begins(_, _) => 0,
+        QuestionAt::Range(_, _, _, _) => 0,
+        QuestionAt::Count(_, _, _, _) => 0,
+    }
+}
+
+// The length of the replies to all questions of a file that is taken: eight bytes and a key for each.
+fn replies_length(image: &[u8], f: Frame, file: &[u8]) -> usize
+    requires { ⌜ Accepted (now image) f × Taken-from (now file) 0 ⌝ }
+    ensures { λ r. ⌜ r ≡ length (file-replies (now (image .entry)) (now (file .entry))) ⌝ }
+{
+    let mut at = 0usize;
+    let mut total = 0usize;
+    while at < file.len() {
+        let asked = question_at(file, at);
+        let question = asked.question;
+        total = total + 8 + key_length(image, f, file, question);
+        at = asked.next;
+    }
+    total
+}
+
+// Whether the replies to all questions of a file that is taken, count of them, fit into room bytes. No reply has more than 72 bytes, so their lengths are summed only where room is short.
+pub fn replies_fit(image: &[u8], f: Frame, file: &[u8], count: usize, room: usize) -> bool
+    requires { ⌜ Accepted (now image) f × Taken-from (now file) 0 × (count ≡ length (questions-of (now file))) ⌝ }
+    ensures { λ r. ⌜ r ≡ leb (length (file-replies (now (image .entry)) (now (file .entry)))) room ⌝ }
+{
+    if 72 * count <= room {
+        return true;
+    }
+    replies_length(image, f, file) <= room
+}
