@@ -7,7 +7,7 @@ use reference::image::{assemble, Header, DC, DL, DP, RC, RL, RP, RS, SB, SC, SL,
 use reference::keys;
 use reference::leaves::{lowest, Leaf};
 use reference::print::print;
-use reference::questions::{ask, NONE};
+use reference::questions::{self, NONE};
 use reference::random::built;
 use reference::rebuild::accepts;
 use reference::walk::{at, Stand};
@@ -159,6 +159,20 @@ fn check(image: &[u8]) -> u32 {
     #[cfg(feature = "check")]
     assert_eq!(reference::library::check(image), number);
     number
+}
+
+/// Asks the reference, and the library where it is linked; both answer alike and
+/// leave the same reply buffer.
+fn ask(image: &[u8], file: &[u8], replies: &mut [u8]) -> Answer {
+    #[cfg(feature = "ask")]
+    let mut again = replies.to_vec();
+    let answer = questions::ask(image, file, replies);
+    #[cfg(feature = "ask")]
+    {
+        assert_eq!(reference::library::ask(image, file, &mut again), answer);
+        assert_eq!(again, replies);
+    }
+    answer
 }
 
 /// Asserts the number that every call gives for an image that is turned down.

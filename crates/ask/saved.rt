@@ -1,0 +1,84 @@
+// The reply to a question by value, and the replies to all questions of a file in the reply buffer.
+ghost use mathlib.Core.Path.{_≡_};
+ghost use mathlib.Core.List.{_++_};
+ghost use Prim.Native.Nat.{_≤_};
+ghost use lib.ListN.{length, drop};
+ghost use Rattle.spec.specs.Nodes.{read-leaves};
+ghost use Rattle.spec.specs.Questions.{QS, reply};
+ghost use Rattle.navigate.specs.Accepted.{Accepted};
+ghost use Rattle.question_laws.specs.FileLaws.{Taken-from};
+ghost use Rattle.questions.specs.Questions.{Inside, question-of, Sized, reply-of};
+ghost use Rattle.ask.specs.Outcomes.{file-replies};
+use super::seek::seek;
+use frame::Frame;
+use query::point::point;
+use query::ranges::begins_with;
+use query::ranges::count;
+use query::ranges::range;
+use questions::file::QuestionAt;
+use questions::file::key_at;
+use questions::file::question_at;
+use questions::reply::Answered;
+use questions::reply::told;
+use questions::reply::write_answered;
+
+// The reply to a seek: the leaf's number and key, or none, FFFFFFFF without a key.
+pub fn seek_reply(image: &[u8], f: Frame, start: &[u8]) -> Answered
+    requires { ⌜ Accepted (now image) f × (length (now start) ≤ 64) ⌝ }
+    ensures { λ r. ⌜ Sized r × (reply-of r ≡ reply (read-leaves (now (image .entry))) (QS (now (start .entry)))) ⌝ }
+{
+    let s = seek(image, f, start);
+    if s.some == 0 {
+        return told(b'S', 0xFFFFFFFF);
+    }
+    let key = s.key;
+    Answered {
+        letter: b'S',
+        number: s.number,
+        key,
+        n: s.n,
+    }
+}
+
+// The reply to a question of the file.
+fn reply_to(image: &[u8], f: Frame, file: &[u8], question: QuestionAt) -> Answered
+    requires { ⌜ Accepted (now image) f × Inside (now file) question ⌝ }
+    ensures { λ r. ⌜ Sized r × (reply-of r ≡ reply (read-leaves (now (image .entry))) (question-of (now (file .entry)) question)) ⌝ }
+{
+    match question {
+        QuestionAt::Point(at, n) => {
+            let number = point(image, f, key_at(file, at, n));
+            told(b'P', number)
+        }
+        QuestionAt::Seek(at, n) => seek_reply(image, f, key_at(file, at, n)),
+        QuestionAt::Begins(at, n) => {
+            let number = begins_with(image, f, key_at(file, at, n));
+            told(b'B', number)
+        }
+        QuestionAt::Range(lo, n, hi, m) => {
+            let number = range(image, f, key_at(file, lo, n), key_at(file, hi, m));
+            told(b'R', number)
+        }
+        QuestionAt::Count(lo, n, hi, m) => {
+            let number = count(image, f, key_at(file, lo, n), key_at(file, hi, m));
+            told(b'C', number)
+        }
+    }
+}
+
+// The replies to all questions of a file that is taken go to the start of out, one behind the other, and all else stays; their length.
+pub fn write_replies(image: &[u8], f: Frame, file: &[u8], out: &mut [u8]) -> usize
+    requires { ⌜ Accepted (now image) f × Taken-from (now file) 0 × (length (file-replies (now image) (now file)) ≤ length (now out)) ⌝ }
+    ensures { λ r. ⌜ (r ≡ length (file-replies (now (image .entry)) (now (file .entry)))) × (now (out .exit) ≡ file-replies (now (image .entry)) (now (file .entry)) ++ drop r (now (out .entry))) ⌝ }
+{
+    let mut at = 0usize;
+    let mut to = 0usize;
+    while at < file.len() {
+        let asked = question_at(file, at);
+        let question = asked.question;
+        let a = reply_to(image, f, file, question);
+        to = write_answered(out, to, a);
+        at = asked.next;
+    }
+    to
+}
