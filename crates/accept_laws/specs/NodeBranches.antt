@@ -5,10 +5,10 @@ use mathlib.Core.Bool.{Bool, true, false, cond, _&&_}
 use native.Mathlib.Omega.{arith}
 use lib.ListN.{length, take}
 use lib.Dec.{leb, ltb, eqb}
-use borrow.Author.Tests.{leb-true, leb-false, ltb-true, ltb-false, le-leb, lt-leb}
+use borrow.Author.Tests.{leb-true, ltb-true, ltb-false, le-leb, lt-leb}
 use Rattle.spec.specs.Bytes.{Bytes, ones}
 use Rattle.bits.specs.Bits.{rank, select}
-use Rattle.bits.proofs.RankLaws.{rank-le, rank-up, rank-next}
+use Rattle.bits.proofs.RankLaws.{rank-le, rank-next}
 use Rattle.bits.proofs.SelectLaws.{select-is, select-le}
 use Rattle.accept_laws.specs.LevelEnds.{rise-ext, nodes-above-ext}
 use Rattle.accept_laws.specs.SparseNodes.{place-of}
@@ -51,17 +51,6 @@ module _ (n entries : ℕ) (dc sc sb : Bytes) (b : entries ≤ 8 * length sb) wh
       ap₂ (λ (t : Bool) (k : ℕ). t && eqb k m)
       (rise-ext (branches-to n (bits dc (256 * n)) (bits sc entries) (bits sb entries)) (node-branches n entries dc sc sb) N (λ e l. branches-are e) 63 1 h)
       (nodes-above-ext (branches-to n (bits dc (256 * n)) (bits sc entries) (bits sb entries)) (node-branches n entries dc sc sb) N (λ e l. branches-are e) levels)
-
--- a position before which stand at most m ones is not behind the select of m
-pub select-behind : (s : Bytes) (n m p : ℕ) → p ≤ n → rank s p ≤ m → p ≤ select s n m
-select-behind s n m p l h = go (leb p (select s n m)) refl
-  where
-    go : (b : Bool) → leb p (select s n m) ≡ b → p ≤ select s n m
-    go true e = leb-true p (select s n m) e
-    go false e =
-        let u = leb-false p (select s n m) e in
-        let f = select-is s n m in
-        absurd (omega (arith, f .2 (omega arith), rank-up s (select s n m + 1) p (omega arith)))
 
 -- as many ones stand before the select of m as are asked, if there are so many
 pub select-rank : (s : Bytes) (n m : ℕ) → m ≤ rank s n → rank s (select s n m) ≡ m

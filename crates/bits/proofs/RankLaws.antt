@@ -1,17 +1,16 @@
--- Rank: by one bit, by a byte and by the first bits of a word; it never falls, and never rises by more than the positions passed.
+-- Rank: by one bit and by the first bits of a word; it never falls, and never rises by more than the positions passed.
 use mathlib.Core.Path.{_≡_, refl, sym, ap, ap₂, _∙_}
-use mathlib.Core.List.{[], _∷_}
 use Prim.Native.Nat.{ℕ, zero, suc, _+_, _*_, _-_, _/_, _%_, _^_, _≤_, _<_}
 use native.Mathlib.Nat.{mod-lt, add-comm, zero-lt-suc, mod-one, one-mul, mod-eq-of-lt}
 use native.Mathlib.Numerals.{add-one}
 use native.Mathlib.Omega.{arith}
-use lib.ListN.{getD, drop}
+use lib.ListN.{drop}
 use lib.Count.{ones, ones-cat, ones-le}
 use lib.Dec.{lit<}
 use lib.Pow.{shl-exact, pow-pos, mod-pow-add, mod-mod-pow}
 use Rattle.spec.specs.Bytes.{Bytes}
 use Rattle.bits.specs.Bits.{bit-at, rank, value, word}
-use Rattle.bits.proofs.ValueLaws.{Small, value-bit, value-drop, value-byte, word-lt}
+use Rattle.bits.proofs.ValueLaws.{Small, value-bit, value-drop, word-lt}
 
 -- no ones stand before the first bit
 pub rank-zero : (s : Bytes) → rank s 0 ≡ 0
@@ -85,32 +84,6 @@ rank-word s h q j l =
 -- all bits of word q
 pub rank-whole-word : (s : Bytes) → Small s → (q : ℕ) → (rank s (64 * q + 64) ≡ rank s (64 * q) + ones (word s (q * 8))) × (ones (word s (q * 8)) ≤ 64)
 rank-whole-word s h q = rw (mod-eq-of-lt (word-lt s (q * 8))) at (rank-word s h q 64 (omega arith))
-
--- the eight bits of byte b
-pub rank-byte : (s : Bytes) → Small s → (b : ℕ) → (rank s (8 * b + 8) ≡ rank s (8 * b) + ones (getD s b 0)) × (ones (getD s b 0) ≤ 8)
-rank-byte s h b = (
-  rank-step s h (8 * b) 8 ∙ ap (λ (m : ℕ). rank s (8 * b) + ones m) (ap (λ (m : ℕ). m % 2 ^ 8) (value-drop b s h) ∙ value-byte b s h),
-  ones-le 8 (getD s b 0) (h b),
-)
-
--- the first bits of a byte, counted in the byte alone
-pub rank-in-byte : (s : Bytes) (b j : ℕ) → j ≤ 8 → rank s (8 * b + j) ≡ rank s (8 * b) + rank (getD s b 0 ∷ []) j
-unfolding rank
-rank-in-byte s b zero l = let e : 8 * b + 0 ≡ 8 * b = omega arith in rw e (omega arith)
-rank-in-byte s b (suc j) l =
-    let e : 8 * b + suc j ≡ suc (8 * b + j) = omega arith in
-    let d : (8 * b + j) / 8 ≡ b = omega arith in
-    let m : (8 * b + j) % 8 ≡ j = omega arith in
-    let d₀ : j / 8 ≡ 0 = omega arith in
-    let m₀ : j % 8 ≡ j = omega arith in
-    rw (e, d, m, d₀, m₀, rank-in-byte s b j (omega arith)) (omega arith)
-
--- a bit of a byte
-pub byte-bit : (x p : ℕ) → p < 8 → bit-at (x ∷ []) p ≡ x / 2 ^ p % 2
-byte-bit x p h =
-    let d : p / 8 ≡ 0 = omega arith in
-    let m : p % 8 ≡ p = omega arith in
-    rw (d, m)
 
 -- 1 shifted within a machine's w digits
 pub one-shl : (w j : ℕ) → j < w → (1 * 2 ^ j) % 2 ^ w ≡ 2 ^ j

@@ -1,15 +1,13 @@
--- Select by rank: what decides it, its order, and its position inside a byte.
-use mathlib.Core.Path.{_≡_, refl, sym, ap, _∙_}
+-- Select by rank: what decides it, and its order.
+use mathlib.Core.Path.{_≡_, refl, ap, _∙_}
 use mathlib.Core.Bool.{Bool, true, false, cond}
-use mathlib.Core.List.{[], _∷_}
-use Prim.Native.Nat.{ℕ, zero, suc, _+_, _-_, _*_, _≤_, _<_}
+use Prim.Native.Nat.{ℕ, zero, suc, _+_, _≤_, _<_, min}
 use native.Mathlib.Omega.{arith}
 use borrow.Author.Tests.{leb-true, lt-leb, le-leb, leb-false, ltb-true, ltb-false}
-use lib.ListN.{getD}
 use lib.Dec.{leb, ltb}
 use Rattle.spec.specs.Bytes.{Bytes}
 use Rattle.bits.specs.Bits.{rank, select}
-use Rattle.bits.proofs.RankLaws.{rank-zero, rank-up, rank-in-byte}
+use Rattle.bits.proofs.RankLaws.{rank-zero, rank-slow, rank-up}
 
 -- where at most m ones stand before n, it is n
 pub select-all : (s : Bytes) (n m : ℕ) → rank s n ≤ m → select s n m ≡ n
@@ -68,31 +66,36 @@ select-up s (suc n) lo hi h = go (leb (rank s (suc n)) lo) refl (leb (rank s (su
     go false p true q ih le = omega arith
     go false p false q ih le = ih
 
--- inside byte b, which starts at or before n, with r ones before it: at most m, and where the byte ends at or before n, more than m behind it
-module _ (s : Bytes) (n m b r j : ℕ) (low : r ≡ rank s (8 * b)) (few : r ≤ m) (more : 8 * b + 8 ≤ n → m < rank s (8 * b + 8)) (is : j ≡ select (getD s b 0 ∷ []) 8 (m - r)) where
-  -- n, where the byte's one stands at or behind n
-  pub select-byte-end : 8 * b ≤ n → n - 8 * b ≤ j → n ≡ select s n m
-  select-byte-end l h =
-      let f = select-is (getD s b 0 ∷ []) 8 (m - r) in
-      let t = rank-in-byte s b j (omega (arith, f .0)) in
-      sym (select-all s n m (omega (arith, t, rank-up s n (8 * b + j) (omega arith), ap (rank (getD s b 0 ∷ [])) is, f .1)))
+-- a position before which stand at most m ones is not behind it
+pub select-behind : (s : Bytes) (n m p : ℕ) → p ≤ n → rank s p ≤ m → p ≤ select s n m
+select-behind s n m p l h = go (leb p (select s n m)) refl
+  where
+    go : (b : Bool) → leb p (select s n m) ≡ b → p ≤ select s n m
+    go true e = leb-true p (select s n m) e
+    go false e =
+        let u = leb-false p (select s n m) e in
+        let f = select-is s n m in
+        absurd (omega (arith, f .2 (omega arith), rank-up s (select s n m + 1) p (omega arith)))
 
-  -- the byte's one
-  pub select-byte-here : j < n - 8 * b → 8 * b + j ≡ select s n m
-  select-byte-here h = sym (select-here s n m (8 * b + j) (omega arith) (omega (arith, here, ap (rank (getD s b 0 ∷ [])) is, f .1)) (go (ltb j 8) refl))
-    where
-      f : (select (getD s b 0 ∷ []) 8 (m - r) ≤ 8) × (rank (getD s b 0 ∷ []) (select (getD s b 0 ∷ []) 8 (m - r)) ≤ m - r)
-          × (select (getD s b 0 ∷ []) 8 (m - r) < 8 → m - r < rank (getD s b 0 ∷ []) (select (getD s b 0 ∷ []) 8 (m - r) + 1))
-      f = select-is (getD s b 0 ∷ []) 8 (m - r)
+-- one number m, where there is such a one, and the ones up to and with it
+pub select-found : (s : Bytes) (n m : ℕ) → m < rank s n → (select s n m < n) × (rank s (select s n m + 1) ≡ m + 1)
+select-found s n m h = go (ltb (select s n m) n) refl
+  where
+    f : (select s n m ≤ n) × (rank s (select s n m) ≤ m) × (select s n m < n → m < rank s (select s n m + 1))
+    f = select-is s n m
 
-      here : rank s (8 * b + j) ≡ rank s (8 * b) + rank (getD s b 0 ∷ []) j
-      here = rank-in-byte s b j (omega (arith, f .0))
+    go : (b : Bool) → ltb (select s n m) n ≡ b → (select s n m < n) × (rank s (select s n m + 1) ≡ m + 1)
+    go true e =
+        let l = ltb-true (select s n m) n e in
+        (l, omega (arith, f .1, f .2 l, rank-slow s (select s n m) (select s n m + 1) (omega arith) .1))
+    go false e =
+        let w : select s n m ≡ n = omega (arith, f .0, ltb-false (select s n m) n e) in
+        absurd (omega (arith, f .1, ap (rank s) w))
 
-      go : (t : Bool) → ltb j 8 ≡ t → m < rank s (8 * b + j + 1)
-      go true q =
-          let l : j < 8 = ltb-true j 8 q in
-          let e : 8 * b + j + 1 ≡ 8 * b + (j + 1) = omega arith in
-          rw e (omega (arith, rank-in-byte s b (j + 1) (omega arith), f .2 (omega arith), ap (λ (k : ℕ). rank (getD s b 0 ∷ []) (k + 1)) is))
-      go false q =
-          let e : j ≡ 8 = omega (arith, ltb-false j 8 q, f .0) in
-          absurd (omega (arith, more (omega arith), ap (λ (k : ℕ). rank s (8 * b + k)) e, here, ap (rank (getD s b 0 ∷ [])) is, f .1))
+-- by the position of one number m, which may lie behind n
+pub select-min : (s : Bytes) (n m p : ℕ) → rank s p ≤ m → m < rank s (p + 1) → min p n ≡ select s n m
+select-min s n m p l g = go (leb p n) refl
+  where
+    go : (b : Bool) → leb p n ≡ b → min p n ≡ select s n m
+    go true e = let h = leb-true p n e in let r = select-here s n m p h l g in omega arith
+    go false e = let h = leb-false p n e in let r = select-all s n m (omega (arith, rank-up s n p (omega arith))) in omega arith

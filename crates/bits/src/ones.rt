@@ -23,14 +23,6 @@ pub fn set_bit(out: &mut [u8], i: usize)
     out[b] = out[b] | (1u8 << (i % 8));
 }
 
-// The ones in byte b of s.
-pub fn ones_byte(s: &[u8], b: usize) -> usize
-    requires { ⌜ b < length (now s) ⌝ }
-    ensures { λ r. ⌜ (rank (now (s .entry)) (8 * b + 8) ≡ rank (now (s .entry)) (8 * b) + r) × (r ≤ 8) ⌝ }
-{
-    usize::count_ones(wide(s[b])) as usize
-}
-
 // The ones in word q of s, that is, in bits 64 q to 64 q + 63.
 pub fn ones_word(s: &[u8], q: usize) -> usize
     requires { ⌜ q * 8 ≤ length (now s) ⌝ }

@@ -1,87 +1,67 @@
-// The position of a one by its number: by 64-bit words, then by bytes, then inside a byte.
+// The position of a one by its number, and the next one from a position: by 64-bit words, then inside a word.
 ghost use mathlib.Core.Path.{_≡_};
-ghost use mathlib.Core.List.{[], _∷_};
-ghost use Prim.Native.Nat.{_+_, _*_, _≤_, _<_};
+ghost use Prim.Native.Nat.{_+_, _*_, _%_, _^_, _≤_, _<_, min};
 ghost use lib.ListN.{length};
+ghost use lib.Count.{ones};
 ghost use Rattle.bits.specs.Bits.{rank, select};
-use super::numbers::wide;
+use super::numbers::read_word;
 use super::ones::ones_before;
-use super::ones::ones_byte;
-use super::ones::ones_word;
 
-// The number of a word or a byte, and the ones that stand before it.
-pub struct Counted {
-    pub at: usize,
-    pub ones: usize,
+// The position of the lowest one of a word that is not zero.
+fn lowest_one(x: u64) -> usize
+    requires { ⌜ 0 < x ⌝ }
+    ensures { λ r. ⌜ (ones (x % 2 ^ r) ≡ 0) × (0 < ones (x % 2 ^ (r + 1))) × (2 ^ r ≤ x) × (r < 64) ⌝ }
+{
+    u64::trailing_zeros(x) as usize
 }
 
-// The position of one number m, from 0, in a byte, or 8 where there is no such one.
-pub fn select_in_byte(x: u8, m: usize) -> usize
-    ensures { λ r. ⌜ r ≡ select (x ∷ []) 8 m ⌝ }
+// The position of one number m, from 0, of a word that has more than m: the lowest one that is left when m are cleared from below.
+fn select_in_word(x: u64, m: usize) -> usize
+    requires { ⌜ m < ones x ⌝ }
+    ensures { λ r. ⌜ (ones (x % 2 ^ r) ≤ m) × (m < ones (x % 2 ^ (r + 1))) × (r < 64) ⌝ }
 {
-    let mut p = 0usize;
-    let mut left = m;
-    while p < 8 {
-        let b = (wide(x) >> p) % 2;
-        if left < b {
-            return p;
-        }
-        left = left - b;
-        p = p + 1;
+    let mut w = x;
+    let mut i = 0usize;
+    while i < m {
+        w = w & (w - 1);
+        i = i + 1;
     }
-    p
+    lowest_one(w)
 }
 
-// On from a word by whole words of the first n bits, while at most m ones are passed.
-fn skip_words(s: &[u8], n: usize, from: Counted, m: usize) -> Counted
-    requires { ⌜ (n ≤ 8 * length (now s)) × (64 * from .at ≤ n) × (from .ones ≡ rank (now s) (64 * from .at)) × (from .ones ≤ m) ⌝ }
-    ensures { λ r. ⌜ (64 * r .at ≤ n) × (r .ones ≡ rank (now (s .entry)) (64 * r .at)) × (r .ones ≤ m) ⌝ }
+// A position, or n where it lies behind n.
+fn at_most(p: usize, n: usize) -> usize
+    ensures { λ r. ⌜ r ≡ min p n ⌝ }
 {
-    let mut q = from.at;
-    let mut r = from.ones;
-    while q < n / 64 {
-        let w = ones_word(s, q);
-        if m - r < w {
-            return Counted { at: q, ones: r };
+    if n < p { n } else { p }
+}
+
+// The first one from word `from` on among the first n bits, or n where there is no such one.
+fn next_from(s: &[u8], n: usize, from: usize) -> usize
+    requires { ⌜ (n ≤ 8 * length (now s)) × (64 * from ≤ n + 64) ⌝ }
+    ensures { λ r. ⌜ r ≡ select (now (s .entry)) n (rank (now (s .entry)) (64 * from)) ⌝ }
+{
+    let mut q = from;
+    while q <= n / 64 {
+        let x = read_word(s, q);
+        if x != 0 {
+            return at_most(64 * q + lowest_one(x), n);
         }
-        r = r + w;
         q = q + 1;
     }
-    Counted { at: q, ones: r }
+    n
 }
 
-// On from a byte by whole bytes of the first n bits, while at most m ones are passed: to the byte that holds one number m, or the last begun one.
-fn skip_bytes(s: &[u8], n: usize, from: Counted, m: usize) -> Counted
-    requires { ⌜ (n ≤ 8 * length (now s)) × (8 * from .at ≤ n) × (from .ones ≡ rank (now s) (8 * from .at)) × (from .ones ≤ m) ⌝ }
-    ensures { λ r. ⌜ (8 * r .at ≤ n) × (r .ones ≡ rank (now (s .entry)) (8 * r .at)) × (r .ones ≤ m) × (8 * r .at + 8 ≤ n → m < rank (now (s .entry)) (8 * r .at + 8)) ⌝ }
+// The first one from position `from` on among the first n bits, or n where there is no such one.
+pub fn next_one(s: &[u8], n: usize, from: usize) -> usize
+    requires { ⌜ (n ≤ 8 * length (now s)) × (from ≤ n) ⌝ }
+    ensures { λ r. ⌜ (r ≡ select (now (s .entry)) n (rank (now (s .entry)) from)) × (from ≤ r) × (r ≤ n) ⌝ }
 {
-    let mut b = from.at;
-    let mut r = from.ones;
-    while b < n / 8 {
-        let w = ones_byte(s, b);
-        if m - r < w {
-            return Counted { at: b, ones: r };
-        }
-        r = r + w;
-        b = b + 1;
+    let x = read_word(s, from / 64) >> (from % 64);
+    if x != 0 {
+        return at_most(from + lowest_one(x), n);
     }
-    Counted { at: b, ones: r }
-}
-
-// The position of one number m in the byte that holds it, or n.
-fn select_at_byte(s: &[u8], n: usize, from: Counted, m: usize) -> usize
-    requires { ⌜ (n ≤ 8 * length (now s)) × (8 * from .at ≤ n) × (from .ones ≡ rank (now s) (8 * from .at)) × (from .ones ≤ m) × (8 * from .at + 8 ≤ n → m < rank (now s) (8 * from .at + 8)) ⌝ }
-    ensures { λ r. ⌜ r ≡ select (now (s .entry)) n m ⌝ }
-{
-    let b = from.at;
-    if n <= 8 * b {
-        return n;
-    }
-    let j = select_in_byte(s[b], m - from.ones);
-    if n - 8 * b <= j {
-        return n;
-    }
-    8 * b + j
+    next_from(s, n, from / 64 + 1)
 }
 
 // The position of one number m, from 0, among the first n bits, or n where there is no such one; from a position at or before it, with the ones before that.
@@ -89,17 +69,16 @@ pub fn select_from(s: &[u8], n: usize, from: usize, before: usize, m: usize) -> 
     requires { ⌜ (n ≤ 8 * length (now s)) × (from ≤ n) × (before ≡ rank (now s) from) × (before ≤ m) ⌝ }
     ensures { λ r. ⌜ (r ≡ select (now (s .entry)) n m) × (r ≤ n) ⌝ }
 {
-    let q = from / 64;
-    let r = before - ones_before(s, q, from % 64);
-    let w = skip_words(s, n, Counted { at: q, ones: r }, m);
-    let b = skip_bytes(
-        s,
-        n,
-        Counted {
-            at: 8 * w.at,
-            ones: w.ones,
-        },
-        m,
-    );
-    select_at_byte(s, n, b, m)
+    let mut q = from / 64;
+    let mut r = before - ones_before(s, q, from % 64);
+    while q <= n / 64 {
+        let x = read_word(s, q);
+        let w = u64::count_ones(x) as usize;
+        if m - r < w {
+            return at_most(64 * q + select_in_word(x, m - r), n);
+        }
+        r = r + w;
+        q = q + 1;
+    }
+    n
 }

@@ -1,60 +1,112 @@
-use mathlib.Core.Path.{_≡_, ap}
-use Prim.Native.Nat.{_+_, _*_, _/_, _%_}
+use mathlib.Core.Path.{_≡_, sym, ap, _∙_}
+use Prim.Native.Nat.{_+_, _*_, _-_, _/_, _%_, _≤_}
 use native.Mathlib.Omega.{arith}
-use Rattle.bits.specs.Bits.{rank}
-use Rattle.bits.proofs.SelectLaws.{select-le}
 use borrow.Author.Needs.{needs}
+use lib.Count.{ones, ones-le}
+use Rattle.bits.specs.Bits.{rank}
+use Rattle.bits.proofs.ValueLaws.{Small}
+use Rattle.bits.proofs.RankLaws.{rank-up, rank-whole-word}
+use Rattle.bits.proofs.SelectLaws.{select-all}
+use Rattle.bits.proofs.WordLaws.{select-word}
 use Rattle.bits.proofs.select.select_from.Statement.{statement}
 use Rattle.bits.proofs.select.select_from.Tie as tie
 
--- src/select.rt:91:22
-ones-before-requires : tie.Need-ones-before-requires
+abbrev Inv-loop : tie.InvT-loop
+Inv-loop s n from before m q₀ r₀ q r = (q ≤ n / 64 + 1) × (r ≡ rank s (64 * q)) × (r ≤ m)
+
+abbrev μ-loop : tie.MeasureT-loop
+μ-loop s n from before m q₀ r₀ q r = n / 64 + 1 - q
+
+ones-before-requires : tie.Need-ones-before-requires Inv-loop μ-loop
 ones-before-requires c κs = search needs
 
--- src/select.rt:91:13
-sub-r : tie.Need-sub-r
+sub-r : tie.Need-sub-r Inv-loop μ-loop
 sub-r c =
     let a = c .before .before .args in
     let e : 64 * (a .from / 64) + a .from % 64 ≡ a .from = omega arith in
     omega (arith, ap (rank (a .s .now)) e)
 
--- src/select.rt:92:9
-skip-words-requires : tie.Need-skip-words-requires
-skip-words-requires c κs =
+loop-holds : tie.Need-loop-holds Inv-loop μ-loop
+loop-holds c =
     let a = c .before .before .args in
     let e : 64 * (a .from / 64) + a .from % 64 ≡ a .from = omega arith in
-    (omega arith, omega arith, omega (arith, ap (rank (a .s .now)) e), omega arith)
+    (omega arith, omega (arith, ap (rank (a .s .now)) e), omega arith)
 
--- src/select.rt:93:44
-mul-t10 : tie.Need-mul-t10
-mul-t10 c = search needs
+read-word-requires : tie.Need-read-word-requires Inv-loop μ-loop
+read-word-requires c κs = search needs
 
--- src/select.rt:93:9
-skip-bytes-requires : tie.Need-skip-bytes-requires
-skip-bytes-requires c κs =
-    let a = c .before .before .before .before .args in
-    let w = c .before .skip-words .result .at in
-    let e : 64 * w ≡ 8 * (8 * w) = omega arith in
-    (omega arith, omega arith, omega (arith, ap (rank (a .s .now)) e), omega arith)
+cast-w : tie.Need-cast-w Inv-loop μ-loop
+cast-w c = omega (arith, ones-le 64 (c .read-word .result) (omega arith))
 
--- src/select.rt:94:5
-select-at-byte-requires : tie.Need-select-at-byte-requires
-select-at-byte-requires c κs = search needs
+sub-if1 : tie.Need-sub-if1 Inv-loop μ-loop
+sub-if1 c = search needs
 
--- src/select.rt:86:1
-returns : tie.Need-returns
+mul-at-most : tie.Need-mul-at-most Inv-loop μ-loop
+mul-at-most c = search needs
+
+sub-select-in-word : tie.Need-sub-select-in-word Inv-loop μ-loop
+sub-select-in-word c = search needs
+
+select-in-word-requires : tie.Need-select-in-word-requires Inv-loop μ-loop
+select-in-word-requires c κs = search needs
+
+add-at-most : tie.Need-add-at-most Inv-loop μ-loop
+add-at-most c = search needs
+
+at-most-requires : tie.Need-at-most-requires Inv-loop μ-loop
+at-most-requires c κs = search needs
+
+returns : tie.Need-returns Inv-loop μ-loop
 returns c =
+    let a = c .before .before .before .before .before .before .before .before .args in
+    let q = c .before .before .before .before .before .loop .q in
+    let t = c .before .select-in-word in
+    let word = c .before .before .before .read-word in
+    let small : Small (a .s .now) = λ i. c .before .before .before .before .before .before .before .shared-slice-known .given i .fits in
+    (c .at-most .ensures ∙ select-word (a .s .now) small q 0 (64 * q) (word .result) (omega arith) (omega (arith, word .ensures)) (a .n) (a .m) (t .result) (omega arith) (omega arith) (omega arith), omega arith)
+
+add-r : tie.Need-add-r Inv-loop μ-loop
+add-r c = search needs
+
+add-q : tie.Need-add-q Inv-loop μ-loop
+add-q c = search needs
+
+loop-less : tie.Need-loop-less Inv-loop μ-loop
+loop-less c = search needs
+
+loop-again : tie.Need-loop-again Inv-loop μ-loop
+loop-again c =
     let a = c .before .before .before .before .before .before .args in
-    (c .select-at-byte .ensures, omega (arith, select-le (a .s .now) (a .n) (a .m)))
+    let q = c .before .before .before .loop .q in
+    let small : Small (a .s .now) = λ i. c .before .before .before .before .before .shared-slice-known .given i .fits in
+    let e : 64 * q + 64 ≡ 64 * (q + 1) = omega arith in
+    (omega arith, omega (arith, ap (rank (a .s .now)) e, rank-whole-word (a .s .now) small q .0, ap ones (c .before .read-word .ensures)), omega arith)
+
+returns-2 : tie.Need-returns-2 Inv-loop μ-loop
+returns-2 c =
+    let a = c .before .before .before .before .args in
+    (sym (select-all (a .s .now) (a .n) (a .m) (omega (arith, rank-up (a .s .now) (a .n) (64 * c .before .loop .q) (omega arith)))), omega arith)
 
 pub select-from-spec : {M : Type 1} → statement M
 select-from-spec =
     tie.close
     (tie.spec
+    Inv-loop
+    μ-loop
     ones-before-requires
     sub-r
-    skip-words-requires
-    mul-t10
-    skip-bytes-requires
-    select-at-byte-requires
-    returns)
+    loop-holds
+    read-word-requires
+    cast-w
+    sub-if1
+    mul-at-most
+    sub-select-in-word
+    select-in-word-requires
+    add-at-most
+    at-most-requires
+    returns
+    add-r
+    add-q
+    loop-less
+    loop-again
+    returns-2)

@@ -2,7 +2,8 @@ use mathlib.Core.Path.{_≡_, refl, sym, ap, _∙_}
 use Prim.Native.Nat.{_+_, _*_, _/_, _%_}
 use native.Mathlib.Omega.{arith}
 use Rattle.bits.specs.Bits.{rank}
-use Rattle.accept_laws.specs.NodeBranches.{select-behind, select-rank, rank-word-start}
+use Rattle.accept_laws.specs.NodeBranches.{select-rank, rank-word-start}
+use Rattle.bits.proofs.SelectLaws.{select-behind}
 use borrow.Author.Needs.{needs}
 use Rattle.trie_check.proofs.levels.to_place.Statement.{statement}
 use Rattle.trie_check.proofs.levels.to_place.Tie as tie
