@@ -50,14 +50,6 @@ module _ (s : Bytes) (f : Frame) (a : Accepted s f) where
         go true e = let r = some-there (ltb-true (place s f m y) (length (branches s f m)) e) in absurd (omega arith)
         go false e = kind-end (branches s f m) (place s f m y) (ltb-false (place s f m y) (length (branches s f m)) e)
 
-    -- it is one of the node's bits
-    pub dense-from : p < 256 * m + 256 → 256 * m ≤ p
-    dense-from k = go (ltb (place s f m y) (length (branches s f m))) refl
-      where
-        go : (b : Bool) → ltb (place s f m y) (length (branches s f m)) ≡ b → 256 * m ≤ p
-        go true e = omega (arith, some-there (ltb-true (place s f m y) (length (branches s f m)) e) .0)
-        go false e = absurd (omega (arith, none-there (ltb-false (place s f m y) (length (branches s f m)) e)))
-
     -- the next one is a branch
     pub dense-some : p < 256 * m + 256 → (c : ℕ) → c ≡ bit-at (drop (f .dc) s) p → Next-branch s f m y (1 + c) (p - 256 * m) p
     dense-some k c e = go (ltb (place s f m y) (length (branches s f m))) refl

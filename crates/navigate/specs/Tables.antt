@@ -1,5 +1,5 @@
 -- What an accepted image's tables give: ranks by blocks, and every 64th start of a sparse node.
-use Prim.Native.Nat.{ℕ, _-_, _*_, _<_, _≤_}
+use Prim.Native.Nat.{ℕ, _+_, _-_, _*_, _<_, _≤_}
 use mathlib.Core.Path.{_≡_, sym, ap, _∙_}
 use mathlib.Core.List.{map}
 use native.Mathlib.Omega.{arith}
@@ -7,7 +7,8 @@ use lib.ListN.{length, take, drop, length-drop, length-map}
 use lib.Seq.{take-all}
 use Rattle.spec.specs.Bytes.{Bytes, Bits, concat, ones}
 use Rattle.spec.specs.Nodes.{is-exact}
-use Rattle.bits.specs.Bits.{rank}
+use Rattle.bits.specs.Bits.{rank, select}
+use Rattle.bits.proofs.SelectLaws.{select-found}
 use Rattle.frame.specs.declared.Frame.{Frame}
 use Rattle.query_laws.specs.Stored.{bits-room, bits-all, Rank-entry, ranks-64, ranks-512, Sample, samples-at}
 use Rattle.navigate.specs.Accepted.{Accepted, dense-nodes, sparse-nodes}
@@ -85,3 +86,10 @@ module _ (s : Bytes) (f : Frame) (a : Accepted s f) where
         ap (rank (drop (f .sb) s)) (sym l) ∙ bits-all bs (drop (f .sb) s) h ∙ n,
         λ t k. rw l at (samples-at bs (drop (f .sb) s) (drop (f .ts) s) h (a .TS .1) (omega arith) t (omega arith)),
       )
+
+  -- a sparse node starts before the end of the entries, and as many starts stand up to and with its own as before the next node
+  pub start-found : (m p : ℕ) → f .dense ≤ m → m < f .dense + f .sparse → p ≡ select (drop (f .sb) s) (f .entries) (m - f .dense)
+      → (p < f .entries) × (rank (drop (f .sb) s) (p + 1) ≡ m + 1 - f .dense)
+  start-found m p l h e =
+      let r = select-found (drop (f .sb) s) (f .entries) (m - f .dense) (omega (arith, starts-sampled .1)) in
+      (omega (arith, r .0), ap (λ (n : ℕ). rank (drop (f .sb) s) (n + 1)) e ∙ r .1 ∙ omega arith)

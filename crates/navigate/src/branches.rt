@@ -19,7 +19,7 @@ use bits::NodeNum;
 use bits::ValuePos;
 use bits::numbers::wide;
 use bits::ones::bit_at;
-use bits::select::select_from;
+use bits::select::next_one;
 use frame::Frame;
 
 // The node behind a continuing branch: one more than the continuing branches before it.
@@ -148,8 +148,7 @@ fn next_dense(image: &[u8], f: Frame, m: NodeNum, y: usize) -> NextBranch
     let end = first + 256;
     let dl = f.dl;
     let dc = f.dc;
-    let before = label_rank(image, f, BitPos(from));
-    let p = select_from(&image[dl..], end, from, before, before);
+    let p = next_one(&image[dl..], end, from);
     if p >= end {
         return NextBranch {
             kind: 0,

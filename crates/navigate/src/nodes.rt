@@ -13,6 +13,7 @@ use super::ranks::child_rank;
 use super::ranks::entry_rank;
 use super::ranks::exact_rank;
 use super::ranks::label_rank;
+use super::ranks::next_start;
 use super::ranks::node_start;
 use bits::BitPos;
 use bits::NodeNum;
@@ -80,7 +81,7 @@ pub fn entries_of(image: &[u8], f: Frame, m: NodeNum) -> Entries
         × (r .end ≡ r .first + length (branches (now (image .entry)) f (m .0))) × (r .end ≤ f .entries) ⌝ }
 {
     let start = node_start(image, f, m);
-    let end = node_start(image, f, NodeNum(m.0 + 1));
+    let end = next_start(image, f, start);
     let a = start.0;
     let e = end.0;
     let i = f.sl + a;

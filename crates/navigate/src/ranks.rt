@@ -9,6 +9,7 @@ use bits::BitPos;
 use bits::NodeNum;
 use bits::numbers::read32;
 use bits::ones::rank_from;
+use bits::select::next_one;
 use bits::select::select_from;
 use frame::Frame;
 
@@ -105,4 +106,13 @@ pub fn node_start(image: &[u8], f: Frame, m: NodeNum) -> BitPos
         f.sparse,
         m.0 - f.dense,
     ))
+}
+
+// The first start of a sparse node behind an entry, or the end of the entries where there is no such one.
+pub fn next_start(image: &[u8], f: Frame, at: BitPos) -> BitPos
+    requires { ⌜ Accepted (now image) f × (at .0 < f .entries) ⌝ }
+    ensures { λ r. ⌜ (r .0 ≡ select (drop (f .sb) (now (image .entry))) (f .entries) (rank (drop (f .sb) (now (image .entry))) (at .0 + 1))) × (r .0 ≤ f .entries) ⌝ }
+{
+    let sb = f.sb;
+    BitPos(next_one(&image[sb..], f.entries, at.0 + 1))
 }
