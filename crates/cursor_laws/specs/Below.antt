@@ -37,13 +37,11 @@ own-slot (node o es) = o
 
 -- the leaves at or below node m, l levels left
 unfoldable pub below : List Node → ℕ → ℕ → Group
-unfolding behind-branches child-number exact-leaf
 below ns zero m = []
 below ns (suc l) m = exact-leaf (own-slot (node-at ns m)) ++ behind-branches (below ns l) (branches-of (node-at ns m)) (child-number ns m 0)
 
 -- the leaves behind the branches of node m whose labels are not below y, l levels left below the node
 unfoldable pub from-label : List Node → ℕ → ℕ → ℕ → Group
-unfolding behind-branches below labels-below child-number
 from-label ns l m y = behind-branches (below ns l) (drop (labels-below y (branches-of (node-at ns m))) (branches-of (node-at ns m))) (child-number ns m (labels-below y (branches-of (node-at ns m))))
 
 -- Node m stands at place `index` of the first of some linked levels, at most l of them, behind the nodes `before`.
@@ -130,7 +128,7 @@ pub below-step : (ns : List Node) (l m : ℕ) → below ns (suc l) m ≡ exact-l
 unfolding below from-label
 below-step ns l m = rw (zero-below (branches-of (node-at ns m)))
 
-module _ (w : ℕ) (ns : List Node) (wide : All (Slots-width w) ns) (l m y kind label : ℕ)
+module _ (ns : List Node) (l m y kind : ℕ)
     (is : kind ≡ first-kind (drop (labels-below y (branches-of (node-at ns m))) (branches-of (node-at ns m)))) where
   -- no branch from the label y on
   pub from-none : kind ≡ 0 → from-label ns l m y ≡ []
@@ -142,7 +140,7 @@ module _ (w : ℕ) (ns : List Node) (wide : All (Slots-width w) ns) (l m y kind 
       go (to-leaf x s ∷ fs) e = absurd (omega arith)
       go (to-node x ∷ fs) e = absurd (omega arith)
 
-  module _ (up : Ascends (branches-of (node-at ns m))) (named : label ≡ first-label (drop (labels-below y (branches-of (node-at ns m))) (branches-of (node-at ns m)))) where
+  module _ (label : ℕ) (up : Ascends (branches-of (node-at ns m))) (named : label ≡ first-label (drop (labels-below y (branches-of (node-at ns m))) (branches-of (node-at ns m)))) where
     -- what comes behind the first branch
     behind-first : (e : Branch) (rest : List Branch) → drop (labels-below y (branches-of (node-at ns m))) (branches-of (node-at ns m)) ≡ e ∷ rest
         → behind-branches (below ns l) rest (child-number ns m (labels-below y (branches-of (node-at ns m))) + bit (has-child e)) ≡ from-label ns l m (label + 1)
@@ -155,9 +153,9 @@ module _ (w : ℕ) (ns : List Node) (wide : All (Slots-width w) ns) (l m y kind 
         sym (rw p (ap₂ (behind-branches (below ns l)) (drop-next (branches-of (node-at ns m)) (labels-below y (branches-of (node-at ns m))) e rest d) (omega (arith, c))))
 
     -- the first branch from y on ends at an open leaf
-    pub from-leaf : kind ≡ 1 → from-label ns l m y ≡ record { cut = label ∷ []; exact = false; suffix = slot-of w ns (slot-number ns m (labels-below y (branches-of (node-at ns m)))) } ∷ from-label ns l m (label + 1)
+    pub from-leaf : (w : ℕ) → All (Slots-width w) ns → kind ≡ 1 → from-label ns l m y ≡ record { cut = label ∷ []; exact = false; suffix = slot-of w ns (slot-number ns m (labels-below y (branches-of (node-at ns m)))) } ∷ from-label ns l m (label + 1)
     unfolding from-label behind-branches first-kind first-label
-    from-leaf h = go (drop (labels-below y (branches-of (node-at ns m))) (branches-of (node-at ns m))) refl (sym is ∙ h) named
+    from-leaf w wide h = go (drop (labels-below y (branches-of (node-at ns m))) (branches-of (node-at ns m))) refl (sym is ∙ h) named
       where
         go : (fs : List Branch) → drop (labels-below y (branches-of (node-at ns m))) (branches-of (node-at ns m)) ≡ fs → first-kind fs ≡ 1 → label ≡ first-label fs
             → behind-branches (below ns l) fs (child-number ns m (labels-below y (branches-of (node-at ns m))))
@@ -299,7 +297,7 @@ behind-groups f (to-node x ∷ es) (g ∷ gs) c h n =
 
 -- The leaves at or below a node of a level are its group.
 below-group : (ls : List (List Node)) (l : ℕ) (all pre : List Node) (m : ℕ) → length ls ≤ l → Linked ls → Stands all pre ls → m < first-width ls → below all l (length pre + m) ≡ getD (groups ls) m []
-unfolding below groups
+unfolding below groups children
 below-group [] l all pre m f n s h = absurd (omega arith)
 below-group (ns ∷ ls) zero all pre m f n s h = absurd (omega arith)
 below-group (ns ∷ ls) (suc l) all pre m f n s h =
