@@ -143,3 +143,32 @@ module _ (ns : List Node) (path : List ℕ) (cut : Bytes) (d x kind : ℕ) (room
 pub onward-first : (ns : List Node) (path : List ℕ) (cut : Bytes) (d x y : ℕ) → labels-below x (branches-of (node-at ns (getD path d 0))) ≡ labels-below y (branches-of (node-at ns (getD path d 0))) → onward ns path cut d y ≡ onward ns path cut d x
 unfolding onward from-label
 onward-first ns path cut d x y e = rw e
+
+-- ---- the leaf where a path ends
+
+module _ (w : ℕ) (ns : List Node) (path : List ℕ) (cut : Bytes) (d v : ℕ) where
+  -- none
+  pub standing-none : standing w ns path cut d 0 v ≡ []
+  unfolding standing
+  standing-none = refl
+
+  -- an exact leaf: behind it come its node's branches
+  pub standing-exact : standing w ns path cut d 1 v ≡ record { cut = take d cut; exact = true; suffix = exact-slot (node-at ns (getD path d 0)) } ∷ onward ns path cut d 0
+  unfolding standing
+  standing-exact = refl
+
+  -- an open leaf: behind it come the higher labels of its node
+  pub standing-open : 0 < d → standing w ns path cut d 2 v ≡ record { cut = take d cut; exact = false; suffix = slot-of w ns v } ∷ onward ns path cut (d - 1) (getD cut (d - 1) 0 + 1)
+  unfolding standing
+  standing-open h = ap (λ (g : List Leaf). record { cut = take d cut; exact = false; suffix = slot-of w ns v } ∷ g) (rest-up ns path cut d h)
+
+-- ---- from the root
+
+behind-nothing : (g : Group) → map (behind []) g ≡ g
+behind-nothing [] = refl
+behind-nothing (l ∷ g) = ap (λ (h : Group). l ∷ h) (behind-nothing g)
+
+-- from the root on, nothing is before and nothing above
+pub onward-root : (ns : List Node) (path : List ℕ) (cut : Bytes) (y : ℕ) → onward ns path cut 0 y ≡ from-label ns 63 (getD path 0 0) y
+unfolding onward rest
+onward-root ns path cut y = append-nil (map (behind []) (from-label ns 63 (getD path 0 0) y)) ∙ behind-nothing (from-label ns 63 (getD path 0 0) y)

@@ -13,7 +13,7 @@ use bits::ones::bit_at;
 use frame::Frame;
 
 // Bit i of a slot; behind its last bit, the filling.
-fn slot_bit(image: &[u8], f: Frame, slot: ValuePos, i: usize, ones: bool) -> usize
+pub fn slot_bit(image: &[u8], f: Frame, slot: ValuePos, i: usize, ones: bool) -> usize
     requires { ⌜ Accepted (now image) f × (slot .0 < f .leaves) ⌝ }
     ensures { λ r. ⌜ (r ≡ bit (getD (slot-of (f .width) (nodes (now (image .entry)) f) (slot .0)) i ones)) × (r ≤ 1) ⌝ }
 {

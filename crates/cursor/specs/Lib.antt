@@ -1,0 +1,4 @@
+pub mod Ends
+pub mod Stands
+pub mod Steps
+pub mod Places
