@@ -19,7 +19,7 @@ use Rattle.cursor_laws.specs.Below.{level-branch, Root, trie-root}
 use Rattle.cursor_laws.specs.Paths.{onward, standing, On-levels, standing-none, standing-exact, standing-open, onward-root}
 use Rattle.cursor_laws.specs.SuffixNumber.{number-zero}
 use Rattle.cursor.specs.declared.Cursor.{Cursor}
-use Rattle.cursor.specs.Ends.{Branch-with, Ends}
+use Rattle.cursor.specs.Ends.{Branch-with}
 use Rattle.cursor.specs.Stands.{Stands}
 use Rattle.cursor.specs.Steps.{node-in, turn-found}
 use Rattle.theory.specs.Lists.{all-at}

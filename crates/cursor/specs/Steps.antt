@@ -1,27 +1,26 @@
 -- The steps of a path in an accepted image: up to the next branch, down behind a branch, and from leaf to leaf.
-use Prim.Native.Nat.{ℕ, zero, suc, _+_, _-_, _<_, _≤_}
+use Prim.Native.Nat.{ℕ, suc, _+_, _-_, _<_}
 use mathlib.Core.Path.{_≡_, refl, sym, ap, _∙_}
 use mathlib.Core.Bool.{Bool, true, false}
-use mathlib.Core.List.{List, [], _++_, map}
-use mathlib.Core.Logic.{_⊎_, inl, inr, ⊎-elim}
+use mathlib.Core.List.{List, []}
 use native.Mathlib.Omega.{arith}
-use lib.ListN.{length, getD, drop, set, length-append}
+use lib.ListN.{length, getD, set, length-append}
 use lib.Seq.{getD-set-same, getD-set-other}
 use lib.Dec.{ltb}
 use borrow.Author.Tests.{ltb-true, ltb-false}
 use Rattle.spec.specs.Bytes.{Bytes, bit}
-use Rattle.spec.specs.Nodes.{Node, branches-of, is-exact, label-of}
+use Rattle.spec.specs.Nodes.{is-exact}
 use Rattle.frame.specs.declared.Frame.{Frame}
 use Rattle.query_laws.specs.Counting.{labels-below}
 use Rattle.query_laws.specs.Slots.{node-at}
 use Rattle.query_laws.specs.Descent.{child-number}
-use Rattle.query_laws.specs.NextLabel.{first-kind, first-label, kind-end, label-first, own-place}
+use Rattle.query_laws.specs.NextLabel.{kind-end, label-first, own-place}
 use Rattle.query.specs.Seeking.{kind-slot}
 use Rattle.navigate.specs.Accepted.{Accepted, nodes, dense-nodes, sparse-nodes}
 use Rattle.navigate.specs.Positions.{branches, place, child-at, slot-at}
 use Rattle.navigate.specs.NextBranch.{Next-branch}
 use Rattle.cursor_laws.specs.Below.{On-level, level-left, level-node, level-rising, level-branch, level-child}
-use Rattle.cursor_laws.specs.Paths.{rest, onward, standing, On-levels, rest-up, rest-none, onward-none, onward-leaf, onward-exact, onward-plain, onward-first}
+use Rattle.cursor_laws.specs.Paths.{onward, standing, On-levels, rest-up, rest-none, onward-none, onward-leaf, onward-exact, onward-plain, onward-first}
 use Rattle.cursor.specs.Ends.{Branch-with, Ends}
 
 -- a node on its level is one of the image's nodes
@@ -70,13 +69,13 @@ module _ (s : Bytes) (f : Frame) (a : Accepted s f) (path : List ℕ) (cut : Byt
   leaf-taken v e h =
       let u = e ∙ b .there there .2 .slot-is in (
         onward-leaf (nodes s f) path cut d label kind (omega arith) (b .kind-is) (level-rising (nodes s f) (64 - d) (getD path d 0) up) (b .there there .0) (f .width) (a .writable .wide) h
-        ∙ ap (standing (f .width) (nodes s f) path (set cut d label) (d + 1) 2) (sym u),
+            ∙ ap (standing (f .width) (nodes s f) path (set cut d label) (d + 1) 2) (sym u),
         record {
           kind-range = omega arith;
           depth = omega arith;
           exact-end = λ q. absurd (omega arith);
           open-end = λ q. let z : d + 1 - 1 ≡ d = omega arith in
-          (omega arith, omega (arith, u, kind-slot (nodes s f) (getD path d 0) (place s f (getD path d 0) label) kind (b .kind-is) h, a .writable .leaf-total), rw z on);
+              (omega arith, omega (arith, u, kind-slot (nodes s f) (getD path d 0) (place s f (getD path d 0) label) kind (b .kind-is) h, a .writable .leaf-total), rw z on);
         },
       )
 

@@ -2,7 +2,7 @@
 ghost use mathlib.Core.Path.{_≡_};
 ghost use mathlib.Core.Option.{some};
 ghost use Prim.Native.Nat.{_+_, _<_};
-ghost use lib.ListN.{length, getElem?};
+ghost use lib.ListN.{getElem?};
 ghost use Rattle.spec.specs.Bytes.{low-bits};
 ghost use Rattle.spec.specs.Nodes.{read-leaves};
 ghost use Rattle.query_laws.specs.Slots.{slot-of};

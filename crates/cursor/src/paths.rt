@@ -23,7 +23,14 @@ pub struct Turn {
 }
 
 // The first branch that has not been passed: of the path's node at `depth`, with a label not below `from`; or else of the nodes above it, the deepest first, behind the label taken.
-pub fn climb(image: &[u8], f: Frame, path: &[usize; 64], cut: &[u8; 64], depth: usize, from: usize) -> Turn
+pub fn climb(
+    image: &[u8],
+    f: Frame,
+    path: &[usize; 64],
+    cut: &[u8; 64],
+    depth: usize,
+    from: usize,
+) -> Turn
     requires { ⌜ Accepted (now image) f × (depth < 64) × (from ≤ 256) × On-levels (nodes (now image) f) (now path) depth ⌝ }
     ensures { λ r. ⌜ (r .depth ≤ depth)
         × (r .branch .kind ≡ 0 → onward (nodes (now (image .entry)) f) (now (path .entry)) (now (cut .entry)) depth from ≡ [])
@@ -60,7 +67,14 @@ pub struct End {
 }
 
 // The first leaf behind a branch of the path's node at `depth`; the nodes and the labels on the way to it are added to the path.
-pub fn descend(image: &[u8], f: Frame, path: &mut [usize; 64], cut: &mut [u8; 64], depth: usize, branch: NextBranch) -> End
+pub fn descend(
+    image: &[u8],
+    f: Frame,
+    path: &mut [usize; 64],
+    cut: &mut [u8; 64],
+    depth: usize,
+    branch: NextBranch,
+) -> End
     requires { ⌜ Accepted (now image) f × (depth < 64) × (length (now path) ≡ 64) × (length (now cut) ≡ 64) × On-levels (nodes (now image) f) (now path) depth
         × (branch .kind ≡ 0 → ⊥) × Branch-with (now image) f (getD (now path) depth 0) (branch .kind) (branch .label) (branch .at .0) ⌝ }
     ensures { λ r. ⌜ (onward (nodes (now (image .entry)) f) (now (path .entry)) (now (cut .entry)) depth (branch .label) ≡ standing (f .width) (nodes (now (image .entry)) f) (now (path .exit)) (now (cut .exit)) (r .depth) (r .kind) (r .slot .0))

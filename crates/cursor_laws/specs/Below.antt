@@ -1,17 +1,17 @@
 -- The leaves at or below a node of an image, by node numbers: behind its branches from a label on, in key order.
-use Prim.Native.Nat.{ℕ, zero, suc, _+_, _-_, _<_, _≤_}
+use Prim.Native.Nat.{ℕ, zero, suc, _+_, _<_, _≤_}
 use mathlib.Core.Path.{_≡_, refl, sym, ap, ap₂, _∙_}
 use mathlib.Core.Bool.{Bool, true, false, true≢false}
 use mathlib.Core.List.{List, [], _∷_, _++_, map}
 use mathlib.Core.Option.{Option, none, some}
 use native.Mathlib.Omega.{arith}
 use lib.ListN.{length, getD, take, drop, length-append, length-drop}
-use lib.Seq.{getD-drop, drop-drop}
+use lib.Seq.{getD-drop}
 use lib.Dec.{leb}
 use borrow.Author.Tests.{leb-true, leb-false, le-leb, lt-leb}
 use Rattle.spec.specs.Bytes.{Bits, bit, concat}
 use Rattle.spec.specs.Leaves.{Leaf}
-use Rattle.spec.specs.Nodes.{Group, Branch, to-node, to-leaf, Node, node, label-of, has-child, branches-of, is-exact, exact-slot, prefix, branch-leaves, children, exact-leaf, level-groups, groups, total, children-of}
+use Rattle.spec.specs.Nodes.{Group, Branch, to-node, to-leaf, Node, node, label-of, has-child, branches-of, prefix, branch-leaves, children, exact-leaf, level-groups, groups, total, children-of}
 use Rattle.query_laws.specs.Counting.{labels-below}
 use Rattle.query_laws.specs.Slots.{node-at, slot-number, slot-of, slot-is}
 use Rattle.query_laws.specs.Descent.{child-number, Stands, stands-next, group-at, kids-at, fit-at, node-is, children-upto}

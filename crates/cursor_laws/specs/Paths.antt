@@ -1,14 +1,14 @@
 -- A path from the root, node by node with the label taken at each: the leaves behind it, and how it goes on to the next leaf.
 use Prim.Native.Nat.{ℕ, zero, suc, _+_, _-_, _<_, _≤_}
 use mathlib.Core.Path.{_≡_, refl, sym, ap, ap₂, _∙_}
-use mathlib.Core.Bool.{Bool, true, false}
+use mathlib.Core.Bool.{true, false}
 use mathlib.Core.List.{List, [], _∷_, _++_, map, map-append, map-map, append-assoc, append-nil}
-use mathlib.Core.Option.{Option, none, some}
+use mathlib.Core.Option.{none, some}
 use native.Mathlib.Omega.{arith}
 use native.Mathlib.Numerals.{add-one}
-use lib.ListN.{length, getD, take, drop, set, length-set}
+use lib.ListN.{length, getD, take, drop, set}
 use lib.Seq.{take-set-le, take-suc-set, getD-set-same, getD-set-other}
-use Rattle.spec.specs.Bytes.{Bytes, Bits, bit}
+use Rattle.spec.specs.Bytes.{Bytes, bit}
 use Rattle.spec.specs.Leaves.{Leaf}
 use Rattle.spec.specs.Nodes.{Group, Node, node, branches-of, is-exact, exact-slot, prefix, exact-leaf}
 use Rattle.query_laws.specs.Counting.{labels-below}

@@ -1,31 +1,23 @@
-use Prim.Native.Nat.{ℕ}
 use native.Mathlib.Omega.{arith}
-use mathlib.Core.Path.{refl, sym, _∙_}
+use mathlib.Core.Path.{refl, _∙_}
 use lib.ListN.{replicate}
 use Rattle.cursor.specs.Ends.{ends-none}
 use Rattle.cursor.specs.Places.{empty-place, root-in, root-on, root-branch, root-taken, root-leaves}
 use Rattle.cursor.proofs.first.Statement.{statement}
 use Rattle.cursor.proofs.first.Tie as tie
-use Rattle.cursor.proofs.first.Reads as reads
-use Rattle.cursor.proofs.first.Lts as lts
-use Rattle.cursor.proofs.paths.descend.Reads as descend-reads
-use Rattle.navigate.proofs.branches.next_branch.Reads as next-branch-reads
 
--- src/lib.rt:43:9
 returns : tie.Need-returns
 returns c =
     let a = c .before .before .before .args in
     let p = c .before .before .before .pre in
     (record { within = omega arith; ends = ends-none (a .image .now) (a .f) (replicate 64 0); leaves-are = empty-place (a .image .now) (a .f) p (c .if1 .taken) (replicate 64 0) (replicate 64 0) }, refl)
 
--- src/lib.rt:52:9
 next-branch-requires : tie.Need-next-branch-requires
 next-branch-requires c κs =
     let a = c .before .before .before .args in
     let p = c .before .before .before .pre in
     (p, root-in (a .image .now) (a .f) p (c .if1 .left), omega arith)
 
--- src/lib.rt:53:9
 descend-requires : tie.Need-descend-requires
 descend-requires c κs =
     let a = c .before .before .before .before .before .before .args in
@@ -33,7 +25,6 @@ descend-requires c κs =
     let n = c .before .before .next-branch in
     (p, omega arith, refl, refl, root-on (a .image .now) (a .f) p (c .before .before .before .if1 .left) (replicate 64 0) (replicate 64 0) refl (n .result .kind) (n .result .label) (n .result .at .0) (n .ensures), root-branch (a .image .now) (a .f) p (c .before .before .before .if1 .left) (replicate 64 0) (replicate 64 0) refl (n .result .kind) (n .result .label) (n .result .at .0) (n .ensures), root-taken (a .image .now) (a .f) p (c .before .before .before .if1 .left) (replicate 64 0) (replicate 64 0) refl (n .result .kind) (n .result .label) (n .result .at .0) (n .ensures))
 
--- src/lib.rt:36:1
 returns-2 : tie.Need-returns-2
 returns-2 c =
     let a = c .before .before .before .before .before .before .before .before .args in

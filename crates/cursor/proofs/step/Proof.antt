@@ -1,5 +1,4 @@
 use borrow.Author.Needs.{needs}
-use Prim.Native.Nat.{ℕ, _+_}
 use native.Mathlib.Omega.{arith}
 use mathlib.Core.Path.{_≡_, refl, sym, _∙_}
 use mathlib.Core.Logic.{⊎-elim}
@@ -10,11 +9,6 @@ use Rattle.cursor.specs.Ends.{ends-none}
 use Rattle.cursor.specs.Places.{Resumes, resumes-open, resumes-exact}
 use Rattle.cursor.proofs.step.Statement.{statement}
 use Rattle.cursor.proofs.step.Tie as tie
-use Rattle.cursor.proofs.step.Reads as reads
-use Rattle.cursor.proofs.step.Lts as lts
-use Rattle.bits.proofs.numbers.wide.Reads as wide-reads
-use Rattle.cursor.proofs.paths.climb.Reads as climb-reads
-use Rattle.cursor.proofs.paths.descend.Reads as descend-reads
 
 -- the arrays of the cursor have 64 elements
 nodes-length : (c : tie.Start) → length (c .args .c .nodes) ≡ 64
@@ -31,33 +25,26 @@ resumed c =
     ⊎-elim (λ w. resumes-open (a .image .now) (a .f) (p .0) (a .c) (p .1) (p .2) (w .0 .taken) (c .if1 .depth) (c .if1 .from) (w .1 .result) (w .2) (w .1 .ensures .0) (w .1 .ensures .1) (w .3))
     (λ w. resumes-exact (a .image .now) (a .f) (p .0) (a .c) (p .1) (p .2) (w .0 .left) (c .if1 .depth) (c .if1 .from) (w .1) (w .2)) (c .if1 .came)
 
--- src/lib.rt:75:17
 sub-depth : tie.Need-sub-depth
 sub-depth c = omega (arith, c .before .before .before .before .before .pre .1 .ends .open-end (c .if1 .taken) .0)
 
--- src/lib.rt:76:21
 array-read-wide : tie.Need-array-read-wide
 array-read-wide c = search needs
 
--- src/lib.rt:76:16
 wide-requires : tie.Need-wide-requires
 wide-requires c κs = search needs
 
--- src/lib.rt:76:16
 add-from : tie.Need-add-from
 add-from c = search needs
 
--- src/lib.rt:78:9
 climb-requires : tie.Need-climb-requires
 climb-requires c κs =
     let r = resumed (c .before .before) in
     (c .before .before .before .before .before .before .before .pre .0, r .deep, r .label-range, r .on)
 
--- src/lib.rt:87:20
 add-t22 : tie.Need-add-t22
 add-t22 c = search needs
 
--- src/lib.rt:81:9
 returns : tie.Need-returns
 returns c =
     let a = c .before .before .before .before .before .before .before .before .before .before .before .before .args in
@@ -65,18 +52,15 @@ returns c =
     let r = resumed (c .before .before .before .before .before .before .before) in
     (record { within = omega (arith, p .2); ends = ends-none (a .image .now) (a .f) (a .c .nodes); leaves-are = r .leaves-are ∙ c .before .before .before .before .climb .ensures .1 (c .before .if2 .taken) ∙ sym (standing-none (a .f .width) (nodes (a .image .now) (a .f)) (a .c .nodes) (a .c .cut) 0 0) }, refl)
 
--- src/lib.rt:90:9
 descend-requires : tie.Need-descend-requires
 descend-requires c κs =
     let r = resumed (c .before .before .before .before .before .before .before .before) in
     let t = c .before .before .before .before .before .climb in
     (c .before .before .before .before .before .before .before .before .before .before .before .before .before .pre .0, omega (arith, t .ensures .0, r .deep), nodes-length (c .before .before .before .before .before .before .before .before .before .before .before .before .before), cut-length (c .before .before .before .before .before .before .before .before .before .before .before .before .before), λ i h. r .on i (omega (arith, t .ensures .0)), c .before .before .if2 .left, t .ensures .2 (c .before .before .if2 .left) .1)
 
--- src/lib.rt:98:16
 add-t27 : tie.Need-add-t27
 add-t27 c = omega (arith, c .before .before .before .before .before .before .before .before .before .before .before .before .before .before .before .before .pre .2, c .before .before .before .before .before .before .before .before .before .before .before .before .before .before .before .before .pre .0 .writable .few)
 
--- src/lib.rt:66:1
 returns-2 : tie.Need-returns-2
 returns-2 c =
     let p = c .before .before .before .before .before .before .before .before .before .before .before .before .before .before .before .before .pre in

@@ -1,17 +1,13 @@
 use borrow.Author.Needs.{needs}
-use Prim.Native.Nat.{ℕ, _+_, _-_, _<_, _≤_}
+use Prim.Native.Nat.{ℕ, _+_, _-_, _≤_}
 use native.Mathlib.Omega.{arith}
 use mathlib.Core.Path.{_≡_, refl, sym, ap, _∙_}
-use lib.ListN.{length, getD}
+use lib.ListN.{getD}
 use Rattle.navigate.specs.Accepted.{nodes}
 use Rattle.cursor_laws.specs.Paths.{onward}
 use Rattle.cursor.specs.Steps.{node-in, turn-found, turn-none, turn-up}
 use Rattle.cursor.proofs.paths.climb.Statement.{statement}
 use Rattle.cursor.proofs.paths.climb.Tie as tie
-use Rattle.cursor.proofs.paths.climb.Reads as reads
-use Rattle.cursor.proofs.paths.climb.Lts as lts
-use Rattle.bits.proofs.numbers.wide.Reads as wide-reads
-use Rattle.navigate.proofs.branches.next_branch.Reads as next-branch-reads
 
 abbrev Inv-loop : tie.InvT-loop
 Inv-loop image f path cut depth from d₀ y₀ d y = (d ≤ depth) × (y ≤ 256) × (onward (nodes image f) path cut depth from ≡ onward (nodes image f) path cut d y)
@@ -19,19 +15,15 @@ Inv-loop image f path cut depth from d₀ y₀ d y = (d ≤ depth) × (y ≤ 256
 abbrev μ-loop : tie.MeasureT-loop
 μ-loop image f path cut depth from d₀ y₀ d y = d
 
--- src/paths.rt:35:5
 loop-holds : tie.Need-loop-holds Inv-loop μ-loop
 loop-holds c = (omega arith, omega arith, refl)
 
--- src/paths.rt:36:17
 mul-m : tie.Need-mul-m Inv-loop μ-loop
 mul-m c = search needs
 
--- src/paths.rt:36:17
 element-copy-out-m : tie.Need-element-copy-out-m Inv-loop μ-loop
 element-copy-out-m c = search needs
 
--- src/paths.rt:37:13
 next-branch-requires : tie.Need-next-branch-requires Inv-loop μ-loop
 next-branch-requires c κs =
     let a = c .before .before .before .args in
@@ -39,7 +31,6 @@ next-branch-requires c κs =
     let p = c .before .before .before .pre in
     (p .0, node-in (a .image .now) (a .f) (p .0) (64 - l .d) (getD (a .path .now) (l .d) 0) (p .3 (l .d) (l .inv .0)), l .inv .1)
 
--- src/paths.rt:39:13
 returns : tie.Need-returns Inv-loop μ-loop
 returns c =
     let a = c .before .before .before .before .before .before .args in
@@ -48,7 +39,6 @@ returns c =
     let n = c .before .before .next-branch in
     (l .inv .0, λ e. absurd (c .if1 .taken e), λ e. let t = turn-found (a .image .now) (a .f) (a .path .now) (a .cut .now) (l .d) (l .y) (n .result .kind) (n .result .label) (n .result .at .0) (n .ensures) (64 - l .d) (p .3 (l .d) (l .inv .0)) e in (l .inv .2 ∙ t .0, t .1))
 
--- src/paths.rt:45:13
 returns-2 : tie.Need-returns-2 Inv-loop μ-loop
 returns-2 c =
     let a = c .before .before .before .before .before .before .before .args in
@@ -56,36 +46,32 @@ returns-2 c =
     let n = c .before .before .before .next-branch in
     (l .inv .0, λ e. l .inv .2 ∙ turn-none (a .image .now) (a .f) (a .path .now) (a .cut .now) (l .d) (l .y) (n .result .kind) (n .result .label) (n .result .at .0) (n .ensures) e (c .if2 .taken), λ e. absurd (e (c .before .if1 .left)))
 
--- src/paths.rt:50:13
 sub-d : tie.Need-sub-d Inv-loop μ-loop
 sub-d c = search needs
 
--- src/paths.rt:51:18
 element-copy-out-wide : tie.Need-element-copy-out-wide Inv-loop μ-loop
 element-copy-out-wide c = search needs
 
--- src/paths.rt:51:13
 wide-requires : tie.Need-wide-requires Inv-loop μ-loop
 wide-requires c κs = search needs
 
--- src/paths.rt:51:13
 add-y : tie.Need-add-y Inv-loop μ-loop
 add-y c = search needs
 
--- src/paths.rt:35:5
 loop-less : tie.Need-loop-less Inv-loop μ-loop
 loop-less c = search needs
 
--- src/paths.rt:35:5
 loop-again : tie.Need-loop-again Inv-loop μ-loop
 loop-again c =
     let a = c .before .before .before .before .before .before .before .before .before .args in
     let l = c .before .before .before .before .before .before .before .loop in
     let n = c .before .before .before .before .before .next-branch in
-    let w = c .wide .ensures in
-    (omega (arith, l .inv .0), omega (arith, w .1),
-    l .inv .2 ∙ turn-up (a .image .now) (a .f) (a .path .now) (a .cut .now) (l .d) (l .y) (n .result .kind) (n .result .label) (n .result .at .0) (n .ensures) (c .before .before .before .if1 .left) (c .before .before .if2 .left)
-    ∙ ap (λ (x : ℕ). onward (nodes (a .image .now) (a .f)) (a .path .now) (a .cut .now) (l .d - 1) (x + 1)) (sym (w .0)))
+    let w = c .wide .ensures in (
+      omega (arith, l .inv .0),
+      omega (arith, w .1),
+      l .inv .2 ∙ turn-up (a .image .now) (a .f) (a .path .now) (a .cut .now) (l .d) (l .y) (n .result .kind) (n .result .label) (n .result .at .0) (n .ensures) (c .before .before .before .if1 .left) (c .before .before .if2 .left)
+          ∙ ap (λ (x : ℕ). onward (nodes (a .image .now) (a .f)) (a .path .now) (a .cut .now) (l .d - 1) (x + 1)) (sym (w .0)),
+    )
 
 pub climb-spec : {M : Type 1} → statement M
 climb-spec =

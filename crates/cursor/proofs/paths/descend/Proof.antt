@@ -1,20 +1,14 @@
 use borrow.Author.Needs.{needs}
-use Prim.Native.Nat.{ℕ, _+_, _-_, _<_, _≤_}
+use Prim.Native.Nat.{_+_, _-_, _<_}
 use native.Mathlib.Omega.{arith}
-use mathlib.Core.Path.{_≡_, refl, sym, ap, _∙_}
-use lib.ListN.{length, getD, set, length-set}
+use mathlib.Core.Path.{_≡_, refl, sym, _∙_}
+use lib.ListN.{length, getD, length-set}
 use Rattle.navigate.specs.Accepted.{nodes}
 use Rattle.cursor_laws.specs.Paths.{onward, On-levels}
 use Rattle.cursor.specs.Ends.{Branch-with}
 use Rattle.cursor.specs.Steps.{node-in, leaf-taken, child-on, child-deep, path-on, exact-taken, plain-taken}
 use Rattle.cursor.proofs.paths.descend.Statement.{statement}
 use Rattle.cursor.proofs.paths.descend.Tie as tie
-use Rattle.cursor.proofs.paths.descend.Reads as reads
-use Rattle.cursor.proofs.paths.descend.Lts as lts
-use Rattle.navigate.proofs.branches.child.Reads as child-reads
-use Rattle.navigate.proofs.branches.next_branch.Reads as next-branch-reads
-use Rattle.navigate.proofs.branches.slot.Reads as slot-reads
-use Rattle.navigate.proofs.nodes.exact.Reads as exact-reads
 
 abbrev Inv-loop : tie.InvT-loop
 Inv-loop image f path₀ cut₀ depth d₀ b₀ path cut d b =
@@ -24,45 +18,36 @@ Inv-loop image f path₀ cut₀ depth d₀ b₀ path cut d b =
 abbrev μ-loop : tie.MeasureT-loop
 μ-loop image f path₀ cut₀ depth d₀ b₀ path cut d b = 64 - d
 
--- src/paths.rt:71:5
 loop-holds : tie.Need-loop-holds Inv-loop μ-loop
 loop-holds c =
     let p = c .before .pre in
     (p .1, p .2, p .3, p .4, p .5, p .6, refl)
 
--- src/paths.rt:72:17
 mul-m : tie.Need-mul-m Inv-loop μ-loop
 mul-m c = search needs
 
--- src/paths.rt:72:17
 element-copy-out-m : tie.Need-element-copy-out-m Inv-loop μ-loop
 element-copy-out-m c = search needs
 
--- src/paths.rt:73:17
 child-requires : tie.Need-child-requires Inv-loop μ-loop
 child-requires c κs =
     let l = c .before .before .before .loop in
     (c .before .before .before .before .before .pre .0, l .inv .5 .there (l .inv .4) .2 .within)
 
--- src/paths.rt:74:18
 cast-cut : tie.Need-cast-cut Inv-loop μ-loop
 cast-cut c =
     let l = c .before .before .before .before .before .loop in
     omega (arith, l .inv .5 .there (l .inv .4) .1)
 
--- src/paths.rt:74:9
 element-write-cut : tie.Need-element-write-cut Inv-loop μ-loop
 element-write-cut c = c .before .before .before .before .before .loop .inv .0
 
--- src/paths.rt:75:13
 add-d : tie.Need-add-d Inv-loop μ-loop
 add-d c = search needs
 
--- src/paths.rt:76:9
 mul-path : tie.Need-mul-path Inv-loop μ-loop
 mul-path c = search needs
 
--- src/paths.rt:76:9
 element-write-path : tie.Need-element-write-path Inv-loop μ-loop
 element-write-path c =
     let a = c .before .before .before .before .before .before .before .args in
@@ -71,7 +56,6 @@ element-write-path c =
     let ch = c .before .child in
     child-deep (a .image .now) (a .f) (p .0) (l .path) (l .cut) (l .d) (l .b .kind) (l .b .label) (l .b .at .0) (l .inv .0) (l .inv .1) (l .inv .2) (l .inv .3) (l .inv .5) (l .inv .4) (ch .result .0) (ch .ensures) (c .before .before .before .if1 .taken)
 
--- src/paths.rt:77:12
 exact-requires : tie.Need-exact-requires Inv-loop μ-loop
 exact-requires c κs =
     let a = c .before .before .before .before .before .before .before .args in
@@ -80,7 +64,6 @@ exact-requires c κs =
     let ch = c .before .child in
     (p .0, node-in (a .image .now) (a .f) (p .0) (64 - (l .d + 1)) (ch .result .0) (child-on (a .image .now) (a .f) (p .0) (l .path) (l .cut) (l .d) (l .b .kind) (l .b .label) (l .b .at .0) (l .inv .0) (l .inv .1) (l .inv .2) (l .inv .3) (l .inv .5) (l .inv .4) (ch .result .0) (ch .ensures) (c .before .before .before .if1 .taken)))
 
--- src/paths.rt:78:13
 returns : tie.Need-returns Inv-loop μ-loop
 returns c =
     let a = c .before .before .before .before .before .before .before .before .before .args in
@@ -90,7 +73,6 @@ returns c =
     let t = exact-taken (a .image .now) (a .f) (p .0) (l .path) (l .cut) (l .d) (l .b .kind) (l .b .label) (l .b .at .0) (l .inv .0) (l .inv .1) (l .inv .2) (l .inv .3) (l .inv .5) (l .inv .4) (ch .result .0) (ch .ensures) (c .before .before .before .before .before .if1 .taken) 0 (sym (c .if2 .taken) ∙ c .before .exact .ensures) in
     (l .inv .6 ∙ t .0, t .1)
 
--- src/paths.rt:84:9
 next-branch-requires : tie.Need-next-branch-requires Inv-loop μ-loop
 next-branch-requires c κs =
     let a = c .before .before .before .before .before .before .before .before .before .args in
@@ -99,11 +81,9 @@ next-branch-requires c κs =
     let ch = c .before .before .before .child in
     (p .0, node-in (a .image .now) (a .f) (p .0) (64 - (l .d + 1)) (ch .result .0) (child-on (a .image .now) (a .f) (p .0) (l .path) (l .cut) (l .d) (l .b .kind) (l .b .label) (l .b .at .0) (l .inv .0) (l .inv .1) (l .inv .2) (l .inv .3) (l .inv .5) (l .inv .4) (ch .result .0) (ch .ensures) (c .before .before .before .before .before .if1 .taken)), omega arith)
 
--- src/paths.rt:71:5
 loop-less : tie.Need-loop-less Inv-loop μ-loop
 loop-less c = search needs
 
--- src/paths.rt:71:5
 loop-again : tie.Need-loop-again Inv-loop μ-loop
 loop-again c =
     let a = c .before .before .before .before .before .before .before .before .before .before .args in
@@ -114,35 +94,28 @@ loop-again c =
     let t = plain-taken (a .image .now) (a .f) (p .0) (l .path) (l .cut) (l .d) (l .b .kind) (l .b .label) (l .b .at .0) (l .inv .0) (l .inv .1) (l .inv .2) (l .inv .3) (l .inv .5) (l .inv .4) (ch .result .0) (ch .ensures) (c .before .before .before .before .before .before .if1 .taken) (n .result .kind) (n .result .label) (n .result .at .0) (λ e. c .before .if2 .left (c .before .before .exact .ensures ∙ sym e)) (n .ensures) in
     (child-deep (a .image .now) (a .f) (p .0) (l .path) (l .cut) (l .d) (l .b .kind) (l .b .label) (l .b .at .0) (l .inv .0) (l .inv .1) (l .inv .2) (l .inv .3) (l .inv .5) (l .inv .4) (ch .result .0) (ch .ensures) (c .before .before .before .before .before .before .if1 .taken), length-set (l .path) (l .d + 1) (ch .result .0) ∙ l .inv .1, length-set (l .cut) (l .d) (l .b .label) ∙ l .inv .2, path-on (a .image .now) (a .f) (p .0) (l .path) (l .cut) (l .d) (l .b .kind) (l .b .label) (l .b .at .0) (l .inv .0) (l .inv .1) (l .inv .2) (l .inv .3) (l .inv .5) (l .inv .4) (ch .result .0) (ch .ensures) (c .before .before .before .before .before .before .if1 .taken), t .0, t .1, l .inv .6 ∙ t .2)
 
--- src/paths.rt:86:13
 mul-m-2 : tie.Need-mul-m-2 Inv-loop μ-loop
 mul-m-2 c = search needs
 
--- src/paths.rt:86:13
 element-copy-out-m-2 : tie.Need-element-copy-out-m-2 Inv-loop μ-loop
 element-copy-out-m-2 c = search needs
 
--- src/paths.rt:87:14
 cast-cut-2 : tie.Need-cast-cut-2 Inv-loop μ-loop
 cast-cut-2 c =
     let l = c .before .before .before .before .loop in
     omega (arith, l .inv .5 .there (l .inv .4) .1)
 
--- src/paths.rt:87:5
 element-write-cut-2 : tie.Need-element-write-cut-2 Inv-loop μ-loop
 element-write-cut-2 c = c .before .before .before .before .loop .inv .0
 
--- src/paths.rt:90:15
 slot-requires : tie.Need-slot-requires Inv-loop μ-loop
 slot-requires c κs =
     let l = c .before .before .before .before .loop in
     (c .before .before .before .before .before .before .pre .0, l .inv .5 .there (l .inv .4) .2 .within)
 
--- src/paths.rt:91:16
 add-t25 : tie.Need-add-t25 Inv-loop μ-loop
 add-t25 c = search needs
 
--- src/paths.rt:63:1
 returns-2 : tie.Need-returns-2 Inv-loop μ-loop
 returns-2 c =
     let a = c .before .before .before .before .before .before .before .args in
