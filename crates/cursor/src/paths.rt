@@ -42,13 +42,7 @@ pub fn climb(
     loop {
         let m = path[d];
         let branch = next_branch(image, f, NodeNum(m), y);
-        if branch.kind != 0 {
-            return Turn {
-                depth: d,
-                branch: branch,
-            };
-        }
-        if d == 0 {
+        if branch.kind != 0 || d == 0 {
             return Turn {
                 depth: d,
                 branch: branch,

@@ -1,21 +1,23 @@
 -- The leaves at or below a node of an image, by node numbers: behind its branches from a label on, in key order.
 use Prim.Native.Nat.{ℕ, zero, suc, _+_, _<_, _≤_}
 use mathlib.Core.Path.{_≡_, refl, sym, ap, ap₂, _∙_}
-use mathlib.Core.Bool.{Bool, true, false, true≢false}
+use mathlib.Core.Bool.{Bool, true, false}
 use mathlib.Core.List.{List, [], _∷_, _++_, map}
 use mathlib.Core.Option.{Option, none, some}
 use native.Mathlib.Omega.{arith}
 use lib.ListN.{length, getD, take, drop, length-append, length-drop}
 use lib.Seq.{getD-drop}
 use lib.Dec.{leb}
-use borrow.Author.Tests.{leb-true, leb-false, le-leb, lt-leb}
+use borrow.Author.Tests.{leb-true, leb-false}
 use Rattle.spec.specs.Bytes.{Bits, bit, concat}
 use Rattle.spec.specs.Leaves.{Leaf}
 use Rattle.spec.specs.Nodes.{Group, Branch, to-node, to-leaf, Node, node, label-of, has-child, branches-of, prefix, branch-leaves, children, exact-leaf, level-groups, groups, total, children-of}
 use Rattle.query_laws.specs.Counting.{labels-below}
 use Rattle.query_laws.specs.Slots.{node-at, slot-number, slot-of, slot-is}
-use Rattle.query_laws.specs.Descent.{child-number, Stands, stands-next, group-at, kids-at, fit-at, node-is, children-upto}
+use Rattle.query_laws.specs.Descent.{child-number, Stands, stands-next, group-at, kids-at, fit-at, node-is}
 use Rattle.query_laws.specs.NextLabel.{first-kind, first-label}
+use Rattle.seek_laws.specs.Next.{low-none, below-low, below-high, children-split, the-node, child-is}
+use Rattle.seek_laws.specs.Seeks.{zero-below}
 use Rattle.theory.specs.Words.{All}
 use Rattle.theory.specs.LeafLists.{Realizable, All-well-sized}
 use Rattle.theory.specs.LinkedLevels.{Below-label, Ascends, Labelled, Linked, levels-back, first-width}
@@ -57,36 +59,6 @@ pub record On-level (ns : List Node) (l m : ℕ) : Type 0 where
 
 -- ---- labels in a node's branches
 
-zero-below : (es : List Branch) → labels-below 0 es ≡ 0
-unfolding labels-below
-zero-below [] = refl
-zero-below (e ∷ es) = go (leb 0 (label-of e)) (le-leb 0 (label-of e) (omega arith))
-  where
-    go : (b : Bool) → b ≡ true → _≡_ {A = ℕ} (elim b [ true ↦ 0 | false ↦ suc (labels-below 0 es) ]) 0
-    go true h = refl
-    go false h = absurd (true≢false (sym h))
-
-label-high : (y : ℕ) (e : Branch) (es : List Branch) → y ≤ label-of e → labels-below y (e ∷ es) ≡ 0
-unfolding labels-below
-label-high y e es h = go (leb y (label-of e)) (le-leb y (label-of e) h)
-  where
-    go : (b : Bool) → b ≡ true → _≡_ {A = ℕ} (elim b [ true ↦ 0 | false ↦ suc (labels-below y es) ]) 0
-    go true h = refl
-    go false h = absurd (true≢false (sym h))
-
-label-low : (y : ℕ) (e : Branch) (es : List Branch) → label-of e < y → labels-below y (e ∷ es) ≡ suc (labels-below y es)
-unfolding labels-below
-label-low y e es h = go (leb y (label-of e)) (lt-leb y (label-of e) h)
-  where
-    go : (b : Bool) → b ≡ false → elim b [ true ↦ 0 | false ↦ suc (labels-below y es) ] ≡ suc (labels-below y es)
-    go true h = absurd (true≢false h)
-    go false h = refl
-
-none-lower : (x : ℕ) (es : List Branch) → Below-label x es → labels-below (suc x) es ≡ 0
-unfolding labels-below
-none-lower x [] r = refl
-none-lower x (e ∷ es) r = label-high (suc x) e es (omega arith)
-
 -- where a label is below y, the first one is
 first-lower : (y x : ℕ) (es : List Branch) → 0 < labels-below y es → Below-label x es → suc x < y
 unfolding labels-below
@@ -94,17 +66,17 @@ first-lower y x [] h r = absurd (omega arith)
 first-lower y x (e ∷ es) h r = go (leb y (label-of e)) refl
   where
     go : (b : Bool) → leb y (label-of e) ≡ b → suc x < y
-    go true q = absurd (omega (arith, label-high y e es (leb-true y (label-of e) q)))
+    go true q = absurd (omega (arith, below-high y (label-of e) e es refl (leb-true y (label-of e) q)))
     go false q = omega (arith, leb-false y (label-of e) q)
 
 -- Behind the branch with label x come the labels that are not below x + 1.
 next-label : (es : List Branch) (i : ℕ) (e : Branch) (rest : List Branch) → Ascends es → drop i es ≡ e ∷ rest → labels-below (suc (label-of e)) es ≡ suc i
 next-label [] zero e rest r d = let z : _≡_ {A = ℕ} 0 1 = cc in absurd (omega arith)
 next-label [] (suc i) e rest r d = let z : _≡_ {A = ℕ} 0 1 = cc in absurd (omega arith)
-next-label (b ∷ es) zero e rest r d = let q : b ≡ e = cc in rw (← q) (label-low (suc (label-of b)) b es (omega arith) ∙ ap suc (none-lower (label-of b) es (r .0)))
+next-label (b ∷ es) zero e rest r d = let q : b ≡ e = cc in rw (← q) (below-low (suc (label-of b)) (label-of b) b es refl (omega arith) ∙ ap suc (low-none (label-of b) es (r .0)))
 next-label (b ∷ es) (suc i) e rest r d =
     let h = next-label es i e rest (r .1) d in
-    label-low (suc (label-of e)) b es (omega (arith, first-lower (suc (label-of e)) (label-of b) es (omega arith) (r .0))) ∙ ap suc h
+    below-low (suc (label-of e)) (label-of b) b es refl (omega (arith, first-lower (suc (label-of e)) (label-of b) es (omega arith) (r .0))) ∙ ap suc h
 
 drop-next : (es : List Branch) (i : ℕ) (e : Branch) (rest : List Branch) → drop i es ≡ e ∷ rest → drop (suc i) es ≡ rest
 drop-next [] zero e rest d = let z : _≡_ {A = ℕ} 0 1 = cc in absurd (omega arith)
@@ -184,13 +156,6 @@ module _ (ns : List Node) (l m y kind : ℕ)
 
 -- ---- nodes on their levels
 
-children-split : (i : ℕ) (es : List Branch) → children (take i es) + children (drop i es) ≡ children es
-unfolding children
-children-split zero es = omega arith
-children-split (suc i) [] = refl
-children-split (suc i) (to-leaf x s ∷ es) = children-split i es
-children-split (suc i) (to-node x ∷ es) = omega (arith, children-split i es)
-
 child-there : (fs : List Branch) → (first-kind fs ≡ 0 → ⊥) → (first-kind fs ≡ 1 → ⊥) → 0 < children fs
 unfolding first-kind children
 child-there [] e n = absurd (e refl)
@@ -207,30 +172,19 @@ labelled-rising : (n : Node) → Labelled n → Ascends (branches-of n)
 labelled-rising (node o []) f = tt
 labelled-rising (node o (e ∷ es)) f = f
 
--- one node of a level: its number among all, and those of its children
-module _ (all pre ns : List Node) (ls : List (List Node)) (n : Linked (ns ∷ ls)) (s : Stands all pre (ns ∷ ls)) (m : ℕ) (o : Option Bits) (es : List Branch) (rest : List Node) (d : drop m ns ≡ node o es ∷ rest) where
-  in-level : m < length ns
-  in-level = omega (arith, length-drop m ns, ap length d)
-
-  the-node : node-at all (length pre + m) ≡ node o es
-  the-node = node-is all pre ns ls m o es rest s d
-
-  child-is : (j : ℕ) → child-number all (length pre + m) j ≡ length (pre ++ ns) + (total children-of (take m ns) + children (take j es))
-  unfolding child-number
-  child-is j = rw the-node (omega (arith, children-upto all pre ns ls s m (omega (arith, in-level)), length-append pre ns, s .1))
-
-  -- the node behind a branch stands on the next level
-  child-level : (l j : ℕ) → length (ns ∷ ls) ≤ suc l → 0 < children (drop j es) → On-level all l (child-number all (length pre + m) j)
-  child-level l j f h = record {
-    before = pre ++ ns;
-    levels = ls;
-    index = total children-of (take m ns) + children (take j es);
-    few = omega arith;
-    linked = n .3;
-    stands = stands-next all pre ns ls n s;
-    number = child-is j;
-    inside = omega (arith, kids-at m ns o es rest d, children-split j es, n .1);
-  }
+-- the node behind a branch of a level's node stands on the next level
+child-level : (all pre ns : List Node) (ls : List (List Node)) (n : Linked (ns ∷ ls)) (s : Stands all pre (ns ∷ ls)) (m : ℕ) (o : Option Bits) (es : List Branch) (rest : List Node) (d : drop m ns ≡ node o es ∷ rest) (l j : ℕ)
+    → length (ns ∷ ls) ≤ suc l → 0 < children (drop j es) → On-level all l (child-number all (length pre + m) j)
+child-level all pre ns ls n s m o es rest d l j f h = record {
+  before = pre ++ ns;
+  levels = ls;
+  index = total children-of (take m ns) + children (take j es);
+  few = omega arith;
+  linked = n .3;
+  stands = stands-next all pre ns ls n s;
+  number = child-is all pre ns ls n s m o es rest d j;
+  inside = omega (arith, kids-at m ns o es rest d, children-split j es, n .1);
+}
 
 module _ (ns : List Node) (l m : ℕ) (on : On-level ns l m) where
   -- a level is left

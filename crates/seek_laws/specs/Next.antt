@@ -110,6 +110,40 @@ head-prefix : (x : ℕ) (g : Group) → head-of (map (prefix x) g) ≡ behind-ea
 head-prefix x [] = refl
 head-prefix x (l ∷ g) = refl
 
+-- ---- labels below a label
+
+nothing-below : (y : ℕ) → labels-below y [] ≡ 0
+unfolding labels-below
+nothing-below y = refl
+
+-- labels above y are not below y + 1
+pub low-none : (y : ℕ) (es : List Branch) → Below-label y es → labels-below (suc y) es ≡ 0
+unfolding labels-below
+low-none y [] u = refl
+low-none y (e ∷ es) u = go (leb (suc y) (label-of e)) (le-leb (suc y) (label-of e) (omega arith))
+  where
+    go : (b : Bool) → b ≡ true → _≡_ {A = ℕ} (elim b [ true ↦ 0 | false ↦ suc (labels-below (suc y) es) ]) 0
+    go true h = refl
+    go false h = absurd (true≢false (sym h))
+
+-- a first label below y counts, and with it those behind it
+pub below-low : (y x : ℕ) (e : Branch) (es : List Branch) → label-of e ≡ x → x < y → labels-below y (e ∷ es) ≡ suc (labels-below y es)
+unfolding labels-below
+below-low y x e es p h = go (leb y (label-of e)) (lt-leb y (label-of e) (omega arith))
+  where
+    go : (b : Bool) → b ≡ false → elim b [ true ↦ 0 | false ↦ suc (labels-below y es) ] ≡ suc (labels-below y es)
+    go true q = absurd (true≢false q)
+    go false q = refl
+
+-- where the first label is not below y, none is
+pub below-high : (y x : ℕ) (e : Branch) (es : List Branch) → label-of e ≡ x → y ≤ x → labels-below y (e ∷ es) ≡ 0
+unfolding labels-below
+below-high y x e es p h = go (leb y (label-of e)) (le-leb y (label-of e) (omega arith))
+  where
+    go : (b : Bool) → b ≡ true → _≡_ {A = ℕ} (elim b [ true ↦ 0 | false ↦ suc (labels-below y es) ]) 0
+    go true h = refl
+    go false h = absurd (true≢false (sym h))
+
 -- ---- the leaves behind the branches of one node
 
 module _ (ends : Bool) (q : Bits → Bytes → Bool) where
@@ -152,35 +186,6 @@ module _ (ends : Bool) (q : Bits → Bytes → Bool) where
 
   open-here : (y : ℕ) (k : Bytes) (x : ℕ) (s : Bits) → x ≡ y → counts ends q (y ∷ k) (record { cut = x ∷ []; exact = false; suffix = s }) ≡ q s k
   open-here y k x s z = ap (λ (w : ℕ). counts ends q (w ∷ k) (record { cut = x ∷ []; exact = false; suffix = s })) (sym z) ∙ open-same ends q x s k
-
-  nothing-below : (y : ℕ) → labels-below y [] ≡ 0
-  unfolding labels-below
-  nothing-below y = refl
-
-  low-none : (y : ℕ) (es : List Branch) → Below-label y es → labels-below (suc y) es ≡ 0
-  unfolding labels-below
-  low-none y [] u = refl
-  low-none y (e ∷ es) u = go (leb (suc y) (label-of e)) (le-leb (suc y) (label-of e) (omega arith))
-    where
-      go : (b : Bool) → b ≡ true → _≡_ {A = ℕ} (elim b [ true ↦ 0 | false ↦ suc (labels-below (suc y) es) ]) 0
-      go true h = refl
-      go false h = absurd (true≢false (sym h))
-
-  below-low : (y x : ℕ) (e : Branch) (es : List Branch) → label-of e ≡ x → x < y → labels-below y (e ∷ es) ≡ suc (labels-below y es)
-  unfolding labels-below
-  below-low y x e es p h = go (leb y (label-of e)) (lt-leb y (label-of e) (omega arith))
-    where
-      go : (b : Bool) → b ≡ false → elim b [ true ↦ 0 | false ↦ suc (labels-below y es) ] ≡ suc (labels-below y es)
-      go true q = absurd (true≢false q)
-      go false q = refl
-
-  below-high : (y x : ℕ) (e : Branch) (es : List Branch) → label-of e ≡ x → y ≤ x → labels-below y (e ∷ es) ≡ 0
-  unfolding labels-below
-  below-high y x e es p h = go (leb y (label-of e)) (le-leb y (label-of e) (omega arith))
-    where
-      go : (b : Bool) → b ≡ true → _≡_ {A = ℕ} (elim b [ true ↦ 0 | false ↦ suc (labels-below y es) ]) 0
-      go true h = refl
-      go false h = absurd (true≢false (sym h))
 
   -- The first leaf left behind branches: at the label y, or else behind the first higher label.
   pub next-branches : (y : ℕ) (k : Bytes) (es : List Branch) (gs : List Group) → Ascends es → children es ≤ length gs
@@ -317,7 +322,8 @@ unfolding exact-leaf
 exact-head none es = refl
 exact-head (some s) es = refl
 
-children-split : (i : ℕ) (es : List Branch) → children (take i es) + children (drop i es) ≡ children es
+-- the continuing branches before branch i and from it on
+pub children-split : (i : ℕ) (es : List Branch) → children (take i es) + children (drop i es) ≡ children es
 unfolding children
 children-split zero es = omega arith
 children-split (suc i) [] = refl
@@ -334,10 +340,12 @@ module _ (all pre ns : List Node) (ls : List (List Node)) (n : Linked (ns ∷ ls
   heads : All Node-group (drop (total children-of (take m ns)) (groups ls))
   heads = each-drop (total children-of (take m ns)) (groups ls) (levels-back ls (n .3) .node-groups)
 
-  the-node : node-at all (length pre + m) ≡ node o es
+  -- it is node m of the level
+  pub the-node : node-at all (length pre + m) ≡ node o es
   the-node = node-is all pre ns ls m o es rest s d
 
-  child-is : (j : ℕ) → child-number all (length pre + m) j ≡ length (pre ++ ns) + (total children-of (take m ns) + children (take j es))
+  -- the number of the node behind branch j
+  pub child-is : (j : ℕ) → child-number all (length pre + m) j ≡ length (pre ++ ns) + (total children-of (take m ns) + children (take j es))
   unfolding child-number
   child-is j = rw the-node (omega (arith, children-upto all pre ns ls s m (omega (arith, in-level)), length-append pre ns, s .1))
 

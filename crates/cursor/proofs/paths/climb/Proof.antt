@@ -1,6 +1,8 @@
 use borrow.Author.Needs.{needs}
 use Prim.Native.Nat.{ℕ, _+_, _-_, _≤_}
 use native.Mathlib.Omega.{arith}
+use mathlib.Core.Logic.{⊎-elim}
+use borrow.Author.Tests.{eqb-true, eqb-false}
 use mathlib.Core.Path.{_≡_, refl, sym, ap, _∙_}
 use lib.ListN.{getD}
 use Rattle.navigate.specs.Accepted.{nodes}
@@ -35,19 +37,16 @@ returns : tie.Need-returns Inv-loop μ-loop
 returns c =
     let a = c .before .before .before .before .before .before .args in
     let l = c .before .before .before .before .loop in
-    let p = c .before .before .before .before .before .before .pre in
     let n = c .before .before .next-branch in
-    (l .inv .0, λ e. absurd (c .if1 .taken e), λ e. let t = turn-found (a .image .now) (a .f) (a .path .now) (a .cut .now) (l .d) (l .y) (n .result .kind) (n .result .label) (n .result .at .0) (n .ensures) (64 - l .d) (p .3 (l .d) (l .inv .0)) e in (l .inv .2 ∙ t .0, t .1))
+    let found = turn-found (a .image .now) (a .f) (a .path .now) (a .cut .now) (l .d) (l .y) (n .result .kind) (n .result .label) (n .result .at .0) (n .ensures) (64 - l .d) (c .before .before .before .before .before .before .pre .3 (l .d) (l .inv .0)) in (
+      l .inv .0,
+      λ e. l .inv .2 ∙ turn-none (a .image .now) (a .f) (a .path .now) (a .cut .now) (l .d) (l .y) (n .result .kind) (n .result .label) (n .result .at .0) (n .ensures) e (⊎-elim (λ w. absurd (w .taken e)) (λ w. eqb-true (l .d) 0 (w .1 .taken)) (c .if1 .came)),
+      λ e. (l .inv .2 ∙ found e .0, found e .1),
+    )
 
-returns-2 : tie.Need-returns-2 Inv-loop μ-loop
-returns-2 c =
-    let a = c .before .before .before .before .before .before .before .args in
-    let l = c .before .before .before .before .before .loop in
-    let n = c .before .before .before .next-branch in
-    (l .inv .0, λ e. l .inv .2 ∙ turn-none (a .image .now) (a .f) (a .path .now) (a .cut .now) (l .d) (l .y) (n .result .kind) (n .result .label) (n .result .at .0) (n .ensures) e (c .if2 .taken), λ e. absurd (e (c .before .if1 .left)))
 
 sub-d : tie.Need-sub-d Inv-loop μ-loop
-sub-d c = search needs
+sub-d c = omega (arith, eqb-false (c .before .before .before .before .before .loop .d) 0 (c .if2 .left))
 
 element-copy-out-wide : tie.Need-element-copy-out-wide Inv-loop μ-loop
 element-copy-out-wide c = search needs
@@ -59,7 +58,7 @@ add-y : tie.Need-add-y Inv-loop μ-loop
 add-y c = search needs
 
 loop-less : tie.Need-loop-less Inv-loop μ-loop
-loop-less c = search needs
+loop-less c = omega (arith, eqb-false (c .before .before .before .before .before .before .before .loop .d) 0 (c .before .before .if2 .left))
 
 loop-again : tie.Need-loop-again Inv-loop μ-loop
 loop-again c =
@@ -69,7 +68,7 @@ loop-again c =
     let w = c .wide .ensures in (
       omega (arith, l .inv .0),
       omega (arith, w .1),
-      l .inv .2 ∙ turn-up (a .image .now) (a .f) (a .path .now) (a .cut .now) (l .d) (l .y) (n .result .kind) (n .result .label) (n .result .at .0) (n .ensures) (c .before .before .before .if1 .left) (c .before .before .if2 .left)
+      l .inv .2 ∙ turn-up (a .image .now) (a .f) (a .path .now) (a .cut .now) (l .d) (l .y) (n .result .kind) (n .result .label) (n .result .at .0) (n .ensures) (c .before .before .before .if1 .left) (eqb-false (l .d) 0 (c .before .before .if2 .left))
           ∙ ap (λ (x : ℕ). onward (nodes (a .image .now) (a .f)) (a .path .now) (a .cut .now) (l .d - 1) (x + 1)) (sym (w .0)),
     )
 
@@ -84,7 +83,6 @@ climb-spec =
     element-copy-out-m
     next-branch-requires
     returns
-    returns-2
     sub-d
     element-copy-out-wide
     wide-requires
