@@ -270,7 +270,7 @@ unfolding lines
 lines-next i l ls = refl
 
 -- the lines of the first leaves stand before those of the rest, which number on
-lines-append : (i : ℕ) (xs ys : List Leaf) → lines i (xs ++ ys) ≡ lines i xs ++ lines (i + length xs) ys
+pub lines-append : (i : ℕ) (xs ys : List Leaf) → lines i (xs ++ ys) ≡ lines i xs ++ lines (i + length xs) ys
 unfolding lines
 lines-append i [] ys = let e : i ≡ i + 0 = omega arith in ap (λ (k : ℕ). lines k ys) e
 lines-append i (l ∷ xs) ys =

@@ -35,3 +35,9 @@ written-append {out} {mid} {after} {xs} {ys} {at} h f g =
 -- the same text, said otherwise
 pub written-as : {out after xs ys : Bytes} {at r : ℕ} → Written out at xs after r → xs ≡ ys → Written out at ys after r
 written-as {out} {after} {xs} {ys} {at} {r} f e = subst (λ (z : Bytes). Written out at z after r) e f
+
+-- what is written at the front of a buffer stands at its front
+pub written-front : {out after xs : Bytes} {r : ℕ} → Written out 0 xs after r → take r after ≡ xs
+written-front {out} {after} {xs} {r} w =
+    let e : length xs ≡ r = omega arith in
+    ap (take r) (w .text) ∙ take-at xs (drop (0 + length xs) out) r e
