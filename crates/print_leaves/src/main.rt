@@ -1,0 +1,6 @@
+// The leaf printer: prints the leaves of the image on standard input.
+use libc::STDIN_FILENO;
+
+fn main() {
+    printer::print(STDIN_FILENO);
+}
