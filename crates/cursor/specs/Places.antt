@@ -5,6 +5,7 @@ use mathlib.Core.Bool.{true, false}
 use mathlib.Core.List.{List, [], _∷_}
 use mathlib.Core.Option.{some}
 use native.Mathlib.Omega.{arith}
+use native.Mathlib.Numerals.{add-one}
 use lib.ListN.{length, getD, getElem?, take, drop, length-drop}
 use lib.Dec.{eqb}
 use Rattle.spec.specs.Bytes.{Bytes, low-bits}
@@ -15,7 +16,7 @@ use Rattle.query_laws.specs.Root as root
 use Rattle.query_laws.specs.Slots.{node-at, slot-of}
 use Rattle.navigate.specs.Accepted.{Accepted, nodes}
 use Rattle.navigate.specs.NextBranch.{Next-branch}
-use Rattle.cursor_laws.specs.Below.{level-branch, Root, trie-root}
+use Rattle.cursor_laws.specs.Below.{drop-next, level-branch, Root, trie-root}
 use Rattle.cursor_laws.specs.Paths.{onward, standing, On-levels, standing-none, standing-exact, standing-open, onward-root}
 use Rattle.cursor_laws.specs.SuffixNumber.{number-zero}
 use Rattle.cursor.specs.declared.Cursor.{Cursor}
@@ -29,12 +30,16 @@ use Rattle.theory.specs.LeafLists.{Shortest}
 pub leaf-total : (s : Bytes) (f : Frame) → Accepted s f → length (read-leaves s) ≡ f .leaves
 leaf-total s f a = sym (root.leaf-total (f .width) (read-leaves s) (nodes s f) (a .realizable) (a .well-sized) (a .trie-is)) ∙ a .writable .leaf-total
 
--- the member at a place, and those behind it
+-- the member at a place
+found-at : (ls : List Leaf) (p : ℕ) (l : Leaf) (rest : List Leaf) → drop p ls ≡ l ∷ rest → getElem? ls p ≡ some l
+found-at [] zero l rest e = let z : _≡_ {A = ℕ} 0 1 = cc in absurd (omega arith)
+found-at [] (suc p) l rest e = let z : _≡_ {A = ℕ} 0 1 = cc in absurd (omega arith)
+found-at (x ∷ ls) zero l rest e = cc
+found-at (x ∷ ls) (suc p) l rest e = found-at ls p l rest e
+
+-- with those behind it
 member-at : (ls : List Leaf) (p : ℕ) (l : Leaf) (rest : List Leaf) → drop p ls ≡ l ∷ rest → (getElem? ls p ≡ some l) × (drop (p + 1) ls ≡ rest)
-member-at [] zero l rest e = let z : _≡_ {A = ℕ} 0 1 = cc in absurd (omega arith)
-member-at [] (suc p) l rest e = let z : _≡_ {A = ℕ} 0 1 = cc in absurd (omega arith)
-member-at (x ∷ ls) zero l rest e = (cc, cc)
-member-at (x ∷ ls) (suc p) l rest e = let z : suc p + 1 ≡ suc (p + 1) = omega arith in rw z (member-at ls p l rest e)
+member-at ls p l rest e = (found-at ls p l rest e, rw (add-one p) (drop-next ls p l rest e))
 
 -- ---- the first place
 

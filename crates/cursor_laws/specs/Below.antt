@@ -78,11 +78,12 @@ next-label (b ∷ es) (suc i) e rest r d =
     let h = next-label es i e rest (r .1) d in
     below-low (suc (label-of e)) (label-of b) b es refl (omega (arith, first-lower (suc (label-of e)) (label-of b) es (omega arith) (r .0))) ∙ ap suc h
 
-drop-next : (es : List Branch) (i : ℕ) (e : Branch) (rest : List Branch) → drop i es ≡ e ∷ rest → drop (suc i) es ≡ rest
-drop-next [] zero e rest d = let z : _≡_ {A = ℕ} 0 1 = cc in absurd (omega arith)
-drop-next [] (suc i) e rest d = let z : _≡_ {A = ℕ} 0 1 = cc in absurd (omega arith)
-drop-next (b ∷ es) zero e rest d = cc
-drop-next (b ∷ es) (suc i) e rest d = drop-next es i e rest d
+-- what is left behind the member at place i
+pub drop-next : {A : Type 0} (xs : List A) (i : ℕ) (x : A) (rest : List A) → drop i xs ≡ x ∷ rest → drop (suc i) xs ≡ rest
+drop-next [] zero x rest d = let z : _≡_ {A = ℕ} 0 1 = cc in absurd (omega arith)
+drop-next [] (suc i) x rest d = let z : _≡_ {A = ℕ} 0 1 = cc in absurd (omega arith)
+drop-next (y ∷ xs) zero x rest d = cc
+drop-next (y ∷ xs) (suc i) x rest d = drop-next xs i x rest d
 
 children-next : (es : List Branch) (i : ℕ) (e : Branch) (rest : List Branch) → drop i es ≡ e ∷ rest → children (take (suc i) es) ≡ children (take i es) + bit (has-child e)
 unfolding children
@@ -261,7 +262,6 @@ below-group (ns ∷ ls) (suc l) all pre m f n s h =
         → exact-leaf (own-slot (node-at all (length pre + m))) ++ behind-branches (below all l) (branches-of (node-at all (length pre + m))) (child-number all (length pre + m) 0) ≡ getD (level-groups ns (groups ls)) m []
     at-node [] d next = absurd (omega (arith, length-drop m ns, ap length d))
     at-node (node o es ∷ rest) d next =
-        let K : ℕ = total children-of (take m ns) in
         let k = kids-at m ns o es rest d in
         let c : child-number all (length pre + m) 0 ≡ length (pre ++ ns) + (total children-of (take m ns) + 0) = child-is all pre ns ls n s m o es rest d 0 in
         let b = behind-groups (below all l) es (drop (total children-of (take m ns)) (groups ls)) (child-number all (length pre + m) 0)

@@ -44,7 +44,6 @@ returns c =
       λ e. (l .inv .2 ∙ found e .0, found e .1),
     )
 
-
 sub-d : tie.Need-sub-d Inv-loop μ-loop
 sub-d c = omega (arith, eqb-false (c .before .before .before .before .before .loop .d) 0 (c .if2 .left))
 
