@@ -1,10 +1,10 @@
 -- Text written into a buffer at a place, piece behind piece.
-use mathlib.Core.Path.{_≡_, refl, ap₂, subst, _∙_}
+use mathlib.Core.Path.{_≡_, refl, ap, ap₂, subst, _∙_}
 use mathlib.Core.List.{[], _∷_, _++_}
 use Prim.Native.Nat.{ℕ, _+_, _≤_, _<_}
 use native.Mathlib.Omega.{arith}
-use lib.ListN.{length, set, length-append, length-set}
-use lib.Seq.{sets-eq}
+use lib.ListN.{length, take, drop, set, length-append, length-set}
+use lib.Seq.{sets-eq, take-at}
 use Rattle.spec.specs.Bytes.{Bytes}
 use Rattle.bits.specs.Bits.{placed}
 use Rattle.bits.specs.Placing.{placed-placed}
