@@ -10,4 +10,5 @@ pub mod SparsePositions
 pub mod NextLabel
 pub mod Root
 pub mod Steps
+pub mod LevelSums
 pub mod SuffixBytes

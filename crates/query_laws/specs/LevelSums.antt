@@ -1,0 +1,90 @@
+-- The leaves before a key, as a sum of slot numbers level by level: without the first nodes of the levels, which cancel where two keys are compared.
+use Prim.Native.Nat.{ℕ, zero, suc, _+_, _-_, _<_, _≤_}
+use mathlib.Core.Path.{_≡_, refl, sym, ap, _∙_}
+use mathlib.Core.Bool.{Bool, true, false, cond}
+use mathlib.Core.List.{List, [], _∷_}
+use native.Mathlib.Omega.{arith}
+use lib.ListN.{length, drop}
+use Rattle.spec.specs.Bytes.{Bytes, bit}
+use Rattle.spec.specs.Nodes.{Branch, Node, branches-of}
+use Rattle.query_laws.specs.Counting.{labels-below}
+use Rattle.query_laws.specs.Slots.{node-at, leaves-before, slot-number}
+use Rattle.query_laws.specs.Descent.{children-before, child-number, goes-on, leaves-between, leaves-below, between-same}
+use Rattle.query_laws.specs.LabelMaps.{matches}
+use Rattle.query_laws.specs.Root.{children-up, leaves-up, child-range, slot-range}
+use Rattle.query_laws.specs.Steps.{says}
+
+-- the leaves before node m of a level, and before the first node behind it on each of the levels below; l levels left
+unfoldable pub slots-between : List Node → ℕ → ℕ → ℕ
+unfolding leaves-before children-before
+slots-between ns zero m = 0
+slots-between ns (suc l) m = leaves-before ns m + slots-between ns l (1 + children-before ns m)
+
+-- the leaves before the branch that the key k of node m takes, on each level; below the last branch, those before the first node behind it
+unfoldable pub slots-below : List Node → ℕ → ℕ → Bytes → ℕ
+unfolding slots-between labels-below child-number slot-number goes-on
+slots-below ns l m [] = slots-between ns l m
+slots-below ns l m (y ∷ k) =
+    let i : ℕ = labels-below y (branches-of (node-at ns m)) in
+    let c : ℕ = child-number ns m i in
+    slot-number ns m i + cond (goes-on y (drop i (branches-of (node-at ns m)))) (slots-below ns (l - 1) c k) (slots-between ns (l - 1) c)
+
+-- ---- the leaves before a key are a difference of sums
+
+between-sums : (ns : List Node) (l lo hi : ℕ) → lo ≤ hi → slots-between ns l hi ≡ leaves-between ns l lo hi + slots-between ns l lo
+unfolding slots-between leaves-between
+between-sums ns zero lo hi h = refl
+between-sums ns (suc l) lo hi h = omega (arith, between-sums ns l (1 + children-before ns lo) (1 + children-before ns hi) (omega (arith, children-up ns lo hi h)), leaves-up ns lo hi h)
+
+below-sums : (ns : List Node) (l lo m : ℕ) (k : Bytes) → lo ≤ m → length k ≤ l → slots-below ns l m k ≡ leaves-below ns l lo m k + slots-between ns l lo
+unfolding slots-below leaves-below slots-between
+below-sums ns l lo m [] h f = between-sums ns l lo m h
+below-sums ns zero lo m (y ∷ k) h f = absurd (omega arith)
+below-sums ns (suc l) lo m (y ∷ k) h f =
+    let u : 1 + children-before ns lo ≤ child-number ns m (labels-below y (branches-of (node-at ns m))) = omega (arith, child-range ns m (labels-below y (branches-of (node-at ns m))) .0, children-up ns lo m h) in
+    let e : suc l - 1 ≡ l = omega arith in
+    rw e (go (goes-on y (drop (labels-below y (branches-of (node-at ns m))) (branches-of (node-at ns m)))) (labels-below y (branches-of (node-at ns m)))
+    (below-sums ns l (1 + children-before ns lo) (child-number ns m (labels-below y (branches-of (node-at ns m)))) k u (omega arith))
+    (between-sums ns l (1 + children-before ns lo) (child-number ns m (labels-below y (branches-of (node-at ns m)))) u))
+  where
+    go : (b : Bool) (i : ℕ)
+        → slots-below ns l (child-number ns m i) k ≡ leaves-below ns l (1 + children-before ns lo) (child-number ns m i) k + slots-between ns l (1 + children-before ns lo)
+        → slots-between ns l (child-number ns m i) ≡ leaves-between ns l (1 + children-before ns lo) (child-number ns m i) + slots-between ns l (1 + children-before ns lo)
+        → slot-number ns m i + cond b (slots-below ns l (child-number ns m i) k) (slots-between ns l (child-number ns m i))
+        ≡ ((slot-number ns m i - leaves-before ns lo) + cond b (leaves-below ns l (1 + children-before ns lo) (child-number ns m i) k) (leaves-between ns l (1 + children-before ns lo) (child-number ns m i)))
+        + slots-between ns (suc l) lo
+    go true i p q = omega (arith, p, slot-range ns m i .0, leaves-up ns lo m h)
+    go false i p q = omega (arith, q, slot-range ns m i .0, leaves-up ns lo m h)
+
+-- The leaves before two keys differ as their sums do.
+pub below-apart : (ns : List Node) (a b : Bytes) → length a ≤ 64 → length b ≤ 64 → leaves-below ns 64 0 0 a + slots-below ns 64 0 b ≡ leaves-below ns 64 0 0 b + slots-below ns 64 0 a
+below-apart ns a b h g = omega (arith, below-sums ns 64 0 0 a (omega arith) h, below-sums ns 64 0 0 b (omega arith) g)
+
+-- No leaf is before the empty key.
+pub below-nothing : (ns : List Node) → leaves-below ns 64 0 0 [] ≡ 0
+unfolding leaves-below
+below-nothing ns = between-same ns 64 0
+
+-- ---- one level of a sum
+
+module _ (ns : List Node) (m y : ℕ) (k : Bytes) (kind : ℕ) (is : kind ≡ bit (matches y (drop (labels-below y (branches-of (node-at ns m))) (branches-of (node-at ns m)))) + bit (goes-on y (drop (labels-below y (branches-of (node-at ns m))) (branches-of (node-at ns m))))) (l : ℕ) where
+  -- a branch that continues: the key goes on
+  pub slots-on : kind ≡ 2 → slots-below ns l m (y ∷ k) ≡ slot-number ns m (labels-below y (branches-of (node-at ns m))) + slots-below ns (l - 1) (child-number ns m (labels-below y (branches-of (node-at ns m)))) k
+  unfolding slots-below
+  slots-on h = rw (says y (drop (labels-below y (branches-of (node-at ns m))) (branches-of (node-at ns m))) kind is .3 (λ e. omega arith) (λ e. omega arith))
+
+  -- none: the levels below count to the first node behind it, as if the key had ended
+  pub slots-off : (kind ≡ 2 → ⊥) → slots-below ns l m (y ∷ k) ≡ slot-number ns m (labels-below y (branches-of (node-at ns m))) + slots-below ns (l - 1) (child-number ns m (labels-below y (branches-of (node-at ns m)))) []
+  unfolding slots-below
+  slots-off h = rw (says y (drop (labels-below y (branches-of (node-at ns m))) (branches-of (node-at ns m))) kind is .2 h)
+
+-- a key that has ended
+pub slots-ended : (ns : List Node) (l m : ℕ) → 0 < l → slots-below ns l m [] ≡ leaves-before ns m + slots-below ns (l - 1) (1 + children-before ns m) []
+unfolding slots-below slots-between
+slots-ended ns zero m h = absurd (omega arith)
+slots-ended ns (suc l) m h = let e : suc l - 1 ≡ l = omega arith in rw e
+
+-- no level is left
+pub slots-past : (ns : List Node) (m : ℕ) → slots-below ns 0 m [] ≡ 0
+unfolding slots-below slots-between
+slots-past ns m = refl
