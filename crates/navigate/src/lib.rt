@@ -4,3 +4,4 @@
 pub mod ranks; // ranks.rt: ones before a position, by the image's tables; where a sparse node starts
 pub mod nodes; // nodes.rt: what stands before a node, and whether it is an exact leaf
 pub mod branches; // branches.rt: branches by their label, and where they lead
+pub mod behind; // behind.rt: the node and the slot behind a branch
