@@ -1,7 +1,7 @@
 -- What an accepted image's nodes say of its leaf list, by where a key leads: the laws that join the questions' code to their definitions.
 use Prim.Native.Nat.{ℕ, zero, suc, _+_, _-_, _<_, _≤_}
 use mathlib.Core.Path.{_≡_, refl, sym, ap, _∙_}
-use mathlib.Core.Bool.{true, false, not, _&&_}
+use mathlib.Core.Bool.{Bool, true, false, not, _&&_}
 use mathlib.Core.List.{List, [], _∷_, _++_, append-assoc}
 use mathlib.Core.Logic.{_⊎_, inl, inr}
 use native.Mathlib.Omega.{arith}
@@ -9,16 +9,17 @@ use native.Mathlib.Numerals.{add-one}
 use lib.ListN.{length, getD, take, drop, set, replicate, length-append}
 use lib.Seq.{take-at, take-all, take-suc, take-append-add, set-at, length-take-le}
 use borrow.Author.Tests.{lt-ltb}
-use Rattle.spec.specs.Bytes.{Bytes, bit}
+use Rattle.spec.specs.Bytes.{Bytes, Bits, bit}
 use Rattle.spec.specs.Leaves.{Leaf}
 use Rattle.spec.specs.Nodes.{read-leaves}
 use Rattle.spec.specs.Questions.{point, range, counted, begins-with, stem-end}
 use Rattle.theory.specs.Words.{Is-bytes, Bound}
 use Rattle.frame.specs.declared.Frame.{Frame}
 use Rattle.query_laws.specs.Slots.{slot-of}
-use Rattle.query_laws.specs.Descent.{Stop, descend, leaves-below, value}
+use Rattle.query_laws.specs.Descent.{descend, leaves-below, value}
 use Rattle.query_laws.specs.Bounds.{high-passed, low-reached}
 use Rattle.query_laws.specs.Ordered.{passed, reached, counted-is, range-counted}
+use Rattle.query_laws.specs.LevelSums.{below-nothing}
 use Rattle.query_laws.specs.Root.{point-value, point-is, passed-is, reached-is}
 use Rattle.query_laws.specs.Steps.{stop-of}
 use Rattle.navigate.specs.Accepted.{Accepted, nodes}
@@ -58,35 +59,34 @@ module _ (s : Bytes) (f : Frame) (a : Accepted s f) (k : Bytes) where
     unfolding point-value
     point-open b h = point-stops b ∙ ap (point-value (f .width) (nodes s f) (length k)) e ∙ rw h
 
-    -- the leaves that the key has passed: those before it
-    pub passed-plain : (kind ≡ 0) ⊎ (kind ≡ 1) → passed (read-leaves s) k ≡ leaves-below (nodes s f) 64 0 0 k
-    unfolding value
-    passed-plain (inl h) = passed-stops ∙ ap (λ (z : Stop). leaves-below (nodes s f) 64 0 0 k + value false (high-passed (length k)) (f .width) (nodes s f) z) e ∙ rw h (omega arith)
-    passed-plain (inr h) = passed-stops ∙ ap (λ (z : Stop). leaves-below (nodes s f) 64 0 0 k + value false (high-passed (length k)) (f .width) (nodes s f) z) e ∙ rw h (omega arith)
+    -- What counts where the key leads: nothing; an exact leaf; an open one that passes the test.
+    module _ (ends : Bool) (q : Bits → Bytes → Bool) where
+      pub value-none : kind ≡ 0 → value ends q (f .width) (nodes s f) (descend (nodes s f) 0 k) ≡ 0
+      unfolding value
+      value-none h = ap (value ends q (f .width) (nodes s f)) e ∙ rw h
 
-    -- and an open leaf whose highest key lies below it
-    pub passed-open : kind ≡ 2 → passed (read-leaves s) k ≡ leaves-below (nodes s f) 64 0 0 k + bit (high-passed (length k) (slot-of (f .width) (nodes s f) v) (drop d k))
-    unfolding value
-    passed-open h = passed-stops ∙ ap (λ (z : Stop). leaves-below (nodes s f) 64 0 0 k + value false (high-passed (length k)) (f .width) (nodes s f) z) e ∙ rw h
+      pub value-exact : kind ≡ 1 → value ends q (f .width) (nodes s f) (descend (nodes s f) 0 k) ≡ bit ends
+      unfolding value
+      value-exact h = ap (value ends q (f .width) (nodes s f)) e ∙ rw h
 
-    -- the leaves that it has reached: those before it
-    pub reached-none : kind ≡ 0 → reached (read-leaves s) k ≡ leaves-below (nodes s f) 64 0 0 k
-    unfolding value
-    reached-none h = reached-stops ∙ ap (λ (z : Stop). leaves-below (nodes s f) 64 0 0 k + value true (low-reached (length k)) (f .width) (nodes s f) z) e ∙ rw h (omega arith)
-
-    -- an exact leaf that has it
-    pub reached-exact : kind ≡ 1 → reached (read-leaves s) k ≡ leaves-below (nodes s f) 64 0 0 k + 1
-    unfolding value
-    reached-exact h = reached-stops ∙ ap (λ (z : Stop). leaves-below (nodes s f) 64 0 0 k + value true (low-reached (length k)) (f .width) (nodes s f) z) e ∙ rw h
-
-    -- and an open leaf whose lowest key does not lie above it
-    pub reached-open : kind ≡ 2 → reached (read-leaves s) k ≡ leaves-below (nodes s f) 64 0 0 k + bit (low-reached (length k) (slot-of (f .width) (nodes s f) v) (drop d k))
-    unfolding value
-    reached-open h = reached-stops ∙ ap (λ (z : Stop). leaves-below (nodes s f) 64 0 0 k + value true (low-reached (length k)) (f .width) (nodes s f) z) e ∙ rw h
+      pub value-open : kind ≡ 2 → value ends q (f .width) (nodes s f) (descend (nodes s f) 0 k) ≡ bit (q (slot-of (f .width) (nodes s f) v) (drop d k))
+      unfolding value
+      value-open h = ap (value ends q (f .width) (nodes s f)) e ∙ rw h
 
 -- Count: the leaves that the upper bound has reached, less those that the lower one has passed.
 pub count-is : (s : Bytes) (f : Frame) → Accepted s f → (lo hi : Bytes) → counted (read-leaves s) lo hi ≡ reached (read-leaves s) hi - passed (read-leaves s) lo
 count-is s f a lo hi = counted-is (f .width) (read-leaves s) lo hi (a .realizable .ordered) (a .well-sized)
+
+-- By two bounds followed over the same levels: the sums of their slot numbers, and what counts where each key leads.
+pub count-bounds : (s : Bytes) (f : Frame) → Accepted s f → (lo hi : Bytes) (a b u v : ℕ) → leaves-below (nodes s f) 64 0 0 hi + a ≡ leaves-below (nodes s f) 64 0 0 lo + b
+    → u ≡ value false (high-passed (length lo)) (f .width) (nodes s f) (descend (nodes s f) 0 lo) → v ≡ value true (low-reached (length hi)) (f .width) (nodes s f) (descend (nodes s f) 0 hi)
+    → counted (read-leaves s) lo hi ≡ (b + v) - (a + u)
+count-bounds s f z lo hi a b u v e p q = count-is s f z lo hi ∙ omega (arith, passed-stops s f z lo, reached-stops s f z hi)
+
+-- The leaves that a key has passed, by the bounds of the empty key and of the key.
+pub passed-bounds : (s : Bytes) (f : Frame) → Accepted s f → (k : Bytes) (a b u : ℕ) → leaves-below (nodes s f) 64 0 0 k + a ≡ leaves-below (nodes s f) 64 0 0 [] + b
+    → u ≡ value false (high-passed (length k)) (f .width) (nodes s f) (descend (nodes s f) 0 k) → (a ≤ b) × ((b - a) + u ≡ passed (read-leaves s) k)
+passed-bounds s f z k a b u e p = (omega (arith, below-nothing (nodes s f)), omega (arith, below-nothing (nodes s f), passed-stops s f z k))
 
 -- Range: 1 exactly if the count is not 0.
 pub range-none : (s lo hi : Bytes) → counted (read-leaves s) lo hi ≡ 0 → range (read-leaves s) lo hi ≡ 0

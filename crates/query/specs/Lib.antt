@@ -1,3 +1,4 @@
 pub mod Answers
+pub mod Followed
 pub mod Seeking
 pub mod Sought

@@ -1,135 +1,205 @@
-// The leaves before a key in key order, found level by level; and the two numbers that seek, count and range are made of.
+// The leaves before a key in key order: two bounds are followed level by level, and the leaves between them are the difference of their slot numbers.
 ghost use mathlib.Core.Path.{_≡_};
-ghost use Prim.Native.Nat.{_+_, _-_, _*_, _≤_, _<_};
+ghost use mathlib.Core.Bool.{true, false};
+ghost use Prim.Native.Nat.{ℕ, _+_, _-_, _*_, _≤_, _<_};
 ghost use lib.ListN.{length, drop};
-ghost use Rattle.spec.specs.Bytes.{bit};
 ghost use Rattle.spec.specs.Nodes.{read-leaves};
-ghost use Rattle.query_laws.specs.Slots.{leaves-before, slot-number};
-ghost use Rattle.query_laws.specs.Descent.{children-before, child-number, goes-on, leaves-between, leaves-below};
-ghost use Rattle.query_laws.specs.LabelMaps.{matches};
-ghost use Rattle.query_laws.specs.Ordered.{passed, reached};
+ghost use Rattle.query_laws.specs.Bounds.{high-passed, low-reached};
+ghost use Rattle.query_laws.specs.Descent.{descend, leaves-below, value};
+ghost use Rattle.query_laws.specs.LevelSums.{slots-below};
+ghost use Rattle.query_laws.specs.Ordered.{passed};
 ghost use Rattle.navigate.specs.Accepted.{Accepted, nodes};
-ghost use Rattle.navigate.specs.Positions.{branches, place};
-use super::descent::descend;
+ghost use Rattle.query.specs.Followed.{Stopped, Followed};
+use super::descent::Stop;
 use super::suffix::high_below;
 use super::suffix::low_above;
 use bits::NodeNum;
+use bits::ValuePos;
 use bits::numbers::wide;
 use frame::Frame;
-use navigate::branches::child;
+use navigate::behind::child_and_slot;
 use navigate::branches::find;
-use navigate::branches::slot;
 use navigate::nodes::before;
+use navigate::nodes::exact;
 
-// The leaves at or below the nodes from lo to before hi of one level: those that end on it, and the same task one level lower, at most 64 times.
-fn leaves_between(image: &[u8], f: Frame, levels: usize, lo: NodeNum, hi: NodeNum) -> usize
-    requires { ⌜ Accepted (now image) f × (0 < f .dense + f .sparse) × (levels ≤ 64) × (lo .0 ≤ hi .0) × (hi .0 ≤ f .dense + f .sparse) ⌝ }
-    ensures { λ r. ⌜ (r ≡ leaves-between (nodes (now (image .entry)) f) levels (lo .0) (hi .0)) × (r ≤ levels * 65535) ⌝ }
-{
-    if levels == 0 {
-        return 0;
-    }
-    if lo.0 == hi.0 {
-        return 0;
-    }
-    let a = before(image, f, lo);
-    let b = before(image, f, hi);
-    let deeper = leaves_between(
-        image,
-        f,
-        levels - 1,
-        NodeNum(a.children + 1),
-        NodeNum(b.children + 1),
-    );
-    b.leaves - a.leaves + deeper
+// A bound on one level: the first node that does not lie before it, the sum of its slot numbers on the levels above, the bytes of its key passed,
+// and, once all are passed, where the key has led.
+pub struct Bound {
+    pub node: usize,
+    pub sum: usize,
+    pub depth: usize,
+    pub stop: Stop,
 }
 
-// One level of a count: the leaves on it before a branch, the first node of the next level, the node behind the branch, and what stands at the label.
-struct Level {
-    add: usize,
-    lo: usize,
-    m: usize,
-    kind: usize,
-}
-
-// The leaves of a level from node lo on, before the branch y of node m.
-fn count_level(image: &[u8], f: Frame, lo: NodeNum, m: NodeNum, y: usize) -> Level
-    requires { ⌜ Accepted (now image) f × (lo .0 ≤ m .0) × (m .0 < f .dense + f .sparse) × (y < 256) ⌝ }
-    ensures { λ r. ⌜ (r .add ≡ slot-number (nodes (now (image .entry)) f) (m .0) (place (now (image .entry)) f (m .0) y) - leaves-before (nodes (now (image .entry)) f) (lo .0))
-        × (r .lo ≡ 1 + children-before (nodes (now (image .entry)) f) (lo .0)) × (r .m ≡ child-number (nodes (now (image .entry)) f) (m .0) (place (now (image .entry)) f (m .0) y))
-        × (r .kind ≡ bit (matches y (drop (place (now (image .entry)) f (m .0) y) (branches (now (image .entry)) f (m .0)))) + bit (goes-on y (drop (place (now (image .entry)) f (m .0) y) (branches (now (image .entry)) f (m .0)))))
-        × (r .add ≤ 65535) × (r .lo ≤ r .m) × (r .m ≤ f .dense + f .sparse) ⌝ }
+// A bound at the node that its key leads to; where the key ends there, with the node's exact leaf.
+fn arrive(image: &[u8], f: Frame, key: &[u8], m: NodeNum, sum: usize, depth: usize) -> Bound
+    requires { ⌜ Accepted (now image) f × (m .0 < f .dense + f .sparse) × (length (now key) ≤ 64) × (depth ≤ length (now key)) × (descend (nodes (now image) f) 0 (now key) ≡ descend (nodes (now image) f) (m .0) (drop depth (now key))) ⌝ }
+    ensures { λ r. ⌜ Followed (now (image .entry)) f (now (key .entry)) (r .node) (r .depth) (r .stop .kind) (r .stop .slot .0) (r .stop .depth) × (r .node ≡ m .0) × (r .sum ≡ sum) × (r .depth ≡ depth) ⌝ }
 {
-    let b = find(image, f, m, y);
-    let v = slot(image, f, m, b.at);
-    let first = before(image, f, lo);
-    let c = child(image, f, m, b.at);
-    Level {
-        add: v.0 - first.leaves,
-        lo: first.children + 1,
-        m: c.0,
-        kind: b.kind,
+    let mut kind = 0usize;
+    if depth == key.len() {
+        kind = exact(image, f, m);
+    }
+    Bound {
+        node: m.0,
+        sum: sum,
+        depth: depth,
+        stop: Stop {
+            kind: kind,
+            slot: ValuePos(0),
+            depth: depth,
+        },
     }
 }
 
-// The leaves before a key, whatever the suffix of an open leaf on its way says.
-fn leaves_below(image: &[u8], f: Frame, key: &[u8]) -> usize
-    requires { ⌜ Accepted (now image) f × (length (now key) ≤ 64) ⌝ }
-    ensures { λ r. ⌜ (r ≡ leaves-below (nodes (now (image .entry)) f) 64 0 0 (now (key .entry))) × (r ≤ 8388480) ⌝ }
+// One level of a bound whose key goes on: past the leaves before the branch of its next byte, to the first node behind them.
+fn next_byte(image: &[u8], f: Frame, key: &[u8], b: Bound) -> Bound
+    requires { ⌜ Accepted (now image) f × Followed (now image) f (now key) (b .node) (b .depth) (b .stop .kind) (b .stop .slot .0) (b .stop .depth) × (b .depth < length (now key)) × (b .sum ≤ 4194240) ⌝ }
+    ensures { λ r. ⌜ Followed (now (image .entry)) f (now (key .entry)) (r .node) (r .depth) (r .stop .kind) (r .stop .slot .0) (r .stop .depth)
+        × ((l : ℕ) → b .sum + slots-below (nodes (now (image .entry)) f) l (b .node) (drop (b .depth) (now (key .entry))) ≡ r .sum + slots-below (nodes (now (image .entry)) f) (l - 1) (r .node) (drop (r .depth) (now (key .entry))))
+        × (length (now (key .entry)) - r .depth ≤ length (now (key .entry)) - b .depth - 1) × (r .sum ≤ b .sum + 65535) ⌝ }
 {
-    let mut lo = 0usize;
-    let mut m = 0usize;
-    let mut sum = 0usize;
-    let mut d = 0usize;
+    let m = NodeNum(b.node);
+    let d = b.depth;
+    let found = find(image, f, m, wide(key[d]));
+    let next = child_and_slot(image, f, m, found.at);
+    let slot = next.slot;
+    let sum = b.sum + slot.0;
+    if found.kind == 2 {
+        return arrive(image, f, key, next.child, sum, d + 1);
+    }
+    Bound {
+        node: next.child.0,
+        sum: sum,
+        depth: key.len(),
+        stop: Stop {
+            kind: 2 * found.kind,
+            slot: slot,
+            depth: d + 1,
+        },
+    }
+}
+
+// One level of a bound: a key that has ended leads to the first node behind those before it.
+fn next_level(image: &[u8], f: Frame, key: &[u8], b: Bound) -> Bound
+    requires { ⌜ Accepted (now image) f × Followed (now image) f (now key) (b .node) (b .depth) (b .stop .kind) (b .stop .slot .0) (b .stop .depth) × (b .sum ≤ 4194240) ⌝ }
+    ensures { λ r. ⌜ Followed (now (image .entry)) f (now (key .entry)) (r .node) (r .depth) (r .stop .kind) (r .stop .slot .0) (r .stop .depth)
+        × ((l : ℕ) → 0 < l → b .sum + slots-below (nodes (now (image .entry)) f) l (b .node) (drop (b .depth) (now (key .entry))) ≡ r .sum + slots-below (nodes (now (image .entry)) f) (l - 1) (r .node) (drop (r .depth) (now (key .entry))))
+        × (length (now (key .entry)) - r .depth ≤ length (now (key .entry)) - b .depth - 1) × (r .sum ≤ b .sum + 65535) ⌝ }
+{
+    if b.depth < key.len() {
+        return next_byte(image, f, key, b);
+    }
+    let first = before(image, f, NodeNum(b.node));
+    let stop = b.stop;
+    Bound {
+        node: first.children + 1,
+        sum: b.sum + first.leaves,
+        depth: b.depth,
+        stop: stop,
+    }
+}
+
+// Two bounds, each with the sum of its slot numbers over the same levels.
+pub struct Bounds {
+    pub lo: Bound,
+    pub hi: Bound,
+}
+
+// The bound of a key in an image without nodes.
+fn nowhere() -> Bound
+    ensures { λ r. ⌜ (r .sum ≡ 0) × (r .stop .kind ≡ 0) × (r .stop .depth ≡ 0) ⌝ }
+{
+    Bound {
+        node: 0,
+        sum: 0,
+        depth: 0,
+        stop: Stop {
+            kind: 0,
+            slot: ValuePos(0),
+            depth: 0,
+        },
+    }
+}
+
+// Whether two bounds, the bytes of both keys passed, stand at the same node, and so are the same on the levels below.
+fn met(lo: &[u8], a: Bound, hi: &[u8], b: Bound) -> bool
+    ensures { λ r. ⌜ (r ≡ true → (a .node ≡ b .node) × (length (now (lo .entry)) ≤ a .depth) × (length (now (hi .entry)) ≤ b .depth)) ⌝ }
+{
+    if a.node != b.node {
+        return false;
+    }
+    if a.depth < lo.len() {
+        return false;
+    }
+    if b.depth < hi.len() {
+        return false;
+    }
+    true
+}
+
+// Both bounds from the root to the level where they meet: their sums differ by the leaves between them.
+pub fn follow(image: &[u8], f: Frame, lo: &[u8], hi: &[u8]) -> Bounds
+    requires { ⌜ Accepted (now image) f × (length (now lo) ≤ 64) × (length (now hi) ≤ 64) ⌝ }
+    ensures { λ r. ⌜ (leaves-below (nodes (now (image .entry)) f) 64 0 0 (now (hi .entry)) + r .lo .sum ≡ leaves-below (nodes (now (image .entry)) f) 64 0 0 (now (lo .entry)) + r .hi .sum)
+        × Stopped (now (image .entry)) f (now (lo .entry)) (r .lo .stop .kind) (r .lo .stop .slot .0) (r .lo .stop .depth) × Stopped (now (image .entry)) f (now (hi .entry)) (r .hi .stop .kind) (r .hi .stop .slot .0) (r .hi .stop .depth)
+        × (r .lo .sum ≤ 4194240) × (r .hi .sum ≤ 4194240) ⌝ }
+{
     if f.dense + f.sparse == 0 {
-        return 0;
+        return Bounds {
+            lo: nowhere(),
+            hi: nowhere(),
+        };
     }
-    while d < key.len() {
-        let g = count_level(image, f, NodeNum(lo), NodeNum(m), wide(key[d]));
-        d = d + 1;
-        sum = sum + g.add;
-        lo = g.lo;
-        m = g.m;
-        if g.kind != 2 {
-            return sum + leaves_between(image, f, 64 - d, NodeNum(lo), NodeNum(m));
+    let mut a = arrive(image, f, lo, NodeNum(0), 0, 0);
+    let mut b = arrive(image, f, hi, NodeNum(0), 0, 0);
+    let mut d = 0usize;
+    while d < 64 {
+        if met(lo, a, hi, b) {
+            return Bounds { lo: a, hi: b };
         }
+        a = next_level(image, f, lo, a);
+        b = next_level(image, f, hi, b);
+        d = d + 1;
     }
-    sum + leaves_between(image, f, 64 - d, NodeNum(lo), NodeNum(m))
+    Bounds { lo: a, hi: b }
 }
 
-// The leaves whose highest possible key lies below the key.
+// 1 if the key leads to an open leaf whose highest key lies below it, else 0.
+pub fn passed_at(image: &[u8], f: Frame, key: &[u8], s: Stop) -> usize
+    requires { ⌜ Accepted (now image) f × Stopped (now image) f (now key) (s .kind) (s .slot .0) (s .depth) × (length (now key) ≤ 64) ⌝ }
+    ensures { λ r. ⌜ (r ≡ value false (high-passed (length (now (key .entry)))) (f .width) (nodes (now (image .entry)) f) (descend (nodes (now (image .entry)) f) 0 (now (key .entry)))) × (r ≤ 1) ⌝ }
+{
+    let kind = s.kind;
+    if kind < 2 {
+        return 0;
+    }
+    if high_below(image, f, s.slot, key, s.depth) {
+        return 1;
+    }
+    0
+}
+
+// 1 if the key leads to a leaf whose lowest key does not lie above it, else 0.
+pub fn reached_at(image: &[u8], f: Frame, key: &[u8], s: Stop) -> usize
+    requires { ⌜ Accepted (now image) f × Stopped (now image) f (now key) (s .kind) (s .slot .0) (s .depth) × (length (now key) ≤ 64) ⌝ }
+    ensures { λ r. ⌜ (r ≡ value true (low-reached (length (now (key .entry)))) (f .width) (nodes (now (image .entry)) f) (descend (nodes (now (image .entry)) f) 0 (now (key .entry)))) × (r ≤ 1) ⌝ }
+{
+    let kind = s.kind;
+    if kind < 2 {
+        return kind;
+    }
+    if low_above(image, f, s.slot, key, s.depth) {
+        return 0;
+    }
+    1
+}
+
+// The leaves whose highest possible key lies below the key: those between the empty key and it.
 pub fn passed(image: &[u8], f: Frame, key: &[u8]) -> usize
     requires { ⌜ Accepted (now image) f × (length (now key) ≤ 64) ⌝ }
     ensures { λ r. ⌜ r ≡ passed (read-leaves (now (image .entry))) (now (key .entry)) ⌝ }
 {
-    let n = leaves_below(image, f, key);
-    let s = descend(image, f, key);
-    let kind = s.kind;
-    if kind < 2 {
-        return n;
-    }
-    if high_below(image, f, s.slot, key, s.depth) {
-        return n + 1;
-    }
-    n
-}
-
-// The leaves whose lowest possible key does not lie above the key.
-pub fn reached(image: &[u8], f: Frame, key: &[u8]) -> usize
-    requires { ⌜ Accepted (now image) f × (length (now key) ≤ 64) ⌝ }
-    ensures { λ r. ⌜ r ≡ reached (read-leaves (now (image .entry))) (now (key .entry)) ⌝ }
-{
-    let n = leaves_below(image, f, key);
-    let s = descend(image, f, key);
-    let kind = s.kind;
-    if kind == 0 {
-        return n;
-    }
-    if kind == 1 {
-        return n + 1;
-    }
-    if low_above(image, f, s.slot, key, s.depth) {
-        return n;
-    }
-    n + 1
+    let s = follow(image, f, &key[..0], key);
+    s.hi.sum - s.lo.sum + passed_at(image, f, key, s.hi.stop)
 }

@@ -5,8 +5,9 @@ ghost use lib.ListN.{length};
 ghost use Rattle.spec.specs.Nodes.{read-leaves};
 ghost use Rattle.spec.specs.Questions.{counted, range, begins-with};
 ghost use Rattle.navigate.specs.Accepted.{Accepted};
-use super::counts::passed;
-use super::counts::reached;
+use super::counts::follow;
+use super::counts::passed_at;
+use super::counts::reached_at;
 use frame::Frame;
 
 // How many leaves have a possible key from lo to hi, both included.
@@ -14,8 +15,9 @@ pub fn count(image: &[u8], f: Frame, lo: &[u8], hi: &[u8]) -> usize
     requires { ⌜ Accepted (now image) f × (length (now lo) ≤ 64) × (length (now hi) ≤ 64) ⌝ }
     ensures { λ r. ⌜ r ≡ counted (read-leaves (now (image .entry))) (now (lo .entry)) (now (hi .entry)) ⌝ }
 {
-    let upto = reached(image, f, hi);
-    let below = passed(image, f, lo);
+    let s = follow(image, f, lo, hi);
+    let upto = s.hi.sum + reached_at(image, f, hi, s.hi.stop);
+    let below = s.lo.sum + passed_at(image, f, lo, s.lo.stop);
     if upto < below {
         return 0;
     }

@@ -56,9 +56,10 @@ below-sums ns (suc l) lo m (y ∷ k) h f =
     go true i p q = omega (arith, p, slot-range ns m i .0, leaves-up ns lo m h)
     go false i p q = omega (arith, q, slot-range ns m i .0, leaves-up ns lo m h)
 
--- The leaves before two keys differ as their sums do.
-pub below-apart : (ns : List Node) (a b : Bytes) → length a ≤ 64 → length b ≤ 64 → leaves-below ns 64 0 0 a + slots-below ns 64 0 b ≡ leaves-below ns 64 0 0 b + slots-below ns 64 0 a
-below-apart ns a b h g = omega (arith, below-sums ns 64 0 0 a (omega arith) h, below-sums ns 64 0 0 b (omega arith) g)
+-- The leaves before two keys differ as parts of their sums do, where the rests are the same.
+pub below-differ : (ns : List Node) (lo hi : Bytes) (a b u v : ℕ) → length lo ≤ 64 → length hi ≤ 64 → slots-below ns 64 0 hi + (a + u) ≡ slots-below ns 64 0 lo + (b + v) → u ≡ v
+    → leaves-below ns 64 0 0 hi + a ≡ leaves-below ns 64 0 0 lo + b
+below-differ ns lo hi a b u v g h e r = omega (arith, below-sums ns 64 0 0 lo (omega arith) g, below-sums ns 64 0 0 hi (omega arith) h)
 
 -- No leaf is before the empty key.
 pub below-nothing : (ns : List Node) → leaves-below ns 64 0 0 [] ≡ 0
