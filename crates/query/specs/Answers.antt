@@ -8,7 +8,6 @@ use native.Mathlib.Omega.{arith}
 use native.Mathlib.Numerals.{add-one}
 use lib.ListN.{length, getD, take, drop, set, replicate, length-append}
 use lib.Seq.{take-at, take-all, take-suc, take-append-add, set-at, length-take-le}
-use borrow.Author.Tests.{lt-ltb}
 use Rattle.spec.specs.Bytes.{Bytes, Bits, bit}
 use Rattle.spec.specs.Leaves.{Leaf}
 use Rattle.spec.specs.Nodes.{read-leaves}
@@ -18,7 +17,7 @@ use Rattle.frame.specs.declared.Frame.{Frame}
 use Rattle.query_laws.specs.Slots.{slot-of}
 use Rattle.query_laws.specs.Descent.{descend, leaves-below, value}
 use Rattle.query_laws.specs.Bounds.{high-passed, low-reached}
-use Rattle.query_laws.specs.Ordered.{passed, reached, counted-is, range-counted}
+use Rattle.query_laws.specs.Ordered.{passed, reached, counted-is}
 use Rattle.query_laws.specs.LevelSums.{below-nothing}
 use Rattle.query_laws.specs.Root.{point-value, point-is, passed-is, reached-is}
 use Rattle.query_laws.specs.Steps.{stop-of}
@@ -87,13 +86,6 @@ count-bounds s f z lo hi a b u v e p q = count-is s f z lo hi ∙ omega (arith, 
 pub passed-bounds : (s : Bytes) (f : Frame) → Accepted s f → (k : Bytes) (a b u : ℕ) → leaves-below (nodes s f) 64 0 0 k + a ≡ leaves-below (nodes s f) 64 0 0 [] + b
     → u ≡ value false (high-passed (length k)) (f .width) (nodes s f) (descend (nodes s f) 0 k) → (a ≤ b) × ((b - a) + u ≡ passed (read-leaves s) k)
 passed-bounds s f z k a b u e p = (omega (arith, below-nothing (nodes s f)), omega (arith, below-nothing (nodes s f), passed-stops s f z k))
-
--- Range: 1 exactly if the count is not 0.
-pub range-none : (s lo hi : Bytes) → counted (read-leaves s) lo hi ≡ 0 → range (read-leaves s) lo hi ≡ 0
-range-none s lo hi h = range-counted (read-leaves s) lo hi ∙ rw h
-
-pub range-some : (s lo hi : Bytes) → 0 < counted (read-leaves s) lo hi → range (read-leaves s) lo hi ≡ 1
-range-some s lo hi h = range-counted (read-leaves s) lo hi ∙ rw (lt-ltb 0 (counted (read-leaves s) lo hi) h)
 
 -- a number below two
 pub none-or-one : (n : ℕ) → n < 2 → (n ≡ 0) ⊎ (n ≡ 1)

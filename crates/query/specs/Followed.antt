@@ -1,7 +1,7 @@
 -- What is known of a bound while it is followed from the root: where its key leads, and the sum of its slot numbers level by level.
 use Prim.Native.Nat.{ℕ, zero, suc, _+_, _-_, _*_, _<_, _≤_}
 use mathlib.Core.Path.{_≡_, refl, sym, ap, _∙_}
-use mathlib.Core.List.{List, [], _∷_}
+use mathlib.Core.List.{[], _∷_}
 use native.Mathlib.Omega.{arith}
 use lib.ListN.{length, getD, drop, length-append, drop-of-length-le}
 use Rattle.spec.specs.Bytes.{Bytes, bit}
@@ -35,14 +35,15 @@ pub record Followed (s : Bytes) (f : Frame) (key : Bytes) (node depth kind slot 
 
 module _ (s : Bytes) (f : Frame) (a : Accepted s f) (key : Bytes) where
   -- an image without nodes leads nowhere
-  pub stopped-nowhere : (kind slot depth : ℕ) → f .dense + f .sparse ≡ 0 → kind ≡ 0 → depth ≡ 0 → Stopped s f key kind slot depth
-  stopped-nowhere kind slot depth z k d = record {
-    leads = descend-nowhere (nodes s f) key (length-append (dense-nodes s f) (sparse-nodes s f) ∙ omega (arith, a .dense-size, a .sparse-size)) ∙ rw k;
+  pub stopped-nowhere : f .dense + f .sparse ≡ 0 → Stopped s f key 0 0 0
+  stopped-nowhere z = record {
+    leads = descend-nowhere (nodes s f) key (length-append (dense-nodes s f) (sparse-nodes s f) ∙ omega (arith, a .dense-size, a .sparse-size));
     kind-in = omega arith;
     depth-in = omega arith;
     leaf-in = λ q. absurd (omega arith);
   }
 
+  -- and has no leaf below a key
   pub below-none : f .dense + f .sparse ≡ 0 → leaves-below (nodes s f) 64 0 0 key ≡ 0
   below-none z = below-nowhere (nodes s f) 64 key (length-append (dense-nodes s f) (sparse-nodes s f) ∙ omega (arith, a .dense-size, a .sparse-size))
 

@@ -10,6 +10,7 @@ ghost use Rattle.query_laws.specs.LevelSums.{slots-below};
 ghost use Rattle.query_laws.specs.Ordered.{passed};
 ghost use Rattle.navigate.specs.Accepted.{Accepted, nodes};
 ghost use Rattle.query.specs.Followed.{Stopped, Followed};
+use super::descent::NOWHERE;
 use super::descent::Stop;
 use super::suffix::high_below;
 use super::suffix::low_above;
@@ -107,20 +108,12 @@ pub struct Bounds {
 }
 
 // The bound of a key in an image without nodes.
-fn nowhere() -> Bound
-    ensures { λ r. ⌜ (r .sum ≡ 0) × (r .stop .kind ≡ 0) × (r .stop .depth ≡ 0) ⌝ }
-{
-    Bound {
-        node: 0,
-        sum: 0,
-        depth: 0,
-        stop: Stop {
-            kind: 0,
-            slot: ValuePos(0),
-            depth: 0,
-        },
-    }
-}
+const NO_BOUND: Bound = Bound {
+    node: 0,
+    sum: 0,
+    depth: 0,
+    stop: NOWHERE,
+};
 
 // Whether two bounds, the bytes of both keys passed, stand at the same node, and so are the same on the levels below.
 fn met(lo: &[u8], a: Bound, hi: &[u8], b: Bound) -> bool
@@ -147,8 +140,8 @@ pub fn follow(image: &[u8], f: Frame, lo: &[u8], hi: &[u8]) -> Bounds
 {
     if f.dense + f.sparse == 0 {
         return Bounds {
-            lo: nowhere(),
-            hi: nowhere(),
+            lo: NO_BOUND,
+            hi: NO_BOUND,
         };
     }
     let mut a = arrive(image, f, lo, NodeNum(0), 0, 0);

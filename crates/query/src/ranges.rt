@@ -1,4 +1,4 @@
-// Count, range and begins-with over an accepted image: differences of the leaves that the upper bound has reached and the lower one has passed.
+// Count, range and begins-with over an accepted image: a count by both bounds, a range by the first leaf that the lower bound has not passed.
 ghost use mathlib.Core.Path.{_≡_};
 ghost use Prim.Native.Nat.{_≤_};
 ghost use lib.ListN.{length};
@@ -8,7 +8,11 @@ ghost use Rattle.navigate.specs.Accepted.{Accepted};
 use super::counts::follow;
 use super::counts::passed_at;
 use super::counts::reached_at;
+use super::seek::lowest_key;
+use super::seeking::next_leaf;
 use frame::Frame;
+use keys::compare::Order;
+use keys::compare::compare;
 
 // How many leaves have a possible key from lo to hi, both included.
 pub fn count(image: &[u8], f: Frame, lo: &[u8], hi: &[u8]) -> usize
@@ -24,16 +28,24 @@ pub fn count(image: &[u8], f: Frame, lo: &[u8], hi: &[u8]) -> usize
     upto - below
 }
 
-// 1 if some leaf has a possible key from lo to hi, both included, else 0.
+// 1 if some leaf has a possible key from lo to hi, both included, else 0: if the first leaf that lo has not passed has a lowest key that does not lie above hi.
 pub fn range(image: &[u8], f: Frame, lo: &[u8], hi: &[u8]) -> usize
     requires { ⌜ Accepted (now image) f × (length (now lo) ≤ 64) × (length (now hi) ≤ 64) ⌝ }
     ensures { λ r. ⌜ r ≡ range (read-leaves (now (image .entry))) (now (lo .entry)) (now (hi .entry)) ⌝ }
 {
-    let n = count(image, f, lo, hi);
-    if n == 0 {
+    let mut key = [0u8; 64];
+    let stop = next_leaf(image, f, lo, &mut key);
+    let kind = stop.kind;
+    if kind == 0 {
         return 0;
     }
-    1
+    let n = lowest_key(image, f, stop, &mut key);
+    let order = compare(hi, &key[..n]);
+    match order {
+        Order::Below => 0,
+        Order::Equal => 1,
+        Order::Above => 1,
+    }
 }
 
 // 1 if some leaf has a possible key from the stem to the stem followed by one FF (a 64-byte stem: to itself), else 0.

@@ -45,7 +45,7 @@ fn append_suffix(image: &[u8], f: Frame, slot: ValuePos, key: &mut [u8], depth: 
 }
 
 // The lowest key of the leaf at a stop, whose cut key stands in `key`; its length.
-fn lowest_key(image: &[u8], f: Frame, stop: Stop, key: &mut [u8]) -> usize
+pub fn lowest_key(image: &[u8], f: Frame, stop: Stop, key: &mut [u8]) -> usize
     requires { ⌜ Accepted (now image) f × (length (now key) ≡ 64) × (stop .depth ≤ 64) × (0 < stop .kind) × (stop .kind ≤ 2) × (stop .kind ≡ 2 → stop .slot .0 < f .leaves) ⌝ }
     ensures { λ r. ⌜ (low-of (f .width) (nodes (now (image .entry)) f) (stop .kind) (stop .slot .0) (take (stop .depth) (now (key .entry))) ≡ some (take r (now (key .exit))))
         × (r ≤ 64) × (length (now (key .exit)) ≡ 64) ⌝ }

@@ -1,12 +1,12 @@
 -- The leaves before a key, as a sum of slot numbers level by level: without the first nodes of the levels, which cancel where two keys are compared.
 use Prim.Native.Nat.{ℕ, zero, suc, _+_, _-_, _<_, _≤_}
-use mathlib.Core.Path.{_≡_, refl, sym, ap, _∙_}
+use mathlib.Core.Path.{_≡_, refl}
 use mathlib.Core.Bool.{Bool, true, false, cond}
 use mathlib.Core.List.{List, [], _∷_}
 use native.Mathlib.Omega.{arith}
 use lib.ListN.{length, drop}
 use Rattle.spec.specs.Bytes.{Bytes, bit}
-use Rattle.spec.specs.Nodes.{Branch, Node, branches-of}
+use Rattle.spec.specs.Nodes.{Node, branches-of}
 use Rattle.query_laws.specs.Counting.{labels-below}
 use Rattle.query_laws.specs.Slots.{node-at, leaves-before, slot-number}
 use Rattle.query_laws.specs.Descent.{children-before, child-number, goes-on, leaves-between, leaves-below, between-same}

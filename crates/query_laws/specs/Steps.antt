@@ -1,5 +1,5 @@
 -- One level of a descent, by what a node has at a label: no branch (0), one that ends at an open leaf (1), one that continues (2).
-use Prim.Native.Nat.{ℕ, zero, suc, _+_, _-_, _<_}
+use Prim.Native.Nat.{ℕ, zero, suc, _+_, _<_}
 use mathlib.Core.Path.{_≡_, refl, sym}
 use mathlib.Core.Bool.{Bool, true, false, cond, _||_, true≢false}
 use mathlib.Core.List.{List, [], _∷_}
@@ -9,8 +9,8 @@ use Rattle.spec.specs.Bytes.{Bytes, bit}
 use Rattle.spec.specs.Nodes.{Branch, to-node, to-leaf, Node, branches-of, is-exact}
 use Rattle.spec.specs.Trie.{leaf-count}
 use Rattle.query_laws.specs.Counting.{labels-below}
-use Rattle.query_laws.specs.Slots.{node-at, leaves-before, slot-number}
-use Rattle.query_laws.specs.Descent.{children-before, child-number, goes-on, ends-at, Stop, miss, at-exact, at-open, descend, leaves-between, leaves-below, between-same}
+use Rattle.query_laws.specs.Slots.{node-at, slot-number}
+use Rattle.query_laws.specs.Descent.{child-number, goes-on, ends-at, Stop, miss, at-exact, at-open, descend, leaves-below}
 use Rattle.query_laws.specs.LabelMaps.{matches, matches-is}
 use Rattle.query_laws.specs.Root.{branch-leaves-in, below-empty, descend-empty}
 
@@ -68,18 +68,6 @@ module _ (ns : List Node) (m y : ℕ) (k : Bytes) (kind : ℕ) (is : kind ≡ bi
   unfolding descend
   descend-on a b = rw (goes-there a b)
 
-  -- The leaves of a level before a key whose branch continues, and those of the next.
-  pub below-on : (l lo : ℕ) → (kind ≡ 0 → ⊥) → (kind ≡ 1 → ⊥)
-      → leaves-below ns l lo m (y ∷ k) ≡ (slot-number ns m (labels-below y (branches-of (node-at ns m))) - leaves-before ns lo) + leaves-below ns (l - 1) (1 + children-before ns lo) (child-number ns m (labels-below y (branches-of (node-at ns m)))) k
-  unfolding leaves-below
-  below-on l lo a b = rw (goes-there a b)
-
-  -- Where no branch continues, all leaves below the branches before it.
-  pub below-off : (l lo : ℕ) → (kind ≡ 2 → ⊥)
-      → leaves-below ns l lo m (y ∷ k) ≡ (slot-number ns m (labels-below y (branches-of (node-at ns m))) - leaves-before ns lo) + leaves-between ns (l - 1) (1 + children-before ns lo) (child-number ns m (labels-below y (branches-of (node-at ns m))))
-  unfolding leaves-below
-  below-off l lo a = rw (says y (drop (labels-below y (branches-of (node-at ns m))) (branches-of (node-at ns m))) kind is .2 a)
-
 -- the end of the key
 pub descend-end : (ns : List Node) (m e v : ℕ) → e ≡ bit (is-exact (node-at ns m)) → descend ns m [] ≡ stop-of e v []
 unfolding descend
@@ -88,10 +76,6 @@ descend-end ns m e v h = rw h (go (is-exact (node-at ns m)))
     go : (b : Bool) → cond b at-exact miss ≡ stop-of (bit b) v []
     go true = refl
     go false = refl
-
-pub below-end : (ns : List Node) (l lo m : ℕ) → leaves-below ns l lo m [] ≡ leaves-between ns l lo m
-unfolding leaves-below
-below-end ns l lo m = refl
 
 -- An open leaf's slot is one of the leaves.
 pub slot-in : (ns : List Node) (m y : ℕ) (kind : ℕ) → kind ≡ bit (matches y (drop (labels-below y (branches-of (node-at ns m))) (branches-of (node-at ns m)))) + bit (goes-on y (drop (labels-below y (branches-of (node-at ns m))) (branches-of (node-at ns m))))
@@ -106,23 +90,6 @@ nil-of (n ∷ ns) h = absurd (omega arith)
 -- An image without nodes leads nowhere.
 pub descend-nowhere : (ns : List Node) (k : Bytes) → length ns ≡ 0 → descend ns 0 k ≡ miss
 descend-nowhere ns k h = rw (nil-of ns h) (descend-empty k)
-
--- ---- the leaves between nodes of a level
-
-pub between-zero : (ns : List Node) (l lo hi : ℕ) → l ≡ 0 → leaves-between ns l lo hi ≡ 0
-unfolding leaves-between
-between-zero ns l lo hi e = rw e
-
--- none between a node and itself
-pub between-equal : (ns : List Node) (l lo hi : ℕ) → lo ≡ hi → leaves-between ns l lo hi ≡ 0
-between-equal ns l lo hi e = rw e (between-same ns l hi)
-
--- those that end on the level, and the same one level lower
-pub between-next : (ns : List Node) (l lo hi : ℕ) → (l ≡ 0 → ⊥)
-    → leaves-between ns l lo hi ≡ (leaves-before ns hi - leaves-before ns lo) + leaves-between ns (l - 1) (1 + children-before ns lo) (1 + children-before ns hi)
-unfolding leaves-between
-between-next ns zero lo hi h = absurd (h refl)
-between-next ns (suc l) lo hi h = let e : suc l - 1 ≡ l = omega arith in rw e
 
 -- An image without nodes has no leaf below a key.
 pub below-nowhere : (ns : List Node) (l : ℕ) (k : Bytes) → length ns ≡ 0 → leaves-below ns l 0 0 k ≡ 0

@@ -23,24 +23,16 @@ add-if1 c =
     let p = c .before .before .before .before .pre .0 in
     omega (arith, p .dense-size, p .sparse-size, p .writable .few-dense, p .writable .few-sparse)
 
-nowhere-requires : tie.Need-nowhere-requires Inv-loop μ-loop
-nowhere-requires c κs = tt
-
-nowhere-requires-2 : tie.Need-nowhere-requires-2 Inv-loop μ-loop
-nowhere-requires-2 c κs = tt
-
 returns : tie.Need-returns Inv-loop μ-loop
 returns c =
-    let a = c .before .before .before .before .before .before .before .args in
-    let p = c .before .before .before .before .before .before .before .pre in
-    let z = c .before .before .if1 .taken in
-    let u = c .before .nowhere .ensures in
-    let v = c .nowhere2 .ensures in (
-      omega (arith, below-none (a .image .now) (a .f) (p .0) (a .lo .now) z, below-none (a .image .now) (a .f) (p .0) (a .hi .now) z, u .0, v .0),
-      stopped-nowhere (a .image .now) (a .f) (p .0) (a .lo .now) (c .before .nowhere .result .stop .kind) (c .before .nowhere .result .stop .slot .0) (c .before .nowhere .result .stop .depth) z (u .1) (u .2),
-      stopped-nowhere (a .image .now) (a .f) (p .0) (a .hi .now) (c .nowhere2 .result .stop .kind) (c .nowhere2 .result .stop .slot .0) (c .nowhere2 .result .stop .depth) z (v .1) (v .2),
-      omega (arith, u .0),
-      omega (arith, v .0),
+    let a = c .before .before .before .before .before .args in
+    let p = c .before .before .before .before .before .pre in
+    let z = c .if1 .taken in (
+      omega (arith, below-none (a .image .now) (a .f) (p .0) (a .lo .now) z, below-none (a .image .now) (a .f) (p .0) (a .hi .now) z),
+      stopped-nowhere (a .image .now) (a .f) (p .0) (a .lo .now) z,
+      stopped-nowhere (a .image .now) (a .f) (p .0) (a .hi .now) z,
+      omega arith,
+      omega arith,
     )
 
 arrive-requires : tie.Need-arrive-requires Inv-loop μ-loop
@@ -120,8 +112,6 @@ follow-spec =
     Inv-loop
     μ-loop
     add-if1
-    nowhere-requires
-    nowhere-requires-2
     returns
     arrive-requires
     arrive-requires-2

@@ -1,22 +1,87 @@
-use Rattle.query.specs.Answers.{range-none, range-some}
-use native.Mathlib.Omega.{arith}
-use mathlib.Core.Path.{sym, _∙_}
 use borrow.Author.Needs.{needs}
+use Rattle.query.proofs.RangeLaws.{range-none, range-above, range-within}
+use Rattle.keys.proofs.OrderLaws.{order-is-below, order-not-below}
+use lib.Seq.{length-take-le}
+use native.Mathlib.Omega.{arith}
+use mathlib.Core.Logic.{inl, inr}
+use mathlib.Core.Path.{sym, _∙_}
 use Rattle.query.proofs.ranges.range.Statement.{statement}
 use Rattle.query.proofs.ranges.range.Tie as tie
 
-count-requires : tie.Need-count-requires
-count-requires c κs = search needs
+slice-aggregate-next-leaf : tie.Need-slice-aggregate-next-leaf
+slice-aggregate-next-leaf c = search needs
+
+next-leaf-requires : tie.Need-next-leaf-requires
+next-leaf-requires c κs = search needs
 
 returns : tie.Need-returns
 returns c =
-    let a = c .before .before .before .before .before .args in
-    sym (range-none (a .image .now) (a .lo .now) (a .hi .now) (sym (c .before .count .ensures) ∙ c .if1 .taken))
+    let a = c .before .before .before .before .before .before .before .args in
+    let s = c .before .before .next-leaf in
+    range-none (a .image .now) (a .f) (c .before .before .before .before .before .before .before .pre .0) (a .lo .now) (a .hi .now) (s .result .kind) (s .result .slot .0) _ (s .ensures .0) (c .if1 .taken)
+
+slice-aggregate-lowest-key : tie.Need-slice-aggregate-lowest-key
+slice-aggregate-lowest-key c = search needs
+
+lowest-key-requires : tie.Need-lowest-key-requires
+lowest-key-requires c κs = search needs
+
+array-share-prefix-key : tie.Need-array-share-prefix-key
+array-share-prefix-key c = search needs
+
+slice-aggregate-compare : tie.Need-slice-aggregate-compare
+slice-aggregate-compare c =
+    let l = c .before .before .lowest-key in
+    sym (length-take-le (l .result) (l .last .1 .1 .1 .0) (omega (arith, l .ensures .1, l .ensures .2)))
+
+compare-requires : tie.Need-compare-requires
+compare-requires c κs = search needs
+
+enum-told : tie.Need-enum-told
+enum-told c = search needs
+
+enum-told-2 : tie.Need-enum-told-2
+enum-told-2 c = search needs
+
+enum-told-3 : tie.Need-enum-told-3
+enum-told-3 c = search needs
 
 returns-2 : tie.Need-returns-2
 returns-2 c =
-    let a = c .before .before .before .before .before .args in
-    sym (range-some (a .image .now) (a .lo .now) (a .hi .now) (omega (arith, c .before .count .ensures, c .if1 .left)))
+    let a = c .before .before .before .before .before .before .before .before .before .before .before .before .before .before .args in
+    let s = c .before .before .before .before .before .before .before .before .before .next-leaf in
+    let l = c .before .before .before .before .before .lowest-key in
+    range-above (a .image .now) (a .f) (c .before .before .before .before .before .before .before .before .before .before .before .before .before .before .pre .0) (a .lo .now) (a .hi .now) (s .result .kind) (s .result .slot .0) _ (s .ensures .0) _ (l .ensures .0) (order-is-below _ _ (sym (c .before .before .compare .ensures) ∙ c .enum-told .given .1))
+
+returns-3 : tie.Need-returns-3
+returns-3 c =
+    let a = c .before .before .before .before .before .before .before .before .before .before .before .before .before .before .args in
+    let s = c .before .before .before .before .before .before .before .before .before .next-leaf in
+    let l = c .before .before .before .before .before .lowest-key in
+    range-within (a .image .now) (a .f) (c .before .before .before .before .before .before .before .before .before .before .before .before .before .before .pre .0) (a .lo .now) (a .hi .now) (s .result .kind) (s .result .slot .0) _ (s .ensures .0) _ (l .ensures .0) (order-not-below _ _ (inl (sym (c .before .before .compare .ensures) ∙ c .enum-told2 .given .1)))
+
+returns-4 : tie.Need-returns-4
+returns-4 c =
+    let a = c .before .before .before .before .before .before .before .before .before .before .before .before .before .before .args in
+    let s = c .before .before .before .before .before .before .before .before .before .next-leaf in
+    let l = c .before .before .before .before .before .lowest-key in
+    range-within (a .image .now) (a .f) (c .before .before .before .before .before .before .before .before .before .before .before .before .before .before .pre .0) (a .lo .now) (a .hi .now) (s .result .kind) (s .result .slot .0) _ (s .ensures .0) _ (l .ensures .0) (order-not-below _ _ (inr (sym (c .before .before .compare .ensures) ∙ c .enum-told3 .given .1)))
 
 pub range-spec : {M : Type 1} → statement M
-range-spec = tie.close (tie.spec count-requires returns returns-2)
+range-spec =
+    tie.close
+    (tie.spec
+    slice-aggregate-next-leaf
+    next-leaf-requires
+    returns
+    slice-aggregate-lowest-key
+    lowest-key-requires
+    array-share-prefix-key
+    slice-aggregate-compare
+    compare-requires
+    enum-told
+    enum-told-2
+    enum-told-3
+    returns-2
+    returns-3
+    returns-4)
