@@ -1,0 +1,5 @@
+pub mod Walks
+pub mod WalkLaws
+pub mod StateLaws
+pub mod Record
+pub mod RecordLaws

@@ -1,0 +1,5 @@
+// The walk over the leaves of an accepted image, in key order.
+
+pub mod states; // states.rt: where a walk stands, and what it says there, over a plain slice
+pub mod walker; // walker.rt: a walker holds the image's slice and where it stands
+pub mod record; // record.rt: what a walk says as a record of 68 bytes
