@@ -3,7 +3,7 @@
 use std::env;
 
 /// The features whose calls need the library.
-const CALLS: [&str; 3] = ["BUILD", "CHECK", "ASK"];
+const CALLS: [&str; 4] = ["BUILD", "CHECK", "ASK", "WALK"];
 
 /// Links the static library below the repository root if some call of it is wanted.
 fn main() {

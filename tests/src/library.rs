@@ -27,7 +27,20 @@ extern "C" {
         replies: *mut u8,
         replies_len: usize,
     ) -> u64;
+
+    #[cfg(feature = "walk")]
+    fn range_filter_walk(
+        image: *const u8,
+        image_len: usize,
+        place: u64,
+        record: *mut [u8; RECORD_BYTES],
+    ) -> u32;
 }
+
+/// The bytes of a leaf's record: its kind, its cut key's length, the cut key and zeros
+/// behind it, and its suffix as a number.
+#[cfg(feature = "walk")]
+pub const RECORD_BYTES: usize = 68;
 
 /// Builds the image of a key list at the start of the output.
 #[cfg(feature = "build")]
@@ -68,6 +81,15 @@ pub fn ask(image: &[u8], questions: &[u8], replies: &mut [u8]) -> Answer {
             replies.len(),
         )
     })
+}
+
+/// Writes the record of the leaf at a place of an image, or zeros for done, and gives 0;
+/// or gives the number of a refusal.
+#[cfg(feature = "walk")]
+pub fn walk(image: &[u8], place: u64, record: &mut [u8; RECORD_BYTES]) -> u32 {
+    // SAFETY: pointer and length are those of a slice that lives through the call,
+    // and the record is lent to it alone.
+    unsafe { range_filter_walk(image.as_ptr(), image.len(), place, record) }
 }
 
 /// Reads what a call returns: a number above 32 bits of bytes written, of which a
