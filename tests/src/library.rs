@@ -3,6 +3,8 @@
 
 #[cfg(any(feature = "build", feature = "ask"))]
 use crate::build::Answer;
+#[cfg(feature = "walk")]
+use crate::walk::RECORD_BYTES;
 
 extern "C" {
     #[cfg(feature = "build")]
@@ -36,11 +38,6 @@ extern "C" {
         record: *mut [u8; RECORD_BYTES],
     ) -> u32;
 }
-
-/// The bytes of a leaf's record: its kind, its cut key's length, the cut key and zeros
-/// behind it, and its suffix as a number.
-#[cfg(feature = "walk")]
-pub const RECORD_BYTES: usize = 68;
 
 /// Builds the image of a key list at the start of the output.
 #[cfg(feature = "build")]

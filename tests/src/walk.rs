@@ -30,6 +30,36 @@ pub fn next(image: &[u8], place: u64) -> Result<u64, u32> {
     Ok((place + 1).min(leaves.len() as u64))
 }
 
+/// The bytes of a leaf's record.
+pub const RECORD_BYTES: usize = 68;
+
+/// Gives the suffix bits as a number, the first bit lowest.
+fn suffix_number(suffix: &[bool]) -> u16 {
+    let bits = suffix.iter().enumerate();
+    bits.map(|(i, &bit)| u16::from(bit) << i).sum()
+}
+
+/// Writes a leaf's record: its kind, its cut key's length, the cut key and zeros
+/// behind it, and its suffix as a number.
+fn record(leaf: &Leaf) -> [u8; RECORD_BYTES] {
+    let mut record = [0; RECORD_BYTES];
+    record[0] = if leaf.exact { 1 } else { 2 };
+    record[1] = leaf.cut.len() as u8;
+    record[2..2 + leaf.cut.len()].copy_from_slice(&leaf.cut);
+    record[66..].copy_from_slice(&suffix_number(&leaf.suffix).to_le_bytes());
+    record
+}
+
+/// Gives the number that a walk answers, 0 unless it is refused, and the record's
+/// final bytes, which a refusal leaves as they were.
+pub fn answer(stand: &Stand, before: [u8; RECORD_BYTES]) -> (u32, [u8; RECORD_BYTES]) {
+    match stand {
+        Stand::Refused(number) => (*number, before),
+        Stand::Leaf(leaf) => (0, record(leaf)),
+        Stand::Done => (0, [0; RECORD_BYTES]),
+    }
+}
+
 /// Gives the leaves of an image that has the place handed in.
 fn leaves_for(image: &[u8], place: u64) -> Result<Vec<Leaf>, u32> {
     let leaves = accepted_leaves(image)?;

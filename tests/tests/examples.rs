@@ -161,6 +161,20 @@ fn check(image: &[u8]) -> u32 {
     number
 }
 
+/// Walks with the reference, and with the library where it is linked; both say the
+/// same and leave the same record.
+fn walk_to(image: &[u8], place: u64) -> Stand {
+    let stand = at(image, place);
+    #[cfg(feature = "walk")]
+    {
+        let mut record = [FILL; reference::walk::RECORD_BYTES];
+        let expected = reference::walk::answer(&stand, record);
+        let number = reference::library::walk(image, place, &mut record);
+        assert_eq!((number, record), expected);
+    }
+    stand
+}
+
 /// Asks the reference, and the library where it is linked; both answer alike and
 /// leave the same reply buffer.
 fn ask(image: &[u8], file: &[u8], replies: &mut [u8]) -> Answer {
@@ -840,13 +854,13 @@ fn walk_turns_down_places_past_done_with_17() {
         exact: false,
         suffix: Vec::new(),
     };
-    assert_eq!(at(IMAGE_A, 3), Stand::Leaf(last));
-    assert_eq!(at(IMAGE_A, 4), Stand::Done);
-    assert_eq!(at(IMAGE_A, 5), Stand::Refused(17));
-    assert_eq!(at(IMAGE_A, u64::MAX), Stand::Refused(17));
+    assert_eq!(walk_to(IMAGE_A, 3), Stand::Leaf(last));
+    assert_eq!(walk_to(IMAGE_A, 4), Stand::Done);
+    assert_eq!(walk_to(IMAGE_A, 5), Stand::Refused(17));
+    assert_eq!(walk_to(IMAGE_A, u64::MAX), Stand::Refused(17));
     let empty = built(&[], 0, 0);
-    assert_eq!(at(&empty, 0), Stand::Done);
-    assert_eq!(at(&empty, 1), Stand::Refused(17));
+    assert_eq!(walk_to(&empty, 0), Stand::Done);
+    assert_eq!(walk_to(&empty, 1), Stand::Refused(17));
 }
 
 #[test]

@@ -4,12 +4,12 @@
 #![cfg(feature = "walk")]
 
 use reference::leaves::Leaf;
-use reference::library::{self, RECORD_BYTES};
+use reference::library;
 use reference::questions::accepted_leaves;
 use reference::random::{
     any_image, any_keys, built, damaged, many_keys, recounted, reshaped, small_frame, Random,
 };
-use reference::walk::{at, next, Stand};
+use reference::walk::{answer, at, next, Stand, RECORD_BYTES};
 use std::collections::BTreeMap;
 
 const IMAGES: usize = 1_500;
@@ -25,38 +25,17 @@ const GUARD: usize = 32;
 /// The byte that buffers hold before a call.
 const UNTOUCHED: u8 = 0x5A;
 
-/// Gives the suffix bits as a number, the first bit lowest.
-fn suffix_number(suffix: &[bool]) -> u16 {
-    let bits = suffix.iter().enumerate();
-    bits.map(|(i, &bit)| u16::from(bit) << i).sum()
-}
-
-/// Writes a leaf's record.
-fn record_of(leaf: &Leaf) -> [u8; RECORD_BYTES] {
-    let mut record = [0; RECORD_BYTES];
-    record[0] = if leaf.exact { 1 } else { 2 };
-    record[1] = leaf.cut.len() as u8;
-    record[2..2 + leaf.cut.len()].copy_from_slice(&leaf.cut);
-    record[66..].copy_from_slice(&suffix_number(&leaf.suffix).to_le_bytes());
-    record
-}
-
-/// Gives the number and the record that a walk leaves where it stands.
-fn expected(stand: &Stand) -> (u32, [u8; RECORD_BYTES]) {
-    match stand {
-        Stand::Refused(number) => (*number, [UNTOUCHED; RECORD_BYTES]),
-        Stand::Leaf(leaf) => (0, record_of(leaf)),
-        Stand::Done => (0, [0; RECORD_BYTES]),
-    }
-}
-
 /// Asserts that the library leaves this number and record, and no other byte changed.
 fn compare(image: &[u8], place: u64, stand: &Stand) -> u32 {
     let mut guarded = [UNTOUCHED; GUARD + RECORD_BYTES + GUARD];
     let record = &mut guarded[GUARD..GUARD + RECORD_BYTES];
     let record: &mut [u8; RECORD_BYTES] = record.try_into().expect("the record has its length");
     let number = library::walk(image, place, record);
-    assert_eq!((number, *record), expected(stand), "{place} {image:?}");
+    assert_eq!(
+        (number, *record),
+        answer(stand, [UNTOUCHED; RECORD_BYTES]),
+        "{place} {image:?}"
+    );
     let behind = guarded[GUARD + RECORD_BYTES..].iter();
     let around = guarded[..GUARD].iter().chain(behind);
     assert!(around.copied().all(|byte| byte == UNTOUCHED));
