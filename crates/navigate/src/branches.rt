@@ -30,8 +30,8 @@ pub fn child(image: &[u8], f: Frame, m: NodeNum, at: BitPos) -> NodeNum
     if m.0 < f.dense {
         return NodeNum(child_rank(image, f, at) + 1);
     }
-    let dense = dense_before(image, f, NodeNum(f.dense));
-    NodeNum(dense.children + entry_rank(image, f, at) + 1)
+    let dense = child_rank(image, f, BitPos(256 * f.dense));
+    NodeNum(dense + entry_rank(image, f, at) + 1)
 }
 
 // The slot of the leaf behind a branch: an exact leaf stands before its node's branches.
