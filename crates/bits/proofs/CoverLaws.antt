@@ -23,7 +23,8 @@ and-bits x y e j =
     let b = and-le-r (x / 2 ^ j % 2) (y / 2 ^ j % 2) in
     omega (arith, ap (λ (n : ℕ). n / 2 ^ j % 2) e)
 
-half-bit : (x j : ℕ) → x / 2 / 2 ^ j ≡ x / 2 ^ suc j
+-- digit j of the half
+pub half-bit : (x j : ℕ) → x / 2 / 2 ^ j ≡ x / 2 ^ suc j
 half-bit x j = let w : 1 + j ≡ suc j = omega arith in shr-shr x 1 j ∙ ap (λ (z : ℕ). x / 2 ^ z) w
 
 -- and back, for a number of k digits

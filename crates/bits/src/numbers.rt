@@ -1,6 +1,6 @@
-// Numbers of four and of eight bytes in a slice, the low byte first.
+// Numbers of four and of eight bytes in a slice, the low byte first; a byte as a number, and the smaller of two numbers.
 ghost use mathlib.Core.Path.{_≡_};
-ghost use Prim.Native.Nat.{_+_, _*_, _≤_, _<_};
+ghost use Prim.Native.Nat.{_+_, _*_, _≤_, _<_, min};
 ghost use lib.ListN.{length, drop};
 ghost use Rattle.spec.specs.Bytes.{from32, le32};
 ghost use Rattle.bits.specs.Bits.{word, placed};
@@ -17,6 +17,13 @@ fn wide64(x: u8) -> u64
     ensures { λ r. ⌜ (r ≡ x) × (r < 256) ⌝ }
 {
     x as u64
+}
+
+// The smaller of two numbers.
+pub fn smaller(a: usize, b: usize) -> usize
+    ensures { λ r. ⌜ r ≡ min a b ⌝ }
+{
+    if a < b { a } else { b }
 }
 
 // The number in the four bytes of s from at.
@@ -68,13 +75,21 @@ fn read_end(s: &[u8], at: usize) -> u64
     w
 }
 
+// The number in the eight bytes of s from at, zeros where s has ended.
+pub fn read_from(s: &[u8], at: usize) -> u64
+    requires { ⌜ at ≤ length (now s) ⌝ }
+    ensures { λ r. ⌜ r ≡ word (now (s .entry)) at ⌝ }
+{
+    if s.len() - at < 8 {
+        return read_end(s, at);
+    }
+    read64(s, at)
+}
+
 // Word q of s, that is, bits 64 q to 64 q + 63, zeros where s has ended.
 pub fn read_word(s: &[u8], q: usize) -> u64
     requires { ⌜ q * 8 ≤ length (now s) ⌝ }
     ensures { λ r. ⌜ r ≡ word (now (s .entry)) (q * 8) ⌝ }
 {
-    if s.len() - q * 8 < 8 {
-        return read_end(s, q * 8);
-    }
-    read64(s, q * 8)
+    read_from(s, q * 8)
 }

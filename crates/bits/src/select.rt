@@ -1,10 +1,11 @@
 // The position of a one by its number, and the next one from a position: by 64-bit words, then inside a word.
 ghost use mathlib.Core.Path.{_≡_};
-ghost use Prim.Native.Nat.{_+_, _*_, _%_, _^_, _≤_, _<_, min};
+ghost use Prim.Native.Nat.{_+_, _*_, _%_, _^_, _≤_, _<_};
 ghost use lib.ListN.{length};
 ghost use lib.Count.{ones};
 ghost use Rattle.bits.specs.Bits.{rank, select};
 use super::numbers::read_word;
+use super::numbers::smaller;
 use super::ones::ones_before;
 
 // The position of the lowest one of a word that is not zero.
@@ -29,13 +30,6 @@ fn select_in_word(x: u64, m: usize) -> usize
     lowest_one(w)
 }
 
-// A position, or n where it lies behind n.
-fn at_most(p: usize, n: usize) -> usize
-    ensures { λ r. ⌜ r ≡ min p n ⌝ }
-{
-    if n < p { n } else { p }
-}
-
 // The first one from word `from` on among the first n bits, or n where there is no such one.
 fn next_from(s: &[u8], n: usize, from: usize) -> usize
     requires { ⌜ (n ≤ 8 * length (now s)) × (64 * from ≤ n + 64) ⌝ }
@@ -45,7 +39,7 @@ fn next_from(s: &[u8], n: usize, from: usize) -> usize
     while q <= n / 64 {
         let x = read_word(s, q);
         if x != 0 {
-            return at_most(64 * q + lowest_one(x), n);
+            return smaller(64 * q + lowest_one(x), n);
         }
         q = q + 1;
     }
@@ -59,7 +53,7 @@ pub fn next_one(s: &[u8], n: usize, from: usize) -> usize
 {
     let x = read_word(s, from / 64) >> (from % 64);
     if x != 0 {
-        return at_most(from + lowest_one(x), n);
+        return smaller(from + lowest_one(x), n);
     }
     next_from(s, n, from / 64 + 1)
 }
@@ -75,7 +69,7 @@ pub fn select_from(s: &[u8], n: usize, from: usize, before: usize, m: usize) -> 
         let x = read_word(s, q);
         let w = u64::count_ones(x) as usize;
         if m - r < w {
-            return at_most(64 * q + select_in_word(x, m - r), n);
+            return smaller(64 * q + select_in_word(x, m - r), n);
         }
         r = r + w;
         q = q + 1;

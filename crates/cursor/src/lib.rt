@@ -17,7 +17,7 @@ use leaf::Leaf;
 use navigate::branches::next_branch;
 use paths::climb;
 use paths::descend;
-use query::suffix::slot_bit;
+use query::suffix::slot_bits;
 
 mod paths; // paths.rt: a path up to its next branch, and down to the first leaf behind it
 
@@ -99,18 +99,15 @@ pub fn step(image: &[u8], f: Frame, c: Cursor) -> Cursor
     }
 }
 
-// The bits of a slot as a number, the first bit lowest.
+// The bits of a slot as a number, the first bit lowest; what stands above the width's bits is not said.
 fn suffix(image: &[u8], f: Frame, slot: ValuePos) -> usize
     requires { ⌜ Accepted (now image) f × (slot .0 < f .leaves) ⌝ }
     ensures { λ r. ⌜ low-bits (f .width) r ≡ slot-of (f .width) (nodes (now (image .entry)) f) (slot .0) ⌝ }
 {
-    let mut bits = 0usize;
-    let mut i = f.width;
-    while i > 0 {
-        i = i - 1;
-        bits = 2 * bits + slot_bit(image, f, slot, i, false);
+    if f.width == 0 {
+        return 0;
     }
-    bits
+    slot_bits(image, f, slot, 0) as usize
 }
 
 // The leaf where the cursor stands. The suffix of an exact leaf is all zeros.

@@ -2,3 +2,4 @@ pub mod Answers
 pub mod Followed
 pub mod Seeking
 pub mod Sought
+pub mod SlotBits

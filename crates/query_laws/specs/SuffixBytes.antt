@@ -1,13 +1,12 @@
 -- The bytes of a suffix, filled up: the highest and lowest keys of an open leaf behind its cut, compared with a key byte by byte.
-use Prim.Native.Nat.{ℕ, zero, suc, _+_, _-_, _*_, _^_, _<_, _≤_}
+use Prim.Native.Nat.{ℕ, zero, suc, _+_, _-_, _*_, _<_, _≤_}
 use mathlib.Core.Path.{_≡_, refl, sym, ap, ap₂, _∙_}
 use mathlib.Core.Bool.{Bool, true, false, cond, not, _&&_, _||_}
 use mathlib.Core.List.{List, [], _∷_, _++_, map}
 use mathlib.Core.Logic.{_⊎_, inl, inr}
 use native.Mathlib.Omega.{arith}
 use native.Mathlib.Numerals.{add-one}
-use lib.Pow.{pow-pos}
-use native.Mathlib.Nat.{add-zero, mul-one, mul-le-mul-left, pow-succ', add-mul, mul-assoc, mul-comm, mul-le-mul-right, suc-mul}
+use native.Mathlib.Nat.{add-zero, mul-le-mul-left, mul-le-mul-right, suc-mul}
 use lib.ListN.{length, getD, take, drop, replicate, length-drop, drop-of-length-le, List·getD-eq-default}
 use lib.Seq.{getD-take, getD-drop, drop-drop, drop-cons, length-take-le}
 use lib.Dec.{ltb, eqb}
@@ -22,7 +21,6 @@ use Rattle.query_laws.specs.Slots.{slot-of}
 use Rattle.query_laws.specs.Stored.{Starts, bits-at, bits-room}
 use Rattle.query_laws.specs.Bounds.{high-rest, low-rest, high-passed, low-reached}
 use Rattle.theory.specs.Words.{All}
-use Rattle.theory.specs.Intervals.{bytes-filled}
 use Rattle.theory.specs.NodeBits.{Slots-width, slots, length-sv}
 
 -- ---- filled bytes
@@ -144,18 +142,6 @@ low-same k s r h =
 
 -- ---- a byte of bits, one by one
 
--- one bit more of a number whose bits so far make x
-pub fill-step : (f : Bool) (k : ℕ) (s : Bits) (x : ℕ) → x * 2 ^ suc k + fill f (suc k) s ≡ (2 * x + bit (getD s 0 f)) * 2 ^ k + fill f k (drop 1 s)
-unfolding fill
-fill-step f k [] x = ap (λ (z : ℕ). x * z + (bit f * 2 ^ k + fill f k [])) (pow-succ' 2 k) ∙ shift x (2 ^ k) (bit f) (fill f k [])
-  where
-    shift : (x p b r : ℕ) → x * (2 * p) + (b * p + r) ≡ (2 * x + b) * p + r
-    shift x p b r = omega (arith, add-mul (2 * x) b p, mul-assoc x 2 p, ap (λ (z : ℕ). z * p) (mul-comm x 2))
-fill-step f k (b ∷ s) x = ap (λ (z : ℕ). x * z + (bit b * 2 ^ k + fill f k s)) (pow-succ' 2 k) ∙ shift x (2 ^ k) (bit b) (fill f k s)
-  where
-    shift : (x p b r : ℕ) → x * (2 * p) + (b * p + r) ≡ (2 * x + b) * p + r
-    shift x p b r = omega (arith, add-mul (2 * x) b p, mul-assoc x 2 p, ap (λ (z : ℕ). z * p) (mul-comm x 2))
-
 -- ---- the bits of a slot
 
 module _ (w : ℕ) (ns : List Node) (sv : Bytes) (wide : All (Slots-width w) ns) (h : Starts (pack (concat (map slots ns))) sv) (v : ℕ) (in-range : v < leaf-count ns) where
@@ -254,31 +240,6 @@ high-whole k d s h = let e : 8 * (d - d) ≡ 0 = omega arith in rw e (high-start
 
 pub low-whole : (k : Bytes) (d : ℕ) (s : Bits) → d ≤ length k → low-reached (length k) s (drop d k) ≡ not (low-from s k d d)
 low-whole k d s h = let e : 8 * (d - d) ≡ 0 = omega arith in rw e (low-start k d s h)
-
--- ---- bits one by one
-
--- One more bit of byte i of the bits t.
-pub byte-step : (f : Bool) (t : Bits) (i j x b : ℕ) → j < 8 → b ≡ bit (getD t (8 * i + j) f)
-    → x * 2 ^ (8 - j) + fill f (8 - j) (drop j (drop (8 * i) t)) ≡ (2 * x + b) * 2 ^ (8 - (j + 1)) + fill f (8 - (j + 1)) (drop (j + 1) (drop (8 * i) t))
-byte-step f t i j x b h e =
-    let k : 8 - j ≡ suc (8 - (j + 1)) = omega arith in
-    let z : 8 * i + (j + 0) ≡ 8 * i + j = omega arith in
-    let g : getD (drop j (drop (8 * i) t)) 0 f ≡ getD t (8 * i + j) f = getD-drop j (drop (8 * i) t) 0 f ∙ getD-drop (8 * i) t (j + 0) f ∙ ap (λ (n : ℕ). getD t n f) z in
-    rw (k, e, ← g, ← drop-drop 1 j (drop (8 * i) t)) (fill-step f (8 - (j + 1)) (drop j (drop (8 * i) t)) x)
-
--- all eight
-pub byte-done : (f : Bool) (t : Bits) (j x : ℕ) → j ≡ 8 → x * 2 ^ (8 - j) + fill f (8 - j) (drop j t) ≡ x
-unfolding fill
-byte-done f t j x e = rw e (omega arith)
-
--- the bits so far make a byte at most
-pub byte-small : (f : Bool) (t : Bits) (j x : ℕ) → fill f 8 t ≡ x * 2 ^ (8 - j) + fill f (8 - j) (drop j t) → x < 256
-unfolding filled
-byte-small f t j x e =
-    let s = bytes-filled f 1 t .0 in
-    let p = pow-pos (8 - j) in
-    let l = mul-le-mul-left x p in
-    omega (arith, mul-one x)
 
 -- a bit is at most one
 pub bit-le : (b : Bool) → bit b ≤ 1

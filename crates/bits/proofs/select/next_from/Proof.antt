@@ -22,17 +22,17 @@ loop-holds c = search needs
 read-word-requires : tie.Need-read-word-requires Inv-loop μ-loop
 read-word-requires c κs = search needs
 
-mul-at-most : tie.Need-mul-at-most Inv-loop μ-loop
-mul-at-most c = search needs
+mul-smaller : tie.Need-mul-smaller Inv-loop μ-loop
+mul-smaller c = search needs
 
 lowest-one-requires : tie.Need-lowest-one-requires Inv-loop μ-loop
 lowest-one-requires c κs = search needs
 
-add-at-most : tie.Need-add-at-most Inv-loop μ-loop
-add-at-most c = search needs
+add-smaller : tie.Need-add-smaller Inv-loop μ-loop
+add-smaller c = search needs
 
-at-most-requires : tie.Need-at-most-requires Inv-loop μ-loop
-at-most-requires c κs = search needs
+smaller-requires : tie.Need-smaller-requires Inv-loop μ-loop
+smaller-requires c κs = search needs
 
 returns : tie.Need-returns Inv-loop μ-loop
 returns c =
@@ -40,7 +40,7 @@ returns c =
     let l = c .before .lowest-one in
     let small : Small (a .s .now) = λ i. c .before .before .before .before .before .before .shared-slice-known .given i .fits in
     let word = c .before .before .before .read-word in
-    c .at-most .ensures
+    c .smaller .ensures
     ∙ select-word (a .s .now) small (c .before .before .before .before .before .loop .q) 0 (64 * c .before .before .before .before .before .loop .q) (word .result) (omega arith) (omega (arith, word .ensures)) (a .n) (rank (a .s .now) (64 * a .from)) (l .result) (omega arith) (omega arith) (omega arith)
 
 add-q : tie.Need-add-q Inv-loop μ-loop
@@ -69,10 +69,10 @@ next-from-spec =
     μ-loop
     loop-holds
     read-word-requires
-    mul-at-most
+    mul-smaller
     lowest-one-requires
-    add-at-most
-    at-most-requires
+    add-smaller
+    smaller-requires
     returns
     add-q
     loop-less

@@ -18,14 +18,14 @@ shr-x c = search needs
 lowest-one-requires : tie.Need-lowest-one-requires
 lowest-one-requires c κs = search needs
 
-add-at-most : tie.Need-add-at-most
-add-at-most c =
+add-smaller : tie.Need-add-smaller
+add-smaller c =
     let a = c .before .before .before .before .args in
     let r = word-room (a .from % 64) (c .before .before .read-word .result) (c .lowest-one .result) (omega arith) (omega arith) (c .lowest-one .ensures .2) in
     omega arith
 
-at-most-requires : tie.Need-at-most-requires
-at-most-requires c κs = search needs
+smaller-requires : tie.Need-smaller-requires
+smaller-requires c κs = search needs
 
 returns : tie.Need-returns
 returns c =
@@ -35,7 +35,7 @@ returns c =
     let j = a .from % 64 in
     let small : Small (a .s .now) = λ i. c .before .before .before .before .shared-slice-known .given i .fits in
     let r = word-room j (word .result) (l .result) (omega arith) (omega arith) (l .ensures .2) in
-    (c .at-most .ensures ∙ select-word (a .s .now) small (a .from / 64) j (a .from) (word .result / 2 ^ j) (omega arith) (ap (λ (n : ℕ). n / 2 ^ j) (word .ensures)) (a .n) (rank (a .s .now) (a .from)) (l .result) r (omega arith) (omega arith), omega arith, omega arith)
+    (c .smaller .ensures ∙ select-word (a .s .now) small (a .from / 64) j (a .from) (word .result / 2 ^ j) (omega arith) (ap (λ (n : ℕ). n / 2 ^ j) (word .ensures)) (a .n) (rank (a .s .now) (a .from)) (l .result) r (omega arith) (omega arith), omega arith, omega arith)
 
 add-next-from : tie.Need-add-next-from
 add-next-from c = search needs
@@ -61,8 +61,8 @@ next-one-spec =
     read-word-requires
     shr-x
     lowest-one-requires
-    add-at-most
-    at-most-requires
+    add-smaller
+    smaller-requires
     returns
     add-next-from
     next-from-requires

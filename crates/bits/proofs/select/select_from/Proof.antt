@@ -41,8 +41,8 @@ cast-w c = omega (arith, ones-le 64 (c .read-word .result) (omega arith))
 sub-if1 : tie.Need-sub-if1 Inv-loop μ-loop
 sub-if1 c = search needs
 
-mul-at-most : tie.Need-mul-at-most Inv-loop μ-loop
-mul-at-most c = search needs
+mul-smaller : tie.Need-mul-smaller Inv-loop μ-loop
+mul-smaller c = search needs
 
 sub-select-in-word : tie.Need-sub-select-in-word Inv-loop μ-loop
 sub-select-in-word c = search needs
@@ -50,11 +50,11 @@ sub-select-in-word c = search needs
 select-in-word-requires : tie.Need-select-in-word-requires Inv-loop μ-loop
 select-in-word-requires c κs = search needs
 
-add-at-most : tie.Need-add-at-most Inv-loop μ-loop
-add-at-most c = search needs
+add-smaller : tie.Need-add-smaller Inv-loop μ-loop
+add-smaller c = search needs
 
-at-most-requires : tie.Need-at-most-requires Inv-loop μ-loop
-at-most-requires c κs = search needs
+smaller-requires : tie.Need-smaller-requires Inv-loop μ-loop
+smaller-requires c κs = search needs
 
 returns : tie.Need-returns Inv-loop μ-loop
 returns c =
@@ -63,7 +63,7 @@ returns c =
     let t = c .before .select-in-word in
     let word = c .before .before .before .read-word in
     let small : Small (a .s .now) = λ i. c .before .before .before .before .before .before .before .shared-slice-known .given i .fits in
-    (c .at-most .ensures ∙ select-word (a .s .now) small q 0 (64 * q) (word .result) (omega arith) (omega (arith, word .ensures)) (a .n) (a .m) (t .result) (omega arith) (omega arith) (omega arith), omega arith)
+    (c .smaller .ensures ∙ select-word (a .s .now) small q 0 (64 * q) (word .result) (omega arith) (omega (arith, word .ensures)) (a .n) (a .m) (t .result) (omega arith) (omega arith) (omega arith), omega arith)
 
 add-r : tie.Need-add-r Inv-loop μ-loop
 add-r c = search needs
@@ -99,11 +99,11 @@ select-from-spec =
     read-word-requires
     cast-w
     sub-if1
-    mul-at-most
+    mul-smaller
     sub-select-in-word
     select-in-word-requires
-    add-at-most
-    at-most-requires
+    add-smaller
+    smaller-requires
     returns
     add-r
     add-q

@@ -1,84 +1,71 @@
-use borrow.Author.Needs.{needs}
 use Rattle.navigate.specs.Accepted.{nodes}
-use Rattle.query_laws.specs.SuffixBytes.{byte-step, byte-done, byte-small}
+use Rattle.query.specs.SlotBits.{byte-filled, byte-lt, fill-rest}
+use Rattle.query_laws.specs.SuffixBytes.{slot-past}
 use Rattle.query_laws.specs.Slots.{slot-of}
-use Rattle.spec.specs.Bytes.{fill}
+use Rattle.spec.specs.Bytes.{Bits, bit}
 use lib.ListN.{drop}
-use Prim.Native.Nat.{_+_, _-_, _*_, _^_, _≤_}
+use lib.Seq.{getD-drop}
+use Prim.Native.Nat.{ℕ, _+_, _-_, _*_, _/_, _^_}
 use native.Mathlib.Omega.{arith}
-use mathlib.Core.Path.{_≡_, sym, _∙_}
+use mathlib.Core.Path.{sym, ap, _∙_}
+use borrow.Author.Needs.{needs}
 use Rattle.query.proofs.suffix.suffix_byte.Statement.{statement}
 use Rattle.query.proofs.suffix.suffix_byte.Tie as tie
 
-abbrev Inv-loop : tie.InvT-loop
-Inv-loop image f slot i ones x₀ j₀ x j = (j ≤ 8) × (fill ones 8 (drop (8 * i) (slot-of (f .width) (nodes image f) (slot .0))) ≡ x * 2 ^ (8 - j) + fill ones (8 - j) (drop j (drop (8 * i) (slot-of (f .width) (nodes image f) (slot .0)))))
+mul-first : tie.Need-mul-first
+mul-first c = search needs
 
-abbrev μ-loop : tie.MeasureT-loop
-μ-loop image f slot i ones x₀ j₀ x j = 8 - j
+filled-below-requires : tie.Need-filled-below-requires
+filled-below-requires c κs = search needs
 
-loop-holds : tie.Need-loop-holds Inv-loop μ-loop
-loop-holds c =
-    (omega arith, omega arith)
-
-mul-x : tie.Need-mul-x Inv-loop μ-loop
-mul-x c =
-    let a = c .before .before .before .args in
-    let l = c .before .loop in
-    let s = byte-small (a .ones) (drop (8 * a .i) (slot-of (a .f .width) (nodes (a .image .now) (a .f)) (a .slot .0))) (l .j) (l .x) (l .inv .1) in
-    search needs
-
-mul-slot-bit : tie.Need-mul-slot-bit Inv-loop μ-loop
-mul-slot-bit c =
-    search needs
-
-add-slot-bit : tie.Need-add-slot-bit Inv-loop μ-loop
-add-slot-bit c =
-    search needs
-
-slot-bit-requires : tie.Need-slot-bit-requires Inv-loop μ-loop
-slot-bit-requires c κs =
-    (c .before .before .before .pre .0, c .before .before .before .pre .1)
-
-add-x : tie.Need-add-x Inv-loop μ-loop
-add-x c =
-    let a = c .before .before .before .before .args in
-    let l = c .before .before .loop in
-    omega (arith, byte-small (a .ones) (drop (8 * a .i) (slot-of (a .f .width) (nodes (a .image .now) (a .f)) (a .slot .0))) (l .j) (l .x) (l .inv .1), c .slot-bit .ensures .1)
-
-add-j : tie.Need-add-j Inv-loop μ-loop
-add-j c =
-    search needs
-
-loop-less : tie.Need-loop-less Inv-loop μ-loop
-loop-less c =
-    search needs
-
-loop-again : tie.Need-loop-again Inv-loop μ-loop
-loop-again c =
-    let a = c .before .before .before .before .args in
-    let l = c .before .before .loop in
-    (omega arith, l .inv .1 ∙ byte-step (a .ones) (slot-of (a .f .width) (nodes (a .image .now) (a .f)) (a .slot .0)) (a .i) (l .j) (l .x) (c .slot-bit .result) (omega arith) (c .slot-bit .ensures .0))
-
-returns : tie.Need-returns Inv-loop μ-loop
+returns : tie.Need-returns
 returns c =
     let a = c .before .before .before .args in
-    let l = c .before .loop in
-    let t = drop (8 * a .i) (slot-of (a .f .width) (nodes (a .image .now) (a .f)) (a .slot .0)) in
-    (sym (l .inv .1 ∙ byte-done (a .ones) (drop (8 * a .i) (slot-of (a .f .width) (nodes (a .image .now) (a .f)) (a .slot .0))) (l .j) (l .x) (omega arith)), byte-small (a .ones) (drop (8 * a .i) (slot-of (a .f .width) (nodes (a .image .now) (a .f)) (a .slot .0))) (l .j) (l .x) (l .inv .1))
+    let p = c .before .before .before .pre in
+    let w = p .0 .writable in
+    let t : Bits = slot-of (a .f .width) (nodes (a .image .now) (a .f)) (a .slot .0) in
+    let past = slot-past (a .f .width) (nodes (a .image .now) (a .f)) (drop (a .f .sv) (a .image .now)) (w .wide) (p .0 .SV .1) (a .slot .0) (omega (arith, p .1, w .leaf-total)) (a .ones) in
+    let r = fill-rest (a .ones) 8 (drop (8 * a .i) t) (λ j l. getD-drop (8 * a .i) t j (a .ones) ∙ past (8 * a .i + j) (omega arith)) in
+    (omega (arith, r, c .filled-below .ensures), omega (arith, r, c .filled-below .ensures, byte-lt (a .ones) (drop (8 * a .i) t)))
+
+slot-bits-requires : tie.Need-slot-bits-requires
+slot-bits-requires c κs = search needs
+
+reversed-requires : tie.Need-reversed-requires
+reversed-requires c κs = search needs
+
+sub-smaller : tie.Need-sub-smaller
+sub-smaller c = search needs
+
+smaller-requires : tie.Need-smaller-requires
+smaller-requires c κs = search needs
+
+filled-below-requires-2 : tie.Need-filled-below-requires-2
+filled-below-requires-2 c κs = search needs
+
+returns-2 : tie.Need-returns-2
+returns-2 c =
+    let a = c .before .before .before .before .before .before .args in
+    let p = c .before .before .before .before .before .before .pre in
+    let w = p .0 .writable in
+    let t : Bits = slot-of (a .f .width) (nodes (a .image .now) (a .f)) (a .slot .0) in
+    let past = slot-past (a .f .width) (nodes (a .image .now) (a .f)) (drop (a .f .sv) (a .image .now)) (w .wide) (p .0 .SV .1) (a .slot .0) (omega (arith, p .1, w .leaf-total)) (a .ones) in
+    let n = c .before .smaller .result in
+    let x = c .before .before .before .slot-bits in
+    let r = byte-filled (a .ones) n (drop (8 * a .i) t) (x .result) (omega arith) (λ j l. x .ensures (a .ones) j (omega arith) ∙ ap bit (sym (getD-drop (8 * a .i) t j (a .ones)))) (λ j l k. getD-drop (8 * a .i) t j (a .ones) ∙ past (8 * a .i + j) (omega arith)) in
+    let e = c .filled-below2 .ensures ∙ ap (λ (z : ℕ). z / 2 ^ (8 - n) * 2 ^ (8 - n) + bit (a .ones) * (2 ^ (8 - n) - 1)) (c .before .before .reversed .ensures .0) ∙ r in
+    (e, omega (arith, e, byte-lt (a .ones) (drop (8 * a .i) t)))
 
 pub suffix-byte-spec : {M : Type 1} → statement M
 suffix-byte-spec =
     tie.close
     (tie.spec
-    Inv-loop
-    μ-loop
-    loop-holds
-    mul-x
-    mul-slot-bit
-    add-slot-bit
-    slot-bit-requires
-    add-x
-    add-j
-    loop-less
-    loop-again
-    returns)
+    mul-first
+    filled-below-requires
+    returns
+    slot-bits-requires
+    reversed-requires
+    sub-smaller
+    smaller-requires
+    filled-below-requires-2
+    returns-2)
