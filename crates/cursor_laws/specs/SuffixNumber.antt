@@ -22,6 +22,7 @@ number-bits (b ∷ bs) (suc n) x h d =
     first : (b : Bool) → x % 2 ≡ bit b → eqb (x % 2) 1 ≡ b
     first true e = rw e
     first false e = rw e
+
     half : (j : ℕ) → x / 2 / 2 ^ j ≡ x / 2 ^ suc j
     half j = let w : 1 + j ≡ suc j = omega arith in shr-shr x 1 j ∙ ap (λ (z : ℕ). x / 2 ^ z) w
 
