@@ -5,3 +5,4 @@ pub mod ranks; // ranks.rt: ones before a position, by the image's tables; where
 pub mod nodes; // nodes.rt: what stands before a node, and whether it is an exact leaf
 pub mod branches; // branches.rt: branches by their label, and where they lead
 pub mod behind; // behind.rt: the node and the slot behind a branch
+pub mod first; // first.rt: the first branch of a node

@@ -13,26 +13,26 @@ use frame::Frame;
 use navigate::branches::child;
 use navigate::branches::next_branch;
 use navigate::branches::slot;
-use navigate::nodes::exact;
+use navigate::first::first_branch;
 
-// The first leaf behind the first branch of node m whose label is not below y; the labels on the way to it go to the key from `depth` on.
-pub fn first_behind(
-    image: &[u8],
-    f: Frame,
-    m: NodeNum,
-    y: usize,
-    key: &mut [u8],
-    depth: usize,
-) -> Stop
-    requires { ⌜ Accepted (now image) f × (m .0 < f .dense + f .sparse) × (y ≤ 256) × (length (now key) ≡ 64) × (depth < 64) ⌝ }
-    ensures { λ r. ⌜ (low-each (behind-label (nodes (now (image .entry)) f) (m .0) y depth (take depth (now (key .entry)))) ≡ low-of (f .width) (nodes (now (image .entry)) f) (r .kind) (r .slot .0) (take (r .depth) (now (key .exit))))
+// The first leaf at or below node m, to which the first `depth` bytes of the key lead: the exact leaf that the node is, or else the first behind its first branch;
+// the labels on the way to it go to the key from `depth` on.
+pub fn first_at(image: &[u8], f: Frame, m: NodeNum, key: &mut [u8], depth: usize) -> Stop
+    requires { ⌜ Accepted (now image) f × (m .0 < f .dense + f .sparse) × (length (now key) ≡ 64) × (depth ≤ 64) ⌝ }
+    ensures { λ r. ⌜ (low-each (behind-each (take depth (now (key .entry))) (first-leaf (nodes (now (image .entry)) f) (64 - depth) (m .0))) ≡ low-of (f .width) (nodes (now (image .entry)) f) (r .kind) (r .slot .0) (take (r .depth) (now (key .exit))))
         × (length (now (key .exit)) ≡ 64) × (r .depth ≤ 64) × (r .kind ≤ 2) × (r .kind ≡ 2 → r .slot .0 < f .leaves) ⌝ }
 {
     let mut node = m.0;
-    let mut from = y;
     let mut d = depth;
     while d < 64 {
-        let n = next_branch(image, f, NodeNum(node), from);
+        let n = first_branch(image, f, NodeNum(node));
+        if n.exact == 1 {
+            return Stop {
+                kind: 1,
+                slot: ValuePos(0),
+                depth: d,
+            };
+        }
         if n.kind == 0 {
             return NOWHERE;
         }
@@ -46,36 +46,35 @@ pub fn first_behind(
             };
         }
         node = child(image, f, NodeNum(node), n.at).0;
-        from = 0;
-        if d == 64 {
-            return NOWHERE;
-        }
-        if exact(image, f, NodeNum(node)) == 1 {
-            return Stop {
-                kind: 1,
-                slot: ValuePos(0),
-                depth: d,
-            };
-        }
     }
     NOWHERE
 }
 
-// The first leaf at or below node m, to which the first `depth` bytes of the key lead: the exact leaf that the node is, or else the one behind its first branch.
-pub fn first_at(image: &[u8], f: Frame, m: NodeNum, key: &mut [u8], depth: usize) -> Stop
-    requires { ⌜ Accepted (now image) f × (m .0 < f .dense + f .sparse) × (length (now key) ≡ 64) × (depth ≤ 64) ⌝ }
-    ensures { λ r. ⌜ (low-each (behind-each (take depth (now (key .entry))) (first-leaf (nodes (now (image .entry)) f) (64 - depth) (m .0))) ≡ low-of (f .width) (nodes (now (image .entry)) f) (r .kind) (r .slot .0) (take (r .depth) (now (key .exit))))
+// The first leaf behind the first branch of node m whose label is not below y, to which the first `depth` bytes of the key lead; the labels go to the key.
+pub fn first_behind(
+    image: &[u8],
+    f: Frame,
+    m: NodeNum,
+    y: usize,
+    key: &mut [u8],
+    depth: usize,
+) -> Stop
+    requires { ⌜ Accepted (now image) f × (m .0 < f .dense + f .sparse) × (y ≤ 256) × (length (now key) ≡ 64) × (depth < 64) ⌝ }
+    ensures { λ r. ⌜ (low-each (behind-label (nodes (now (image .entry)) f) (m .0) y depth (take depth (now (key .entry)))) ≡ low-of (f .width) (nodes (now (image .entry)) f) (r .kind) (r .slot .0) (take (r .depth) (now (key .exit))))
         × (length (now (key .exit)) ≡ 64) × (r .depth ≤ 64) × (r .kind ≤ 2) × (r .kind ≡ 2 → r .slot .0 < f .leaves) ⌝ }
 {
-    if depth == 64 {
+    let n = next_branch(image, f, m, y);
+    if n.kind == 0 {
         return NOWHERE;
     }
-    if exact(image, f, m) == 1 {
+    key[depth] = n.label as u8;
+    if n.kind == 1 {
         return Stop {
-            kind: 1,
-            slot: ValuePos(0),
-            depth: depth,
+            kind: 2,
+            slot: slot(image, f, m, n.at),
+            depth: depth + 1,
         };
     }
-    first_behind(image, f, m, 0, key, depth)
+    let next = child(image, f, m, n.at);
+    first_at(image, f, next, key, depth + 1)
 }

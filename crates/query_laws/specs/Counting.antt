@@ -1,13 +1,13 @@
 -- The leaves that count before a key, over the leaves of one node: the general form of which point, seek, count and range are cases.
 use Prim.Native.Nat.{ℕ, suc, _+_, _<_, _≤_}
-use mathlib.Core.Path.{_≡_, refl, ap, _∙_}
-use mathlib.Core.Bool.{Bool, true, false, cond, not, _&&_, _||_}
+use mathlib.Core.Path.{_≡_, refl, sym, ap, _∙_}
+use mathlib.Core.Bool.{Bool, true, false, cond, not, _&&_, _||_, true≢false}
 use mathlib.Core.List.{List, [], _∷_, _++_, map}
 use mathlib.Core.Option.{Option, none, some}
 use native.Mathlib.Omega.{arith}
 use lib.ListN.{length, take, drop}
 use lib.Dec.{leb, eqb}
-use borrow.Author.Tests.{eq-eqb, ne-eqb, eqb-true, eqb-false, leb-true, leb-false, lt-ltb, le-ltb}
+use borrow.Author.Tests.{eq-eqb, ne-eqb, eqb-true, eqb-false, leb-true, leb-false, le-leb, lt-ltb, le-ltb}
 use Rattle.spec.specs.Bytes.{Bytes, Bits, bit, count, equal, begins}
 use Rattle.spec.specs.Keys.{below}
 use Rattle.spec.specs.Leaves.{Leaf}
@@ -29,6 +29,16 @@ labels-below-le y (e ∷ es) = go (leb y (label-of e)) (labels-below-le y es)
     go : (b : Bool) → labels-below y es ≤ length es → elim b [ true ↦ 0 | false ↦ suc (labels-below y es) ] ≤ suc (length es)
     go true h = omega arith
     go false h = omega arith
+
+-- no label is below 0
+pub none-below-zero : (es : List Branch) → labels-below 0 es ≡ 0
+unfolding labels-below
+none-below-zero [] = refl
+none-below-zero (e ∷ es) = go (leb 0 (label-of e)) (le-leb 0 (label-of e) (omega arith))
+  where
+    go : (b : Bool) → b ≡ true → _≡_ {A = ℕ} (elim b [ true ↦ 0 | false ↦ suc (labels-below 0 es) ]) 0
+    go true h = refl
+    go false h = absurd (true≢false (sym h))
 
 -- ---- a count over lists
 

@@ -1,19 +1,17 @@
 -- A seek over an image's nodes, by the lowest key of the leaf that is found: the laws of its steps.
 use Prim.Native.Nat.{ℕ, zero, suc, _+_, _-_, _<_, _≤_}
 use mathlib.Core.Path.{_≡_, refl, sym, ap, _∙_}
-use mathlib.Core.Bool.{Bool, true, false, true≢false}
+use mathlib.Core.Bool.{Bool, true, false}
 use mathlib.Core.List.{List, [], _∷_, _++_, append-nil}
 use mathlib.Core.Option.{Option, none, some}
 use native.Mathlib.Omega.{arith}
 use lib.ListN.{length, drop}
-use lib.Dec.{leb}
-use borrow.Author.Tests.{le-leb}
 use Rattle.spec.specs.Bytes.{Bytes, Bits, bit, concat}
 use Rattle.spec.specs.Leaves.{Leaf, lowest}
-use Rattle.spec.specs.Nodes.{Branch, to-node, to-leaf, Node, node, label-of, branches-of, is-exact, total, children-of}
+use Rattle.spec.specs.Nodes.{Branch, to-node, to-leaf, Node, node, branches-of, is-exact, total, children-of}
 use Rattle.spec.specs.Questions.{Sought, found, greater}
 use Rattle.spec.specs.Questions as spec
-use Rattle.query_laws.specs.Counting.{labels-below, counts}
+use Rattle.query_laws.specs.Counting.{labels-below, none-below-zero, counts}
 use Rattle.query_laws.specs.Slots.{node-at, slot-number, slot-of, slot-is}
 use Rattle.query_laws.specs.Descent.{child-number, goes-on, ends-at}
 use Rattle.query_laws.specs.Bounds.{low-rest, high-passed, highest-counts}
@@ -154,7 +152,7 @@ module _ (w : ℕ) (ns : List Node) (m d : ℕ) (path : Bytes) where
   unfolding first-leaf
   first-other h e =
       let z : 64 - d ≡ suc (64 - (d + 1)) = omega arith in
-      rw (z, zero-below (branches-of (node-at ns m))) (go (node-at ns m) e)
+      rw (z, none-below-zero (branches-of (node-at ns m))) (go (node-at ns m) e)
     where
       go : (n : Node) → (1 ≡ bit (is-exact n) → ⊥)
           → behind-each path (or-else (exact-first n) (branch-first (first-leaf ns (64 - (d + 1))) (branches-of n) (child-number ns m 0))) ≡ behind-each path (branch-first (first-leaf ns (64 - (d + 1))) (branches-of n) (child-number ns m 0))
