@@ -28,7 +28,7 @@ pub fn count(image: &[u8], f: Frame, lo: &[u8], hi: &[u8]) -> usize
     upto - below
 }
 
-// 1 if some leaf has a possible key from lo to hi, both included, else 0: if the first leaf that lo has not passed has a lowest key that does not lie above hi.
+// 1 if some leaf has a possible key from lo to hi, both included, else 0: the first leaf that lo has not passed decides, so none is counted.
 pub fn range(image: &[u8], f: Frame, lo: &[u8], hi: &[u8]) -> usize
     requires { ⌜ Accepted (now image) f × (length (now lo) ≤ 64) × (length (now hi) ≤ 64) ⌝ }
     ensures { λ r. ⌜ r ≡ range (read-leaves (now (image .entry))) (now (lo .entry)) (now (hi .entry)) ⌝ }

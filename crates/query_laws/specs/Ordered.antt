@@ -46,7 +46,8 @@ none-passed k l (m ∷ ls) o os f h =
         go true e = absurd (true≢false (sym (below-le-lt (highest l) (highest m) k (below-asym (highest l) (highest m) up) e) ∙ h))
         go false e = refl
 
-none-reached : {n : ℕ} (k : Bytes) (l : Leaf) (ls : List Leaf) → Well-sized n l → All-well-sized n ls → Before-all l ls → below k (lowest l) ≡ true → reached ls k ≡ 0
+-- a key below the lowest key of a leaf reaches none behind it
+pub none-reached : {n : ℕ} (k : Bytes) (l : Leaf) (ls : List Leaf) → Well-sized n l → All-well-sized n ls → Before-all l ls → below k (lowest l) ≡ true → reached ls k ≡ 0
 unfolding reached count
 none-reached k l [] o os f h = refl
 none-reached k l (m ∷ ls) o os f h =
@@ -125,33 +126,3 @@ seek-from-is n i (l ∷ ls) start a o = go (below (highest l) start) refl (seek-
 pub seek-is : (n : ℕ) (ls : List Leaf) (start : Bytes) → Ordered ls → All-well-sized n ls → seek ls start ≡ found-leaf (next-leaf ls start) (passed ls start) start
 unfolding seek
 seek-is n ls start a o = seek-from-is n 0 ls start a o ∙ ap (λ (z : ℕ). found-leaf (next-leaf ls start) z start) (omega arith)
-
--- ---- range by the next leaf
-
--- whether an optional leaf's lowest key does not lie above a bound
-unfoldable pub low-within : Option Leaf → Bytes → ℕ
-unfolding below lowest
-low-within none hi = 0
-low-within (some l) hi = bit (not (below hi (lowest l)))
-
-none-meets : (lo hi : Bytes) (ls : List Leaf) → reached ls hi ≡ 0 → any (meets lo hi) ls ≡ false
-unfolding reached count any meets
-none-meets lo hi [] h = refl
-none-meets lo hi (l ∷ ls) h = go (below hi (lowest l)) h (none-meets lo hi ls)
-  where
-    go : (r : Bool) → cond (not r) (suc (reached ls hi)) (reached ls hi) ≡ 0 → (reached ls hi ≡ 0 → any (meets lo hi) ls ≡ false) → (not r && not (below (highest l) lo)) || any (meets lo hi) ls ≡ false
-    go true h ih = ih h
-    go false h ih = absurd (omega arith)
-
--- Range: 1 exactly if the first leaf that the lower bound has not passed has a lowest key that does not lie above the upper one.
-pub range-next : (n : ℕ) (ls : List Leaf) (lo hi : Bytes) → Ordered ls → All-well-sized n ls → range ls lo hi ≡ low-within (next-leaf ls lo) hi
-unfolding range low-within next-leaf any meets
-range-next n [] lo hi a o = refl
-range-next n (l ∷ ls) lo hi a o = go (below (highest l) lo) (below hi (lowest l)) refl (range-next n ls lo hi (a .1) (o .1))
-  where
-    go : (p r : Bool) → below hi (lowest l) ≡ r → bit (any (meets lo hi) ls) ≡ low-within (next-leaf ls lo) hi
-        → bit ((not r && not p) || any (meets lo hi) ls) ≡ low-within (cond p (next-leaf ls lo) (some l)) hi
-    go true true e ih = ih
-    go true false e ih = ih
-    go false true e ih = rw (e, none-meets lo hi ls (none-reached hi l ls (o .0) (o .1) (a .0) e))
-    go false false e ih = rw e

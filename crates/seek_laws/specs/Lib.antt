@@ -1,3 +1,4 @@
 pub mod Next
 pub mod Seeks
 pub mod LowestKeys
+pub mod Ranges

@@ -1,10 +1,10 @@
-use borrow.Author.Needs.{needs}
-use Rattle.query.proofs.RangeLaws.{range-none, range-above, range-within}
-use Rattle.keys.proofs.OrderLaws.{order-is-below, order-not-below}
-use lib.Seq.{length-take-le}
-use native.Mathlib.Omega.{arith}
-use mathlib.Core.Logic.{inl, inr}
+-- The lowest key of the first leaf that the lower bound has not passed, against the upper bound.
 use mathlib.Core.Path.{sym, _∙_}
+use mathlib.Core.Logic.{inl, inr}
+use native.Mathlib.Omega.{arith}
+use borrow.Author.Needs.{needs}
+use lib.Seq.{length-take-le}
+use Rattle.query.proofs.RangeLaws.{range-none, range-below, range-reached}
 use Rattle.query.proofs.ranges.range.Statement.{statement}
 use Rattle.query.proofs.ranges.range.Tie as tie
 
@@ -50,22 +50,19 @@ returns-2 : tie.Need-returns-2
 returns-2 c =
     let a = c .before .before .before .before .before .before .before .before .before .before .before .before .before .before .args in
     let s = c .before .before .before .before .before .before .before .before .before .next-leaf in
-    let l = c .before .before .before .before .before .lowest-key in
-    range-above (a .image .now) (a .f) (c .before .before .before .before .before .before .before .before .before .before .before .before .before .before .pre .0) (a .lo .now) (a .hi .now) (s .result .kind) (s .result .slot .0) _ (s .ensures .0) _ (l .ensures .0) (order-is-below _ _ (sym (c .before .before .compare .ensures) ∙ c .enum-told .given .1))
+    range-below (a .image .now) (a .f) (c .before .before .before .before .before .before .before .before .before .before .before .before .before .before .pre .0) (a .lo .now) (a .hi .now) (s .result .kind) (s .result .slot .0) _ (s .ensures .0) _ (c .before .before .before .before .before .lowest-key .ensures .0) (sym (c .before .before .compare .ensures) ∙ c .enum-told .given .1)
 
 returns-3 : tie.Need-returns-3
 returns-3 c =
     let a = c .before .before .before .before .before .before .before .before .before .before .before .before .before .before .args in
     let s = c .before .before .before .before .before .before .before .before .before .next-leaf in
-    let l = c .before .before .before .before .before .lowest-key in
-    range-within (a .image .now) (a .f) (c .before .before .before .before .before .before .before .before .before .before .before .before .before .before .pre .0) (a .lo .now) (a .hi .now) (s .result .kind) (s .result .slot .0) _ (s .ensures .0) _ (l .ensures .0) (order-not-below _ _ (inl (sym (c .before .before .compare .ensures) ∙ c .enum-told2 .given .1)))
+    range-reached (a .image .now) (a .f) (c .before .before .before .before .before .before .before .before .before .before .before .before .before .before .pre .0) (a .lo .now) (a .hi .now) (s .result .kind) (s .result .slot .0) _ (s .ensures .0) _ (c .before .before .before .before .before .lowest-key .ensures .0) (inl (sym (c .before .before .compare .ensures) ∙ c .enum-told2 .given .1))
 
 returns-4 : tie.Need-returns-4
 returns-4 c =
     let a = c .before .before .before .before .before .before .before .before .before .before .before .before .before .before .args in
     let s = c .before .before .before .before .before .before .before .before .before .next-leaf in
-    let l = c .before .before .before .before .before .lowest-key in
-    range-within (a .image .now) (a .f) (c .before .before .before .before .before .before .before .before .before .before .before .before .before .before .pre .0) (a .lo .now) (a .hi .now) (s .result .kind) (s .result .slot .0) _ (s .ensures .0) _ (l .ensures .0) (order-not-below _ _ (inr (sym (c .before .before .compare .ensures) ∙ c .enum-told3 .given .1)))
+    range-reached (a .image .now) (a .f) (c .before .before .before .before .before .before .before .before .before .before .before .before .before .before .pre .0) (a .lo .now) (a .hi .now) (s .result .kind) (s .result .slot .0) _ (s .ensures .0) _ (c .before .before .before .before .before .lowest-key .ensures .0) (inr (sym (c .before .before .compare .ensures) ∙ c .enum-told3 .given .1))
 
 pub range-spec : {M : Type 1} → statement M
 range-spec =
