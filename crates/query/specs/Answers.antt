@@ -18,7 +18,7 @@ use Rattle.query_laws.specs.Slots.{slot-of}
 use Rattle.query_laws.specs.Descent.{descend, leaves-below, value}
 use Rattle.query_laws.specs.Bounds.{high-passed, low-reached}
 use Rattle.query_laws.specs.Ordered.{passed, reached, counted-is}
-use Rattle.query_laws.specs.LevelSums.{below-nothing}
+use Rattle.query_laws.specs.LevelSums.{slots-below, slots-nothing, below-sums}
 use Rattle.query_laws.specs.Root.{point-value, point-is, passed-is, reached-is}
 use Rattle.query_laws.specs.Steps.{stop-of}
 use Rattle.navigate.specs.Accepted.{Accepted, nodes}
@@ -76,16 +76,20 @@ module _ (s : Bytes) (f : Frame) (a : Accepted s f) (k : Bytes) where
 pub count-is : (s : Bytes) (f : Frame) → Accepted s f → (lo hi : Bytes) → counted (read-leaves s) lo hi ≡ reached (read-leaves s) hi - passed (read-leaves s) lo
 count-is s f a lo hi = counted-is (f .width) (read-leaves s) lo hi (a .realizable .ordered) (a .well-sized)
 
--- By two bounds followed over the same levels: the sums of their slot numbers, and what counts where each key leads.
-pub count-bounds : (s : Bytes) (f : Frame) → Accepted s f → (lo hi : Bytes) (a b u v : ℕ) → leaves-below (nodes s f) 64 0 0 hi + a ≡ leaves-below (nodes s f) 64 0 0 lo + b
+-- By the bounds of both keys: the sums of their slot numbers, and what counts where each key leads.
+pub count-bounds : (s : Bytes) (f : Frame) → Accepted s f → (lo hi : Bytes) → length lo ≤ 64 → length hi ≤ 64 → (a b u v : ℕ) → a ≡ slots-below (nodes s f) 64 0 lo → b ≡ slots-below (nodes s f) 64 0 hi
     → u ≡ value false (high-passed (length lo)) (f .width) (nodes s f) (descend (nodes s f) 0 lo) → v ≡ value true (low-reached (length hi)) (f .width) (nodes s f) (descend (nodes s f) 0 hi)
     → counted (read-leaves s) lo hi ≡ (b + v) - (a + u)
-count-bounds s f z lo hi a b u v e p q = count-is s f z lo hi ∙ omega (arith, passed-stops s f z lo, reached-stops s f z hi)
+count-bounds s f z lo hi g h a b u v d e p q =
+    count-is s f z lo hi ∙ omega (arith, passed-stops s f z lo, reached-stops s f z hi, below-sums (nodes s f) 64 0 0 lo (omega arith) g, below-sums (nodes s f) 64 0 0 hi (omega arith) h)
 
--- The leaves that a key has passed, by the bounds of the empty key and of the key.
-pub passed-bounds : (s : Bytes) (f : Frame) → Accepted s f → (k : Bytes) (a b u : ℕ) → leaves-below (nodes s f) 64 0 0 k + a ≡ leaves-below (nodes s f) 64 0 0 [] + b
-    → u ≡ value false (high-passed (length k)) (f .width) (nodes s f) (descend (nodes s f) 0 k) → (a ≤ b) × ((b - a) + u ≡ passed (read-leaves s) k)
-passed-bounds s f z k a b u e p = (omega (arith, below-nothing (nodes s f)), omega (arith, below-nothing (nodes s f), passed-stops s f z k))
+-- The leaves that a key has passed, by its bound and the sum of the empty key.
+pub passed-bounds : (s : Bytes) (f : Frame) → Accepted s f → (k : Bytes) → length k ≤ 64 → (first b u : ℕ) → first ≡ slots-below (nodes s f) 64 0 [] → b ≡ slots-below (nodes s f) 64 0 k
+    → u ≡ value false (high-passed (length k)) (f .width) (nodes s f) (descend (nodes s f) 0 k) → (first ≤ b) × ((b - first) + u ≡ passed (read-leaves s) k)
+passed-bounds s f z k h first b u d e p =
+    let n = slots-nothing (nodes s f) 64 0 in
+    let w = below-sums (nodes s f) 64 0 0 k (omega arith) h in
+    (omega arith, omega (arith, passed-stops s f z k))
 
 -- a number below two
 pub none-or-one : (n : ℕ) → n < 2 → (n ≡ 0) ⊎ (n ≡ 1)

@@ -2,15 +2,20 @@
 use Prim.Native.Nat.{ℕ, zero, suc, _+_, _-_, _*_, _<_, _≤_}
 use mathlib.Core.Path.{_≡_, refl, sym, ap, _∙_}
 use mathlib.Core.List.{[], _∷_}
+use mathlib.Core.Bool.{Bool, true, false}
 use native.Mathlib.Omega.{arith}
+use native.Mathlib.Nat.{mul-le-mul-left}
+use lib.Dec.{ltb}
+use borrow.Author.Tests.{ltb-true, ltb-false}
 use lib.ListN.{length, getD, drop, length-append, drop-of-length-le}
 use Rattle.spec.specs.Bytes.{Bytes, bit}
-use Rattle.spec.specs.Nodes.{is-exact}
+use Rattle.spec.specs.Nodes.{is-exact, total, children-of}
+use Rattle.spec.specs.Trie.{leaf-count}
 use Rattle.frame.specs.declared.Frame.{Frame}
 use Rattle.query_laws.specs.Slots.{node-at, leaves-before, slot-number}
-use Rattle.query_laws.specs.Descent.{descend, leaves-below, children-before, child-number, goes-on}
+use Rattle.query_laws.specs.Descent.{descend, children-before, child-number, goes-on}
 use Rattle.query_laws.specs.LabelMaps.{matches}
-use Rattle.query_laws.specs.LevelSums.{slots-below, slots-on, slots-off, slots-ended}
+use Rattle.query_laws.specs.LevelSums.{slots-between, slots-below, slots-on, slots-off, slots-ended, slots-nothing, below-sums, between-nowhere, between-end}
 use Rattle.query_laws.specs.Root.{child-in, child-range, children-all}
 use Rattle.query_laws.specs.Steps.{stop-of, goes-there, descend-none, descend-open, descend-on, descend-end, descend-nowhere, below-nowhere, slot-in}
 use Rattle.query_laws.specs.SuffixBytes.{key-next, bit-le}
@@ -43,9 +48,11 @@ module _ (s : Bytes) (f : Frame) (a : Accepted s f) (key : Bytes) where
     leaf-in = λ q. absurd (omega arith);
   }
 
-  -- and has no leaf below a key
-  pub below-none : f .dense + f .sparse ≡ 0 → leaves-below (nodes s f) 64 0 0 key ≡ 0
-  below-none z = below-nowhere (nodes s f) 64 key (length-append (dense-nodes s f) (sparse-nodes s f) ∙ omega (arith, a .dense-size, a .sparse-size))
+  -- and its keys have no sum
+  pub sum-nowhere : length key ≤ 64 → f .dense + f .sparse ≡ 0 → slots-below (nodes s f) 64 0 key ≡ 0
+  sum-nowhere h z =
+      let e : length (nodes s f) ≡ 0 = length-append (dense-nodes s f) (sparse-nodes s f) ∙ omega (arith, a .dense-size, a .sparse-size) in
+      omega (arith, below-sums (nodes s f) 64 0 0 key (omega arith) h, below-nowhere (nodes s f) 64 key e, between-nowhere (nodes s f) 64 0 e)
 
   -- a bound at the node that its key leads to; at the key's end the node may be an exact leaf
   pub arrived : (m depth kind : ℕ) → m < f .dense + f .sparse → length key ≤ 64 → depth ≤ length key → descend (nodes s f) 0 key ≡ descend (nodes s f) m (drop depth key)
@@ -129,6 +136,23 @@ module _ (s : Bytes) (f : Frame) (a : Accepted s f) (key : Bytes) where
     pub ended-sum : (l : ℕ) → 0 < l → slots-below (nodes s f) l m (drop depth key) ≡ leaves-before (nodes s f) m + slots-below (nodes s f) (l - 1) (1 + children-before (nodes s f) m) (drop depth key)
     ended-sum l g = rw (drop-of-length-le key {i = depth} h) (slots-ended (nodes s f) l m g)
 
+    -- behind the last node, a key that has ended and all leaves on each level left
+    pub end-sum : m ≡ f .dense + f .sparse → (l : ℕ) → slots-below (nodes s f) l m (drop depth key) ≡ l * f .leaves
+    end-sum e l =
+        let t = length-append (dense-nodes s f) (sparse-nodes s f) in
+        let z : length (nodes s f) ≡ m = omega (arith, a .dense-size, a .sparse-size) in
+        let c : leaf-count (nodes s f) ≡ f .leaves = omega (arith, a .writable .leaf-total) in
+        let n : length (nodes s f) ≡ 1 + total children-of (nodes s f) = omega (arith, a .node-total (o .some)) in
+        ap (slots-below (nodes s f) l m) (drop-of-length-le key {i = depth} h) ∙ slots-nothing (nodes s f) l m ∙ ap (slots-between (nodes s f) l) (sym z) ∙ between-end (nodes s f) l n ∙ ap (λ (x : ℕ). l * x) c
+
+-- a bound behind the last node: its key has ended
+pub past-ended : (s : Bytes) (f : Frame) (key : Bytes) (m depth kind slot at : ℕ) → Followed s f key m depth kind slot at → m ≡ f .dense + f .sparse → length key ≤ depth
+past-ended s f key m depth kind slot at o e = go (ltb depth (length key)) refl
+  where
+    go : (b : Bool) → ltb depth (length key) ≡ b → length key ≤ depth
+    go true t = absurd (omega (arith, o .on (ltb-true depth (length key) t) .0))
+    go false t = ltb-false depth (length key) t
+
 -- ---- the levels left
 
 -- one level fewer
@@ -141,3 +165,7 @@ levels-fall d h = (omega arith, omega arith)
 -- and one byte fewer left on it
 pub fewer-left : (x y d : ℕ) → d < 64 → x ≤ y - 1 → y ≤ 64 - d → x ≤ 64 - (d + 1)
 fewer-left x y d h p q = omega arith
+
+-- the leaves passed on the levels left are few
+pub few-left : (d x : ℕ) → x ≤ 65535 → (64 - d) * x ≤ (64 - d) * 65535
+few-left d x h = mul-le-mul-left (64 - d) h

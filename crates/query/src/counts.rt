@@ -1,11 +1,12 @@
-// The leaves before a key in key order: two bounds are followed level by level, and the leaves between them are the difference of their slot numbers.
+// The leaves before a key in key order: its bound is followed level by level, and the leaves between two bounds are the difference of the sums of their slot numbers.
 ghost use mathlib.Core.Path.{_≡_};
 ghost use mathlib.Core.Bool.{true, false};
+ghost use mathlib.Core.List.{[]};
 ghost use Prim.Native.Nat.{ℕ, _+_, _-_, _*_, _≤_, _<_};
 ghost use lib.ListN.{length, drop};
 ghost use Rattle.spec.specs.Nodes.{read-leaves};
 ghost use Rattle.query_laws.specs.Bounds.{high-passed, low-reached};
-ghost use Rattle.query_laws.specs.Descent.{descend, leaves-below, value};
+ghost use Rattle.query_laws.specs.Descent.{descend, value};
 ghost use Rattle.query_laws.specs.LevelSums.{slots-below};
 ghost use Rattle.query_laws.specs.Ordered.{passed};
 ghost use Rattle.navigate.specs.Accepted.{Accepted, nodes};
@@ -101,12 +102,6 @@ fn next_level(image: &[u8], f: Frame, key: &[u8], b: Bound) -> Bound
     }
 }
 
-// Two bounds, each with the sum of its slot numbers over the same levels.
-pub struct Bounds {
-    pub lo: Bound,
-    pub hi: Bound,
-}
-
 // The bound of a key in an image without nodes.
 const NO_BOUND: Bound = Bound {
     node: 0,
@@ -115,47 +110,26 @@ const NO_BOUND: Bound = Bound {
     stop: NOWHERE,
 };
 
-// Whether two bounds, the bytes of both keys passed, stand at the same node, and so are the same on the levels below.
-fn met(lo: &[u8], a: Bound, hi: &[u8], b: Bound) -> bool
-    ensures { λ r. ⌜ (r ≡ true → (a .node ≡ b .node) × (length (now (lo .entry)) ≤ a .depth) × (length (now (hi .entry)) ≤ b .depth)) ⌝ }
+// The bound of a key from the root through 64 levels: the sum of its slot numbers, and where the key leads. On a level behind the last node it is past all leaves.
+pub fn follow(image: &[u8], f: Frame, key: &[u8]) -> Bound
+    requires { ⌜ Accepted (now image) f × (length (now key) ≤ 64) ⌝ }
+    ensures { λ r. ⌜ (r .sum ≡ slots-below (nodes (now (image .entry)) f) 64 0 (now (key .entry))) × Stopped (now (image .entry)) f (now (key .entry)) (r .stop .kind) (r .stop .slot .0) (r .stop .depth) × (r .sum ≤ 4194240) ⌝ }
 {
-    if a.node != b.node {
-        return false;
+    let nodes = f.dense + f.sparse;
+    if nodes == 0 {
+        return NO_BOUND;
     }
-    if a.depth < lo.len() {
-        return false;
-    }
-    if b.depth < hi.len() {
-        return false;
-    }
-    true
-}
-
-// Both bounds from the root to the level where they meet: their sums differ by the leaves between them.
-pub fn follow(image: &[u8], f: Frame, lo: &[u8], hi: &[u8]) -> Bounds
-    requires { ⌜ Accepted (now image) f × (length (now lo) ≤ 64) × (length (now hi) ≤ 64) ⌝ }
-    ensures { λ r. ⌜ (leaves-below (nodes (now (image .entry)) f) 64 0 0 (now (hi .entry)) + r .lo .sum ≡ leaves-below (nodes (now (image .entry)) f) 64 0 0 (now (lo .entry)) + r .hi .sum)
-        × Stopped (now (image .entry)) f (now (lo .entry)) (r .lo .stop .kind) (r .lo .stop .slot .0) (r .lo .stop .depth) × Stopped (now (image .entry)) f (now (hi .entry)) (r .hi .stop .kind) (r .hi .stop .slot .0) (r .hi .stop .depth)
-        × (r .lo .sum ≤ 4194240) × (r .hi .sum ≤ 4194240) ⌝ }
-{
-    if f.dense + f.sparse == 0 {
-        return Bounds {
-            lo: NO_BOUND,
-            hi: NO_BOUND,
-        };
-    }
-    let mut a = arrive(image, f, lo, NodeNum(0), 0, 0);
-    let mut b = arrive(image, f, hi, NodeNum(0), 0, 0);
+    let mut b = arrive(image, f, key, NodeNum(0), 0, 0);
     let mut d = 0usize;
     while d < 64 {
-        if met(lo, a, hi, b) {
-            return Bounds { lo: a, hi: b };
+        if b.node == nodes {
+            b.sum = b.sum + (64 - d) * f.leaves;
+            return b;
         }
-        a = next_level(image, f, lo, a);
-        b = next_level(image, f, hi, b);
+        b = next_level(image, f, key, b);
         d = d + 1;
     }
-    Bounds { lo: a, hi: b }
+    b
 }
 
 // 1 if the key leads to an open leaf whose highest key lies below it, else 0.
@@ -188,11 +162,28 @@ pub fn reached_at(image: &[u8], f: Frame, key: &[u8], s: Stop) -> usize
     1
 }
 
-// The leaves whose highest possible key lies below the key: those between the empty key and it.
+// The sum of the slot numbers of the first nodes of the levels: the bound of the empty key.
+pub fn first_sum(image: &[u8], f: Frame) -> usize
+    requires { ⌜ Accepted (now image) f ⌝ }
+    ensures { λ r. ⌜ r ≡ slots-below (nodes (now (image .entry)) f) 64 0 [] ⌝ }
+{
+    let b = follow(image, f, &image[..0]);
+    b.sum
+}
+
+// The leaves whose highest possible key lies below the key: those between the empty key, whose sum is `first`, and it.
+pub fn passed_from(image: &[u8], f: Frame, key: &[u8], first: usize) -> usize
+    requires { ⌜ Accepted (now image) f × (length (now key) ≤ 64) × (first ≡ slots-below (nodes (now image) f) 64 0 []) ⌝ }
+    ensures { λ r. ⌜ r ≡ passed (read-leaves (now (image .entry))) (now (key .entry)) ⌝ }
+{
+    let b = follow(image, f, key);
+    b.sum - first + passed_at(image, f, key, b.stop)
+}
+
+// The leaves whose highest possible key lies below the key.
 pub fn passed(image: &[u8], f: Frame, key: &[u8]) -> usize
     requires { ⌜ Accepted (now image) f × (length (now key) ≤ 64) ⌝ }
     ensures { λ r. ⌜ r ≡ passed (read-leaves (now (image .entry))) (now (key .entry)) ⌝ }
 {
-    let s = follow(image, f, &key[..0], key);
-    s.hi.sum - s.lo.sum + passed_at(image, f, key, s.hi.stop)
+    passed_from(image, f, key, first_sum(image, f))
 }

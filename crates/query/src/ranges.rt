@@ -19,9 +19,10 @@ pub fn count(image: &[u8], f: Frame, lo: &[u8], hi: &[u8]) -> usize
     requires { ⌜ Accepted (now image) f × (length (now lo) ≤ 64) × (length (now hi) ≤ 64) ⌝ }
     ensures { λ r. ⌜ r ≡ counted (read-leaves (now (image .entry))) (now (lo .entry)) (now (hi .entry)) ⌝ }
 {
-    let s = follow(image, f, lo, hi);
-    let upto = s.hi.sum + reached_at(image, f, hi, s.hi.stop);
-    let below = s.lo.sum + passed_at(image, f, lo, s.lo.stop);
+    let a = follow(image, f, lo);
+    let b = follow(image, f, hi);
+    let below = a.sum + passed_at(image, f, lo, a.stop);
+    let upto = b.sum + reached_at(image, f, hi, b.stop);
     if upto < below {
         return 0;
     }

@@ -1,15 +1,18 @@
 -- The leaves before a key, as a sum of slot numbers level by level: without the first nodes of the levels, which cancel where two keys are compared.
-use Prim.Native.Nat.{ℕ, zero, suc, _+_, _-_, _<_, _≤_}
+use Prim.Native.Nat.{ℕ, zero, suc, _+_, _-_, _*_, _<_, _≤_}
 use mathlib.Core.Path.{_≡_, refl}
 use mathlib.Core.Bool.{Bool, true, false, cond}
 use mathlib.Core.List.{List, [], _∷_}
 use native.Mathlib.Omega.{arith}
-use lib.ListN.{length, drop}
+use native.Mathlib.Nat.{add-mul, zero-mul}
+use lib.ListN.{length, take, drop}
+use lib.Seq.{take-nil, take-all}
 use Rattle.spec.specs.Bytes.{Bytes, bit}
-use Rattle.spec.specs.Nodes.{Node, branches-of}
+use Rattle.spec.specs.Nodes.{Node, branches-of, total, children-of}
+use Rattle.spec.specs.Trie.{leaf-count}
 use Rattle.query_laws.specs.Counting.{labels-below}
 use Rattle.query_laws.specs.Slots.{node-at, leaves-before, slot-number}
-use Rattle.query_laws.specs.Descent.{children-before, child-number, goes-on, leaves-between, leaves-below, between-same}
+use Rattle.query_laws.specs.Descent.{children-before, child-number, goes-on, leaves-between, leaves-below}
 use Rattle.query_laws.specs.LabelMaps.{matches}
 use Rattle.query_laws.specs.Root.{children-up, leaves-up, child-range, slot-range}
 use Rattle.query_laws.specs.Steps.{says}
@@ -36,7 +39,8 @@ unfolding slots-between leaves-between
 between-sums ns zero lo hi h = refl
 between-sums ns (suc l) lo hi h = omega (arith, between-sums ns l (1 + children-before ns lo) (1 + children-before ns hi) (omega (arith, children-up ns lo hi h)), leaves-up ns lo hi h)
 
-below-sums : (ns : List Node) (l lo m : ℕ) (k : Bytes) → lo ≤ m → length k ≤ l → slots-below ns l m k ≡ leaves-below ns l lo m k + slots-between ns l lo
+-- The leaves before a key are its sum less that of the first nodes of the levels.
+pub below-sums : (ns : List Node) (l lo m : ℕ) (k : Bytes) → lo ≤ m → length k ≤ l → slots-below ns l m k ≡ leaves-below ns l lo m k + slots-between ns l lo
 unfolding slots-below leaves-below slots-between
 below-sums ns l lo m [] h f = between-sums ns l lo m h
 below-sums ns zero lo m (y ∷ k) h f = absurd (omega arith)
@@ -56,15 +60,25 @@ below-sums ns (suc l) lo m (y ∷ k) h f =
     go true i p q = omega (arith, p, slot-range ns m i .0, leaves-up ns lo m h)
     go false i p q = omega (arith, q, slot-range ns m i .0, leaves-up ns lo m h)
 
--- The leaves before two keys differ as parts of their sums do, where the rests are the same.
-pub below-differ : (ns : List Node) (lo hi : Bytes) (a b u v : ℕ) → length lo ≤ 64 → length hi ≤ 64 → slots-below ns 64 0 hi + (a + u) ≡ slots-below ns 64 0 lo + (b + v) → u ≡ v
-    → leaves-below ns 64 0 0 hi + a ≡ leaves-below ns 64 0 0 lo + b
-below-differ ns lo hi a b u v g h e r = omega (arith, below-sums ns 64 0 0 lo (omega arith) g, below-sums ns 64 0 0 hi (omega arith) h)
+-- the sum of the empty key
+pub slots-nothing : (ns : List Node) (l m : ℕ) → slots-below ns l m [] ≡ slots-between ns l m
+unfolding slots-below
+slots-nothing ns l m = refl
 
--- No leaf is before the empty key.
-pub below-nothing : (ns : List Node) → leaves-below ns 64 0 0 [] ≡ 0
-unfolding leaves-below
-below-nothing ns = between-same ns 64 0
+-- no nodes, no sum
+pub between-nowhere : (ns : List Node) (l m : ℕ) → length ns ≡ 0 → slots-between ns l m ≡ 0
+unfolding slots-between leaves-before children-before leaf-count total
+between-nowhere [] zero m e = refl
+between-nowhere [] (suc l) m e = rw (take-nil {A = Node} m) (omega (arith, between-nowhere [] l 1 e))
+between-nowhere (n ∷ ns) l m e = absurd (omega arith)
+
+-- Behind the last node all leaves are passed on each level.
+pub between-end : (ns : List Node) (l : ℕ) → length ns ≡ 1 + total children-of ns → slots-between ns l (length ns) ≡ l * leaf-count ns
+unfolding slots-between leaves-before children-before
+between-end ns zero e = omega (arith, zero-mul (leaf-count ns))
+between-end ns (suc l) e =
+    let t : take (length ns) ns ≡ ns = take-all (length ns) ns (omega arith) in
+    rw (t, ← e) (omega (arith, between-end ns l e, add-mul 1 l (leaf-count ns)))
 
 -- ---- one level of a sum
 
