@@ -179,11 +179,3 @@ pub fn passed_from(image: &[u8], f: Frame, key: &[u8], first: usize) -> usize
     let b = follow(image, f, key);
     b.sum - first + passed_at(image, f, key, b.stop)
 }
-
-// The leaves whose highest possible key lies below the key.
-pub fn passed(image: &[u8], f: Frame, key: &[u8]) -> usize
-    requires { ⌜ Accepted (now image) f × (length (now key) ≤ 64) ⌝ }
-    ensures { λ r. ⌜ r ≡ passed (read-leaves (now (image .entry))) (now (key .entry)) ⌝ }
-{
-    passed_from(image, f, key, first_sum(image, f))
-}

@@ -1,8 +1,8 @@
 use borrow.Author.Needs.{needs}
 use Rattle.query.proofs.SeekLaws.{few-passed, seek-none, seek-found}
 use native.Mathlib.Omega.{arith}
-use Rattle.query.proofs.seek.seek.Statement.{statement}
-use Rattle.query.proofs.seek.seek.Tie as tie
+use Rattle.query.proofs.seek.seek_from.Statement.{statement}
+use Rattle.query.proofs.seek.seek_from.Tie as tie
 
 slice-aggregate-next-leaf : tie.Need-slice-aggregate-next-leaf
 slice-aggregate-next-leaf c = search needs
@@ -29,8 +29,8 @@ slice-aggregate-greater-key c = search needs
 greater-key-requires : tie.Need-greater-key-requires
 greater-key-requires c κs = search needs
 
-passed-requires : tie.Need-passed-requires
-passed-requires c κs = search needs
+passed-from-requires : tie.Need-passed-from-requires
+passed-from-requires c κs = search needs
 
 returns-2 : tie.Need-returns-2
 returns-2 c =
@@ -39,10 +39,10 @@ returns-2 c =
     let s = c .before .before .before .before .before .before .before .before .before .next-leaf in
     let l = c .before .before .before .before .before .lowest-key in
     let g = c .before .before .greater-key in
-    (seek-found (a .image .now) (a .f) (p .0) (a .start .now) (s .result .kind) (s .result .slot .0) _ (s .ensures .0) (c .passed .result) _ _ (l .ensures .0) (g .ensures .0) (c .passed .ensures), g .ensures .1, omega arith, omega (arith, c .passed .ensures, few-passed (a .image .now) (a .f) (p .0) (a .start .now)))
+    (seek-found (a .image .now) (a .f) (p .0) (a .start .now) (s .result .kind) (s .result .slot .0) _ (s .ensures .0) (c .passed-from .result) _ _ (l .ensures .0) (g .ensures .0) (c .passed-from .ensures), g .ensures .1, omega arith, omega (arith, c .passed-from .ensures, few-passed (a .image .now) (a .f) (p .0) (a .start .now)))
 
-pub seek-spec : {M : Type 1} → statement M
-seek-spec =
+pub seek-from-spec : {M : Type 1} → statement M
+seek-from-spec =
     tie.close
     (tie.spec
     slice-aggregate-next-leaf
@@ -52,5 +52,5 @@ seek-spec =
     lowest-key-requires
     slice-aggregate-greater-key
     greater-key-requires
-    passed-requires
+    passed-from-requires
     returns-2)
