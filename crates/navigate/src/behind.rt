@@ -1,6 +1,6 @@
 // What lies behind a branch of an accepted image, both numbers from the same ranks.
 ghost use mathlib.Core.Path.{_≡_};
-ghost use Prim.Native.Nat.{_+_, _-_, _*_, _≤_, _<_};
+ghost use Prim.Native.Nat.{_+_, _-_, _<_};
 ghost use Rattle.navigate.specs.Accepted.{Accepted};
 ghost use Rattle.navigate.specs.Positions.{child-at, slot-at, Within};
 use super::nodes::dense_before;

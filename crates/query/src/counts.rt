@@ -70,6 +70,7 @@ fn next_byte(image: &[u8], f: Frame, key: &[u8], b: Bound) -> Bound
     if found.kind == 2 {
         return arrive(image, f, key, next.child, sum, d + 1);
     }
+    // An open leaf is kind 1 of a branch and kind 2 of a stop.
     Bound {
         node: next.child.0,
         sum: sum,

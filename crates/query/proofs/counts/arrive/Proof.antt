@@ -1,5 +1,4 @@
 use Rattle.query.specs.Followed.{arrived}
-use native.Mathlib.Omega.{arith}
 use mathlib.Core.Path.{refl}
 use borrow.Author.Needs.{needs}
 use Rattle.query.proofs.counts.arrive.Statement.{statement}

@@ -5,7 +5,6 @@ use Rattle.query_laws.specs.LabelMaps.{matches}
 use Rattle.query_laws.specs.SuffixBytes.{bit-le}
 use Rattle.query_laws.specs.LevelSums.{slots-below}
 use Rattle.query_laws.specs.Root.{slot-range}
-use Rattle.query_laws.specs.Slots.{slot-number}
 use Rattle.navigate.specs.Accepted.{nodes}
 use Rattle.navigate.specs.Positions.{branches, place}
 use lib.ListN.{length, getD, drop}

@@ -4,11 +4,9 @@ use Rattle.navigate.specs.Positions.{place}
 use Rattle.navigate.specs.Accepted.{nodes, dense-nodes, sparse-nodes}
 use Rattle.seek_laws.specs.Next.{behind-each, first-leaf}
 use Rattle.seek_laws.specs.Seeks.{low-each, low-of, label-none, label-leaf, label-node, first-exact, first-other, first-past}
-use Rattle.query_laws.specs.Descent.{child-number}
 use lib.Seq.{take-suc-set}
 use lib.ListN.{length, take, set, length-set, length-append}
 use native.Mathlib.Numerals.{add-one}
-use mathlib.Core.Option.{some}
 use mathlib.Core.List.{[], _∷_, _++_}
 use Prim.Native.Nat.{_+_, _-_, _<_, _≤_}
 use native.Mathlib.Omega.{arith}

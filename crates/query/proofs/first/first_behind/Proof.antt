@@ -3,7 +3,7 @@ use Rattle.navigate.specs.Positions.{place}
 use Rattle.navigate.specs.Accepted.{nodes, dense-nodes, sparse-nodes}
 use Rattle.seek_laws.specs.Seeks.{low-each, low-of, label-none, label-leaf, label-node}
 use lib.Seq.{take-suc-set}
-use lib.ListN.{length, take, set, length-set, length-append}
+use lib.ListN.{take, set, length-set, length-append}
 use native.Mathlib.Numerals.{add-one}
 use mathlib.Core.List.{[], _∷_, _++_}
 use Prim.Native.Nat.{_+_}
