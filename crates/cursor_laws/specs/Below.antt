@@ -12,12 +12,11 @@ use borrow.Author.Tests.{leb-true, leb-false}
 use Rattle.spec.specs.Bytes.{Bits, bit, concat}
 use Rattle.spec.specs.Leaves.{Leaf}
 use Rattle.spec.specs.Nodes.{Group, Branch, to-node, to-leaf, Node, node, label-of, has-child, branches-of, prefix, branch-leaves, children, exact-leaf, level-groups, groups, total, children-of}
-use Rattle.query_laws.specs.Counting.{labels-below}
+use Rattle.query_laws.specs.Counting.{labels-below, none-below-zero}
 use Rattle.query_laws.specs.Slots.{node-at, slot-number, slot-of, slot-is}
 use Rattle.query_laws.specs.Descent.{child-number, Stands, stands-next, group-at, kids-at, fit-at, node-is}
 use Rattle.query_laws.specs.NextLabel.{first-kind, first-label}
 use Rattle.seek_laws.specs.Next.{low-none, below-low, below-high, children-split, the-node, child-is}
-use Rattle.seek_laws.specs.Seeks.{zero-below}
 use Rattle.theory.specs.Words.{All}
 use Rattle.theory.specs.LeafLists.{Realizable, All-well-sized}
 use Rattle.theory.specs.LinkedLevels.{Below-label, Ascends, Labelled, Linked, levels-back, first-width}
@@ -99,7 +98,7 @@ children-next (to-node x ∷ es) (suc i) e rest d = omega (arith, children-next 
 -- the leaves at or below a node: its own, where it is an exact leaf, and those behind its branches
 pub below-step : (ns : List Node) (l m : ℕ) → below ns (suc l) m ≡ exact-leaf (own-slot (node-at ns m)) ++ from-label ns l m 0
 unfolding below from-label
-below-step ns l m = rw (zero-below (branches-of (node-at ns m)))
+below-step ns l m = rw (none-below-zero (branches-of (node-at ns m)))
 
 module _ (ns : List Node) (l m y kind : ℕ)
     (is : kind ≡ first-kind (drop (labels-below y (branches-of (node-at ns m))) (branches-of (node-at ns m)))) where
@@ -166,8 +165,8 @@ child-there (to-node x ∷ fs) e n = omega arith
 labelled-first : (n : Node) → Labelled n → first-kind (drop (labels-below 0 (branches-of n)) (branches-of n)) ≡ 0 → ⊥
 unfolding first-kind
 labelled-first (node o []) f e = absurd f
-labelled-first (node o (to-leaf x s ∷ es)) f e = let z = rw (zero-below (to-leaf x s ∷ es)) at e in omega arith
-labelled-first (node o (to-node x ∷ es)) f e = let z = rw (zero-below (to-node x ∷ es)) at e in omega arith
+labelled-first (node o (to-leaf x s ∷ es)) f e = let z = rw (none-below-zero (to-leaf x s ∷ es)) at e in omega arith
+labelled-first (node o (to-node x ∷ es)) f e = let z = rw (none-below-zero (to-node x ∷ es)) at e in omega arith
 
 labelled-rising : (n : Node) → Labelled n → Ascends (branches-of n)
 labelled-rising (node o []) f = tt

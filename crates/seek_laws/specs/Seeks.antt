@@ -127,16 +127,6 @@ module _ (w : ℕ) (ns : List Node) (wide : All (Slots-width w) ns) (m y d : ℕ
 
 -- ---- the first leaf at or below a node
 
--- no label is below zero
-pub zero-below : (es : List Branch) → labels-below 0 es ≡ 0
-unfolding labels-below
-zero-below [] = refl
-zero-below (e ∷ es) = go (leb 0 (label-of e)) (le-leb 0 (label-of e) (omega arith))
-  where
-    go : (b : Bool) → b ≡ true → _≡_ {A = ℕ} (elim b [ true ↦ 0 | false ↦ suc (labels-below 0 es) ]) 0
-    go true h = refl
-    go false h = absurd (true≢false (sym h))
-
 module _ (w : ℕ) (ns : List Node) (m d : ℕ) (path : Bytes) where
   -- an exact leaf
   pub first-exact : d < 64 → 1 ≡ bit (is-exact (node-at ns m)) → low-each (behind-each path (first-leaf ns (64 - d) m)) ≡ some path
