@@ -6,23 +6,25 @@ ghost use lib.Dec.{leb};
 ghost use Rattle.spec.specs.Nodes.{read-leaves};
 ghost use Rattle.spec.specs.Questions.{reply, questions-of};
 ghost use Rattle.navigate.specs.Accepted.{Accepted};
+ghost use Rattle.query.specs.Summed.{level-starts};
 ghost use Rattle.question_laws.specs.FileLaws.{Taken-from};
 ghost use Rattle.questions.specs.Questions.{Inside, question-of};
 ghost use Rattle.ask.specs.Outcomes.{file-replies};
 use super::replies::seek_reply;
 use frame::Frame;
+use query::levels::level_starts;
 use questions::file::QuestionAt;
 use questions::file::key_at;
 use questions::file::question_at;
 
-// The length of the key in the reply to a question. Only a seek's reply has one, so no other question is answered for it.
-fn key_length(image: &[u8], f: Frame, file: &[u8], question: QuestionAt) -> usize
-    requires { ⌜ Accepted (now image) f × Inside (now file) question ⌝ }
+// The length of the key in the reply to a question. Only a seek's reply has one, so no other question is answered for it. `starts` is the sum of the levels' starts.
+fn key_length(image: &[u8], f: Frame, starts: usize, file: &[u8], question: QuestionAt) -> usize
+    requires { ⌜ Accepted (now image) f × (starts ≡ level-starts (now image) f) × Inside (now file) question ⌝ }
     ensures { λ r. ⌜ (r ≡ length (reply (read-leaves (now (image .entry))) (question-of (now (file .entry)) question) .key)) × (r ≤ 64) ⌝ }
 {
     match question {
         QuestionAt::Seek(at, n) => {
-            let a = seek_reply(image, f, key_at(file, at, n));
+            let a = seek_reply(image, f, starts, key_at(file, at, n));
             a.n
         }
         QuestionAt::Point(_, _) => 0,
@@ -37,12 +39,13 @@ fn replies_length(image: &[u8], f: Frame, file: &[u8]) -> usize
     requires { ⌜ Accepted (now image) f × Taken-from (now file) 0 ⌝ }
     ensures { λ r. ⌜ r ≡ length (file-replies (now (image .entry)) (now (file .entry))) ⌝ }
 {
+    let starts = level_starts(image, f);
     let mut at = 0usize;
     let mut total = 0usize;
     while at < file.len() {
         let asked = question_at(file, at);
         let question = asked.question;
-        total = total + 8 + key_length(image, f, file, question);
+        total = total + 8 + key_length(image, f, starts, file, question);
         at = asked.next;
     }
     total

@@ -6,10 +6,12 @@ ghost use lib.ListN.{length, drop};
 ghost use Rattle.spec.specs.Nodes.{read-leaves};
 ghost use Rattle.spec.specs.Questions.{QS, reply};
 ghost use Rattle.navigate.specs.Accepted.{Accepted};
+ghost use Rattle.query.specs.Summed.{level-starts};
 ghost use Rattle.question_laws.specs.FileLaws.{Taken-from};
 ghost use Rattle.questions.specs.Questions.{Inside, question-of, Sized, reply-of};
 ghost use Rattle.ask.specs.Outcomes.{file-replies};
 use frame::Frame;
+use query::levels::level_starts;
 use query::point::point;
 use query::ranges::begins_with;
 use query::ranges::count;
@@ -23,11 +25,11 @@ use questions::reply::told;
 use questions::reply::write_answered;
 
 // The reply to a seek: the leaf's number and key, or none, FFFFFFFF without a key.
-pub fn seek_reply(image: &[u8], f: Frame, start: &[u8]) -> Answered
-    requires { ⌜ Accepted (now image) f × (length (now start) ≤ 64) ⌝ }
+pub fn seek_reply(image: &[u8], f: Frame, starts: usize, start: &[u8]) -> Answered
+    requires { ⌜ Accepted (now image) f × (starts ≡ level-starts (now image) f) × (length (now start) ≤ 64) ⌝ }
     ensures { λ r. ⌜ Sized r × (reply-of r ≡ reply (read-leaves (now (image .entry))) (QS (now (start .entry)))) ⌝ }
 {
-    let s = seek(image, f, start);
+    let s = seek(image, f, starts, start);
     if s.some == 0 {
         return told(b'S', 0xFFFFFFFF);
     }
@@ -40,9 +42,9 @@ pub fn seek_reply(image: &[u8], f: Frame, start: &[u8]) -> Answered
     }
 }
 
-// The reply to a question of the file.
-fn reply_to(image: &[u8], f: Frame, file: &[u8], question: QuestionAt) -> Answered
-    requires { ⌜ Accepted (now image) f × Inside (now file) question ⌝ }
+// The reply to a question of the file. `starts` is for seeks: the sum of the levels' starts.
+fn reply_to(image: &[u8], f: Frame, starts: usize, file: &[u8], question: QuestionAt) -> Answered
+    requires { ⌜ Accepted (now image) f × (starts ≡ level-starts (now image) f) × Inside (now file) question ⌝ }
     ensures { λ r. ⌜ Sized r × (reply-of r ≡ reply (read-leaves (now (image .entry))) (question-of (now (file .entry)) question)) ⌝ }
 {
     match question {
@@ -50,7 +52,7 @@ fn reply_to(image: &[u8], f: Frame, file: &[u8], question: QuestionAt) -> Answer
             let number = point(image, f, key_at(file, at, n));
             told(b'P', number)
         }
-        QuestionAt::Seek(at, n) => seek_reply(image, f, key_at(file, at, n)),
+        QuestionAt::Seek(at, n) => seek_reply(image, f, starts, key_at(file, at, n)),
         QuestionAt::Begins(at, n) => {
             let number = begins_with(image, f, key_at(file, at, n));
             told(b'B', number)
@@ -71,12 +73,13 @@ pub fn write_replies(image: &[u8], f: Frame, file: &[u8], out: &mut [u8]) -> usi
     requires { ⌜ Accepted (now image) f × Taken-from (now file) 0 × (length (file-replies (now image) (now file)) ≤ length (now out)) ⌝ }
     ensures { λ r. ⌜ (r ≡ length (file-replies (now (image .entry)) (now (file .entry)))) × (now (out .exit) ≡ file-replies (now (image .entry)) (now (file .entry)) ++ drop r (now (out .entry))) ⌝ }
 {
+    let starts = level_starts(image, f);
     let mut at = 0usize;
     let mut to = 0usize;
     while at < file.len() {
         let asked = question_at(file, at);
         let question = asked.question;
-        let a = reply_to(image, f, file, question);
+        let a = reply_to(image, f, starts, file, question);
         to = write_answered(out, to, a);
         at = asked.next;
     }

@@ -83,13 +83,13 @@ pub count-bounds : (s : Bytes) (f : Frame) → Accepted s f → (lo hi : Bytes) 
 count-bounds s f z lo hi g h a b u v d e p q =
     count-is s f z lo hi ∙ omega (arith, passed-stops s f z lo, reached-stops s f z hi, below-sums (nodes s f) 64 0 0 lo (omega arith) g, below-sums (nodes s f) 64 0 0 hi (omega arith) h)
 
--- The leaves that a key has passed, by its bound and the sum of the empty key.
-pub passed-bounds : (s : Bytes) (f : Frame) → Accepted s f → (k : Bytes) → length k ≤ 64 → (first b u : ℕ) → first ≡ slots-below (nodes s f) 64 0 [] → b ≡ slots-below (nodes s f) 64 0 k
-    → u ≡ value false (high-passed (length k)) (f .width) (nodes s f) (descend (nodes s f) 0 k) → (first ≤ b) × ((b - first) + u ≡ passed (read-leaves s) k)
-passed-bounds s f z k h first b u d e p =
+-- The leaves that a key has passed: the sum of the slot numbers of its bound, with what counts where it leads, less that of the empty key's.
+pub passed-sums : (s : Bytes) (f : Frame) → Accepted s f → (k : Bytes) (starts sum : ℕ) → length k ≤ 64 → starts ≡ slots-below (nodes s f) 64 0 []
+    → slots-below (nodes s f) 64 0 k + value false (high-passed (length k)) (f .width) (nodes s f) (descend (nodes s f) 0 k) ≡ sum → (starts ≤ sum) × (sum - starts ≡ passed (read-leaves s) k)
+passed-sums s f a k starts sum h p q =
     let n = slots-nothing (nodes s f) 64 0 in
     let w = below-sums (nodes s f) 64 0 0 k (omega arith) h in
-    (omega arith, omega (arith, passed-stops s f z k))
+    (omega arith, omega (arith, passed-stops s f a k))
 
 -- a number below two
 pub none-or-one : (n : ℕ) → n < 2 → (n ≡ 0) ⊎ (n ≡ 1)

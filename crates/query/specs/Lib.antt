@@ -3,3 +3,4 @@ pub mod Followed
 pub mod Seeking
 pub mod Sought
 pub mod SlotBits
+pub mod Summed

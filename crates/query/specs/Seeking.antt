@@ -1,5 +1,5 @@
 -- What a seek keeps on its way along the key: the nodes passed, the last turn to a higher label on them, and where the key has led.
-use Prim.Native.Nat.{ℕ, zero, suc, _+_, _-_, _<_, _≤_}
+use Prim.Native.Nat.{ℕ, zero, suc, _+_, _-_, _*_, _<_, _≤_}
 use mathlib.Core.Path.{_≡_, refl, sym, ap, _∙_}
 use mathlib.Core.Bool.{Bool, true, false, cond}
 use mathlib.Core.List.{List, [], _∷_, _++_}
@@ -95,10 +95,6 @@ module _ (ns : List Node) (start : Bytes) (path : List ℕ) where
     pub turns-here : (kind ≡ 0 → ⊥) → turns ns start path d ≡ behind-label ns (getD path (d - 1) 0) (y + 1) (d - 1) (take (d - 1) start)
     turns-here n = turns-level ∙ turn-taken (drop (labels-below (y + 1) (branches-of (node-at ns (getD path (d - 1) 0)))) (branches-of (node-at ns (getD path (d - 1) 0)))) (behind-label ns (getD path (d - 1) 0) (y + 1) (d - 1) (take (d - 1) start)) (turns ns start path (d - 1)) kind is n
 
--- past all leaves: the turns on the levels passed
-pub past-turns : (w : ℕ) (ns : List Node) (start : Bytes) (path : List ℕ) (kind m v d passed : ℕ) → kind ≡ 0 → d ≡ passed → turns ns start path passed ≡ led-leaf w ns start kind m v d (turns ns start path d)
-past-turns w ns start path kind m v d passed k e = rw (k, e)
-
 -- one node more is stored
 pub node-stored : (n : ℕ) (path : List ℕ) (d m : ℕ) → d < length path → m < n → Nodes-below n path d → Nodes-below n (set path d m) (d + 1)
 node-stored n path d m h b e = below-more (λ (i : ℕ). getD (set path d m) i 0 < n) d (λ i l. rw (getD-set-other path d i m 0 (λ z. omega arith)) (e i l)) (rw (getD-set-same path d m 0 h) b)
@@ -126,14 +122,14 @@ module _ (q : Bits → Bytes → Bool) (w : ℕ) (ns : List Node) (start : Bytes
   pub seek-none : kind ≡ 0 → next-from q w ns (64 - d) m (take d start) (drop d start) (turns ns start path d) ≡ turns ns start (set path d m) (d + 1)
   seek-none e = let r = says y (drop (labels-below y (branches-of (node-at ns m))) (branches-of (node-at ns m))) kind is .0 e in step ∙ rw (r .0, r .1)
 
-  -- an open leaf that the key has passed: the turn
-  pub seek-passed : kind ≡ 1 → q (slot-of w ns (slot-number ns m (labels-below y (branches-of (node-at ns m))))) (drop (d + 1) start) ≡ true → next-from q w ns (64 - d) m (take d start) (drop d start) (turns ns start path d) ≡ turns ns start (set path d m) (d + 1)
-  seek-passed e t = let r = says y (drop (labels-below y (branches-of (node-at ns m))) (branches-of (node-at ns m))) kind is .1 e in step ∙ rw (r .0, r .1, t)
-
-  -- one that it has not
-  pub seek-open : kind ≡ 1 → q (slot-of w ns (slot-number ns m (labels-below y (branches-of (node-at ns m))))) (drop (d + 1) start) ≡ false
-      → next-from q w ns (64 - d) m (take d start) (drop d start) (turns ns start path d) ≡ some (record { cut = take (d + 1) start; exact = false; suffix = slot-of w ns (slot-number ns m (labels-below y (branches-of (node-at ns m)))) })
-  seek-open e t = let r = says y (drop (labels-below y (branches-of (node-at ns m))) (branches-of (node-at ns m))) kind is .1 e in step ∙ rw (r .0, r .1, t)
+  -- an open leaf: the turn if the key has passed it, else the leaf
+  pub seek-leaf : (led child v : ℕ) → kind ≡ 1 → v ≡ slot-number ns m (labels-below y (branches-of (node-at ns m))) → led ≡ 2 - 2 * bit (q (slot-of w ns v) (drop (d + 1) start))
+      → next-from q w ns (64 - d) m (take d start) (drop d start) (turns ns start path d) ≡ led-leaf w ns start led child v (d + 1) (turns ns start (set path d m) (d + 1))
+  seek-leaf led child v e z l = let r = says y (drop (labels-below y (branches-of (node-at ns m))) (branches-of (node-at ns m))) kind is .1 e in step ∙ rw (r .0, r .1, ← z, l) (go (q (slot-of w ns v) (drop (d + 1) start)))
+    where
+      go : (b : Bool) → cond b (turns ns start (set path d m) (d + 1)) (some (record { cut = take (d + 1) start; exact = false; suffix = slot-of w ns v })) ≡ led-leaf w ns start (2 - 2 * bit b) child v (d + 1) (turns ns start (set path d m) (d + 1))
+      go true = refl
+      go false = refl
 
   -- a branch that continues
   pub seek-on : (kind ≡ 0 → ⊥) → (kind ≡ 1 → ⊥)

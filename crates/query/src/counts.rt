@@ -1,14 +1,11 @@
-// The leaves before a key in key order: its bound is followed level by level, and the leaves between two bounds are the difference of the sums of their slot numbers.
+// The bound of a key is followed level by level; the leaves between two bounds are the difference of the sums of their slot numbers.
 ghost use mathlib.Core.Path.{_≡_};
 ghost use mathlib.Core.Bool.{true, false};
-ghost use mathlib.Core.List.{[]};
 ghost use Prim.Native.Nat.{ℕ, _+_, _-_, _*_, _≤_, _<_};
 ghost use lib.ListN.{length, drop};
-ghost use Rattle.spec.specs.Nodes.{read-leaves};
 ghost use Rattle.query_laws.specs.Bounds.{high-passed, low-reached};
 ghost use Rattle.query_laws.specs.Descent.{descend, value};
 ghost use Rattle.query_laws.specs.LevelSums.{slots-below};
-ghost use Rattle.query_laws.specs.Ordered.{passed};
 ghost use Rattle.navigate.specs.Accepted.{Accepted, nodes};
 ghost use Rattle.query.specs.Followed.{Stopped, Followed};
 use super::descent::NOWHERE;
@@ -161,22 +158,4 @@ pub fn reached_at(image: &[u8], f: Frame, key: &[u8], s: Stop) -> usize
         return 0;
     }
     1
-}
-
-// The sum of the slot numbers of the first nodes of the levels: the bound of the empty key.
-pub fn first_sum(image: &[u8], f: Frame) -> usize
-    requires { ⌜ Accepted (now image) f ⌝ }
-    ensures { λ r. ⌜ r ≡ slots-below (nodes (now (image .entry)) f) 64 0 [] ⌝ }
-{
-    let b = follow(image, f, &image[..0]);
-    b.sum
-}
-
-// The leaves whose highest possible key lies below the key: those between the empty key, whose sum is `first`, and it.
-pub fn passed_from(image: &[u8], f: Frame, key: &[u8], first: usize) -> usize
-    requires { ⌜ Accepted (now image) f × (length (now key) ≤ 64) × (first ≡ slots-below (nodes (now image) f) 64 0 []) ⌝ }
-    ensures { λ r. ⌜ r ≡ passed (read-leaves (now (image .entry))) (now (key .entry)) ⌝ }
-{
-    let b = follow(image, f, key);
-    b.sum - first + passed_at(image, f, key, b.stop)
 }

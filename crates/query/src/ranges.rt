@@ -35,7 +35,8 @@ pub fn range(image: &[u8], f: Frame, lo: &[u8], hi: &[u8]) -> usize
     ensures { λ r. ⌜ r ≡ range (read-leaves (now (image .entry))) (now (lo .entry)) (now (hi .entry)) ⌝ }
 {
     let mut key = [0u8; 64];
-    let stop = next_leaf(image, f, lo, &mut key);
+    let next = next_leaf(image, f, lo, &mut key);
+    let stop = next.stop;
     let kind = stop.kind;
     if kind == 0 {
         return 0;

@@ -1,20 +1,19 @@
 // The seek question over an accepted image: the first leaf that the start has not passed, by number, and the greater of the start and the leaf's lowest key.
 ghost use mathlib.Core.Path.{_≡_};
-ghost use mathlib.Core.List.{[], _++_};
+ghost use mathlib.Core.List.{_++_};
 ghost use mathlib.Core.Option.{some};
 ghost use Prim.Native.Nat.{_≤_, _<_};
 ghost use lib.ListN.{length, take};
 ghost use Rattle.spec.specs.Nodes.{read-leaves};
 ghost use Rattle.spec.specs.Questions.{greater, seek};
 ghost use Rattle.query_laws.specs.Bounds.{low-rest};
-ghost use Rattle.query_laws.specs.LevelSums.{slots-below};
 ghost use Rattle.query_laws.specs.Slots.{slot-of};
 ghost use Rattle.seek_laws.specs.Seeks.{low-of};
 ghost use Rattle.navigate.specs.Accepted.{Accepted, nodes};
 ghost use Rattle.query.specs.Sought.{sought-of};
-use super::counts::first_sum;
-use super::counts::passed_from;
+ghost use Rattle.query.specs.Summed.{level-starts};
 use super::descent::Stop;
+use super::levels::sum_below;
 use super::seeking::next_leaf;
 use super::suffix::suffix_byte;
 use bits::ValuePos;
@@ -80,14 +79,14 @@ pub struct Sought {
     pub n: usize,
 }
 
-// The first leaf whose highest possible key is not below the start: its number, and the greater of the start and its lowest key. The sum of the first nodes' slot numbers is
-// `first`, so that many seeks find it once.
-pub fn seek_from(image: &[u8], f: Frame, start: &[u8], first: usize) -> Sought
-    requires { ⌜ Accepted (now image) f × (length (now start) ≤ 64) × (first ≡ slots-below (nodes (now image) f) 64 0 []) ⌝ }
+// The first leaf whose highest possible key is not below the start: its number, and the greater of the start and its lowest key. `starts` is the sum for the empty key.
+pub fn seek(image: &[u8], f: Frame, starts: usize, start: &[u8]) -> Sought
+    requires { ⌜ Accepted (now image) f × (starts ≡ level-starts (now image) f) × (length (now start) ≤ 64) ⌝ }
     ensures { λ r. ⌜ (sought-of (r .some) (r .number) (take (r .n) (r .key)) ≡ seek (read-leaves (now (image .entry))) (now (start .entry))) × (r .n ≤ 64) × (r .some ≤ 1) × (r .number ≤ 65535) ⌝ }
 {
     let mut key = [0u8; 64];
-    let stop = next_leaf(image, f, start, &mut key);
+    let next = next_leaf(image, f, start, &mut key);
+    let stop = next.stop;
     let kind = stop.kind;
     if kind == 0 {
         return Sought {
@@ -101,16 +100,8 @@ pub fn seek_from(image: &[u8], f: Frame, start: &[u8], first: usize) -> Sought
     let n = greater_key(start, &mut key, low);
     Sought {
         some: 1,
-        number: passed_from(image, f, start, first),
+        number: sum_below(image, f, next.bound) - starts,
         key,
         n,
     }
-}
-
-// The first leaf whose highest possible key is not below the start: its number, and the greater of the start and its lowest key.
-pub fn seek(image: &[u8], f: Frame, start: &[u8]) -> Sought
-    requires { ⌜ Accepted (now image) f × (length (now start) ≤ 64) ⌝ }
-    ensures { λ r. ⌜ (sought-of (r .some) (r .number) (take (r .n) (r .key)) ≡ seek (read-leaves (now (image .entry))) (now (start .entry))) × (r .n ≤ 64) × (r .some ≤ 1) × (r .number ≤ 65535) ⌝ }
-{
-    seek_from(image, f, start, first_sum(image, f))
 }

@@ -1,6 +1,6 @@
 -- The leaves before a key, as a sum of slot numbers level by level: without the first nodes of the levels, which cancel where two keys are compared.
 use Prim.Native.Nat.{ℕ, zero, suc, _+_, _-_, _*_, _<_, _≤_}
-use mathlib.Core.Path.{_≡_, refl}
+use mathlib.Core.Path.{_≡_, refl, ap, _∙_}
 use mathlib.Core.Bool.{Bool, true, false, cond}
 use mathlib.Core.List.{List, [], _∷_}
 use native.Mathlib.Omega.{arith}
@@ -103,3 +103,9 @@ slots-ended ns (suc l) m h = let e : suc l - 1 ≡ l = omega arith in rw e
 pub slots-past : (ns : List Node) (m : ℕ) → slots-below ns 0 m [] ≡ 0
 unfolding slots-below slots-between
 slots-past ns m = refl
+
+-- all nodes lie before node m, and so all leaves do, on each level left
+pub slots-full : (ns : List Node) (l m : ℕ) → length ns ≤ m → length ns ≤ 1 + total children-of ns → slots-below ns l m [] ≡ l * leaf-count ns
+unfolding slots-below slots-between leaves-before children-before
+slots-full ns zero m h t = omega arith
+slots-full ns (suc l) m h t = let e : take m ns ≡ ns = take-all m ns h in rw e (ap (λ (x : ℕ). leaf-count ns + x) (slots-full ns l (1 + total children-of ns) t t) ∙ omega arith)

@@ -11,7 +11,7 @@ enum-known-question : tie.Need-enum-known-question
 enum-known-question c = search needs
 
 key-at-requires : tie.Need-key-at-requires
-key-at-requires c κs = inside-told (c .before .before .before .before .before .args .file .now) (c .before .question .given .1) (c .before .before .before .before .before .pre .1)
+key-at-requires c κs = inside-told (c .before .before .before .before .before .args .file .now) (c .before .question .given .1) (c .before .before .before .before .before .pre .2)
 
 seek-reply-requires : tie.Need-seek-reply-requires
 seek-reply-requires c κs = search needs

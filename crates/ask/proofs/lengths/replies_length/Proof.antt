@@ -1,6 +1,7 @@
 -- The replies to the questions passed are summed, and the sum stays small.
 use Prim.Native.Nat.{_≤_, _-_}
 use native.Mathlib.Omega.{arith}
+use borrow.Author.Needs.{needs}
 use lib.ListN.{length}
 use Rattle.spec.specs.Nodes.{read-leaves}
 use Rattle.question_laws.specs.ReplyLaws.{Measured, measured-start, measured-more, measured-end}
@@ -9,15 +10,18 @@ use Rattle.ask.proofs.lengths.replies_length.Statement.{statement}
 use Rattle.ask.proofs.lengths.replies_length.Tie as tie
 
 abbrev Inv-loop : tie.InvT-loop
-Inv-loop image f file at₀ total₀ at total = (at ≤ length file) × Measured (read-leaves image) file at total
+Inv-loop image f file starts at₀ total₀ at total = (at ≤ length file) × Measured (read-leaves image) file at total
 
 abbrev μ-loop : tie.MeasureT-loop
-μ-loop image f file at₀ total₀ at total = length file - at
+μ-loop image f file starts at₀ total₀ at total = length file - at
+
+level-starts-requires : tie.Need-level-starts-requires Inv-loop μ-loop
+level-starts-requires c κs = search needs
 
 loop-holds : tie.Need-loop-holds Inv-loop μ-loop
 loop-holds c =
-    let a = c .before .before .args in
-    (omega arith, measured-start (read-leaves (a .image .now)) (a .file .now) _ (c .before .before .pre .1))
+    let a = c .before .before .before .args in
+    (omega arith, measured-start (read-leaves (a .image .now)) (a .file .now) _ (c .before .before .before .pre .1))
 
 question-at-requires : tie.Need-question-at-requires Inv-loop μ-loop
 question-at-requires c κs = (c .loop-test .taken, c .before .loop .inv .1 .taken-here)
@@ -26,7 +30,7 @@ add-total : tie.Need-add-total Inv-loop μ-loop
 add-total c = omega (arith, c .before .before .loop .inv .1 .small)
 
 key-length-requires : tie.Need-key-length-requires Inv-loop μ-loop
-key-length-requires c κs = (c .before .before .before .before .before .pre .0, c .question-at .ensures .inside)
+key-length-requires c κs = (c .before .before .before .before .before .before .pre .0, c .before .before .before .level-starts .ensures, c .question-at .ensures .inside)
 
 add-total-2 : tie.Need-add-total-2 Inv-loop μ-loop
 add-total-2 c = omega (arith, c .before .before .before .loop .inv .1 .small, c .key-length .ensures .1)
@@ -38,7 +42,7 @@ loop-less c =
 
 loop-again : tie.Need-loop-again Inv-loop μ-loop
 loop-again c =
-    let a = c .before .before .before .before .before .before .args in
+    let a = c .before .before .before .before .before .before .before .args in
     let l = c .before .before .before .loop in
     let q = c .before .question-at in
     let w = q .ensures .followed in
@@ -47,7 +51,7 @@ loop-again c =
 
 returns : tie.Need-returns Inv-loop μ-loop
 returns c =
-    let a = c .before .before .before .before .args in
+    let a = c .before .before .before .before .before .args in
     let l = c .before .loop in
     measured-end (read-leaves (a .image .now)) (a .file .now) (l .at) (l .total) (l .inv .1) (c .loop-test .left)
 
@@ -57,6 +61,7 @@ replies-length-spec =
     (tie.spec
     Inv-loop
     μ-loop
+    level-starts-requires
     loop-holds
     question-at-requires
     add-total

@@ -10,7 +10,7 @@ enum-known-question : tie.Need-enum-known-question
 enum-known-question c = search needs
 
 key-at-requires : tie.Need-key-at-requires
-key-at-requires c κs = inside-told (c .before .before .before .before .before .args .file .now) (c .before .question .given .1) (c .before .before .before .before .before .pre .1)
+key-at-requires c κs = inside-told (c .before .before .before .before .before .args .file .now) (c .before .question .given .1) (c .before .before .before .before .before .pre .2)
 
 point-requires : tie.Need-point-requires
 point-requires c κs = search needs
@@ -22,7 +22,7 @@ enum-known-question-2 : tie.Need-enum-known-question-2
 enum-known-question-2 c = search needs
 
 key-at-requires-2 : tie.Need-key-at-requires-2
-key-at-requires-2 c κs = inside-told (c .before .before .before .before .before .args .file .now) (c .before .question2 .given .1) (c .before .before .before .before .before .pre .1)
+key-at-requires-2 c κs = inside-told (c .before .before .before .before .before .args .file .now) (c .before .question2 .given .1) (c .before .before .before .before .before .pre .2)
 
 seek-reply-requires : tie.Need-seek-reply-requires
 seek-reply-requires c κs = search needs
@@ -31,7 +31,7 @@ enum-known-question-3 : tie.Need-enum-known-question-3
 enum-known-question-3 c = search needs
 
 key-at-requires-3 : tie.Need-key-at-requires-3
-key-at-requires-3 c κs = inside-told (c .before .before .before .before .before .args .file .now) (c .before .question3 .given .1) (c .before .before .before .before .before .pre .1)
+key-at-requires-3 c κs = inside-told (c .before .before .before .before .before .args .file .now) (c .before .question3 .given .1) (c .before .before .before .before .before .pre .2)
 
 begins-with-requires : tie.Need-begins-with-requires
 begins-with-requires c κs = search needs
@@ -43,10 +43,10 @@ enum-known-question-4 : tie.Need-enum-known-question-4
 enum-known-question-4 c = search needs
 
 key-at-requires-4 : tie.Need-key-at-requires-4
-key-at-requires-4 c κs = inside-told (c .before .before .before .before .before .args .file .now) (c .before .question4 .given .1) (c .before .before .before .before .before .pre .1) .0
+key-at-requires-4 c κs = inside-told (c .before .before .before .before .before .args .file .now) (c .before .question4 .given .1) (c .before .before .before .before .before .pre .2) .0
 
 key-at-requires-5 : tie.Need-key-at-requires-5
-key-at-requires-5 c κs = inside-told (c .before .before .before .before .before .before .args .file .now) (c .before .before .question4 .given .1) (c .before .before .before .before .before .before .pre .1) .1
+key-at-requires-5 c κs = inside-told (c .before .before .before .before .before .before .args .file .now) (c .before .before .question4 .given .1) (c .before .before .before .before .before .before .pre .2) .1
 
 range-requires : tie.Need-range-requires
 range-requires c κs = search needs
@@ -58,10 +58,10 @@ enum-known-question-5 : tie.Need-enum-known-question-5
 enum-known-question-5 c = search needs
 
 key-at-requires-6 : tie.Need-key-at-requires-6
-key-at-requires-6 c κs = inside-told (c .before .before .before .before .before .args .file .now) (c .before .question5 .given .1) (c .before .before .before .before .before .pre .1) .0
+key-at-requires-6 c κs = inside-told (c .before .before .before .before .before .args .file .now) (c .before .question5 .given .1) (c .before .before .before .before .before .pre .2) .0
 
 key-at-requires-7 : tie.Need-key-at-requires-7
-key-at-requires-7 c κs = inside-told (c .before .before .before .before .before .before .args .file .now) (c .before .before .question5 .given .1) (c .before .before .before .before .before .before .pre .1) .1
+key-at-requires-7 c κs = inside-told (c .before .before .before .before .before .before .args .file .now) (c .before .before .question5 .given .1) (c .before .before .before .before .before .before .pre .2) .1
 
 count-requires : tie.Need-count-requires
 count-requires c κs = search needs

@@ -3,6 +3,7 @@ use mathlib.Core.Path.{sym, ap, _∙_}
 use mathlib.Core.List.{_++_}
 use Prim.Native.Nat.{ℕ, _≤_, _-_}
 use native.Mathlib.Omega.{arith}
+use borrow.Author.Needs.{needs}
 use lib.ListN.{length, drop}
 use Rattle.spec.specs.Nodes.{read-leaves}
 use Rattle.question_laws.specs.ReplyLaws.{Replied, replied-start, replied-length, replied-size, replied-end}
@@ -12,26 +13,29 @@ use Rattle.ask.proofs.replies.write_replies.Statement.{statement}
 use Rattle.ask.proofs.replies.write_replies.Tie as tie
 
 abbrev Inv-loop : tie.InvT-loop
-Inv-loop image f file out₀ at₀ to₀ out at to = (at ≤ length file) × Replied (read-leaves image) file out₀ at to out
+Inv-loop image f file out₀ starts at₀ to₀ out at to = (at ≤ length file) × Replied (read-leaves image) file out₀ at to out
 
 abbrev μ-loop : tie.MeasureT-loop
-μ-loop image f file out₀ at₀ to₀ out at to = length file - at
+μ-loop image f file out₀ starts at₀ to₀ out at to = length file - at
+
+level-starts-requires : tie.Need-level-starts-requires Inv-loop μ-loop
+level-starts-requires c κs = search needs
 
 loop-holds : tie.Need-loop-holds Inv-loop μ-loop
 loop-holds c =
-    let a = c .before .before .before .args in
-    (omega arith, replied-start (read-leaves (a .image .now)) (a .file .now) (a .out .now) _ (c .before .before .before .pre .1))
+    let a = c .before .before .before .before .args in
+    (omega arith, replied-start (read-leaves (a .image .now)) (a .file .now) (a .out .now) _ (c .before .before .before .before .pre .1))
 
 question-at-requires : tie.Need-question-at-requires Inv-loop μ-loop
 question-at-requires c κs = (c .loop-test .taken, c .before .loop .inv .1 .taken-here)
 
 reply-to-requires : tie.Need-reply-to-requires Inv-loop μ-loop
-reply-to-requires c κs = (c .before .before .before .before .before .before .pre .0, c .question-at .ensures .inside)
+reply-to-requires c κs = (c .before .before .before .before .before .before .before .pre .0, c .before .before .before .level-starts .ensures, c .question-at .ensures .inside)
 
 write-answered-requires : tie.Need-write-answered-requires Inv-loop μ-loop
 write-answered-requires c κs =
-    let a = c .before .before .before .before .before .before .before .before .args in
-    let p = c .before .before .before .before .before .before .before .before .pre in
+    let a = c .before .before .before .before .before .before .before .before .before .args in
+    let p = c .before .before .before .before .before .before .before .before .before .pre in
     let l = c .before .before .before .before .loop in
     let q = c .before .before .question-at in
     let r = c .before .reply-to in
@@ -44,8 +48,8 @@ loop-less c =
 
 loop-again : tie.Need-loop-again Inv-loop μ-loop
 loop-again c =
-    let a = c .before .before .before .before .before .before .before .before .before .before .before .args in
-    let p = c .before .before .before .before .before .before .before .before .before .before .before .pre in
+    let a = c .before .before .before .before .before .before .before .before .before .before .before .before .args in
+    let p = c .before .before .before .before .before .before .before .before .before .before .before .before .pre in
     let l = c .before .before .before .before .before .before .before .loop in
     let q = c .before .before .before .before .before .question-at in
     let r = c .before .before .before .before .reply-to in
@@ -54,13 +58,13 @@ loop-again c =
 
 same-length : tie.Need-same-length Inv-loop μ-loop
 same-length c =
-    let a = c .before .before .before .before .before .args in
+    let a = c .before .before .before .before .before .before .args in
     let l = c .before .loop in
-    replied-length (read-leaves (a .image .now)) (a .file .now) (a .out .now) (c .before .before .before .before .before .pre .2) (l .at) (l .to) (l .out) (l .inv .1)
+    replied-length (read-leaves (a .image .now)) (a .file .now) (a .out .now) (c .before .before .before .before .before .before .pre .2) (l .at) (l .to) (l .out) (l .inv .1)
 
 returns : tie.Need-returns Inv-loop μ-loop
 returns c =
-    let a = c .before .before .before .before .before .args in
+    let a = c .before .before .before .before .before .before .args in
     let l = c .before .loop in
     let e = replied-size (read-leaves (a .image .now)) (a .file .now) (a .out .now) (l .at) (l .to) (l .out) (l .inv .1) (c .loop-test .left) in (
       e,
@@ -74,6 +78,7 @@ write-replies-spec =
     (tie.spec
     Inv-loop
     μ-loop
+    level-starts-requires
     loop-holds
     question-at-requires
     reply-to-requires

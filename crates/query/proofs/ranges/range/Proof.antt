@@ -16,9 +16,9 @@ next-leaf-requires c κs = search needs
 
 returns : tie.Need-returns
 returns c =
-    let a = c .before .before .before .before .before .before .before .args in
-    let s = c .before .before .next-leaf in
-    range-none (a .image .now) (a .f) (c .before .before .before .before .before .before .before .pre .0) (a .lo .now) (a .hi .now) (s .result .kind) (s .result .slot .0) _ (s .ensures .0) (c .if1 .taken)
+    let a = c .before .before .before .before .before .before .before .before .args in
+    let s = c .before .before .before .next-leaf in
+    range-none (a .image .now) (a .f) (c .before .before .before .before .before .before .before .before .pre .0) (a .lo .now) (a .hi .now) (s .result .stop .kind) (s .result .stop .slot .0) _ (s .ensures .0) (c .if1 .taken)
 
 slice-aggregate-lowest-key : tie.Need-slice-aggregate-lowest-key
 slice-aggregate-lowest-key c = search needs
@@ -48,21 +48,21 @@ enum-told-3 c = search needs
 
 returns-2 : tie.Need-returns-2
 returns-2 c =
-    let a = c .before .before .before .before .before .before .before .before .before .before .before .before .before .before .args in
-    let s = c .before .before .before .before .before .before .before .before .before .next-leaf in
-    range-below (a .image .now) (a .f) (c .before .before .before .before .before .before .before .before .before .before .before .before .before .before .pre .0) (a .lo .now) (a .hi .now) (s .result .kind) (s .result .slot .0) _ (s .ensures .0) _ (c .before .before .before .before .before .lowest-key .ensures .0) (sym (c .before .before .compare .ensures) ∙ c .enum-told .given .1)
+    let a = c .before .before .before .before .before .before .before .before .before .before .before .before .before .before .before .args in
+    let s = c .before .before .before .before .before .before .before .before .before .before .next-leaf in
+    range-below (a .image .now) (a .f) (c .before .before .before .before .before .before .before .before .before .before .before .before .before .before .before .pre .0) (a .lo .now) (a .hi .now) (s .result .stop .kind) (s .result .stop .slot .0) _ (s .ensures .0) _ (c .before .before .before .before .before .lowest-key .ensures .0) (sym (c .before .before .compare .ensures) ∙ c .enum-told .given .1)
 
 returns-3 : tie.Need-returns-3
 returns-3 c =
-    let a = c .before .before .before .before .before .before .before .before .before .before .before .before .before .before .args in
-    let s = c .before .before .before .before .before .before .before .before .before .next-leaf in
-    range-reached (a .image .now) (a .f) (c .before .before .before .before .before .before .before .before .before .before .before .before .before .before .pre .0) (a .lo .now) (a .hi .now) (s .result .kind) (s .result .slot .0) _ (s .ensures .0) _ (c .before .before .before .before .before .lowest-key .ensures .0) (inl (sym (c .before .before .compare .ensures) ∙ c .enum-told2 .given .1))
+    let a = c .before .before .before .before .before .before .before .before .before .before .before .before .before .before .before .args in
+    let s = c .before .before .before .before .before .before .before .before .before .before .next-leaf in
+    range-reached (a .image .now) (a .f) (c .before .before .before .before .before .before .before .before .before .before .before .before .before .before .before .pre .0) (a .lo .now) (a .hi .now) (s .result .stop .kind) (s .result .stop .slot .0) _ (s .ensures .0) _ (c .before .before .before .before .before .lowest-key .ensures .0) (inl (sym (c .before .before .compare .ensures) ∙ c .enum-told2 .given .1))
 
 returns-4 : tie.Need-returns-4
 returns-4 c =
-    let a = c .before .before .before .before .before .before .before .before .before .before .before .before .before .before .args in
-    let s = c .before .before .before .before .before .before .before .before .before .next-leaf in
-    range-reached (a .image .now) (a .f) (c .before .before .before .before .before .before .before .before .before .before .before .before .before .before .pre .0) (a .lo .now) (a .hi .now) (s .result .kind) (s .result .slot .0) _ (s .ensures .0) _ (c .before .before .before .before .before .lowest-key .ensures .0) (inr (sym (c .before .before .compare .ensures) ∙ c .enum-told3 .given .1))
+    let a = c .before .before .before .before .before .before .before .before .before .before .before .before .before .before .before .args in
+    let s = c .before .before .before .before .before .before .before .before .before .before .next-leaf in
+    range-reached (a .image .now) (a .f) (c .before .before .before .before .before .before .before .before .before .before .before .before .before .before .before .pre .0) (a .lo .now) (a .hi .now) (s .result .stop .kind) (s .result .stop .slot .0) _ (s .ensures .0) _ (c .before .before .before .before .before .lowest-key .ensures .0) (inr (sym (c .before .before .compare .ensures) ∙ c .enum-told3 .given .1))
 
 pub range-spec : {M : Type 1} → statement M
 range-spec =
