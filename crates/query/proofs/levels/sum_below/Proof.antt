@@ -65,14 +65,14 @@ add-d : tie.Need-add-d Inv-loop μ-loop
 add-d c = omega (arith, c .before .before .before .before .before .before .loop .inv .1)
 
 loop-less : tie.Need-loop-less Inv-loop μ-loop
-loop-less c = levels-fall (c .before .before .before .before .before .before .loop .d) (c .before .before .before .before .before .loop-test .taken) .1
+loop-less c = levels-fall (c .before .before .before .before .before .before .loop .d) (omega arith) .1
 
 loop-again : tie.Need-loop-again Inv-loop μ-loop
 loop-again c =
     let a = c .before .before .before .before .before .before .before .before .args in
     let p = c .before .before .before .before .before .before .before .before .pre in
     let l = c .before .before .before .before .before .before .loop in
-    let h = c .before .before .before .before .before .loop-test .taken in
+    let h : l .d < 64 = omega arith in
     let e = c .before .before .before2 .ensures in
     let z : c .before .before .before2 .result .children + 1 ≡ 1 + children-before (nodes (a .image .now) (a .f)) (l .node) = omega (arith, e .0) in
     let some : 0 < a .f .dense + a .f .sparse = omega (arith, l .inv .0, c .before .before .before .if1 .left) in (
