@@ -17,7 +17,7 @@ use questions::file::QuestionAt;
 use questions::file::key_at;
 use questions::file::question_at;
 
-// The length of the key in the reply to a question. Only a seek's reply has one, so no other question is answered for it. `starts` is the sum of the levels' starts.
+// The length of the key in the reply to a question. Only a seek's reply has one, so no other question is answered for it. `starts` is the sum of slot numbers for the empty key.
 fn key_length(image: &[u8], f: Frame, starts: usize, file: &[u8], question: QuestionAt) -> usize
     requires { ⌜ Accepted (now image) f × (starts ≡ level-starts (now image) f) × Inside (now file) question ⌝ }
     ensures { λ r. ⌜ (r ≡ length (reply (read-leaves (now (image .entry))) (question-of (now (file .entry)) question) .key)) × (r ≤ 64) ⌝ }

@@ -24,7 +24,7 @@ use questions::reply::Answered;
 use questions::reply::told;
 use questions::reply::write_answered;
 
-// The reply to a seek: the leaf's number and key, or none, FFFFFFFF without a key.
+// The reply to a seek: the leaf's number and key, or none, FFFFFFFF without a key. `starts` is the sum of slot numbers for the empty key.
 pub fn seek_reply(image: &[u8], f: Frame, starts: usize, start: &[u8]) -> Answered
     requires { ⌜ Accepted (now image) f × (starts ≡ level-starts (now image) f) × (length (now start) ≤ 64) ⌝ }
     ensures { λ r. ⌜ Sized r × (reply-of r ≡ reply (read-leaves (now (image .entry))) (QS (now (start .entry)))) ⌝ }
@@ -42,7 +42,7 @@ pub fn seek_reply(image: &[u8], f: Frame, starts: usize, start: &[u8]) -> Answer
     }
 }
 
-// The reply to a question of the file. `starts` is for seeks: the sum of the levels' starts.
+// The reply to a question of the file. `starts`, for a seek, is the sum of slot numbers for the empty key.
 fn reply_to(image: &[u8], f: Frame, starts: usize, file: &[u8], question: QuestionAt) -> Answered
     requires { ⌜ Accepted (now image) f × (starts ≡ level-starts (now image) f) × Inside (now file) question ⌝ }
     ensures { λ r. ⌜ Sized r × (reply-of r ≡ reply (read-leaves (now (image .entry))) (question-of (now (file .entry)) question)) ⌝ }

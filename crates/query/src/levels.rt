@@ -16,7 +16,7 @@ pub struct LevelSum {
     pub sum: usize,
 }
 
-// Any bound on the root's level.
+// The bound of any key on the root's level.
 pub const AT_ROOT: LevelSum = LevelSum {
     node: 0,
     depth: 0,
@@ -43,7 +43,7 @@ pub fn sum_below(image: &[u8], f: Frame, from: LevelSum) -> usize
     sum
 }
 
-// The sum for the empty key, whose bound is the first node of every level: what a sum for another key has too much, to be a number of leaves.
+// The sum for the empty key, whose bound is the first node of every level. The sum for another key less this one is the number of leaves before that key.
 pub fn level_starts(image: &[u8], f: Frame) -> usize
     requires { ⌜ Accepted (now image) f ⌝ }
     ensures { λ r. ⌜ r ≡ level-starts (now (image .entry)) f ⌝ }

@@ -79,7 +79,7 @@ pub struct Sought {
     pub n: usize,
 }
 
-// The first leaf whose highest possible key is not below the start: its number, and the greater of the start and its lowest key. `starts` is the sum for the empty key.
+// The first leaf whose highest possible key is not below the start: its number, and the greater of the start and its lowest key. `starts` is the sum of slot numbers for the empty key.
 pub fn seek(image: &[u8], f: Frame, starts: usize, start: &[u8]) -> Sought
     requires { ⌜ Accepted (now image) f × (starts ≡ level-starts (now image) f) × (length (now start) ≤ 64) ⌝ }
     ensures { λ r. ⌜ (sought-of (r .some) (r .number) (take (r .n) (r .key)) ≡ seek (read-leaves (now (image .entry))) (now (start .entry))) × (r .n ≤ 64) × (r .some ≤ 1) × (r .number ≤ 65535) ⌝ }

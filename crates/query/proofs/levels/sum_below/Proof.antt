@@ -6,7 +6,7 @@ use Rattle.navigate.specs.Accepted.{nodes}
 use mathlib.Core.List.{[]}
 use Prim.Native.Nat.{ℕ, _+_, _-_, _*_, _<_, _≤_}
 use native.Mathlib.Omega.{arith}
-use mathlib.Core.Path.{_≡_, refl, ap, _∙_}
+use mathlib.Core.Path.{_≡_, refl, ap}
 use Rattle.query.proofs.levels.sum_below.Statement.{statement}
 use Rattle.query.proofs.levels.sum_below.Tie as tie
 
