@@ -15,7 +15,7 @@ use Rattle.frame.specs.declared.Frame.{Frame}
 use Rattle.query_laws.specs.Slots.{node-at, leaves-before, slot-number}
 use Rattle.query_laws.specs.Descent.{descend, children-before, child-number, goes-on}
 use Rattle.query_laws.specs.LabelMaps.{matches}
-use Rattle.query_laws.specs.LevelSums.{slots-between, slots-below, slots-on, slots-off, slots-ended, slots-nothing, below-sums, between-nowhere, between-end}
+use Rattle.query_laws.specs.LevelSums.{slots-below, slots-on, slots-off, slots-ended, slots-full, below-sums, between-nowhere}
 use Rattle.query_laws.specs.Root.{child-in, child-range, children-all}
 use Rattle.query_laws.specs.Steps.{stop-of, goes-there, descend-none, descend-open, descend-on, descend-end, descend-nowhere, below-nowhere, slot-in}
 use Rattle.query_laws.specs.SuffixBytes.{key-next, bit-le}
@@ -143,7 +143,7 @@ module _ (s : Bytes) (f : Frame) (a : Accepted s f) (key : Bytes) where
         let z : length (nodes s f) ≡ m = omega (arith, a .dense-size, a .sparse-size) in
         let c : leaf-count (nodes s f) ≡ f .leaves = omega (arith, a .writable .leaf-total) in
         let n : length (nodes s f) ≡ 1 + total children-of (nodes s f) = omega (arith, a .node-total (o .some)) in
-        ap (slots-below (nodes s f) l m) (drop-of-length-le key {i = depth} h) ∙ slots-nothing (nodes s f) l m ∙ ap (slots-between (nodes s f) l) (sym z) ∙ between-end (nodes s f) l n ∙ ap (λ (x : ℕ). l * x) c
+        ap (slots-below (nodes s f) l m) (drop-of-length-le key {i = depth} h) ∙ slots-full (nodes s f) l m (omega arith) (omega arith) ∙ ap (λ (x : ℕ). l * x) c
 
 -- a bound behind the last node: its key has ended
 pub past-ended : (s : Bytes) (f : Frame) (key : Bytes) (m depth kind slot at : ℕ) → Followed s f key m depth kind slot at → m ≡ f .dense + f .sparse → length key ≤ depth

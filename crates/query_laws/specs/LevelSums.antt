@@ -4,7 +4,6 @@ use mathlib.Core.Path.{_≡_, refl, ap, _∙_}
 use mathlib.Core.Bool.{Bool, true, false, cond}
 use mathlib.Core.List.{List, [], _∷_}
 use native.Mathlib.Omega.{arith}
-use native.Mathlib.Nat.{add-mul, zero-mul}
 use lib.ListN.{length, take, drop}
 use lib.Seq.{take-nil, take-all}
 use Rattle.spec.specs.Bytes.{Bytes, bit}
@@ -71,14 +70,6 @@ unfolding slots-between leaves-before children-before leaf-count total
 between-nowhere [] zero m e = refl
 between-nowhere [] (suc l) m e = rw (take-nil {A = Node} m) (omega (arith, between-nowhere [] l 1 e))
 between-nowhere (n ∷ ns) l m e = absurd (omega arith)
-
--- Behind the last node all leaves are passed on each level.
-pub between-end : (ns : List Node) (l : ℕ) → length ns ≡ 1 + total children-of ns → slots-between ns l (length ns) ≡ l * leaf-count ns
-unfolding slots-between leaves-before children-before
-between-end ns zero e = omega (arith, zero-mul (leaf-count ns))
-between-end ns (suc l) e =
-    let t : take (length ns) ns ≡ ns = take-all (length ns) ns (omega arith) in
-    rw (t, ← e) (omega (arith, between-end ns l e, add-mul 1 l (leaf-count ns)))
 
 -- ---- one level of a sum
 
