@@ -1,10 +1,8 @@
 //! The calls of the proved library, made by `rt staticlib filter`, as safe functions.
 //! Each call has a feature of its own, so that a library without it can be linked.
 
-#[cfg(any(feature = "build", feature = "ask"))]
+#[cfg(any(feature = "build", feature = "ask", feature = "walk"))]
 use crate::build::Answer;
-#[cfg(feature = "walk")]
-use crate::walk::RECORD_BYTES;
 
 extern "C" {
     #[cfg(feature = "build")]
@@ -35,8 +33,9 @@ extern "C" {
         image: *const u8,
         image_len: usize,
         place: u64,
-        record: *mut [u8; RECORD_BYTES],
-    ) -> u32;
+        records: *mut u8,
+        records_len: usize,
+    ) -> u64;
 }
 
 /// Builds the image of a key list at the start of the output.
@@ -80,18 +79,26 @@ pub fn ask(image: &[u8], questions: &[u8], replies: &mut [u8]) -> Answer {
     })
 }
 
-/// Writes the record of the leaf at a place of an image, or zeros for done, and gives 0;
-/// or gives the number of a refusal.
+/// Writes the records of the leaves from a place of an image on at the start of the
+/// buffer, of as many leaves as it holds whole.
 #[cfg(feature = "walk")]
-pub fn walk(image: &[u8], place: u64, record: &mut [u8; RECORD_BYTES]) -> u32 {
-    // SAFETY: pointer and length are those of a slice that lives through the call,
-    // and the record is lent to it alone.
-    unsafe { range_filter_walk(image.as_ptr(), image.len(), place, record) }
+pub fn walk(image: &[u8], place: u64, records: &mut [u8]) -> Answer {
+    // SAFETY: pointers and lengths are those of slices that live through the call,
+    // and the buffer is lent to it alone.
+    answer(unsafe {
+        range_filter_walk(
+            image.as_ptr(),
+            image.len(),
+            place,
+            records.as_mut_ptr(),
+            records.len(),
+        )
+    })
 }
 
 /// Reads what a call returns: a number above 32 bits of bytes written, of which a
 /// refusal has none.
-#[cfg(any(feature = "build", feature = "ask"))]
+#[cfg(any(feature = "build", feature = "ask", feature = "walk"))]
 fn answer(returned: u64) -> Answer {
     match ((returned >> 32) as u32, returned as u32) {
         (0, written) => Answer::Written(written as usize),

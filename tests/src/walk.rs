@@ -1,5 +1,6 @@
 //! Walking the leaves of an image in key order.
 
+use crate::build::Answer;
 use crate::leaves::Leaf;
 use crate::questions::accepted_leaves;
 
@@ -50,14 +51,20 @@ fn record(leaf: &Leaf) -> [u8; RECORD_BYTES] {
     record
 }
 
-/// Gives the number that a walk answers, 0 unless it is refused, and the record's
-/// final bytes, which a refusal leaves as they were.
-pub fn answer(stand: &Stand, before: [u8; RECORD_BYTES]) -> (u32, [u8; RECORD_BYTES]) {
-    match stand {
-        Stand::Refused(number) => (*number, before),
-        Stand::Leaf(leaf) => (0, record(leaf)),
-        Stand::Done => (0, [0; RECORD_BYTES]),
+/// Writes the records of the leaves from a place on at the start of a buffer, one behind
+/// the other, of as many leaves as it holds whole; a refusal leaves the buffer as it was.
+pub fn write_records(image: &[u8], place: u64, records: &mut [u8]) -> Answer {
+    let leaves = match leaves_for(image, place) {
+        Ok(leaves) => leaves,
+        Err(number) => return Answer::Refused(number),
+    };
+    let room = records.chunks_exact_mut(RECORD_BYTES);
+    let mut written = 0;
+    for (bytes, leaf) in room.zip(&leaves[place as usize..]) {
+        bytes.copy_from_slice(&record(leaf));
+        written += RECORD_BYTES;
     }
+    Answer::Written(written)
 }
 
 /// Gives the leaves of an image that has the place handed in.

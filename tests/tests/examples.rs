@@ -161,16 +161,17 @@ fn check(image: &[u8]) -> u32 {
     number
 }
 
-/// Walks with the reference, and with the library where it is linked; both say the
-/// same and leave the same record.
+/// Walks with the reference, and with the library where it is linked; both answer alike
+/// and leave the same records.
 fn walk_to(image: &[u8], place: u64) -> Stand {
     let stand = at(image, place);
     #[cfg(feature = "walk")]
     {
-        let mut record = [FILL; reference::walk::RECORD_BYTES];
-        let expected = reference::walk::answer(&stand, record);
-        let number = reference::library::walk(image, place, &mut record);
-        assert_eq!((number, record), expected);
+        let mut records = [FILL; 3 * reference::walk::RECORD_BYTES];
+        let mut expected = records;
+        let answer = reference::walk::write_records(image, place, &mut expected);
+        let walked = reference::library::walk(image, place, &mut records);
+        assert_eq!((walked, records), (answer, expected));
     }
     stand
 }

@@ -3,9 +3,8 @@ ghost use mathlib.Core.Path.{_≡_};
 ghost use Rattle.spec.specs.Ask.{ask};
 ghost use Rattle.spec.specs.Build.{build};
 ghost use Rattle.spec.specs.Check.{check};
-ghost use Rattle.spec.specs.Walk.{open-walk};
 ghost use Rattle.records.specs.Records.{settings};
-ghost use Rattle.walk.specs.Record.{Recorded};
+ghost use Rattle.walk.specs.Record.{walk-records};
 ghost use Rattle.filter.specs.Filter.{coded, number-of};
 use accept::Checked;
 use accept::check;
@@ -13,8 +12,8 @@ use ask::Answer;
 use ask::ask;
 use build::Built;
 use build::build;
-use walk::record::write_record;
-use walk::walker::walk;
+use walk::record::Walked;
+use walk::record::write_records;
 
 // Builds the image of a key list into the output. The answer is the number of a refusal, 0 for success, times 2^32, plus the bytes written, 0 for a refusal.
 #[no_mangle]
@@ -52,12 +51,16 @@ pub extern "C" fn range_filter_ask(image: &[u8], questions: &[u8], replies: &mut
     }
 }
 
-// Walks to a place of an image: a leaf's number in key order, or the leaf count for done. The answer is the number of a refusal, after which no byte of the record has changed, or 0.
-// The record is then the kind (0 done, 1 exact, 2 open), the cut key's length, 64 bytes with the cut key and zeros behind it, and the suffix as a number of two bytes, the low one first; zeros for done.
+// Walks an image from a place on: a leaf's number in key order, or the leaf count for done. Of as many leaves as the buffer holds whole, it writes the records, 68 bytes each, one behind the other:
+// the kind (1 exact, 2 open), the cut key's length, 64 bytes with the cut key and zeros behind it, and the suffix as a number of two bytes, the low one first.
+// The answer is the number of a refusal, 0 for success, times 2^32, plus the bytes written, 0 for a refusal.
 #[no_mangle]
-pub extern "C" fn range_filter_walk(image: &[u8], place: u64, leaf: &mut [u8; 68]) -> u32
-    ensures { λ r. ⌜ Recorded r (now (leaf .entry)) (now (leaf .exit)) (open-walk (now (image .entry)) place) ⌝ }
+pub extern "C" fn range_filter_walk(image: &[u8], place: u64, records: &mut [u8]) -> u64
+    ensures { λ r. ⌜ coded r (now (records .exit)) (walk-records (now (image .entry)) place (now (records .entry))) ⌝ }
 {
-    let said = walk(image, place as usize);
-    write_record(said, leaf)
+    let walked = write_records(image, place as usize, records);
+    match walked {
+        Walked::Written(written) => written as u64,
+        Walked::Refused(number) => (number as u64) * 4294967296,
+    }
 }

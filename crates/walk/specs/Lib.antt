@@ -3,3 +3,4 @@ pub mod WalkLaws
 pub mod StateLaws
 pub mod Record
 pub mod RecordLaws
+pub mod FilledLaws

@@ -1,6 +1,6 @@
 -- A leaf's record as it is written: the suffix as a number, and the cut key copied over zeros.
 use Prim.Native.Nat.{ℕ, zero, suc, _+_, _-_, _*_, _/_, _%_, _^_, _≤_, _<_}
-use mathlib.Core.Path.{_≡_, refl, sym, ap, ap₂, subst, _∙_}
+use mathlib.Core.Path.{_≡_, refl, sym, ap, ap₂, _∙_}
 use mathlib.Core.Bool.{Bool, true, false}
 use mathlib.Core.List.{_∷_, _++_, append-assoc}
 use native.Mathlib.Numerals.{add-one}
@@ -10,14 +10,11 @@ use lib.Dec.{eqb}
 use lib.ListN.{length, take, drop, replicate, length-replicate, replicate-append-replicate}
 use lib.Pow.{pow-pos, pow-mono, mod-pow-add}
 use lib.Seq.{paste, length-take-le, drop-at, drop-drop}
-use borrow.Author.Tests.{eqb-true, eqb-false, eq-eqb, ne-eqb}
+use borrow.Author.Tests.{eqb-true, eqb-false}
 use Rattle.spec.specs.Bytes.{Bytes, bit, low-first, low-bits}
-use Rattle.spec.specs.Leaves.{Leaf}
-use Rattle.spec.specs.Walk.{refused, leaf, done}
 use Rattle.leaf.specs.declared.Leaf.{Leaf as Value}
 use Rattle.leaf.specs.Value.{leaf-of}
-use Rattle.walk.specs.Walks.{stand-as}
-use Rattle.walk.specs.Record.{kind-byte, le16, leaf-record, Recorded}
+use Rattle.walk.specs.Record.{kind-byte, le16, leaf-record}
 
 -- the last bit
 last-bit : (x : ℕ) → bit (eqb (x % 2) 1) ≡ x % 2
@@ -55,19 +52,3 @@ copied l x whole small e =
     let end : drop (2 + l .len) (blank (kind-byte (l .exact)) (l .len) x) ≡ replicate (64 - length (take (l .len) (l .cut))) 0 ++ le16 (low-first (low-bits (l .width) (l .suffix))) =
     behind ∙ ap₂ (λ (k y : ℕ). replicate (64 - k) 0 ++ le16 y) (sym n) e in
     ap₂ (λ (k : ℕ) (z : Bytes). kind-byte (l .exact) ∷ k ∷ (take (l .len) (l .cut) ++ z)) (sym n) end
-
--- ---- the record after each answer
-
-module _ (out after : Bytes) (n : ℕ) (d : Bool) (l : Leaf) where
-  pub records-refused : (n ≡ 0 → ⊥) → Recorded n out out (stand-as n d l)
-  records-refused h = subst (λ (t : Bool). Recorded n out out (elim t [ false ↦ refused n | true ↦ elim d [ true ↦ done | false ↦ leaf l ] ])) (sym (ne-eqb n 0 h)) (refl, refl)
-
-  -- no refusal
-  not-refused : (r : ℕ) → n ≡ 0 → Recorded r out after (elim d [ true ↦ done | false ↦ leaf l ]) → Recorded r out after (stand-as n d l)
-  not-refused r z h = subst (λ (t : Bool). Recorded r out after (elim t [ false ↦ refused n | true ↦ elim d [ true ↦ done | false ↦ leaf l ] ])) (sym (eq-eqb n 0 z)) h
-
-  pub records-done : n ≡ 0 → d ≡ true → after ≡ replicate 68 0 → Recorded 0 out after (stand-as n d l)
-  records-done z e h = not-refused 0 z (subst (λ (t : Bool). Recorded 0 out after (elim t [ true ↦ done | false ↦ leaf l ])) (sym e) (refl, h))
-
-  pub records-leaf : n ≡ 0 → d ≡ false → after ≡ leaf-record l → Recorded 0 out after (stand-as n d l)
-  records-leaf z e h = not-refused 0 z (subst (λ (t : Bool). Recorded 0 out after (elim t [ true ↦ done | false ↦ leaf l ])) (sym e) (refl, h))

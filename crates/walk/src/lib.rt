@@ -2,4 +2,4 @@
 
 pub mod states; // states.rt: where a walk stands, and what it says there, over a plain slice
 pub mod walker; // walker.rt: a walker holds the image's slice and where it stands
-pub mod record; // record.rt: what a walk says as a record of 68 bytes
+pub mod record; // record.rt: the leaves from a place on, as records of 68 bytes

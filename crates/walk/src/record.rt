@@ -1,14 +1,29 @@
-// What a walk says as a record of 68 bytes, for programs in other languages: the kind (0 done, 1 exact, 2 open), the cut key's length,
+// Leaves as records of 68 bytes, for programs in other languages: the kind (1 exact, 2 open), the cut key's length,
 // 64 bytes with the cut key and zeros behind it, and the suffix as a number, its low byte first.
 ghost use mathlib.Core.Path.{_≡_};
-ghost use Prim.Native.Nat.{_≤_, _<_};
+ghost use mathlib.Core.List.{_++_};
+ghost use Prim.Native.Nat.{_+_, _/_, _≤_, _<_};
+ghost use lib.ListN.{length, drop};
 ghost use lib.Seq.{paste};
 ghost use Rattle.spec.specs.Bytes.{low-first, low-bits};
+ghost use Rattle.spec.specs.Nodes.{read-leaves};
+ghost use Rattle.bits.specs.Bits.{placed};
 ghost use Rattle.leaf.specs.Value.{leaf-of, Sized};
-ghost use Rattle.walk.specs.Walks.{stand-of};
-ghost use Rattle.walk.specs.Record.{kind-byte, leaf-record, Recorded};
-use super::states::Standing;
+ghost use Rattle.navigate.specs.Accepted.{Accepted};
+ghost use Rattle.cursor.specs.Stands.{Stands};
+ghost use Rattle.walk.specs.Record.{kind-byte, leaf-record, records-from, walk-records, outcome};
+use super::states::locate;
+use cursor::Cursor;
+use cursor::leaf_at;
+use cursor::step;
+use frame::Frame;
 use leaf::Leaf;
+
+// So many bytes of records written, or a refusal's number.
+pub enum Walked {
+    Written(usize),
+    Refused(u32),
+}
 
 // The byte of a leaf's kind.
 fn kind_byte(exact: bool) -> u8
@@ -57,19 +72,45 @@ fn leaf_record(l: Leaf) -> [u8; 68]
     with_cut(out, cut, l.len)
 }
 
-// The number of what a walk says, 0 unless it is refused; the record is written unless it is refused, zeros for done.
-pub fn write_record(said: Standing, out: &mut [u8; 68]) -> u32
-    requires { ⌜ Sized (said .leaf) ⌝ }
-    ensures { λ r. ⌜ Recorded r (now (out .entry)) (now (out .exit)) (stand-of said) ⌝ }
+// A leaf's record goes to out from at, and all else stays.
+fn write_record(out: &mut [u8], at: usize, l: Leaf)
+    requires { ⌜ Sized l × (at + 68 ≤ length (now out)) ⌝ }
+    ensures { λ _. ⌜ now (out .exit) ≡ placed (now (out .entry)) at (leaf-record (leaf-of l)) ⌝ }
 {
-    if said.number != 0 {
-        return said.number;
+    let bytes = leaf_record(l);
+    let mut i = 0usize;
+    while i < 68 {
+        out[at + i] = bytes[i];
+        i = i + 1;
     }
-    if said.done {
-        *out = [0u8; 68];
-        return 0;
+}
+
+// The records of the leaves from the cursor's on go to the front of out, of as many as it holds whole, and all else stays; their length.
+fn write_leaves(image: &[u8], f: Frame, from: Cursor, out: &mut [u8]) -> usize
+    requires { ⌜ Accepted (now image) f × Stands (now image) f from ⌝ }
+    ensures { λ r. ⌜ (r ≡ length (records-from (read-leaves (now (image .entry))) (from .place) (length (now (out .entry)) / 68))) × (now (out .exit) ≡ records-from (read-leaves (now (image .entry))) (from .place) (length (now (out .entry)) / 68) ++ drop r (now (out .entry))) ⌝ }
+{
+    let room = out.len() / 68;
+    let mut next = from;
+    let mut count = 0usize;
+    while count < room && next.place < f.leaves {
+        let l = leaf_at(image, f, next);
+        write_record(out, 68 * count, l);
+        next = step(image, f, next);
+        count = count + 1;
     }
-    let l = said.leaf;
-    *out = leaf_record(l);
-    0
+    68 * count
+}
+
+// Writes the records of the leaves from a place on to the front of out, of as many as it holds whole. The image is checked once.
+pub fn write_records(image: &[u8], place: usize, out: &mut [u8]) -> Walked
+    ensures { λ r. ⌜ outcome r (now (out .exit)) ≡ walk-records (now (image .entry)) place (now (out .entry)) ⌝ }
+{
+    let at = locate(image, place);
+    if at.number != 0 {
+        return Walked::Refused(at.number);
+    }
+    let f = at.frame;
+    let c = at.cursor;
+    Walked::Written(write_leaves(image, f, c, out))
 }

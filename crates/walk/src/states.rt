@@ -25,10 +25,10 @@ pub struct Standing {
 
 // Where a walk stands: the number of the refusal, 0 for none, and the place; of a walk that is not refused, the image's frame and the cursor at the place.
 pub struct State {
-    number: u32,
+    pub number: u32,
     pub place: usize,
-    frame: Frame,
-    cursor: Cursor,
+    pub frame: Frame,
+    pub cursor: Cursor,
 }
 
 // The leaf of a standing that has none.
