@@ -2,13 +2,13 @@
 //! measurement. The module `timing` says how times are taken.
 
 mod inputs;
-mod library;
 mod timing;
 
 use inputs::{questions, Kind, KEY_SETS, KINDS, SETTINGS};
 use range_filter_bench::fast;
 use reference::build::Answer;
 use reference::keys::{self, MAX_KEY};
+use reference::library;
 use reference::questions::{write, MAX_QUESTIONS};
 use reference::random::Random;
 use timing::{compare, Line};
@@ -64,13 +64,13 @@ fn measure_build(case: &Case) -> Vec<u8> {
         units: keys.len(),
     };
     let (list, out) = (list.as_slice(), library_image.as_mut_slice());
-    let library = library::BUILD.map(|build| move || build(list, dense, n, out));
+    let library = || library::build(list, dense, n, out);
     let mut answer = Answer::Written(0);
     compare(&line, library, || {
         answer = fast::build::build(list, dense, n, &mut image);
         answer
     });
-    assert!(library::BUILD.is_none() || library_image == image);
+    assert_eq!(library_image, image);
     let Answer::Written(length) = answer else {
         panic!("the list is refused");
     };
@@ -85,8 +85,11 @@ fn measure_check(case: &Case, image: &[u8]) {
         unit: "ns/key",
         units: case.keys.len(),
     };
-    let library = library::CHECK.map(|check| move || check(image));
-    compare(&line, library, || fast::check::check(image));
+    compare(
+        &line,
+        || library::check(image),
+        || fast::check::check(image),
+    );
 }
 
 /// Measures ask by question, the check of the image included; one question shows
@@ -108,7 +111,7 @@ fn measure_ask(case: &Case, image: &[u8], kind: &Kind, count: usize) {
         },
     };
     let (file, out) = (file.as_slice(), library_replies.as_mut_slice());
-    let library = library::ASK.map(|ask| move || ask(image, file, out));
+    let library = || library::ask(image, file, out);
     compare(&line, library, || fast::ask::ask(image, file, &mut replies));
-    assert!(library::ASK.is_none() || library_replies == replies);
+    assert_eq!(library_replies, replies);
 }

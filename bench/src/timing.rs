@@ -19,21 +19,18 @@ pub struct Line<'a> {
     pub units: usize,
 }
 
-/// Prints the times of the library, if there is one, and of the fast implementation,
-/// whose answers must be the same.
+/// Prints the times of the library and of the fast implementation, whose answers must
+/// be the same, and their ratio.
 pub fn compare<R: PartialEq + Debug>(
     line: &Line,
-    mut library: Option<impl FnMut() -> R>,
+    mut library: impl FnMut() -> R,
     mut fast: impl FnMut() -> R,
 ) {
-    let expected = fast();
-    if let Some(call) = &mut library {
-        assert_eq!(call(), expected, "{}", line.name);
-    }
+    assert_eq!(library(), fast(), "{}", line.name);
     let mut library_times = Vec::new();
     let mut fast_times = Vec::new();
     for _ in 0..RUNS {
-        library_times.extend(library.as_mut().map(time));
+        library_times.push(time(&mut library));
         fast_times.push(time(&mut fast));
     }
     print(line, median(library_times), median(fast_times));
@@ -47,23 +44,19 @@ fn time<R>(call: &mut impl FnMut() -> R) -> f64 {
 }
 
 /// Gives the middle one of an odd number of times.
-fn median(mut times: Vec<f64>) -> Option<f64> {
+fn median(mut times: Vec<f64>) -> f64 {
     times.sort_by(f64::total_cmp);
-    times.get(times.len() / 2).copied()
+    times[times.len() / 2]
 }
 
-/// Prints one line of the report, with a dash where the library has no such call.
-fn print(line: &Line, library: Option<f64>, fast: Option<f64>) {
+/// Prints one line of the report.
+fn print(line: &Line, library: f64, fast: f64) {
     let Line { name, unit, units } = line;
-    let shown = |time: Option<f64>| match time {
-        Some(time) => format!("{:.2} {unit}", time / *units as f64),
-        None => "-".to_string(),
-    };
-    let ratio = library.zip(fast).map(|(library, fast)| library / fast);
-    let ratio = ratio.map_or("-".to_string(), |ratio| format!("{ratio:.2}"));
+    let shown = |time: f64| format!("{:.2} {unit}", time / *units as f64);
     println!(
-        "{name}: library {}, fast {}, ratio {ratio}",
+        "{name}: library {}, fast {}, ratio {:.2}",
         shown(library),
-        shown(fast)
+        shown(fast),
+        library / fast
     );
 }

@@ -1,11 +1,8 @@
 //! The calls of the proved library, made by `rt staticlib filter`, as safe functions.
-//! Each call has a feature of its own, so that a library without it can be linked.
 
-#[cfg(any(feature = "build", feature = "ask", feature = "walk"))]
 use crate::build::Answer;
 
 extern "C" {
-    #[cfg(feature = "build")]
     fn range_filter_build(
         list: *const u8,
         list_len: usize,
@@ -15,10 +12,8 @@ extern "C" {
         out_len: usize,
     ) -> u64;
 
-    #[cfg(feature = "check")]
     fn range_filter_check(image: *const u8, image_len: usize) -> u32;
 
-    #[cfg(feature = "ask")]
     fn range_filter_ask(
         image: *const u8,
         image_len: usize,
@@ -28,7 +23,6 @@ extern "C" {
         replies_len: usize,
     ) -> u64;
 
-    #[cfg(feature = "walk")]
     fn range_filter_walk(
         image: *const u8,
         image_len: usize,
@@ -39,7 +33,6 @@ extern "C" {
 }
 
 /// Builds the image of a key list at the start of the output.
-#[cfg(feature = "build")]
 pub fn build(list: &[u8], dense: u64, n: u64, out: &mut [u8]) -> Answer {
     // SAFETY: pointers and lengths are those of slices that live through the call,
     // and the output is lent to it alone.
@@ -56,14 +49,12 @@ pub fn build(list: &[u8], dense: u64, n: u64, out: &mut [u8]) -> Answer {
 }
 
 /// Gives 0 for an accepted image, else the number of its fault.
-#[cfg(feature = "check")]
 pub fn check(image: &[u8]) -> u32 {
     // SAFETY: pointer and length are those of a slice that lives through the call.
     unsafe { range_filter_check(image.as_ptr(), image.len()) }
 }
 
 /// Replies to a question file over an image at the start of the reply buffer.
-#[cfg(feature = "ask")]
 pub fn ask(image: &[u8], questions: &[u8], replies: &mut [u8]) -> Answer {
     // SAFETY: pointers and lengths are those of slices that live through the call,
     // and the reply buffer is lent to it alone.
@@ -81,7 +72,6 @@ pub fn ask(image: &[u8], questions: &[u8], replies: &mut [u8]) -> Answer {
 
 /// Writes the records of the leaves from a place of an image on at the start of the
 /// buffer, of as many leaves as it holds whole.
-#[cfg(feature = "walk")]
 pub fn walk(image: &[u8], place: u64, records: &mut [u8]) -> Answer {
     // SAFETY: pointers and lengths are those of slices that live through the call,
     // and the buffer is lent to it alone.
@@ -98,7 +88,6 @@ pub fn walk(image: &[u8], place: u64, records: &mut [u8]) -> Answer {
 
 /// Reads what a call returns: a number above 32 bits of bytes written, of which a
 /// refusal has none.
-#[cfg(any(feature = "build", feature = "ask", feature = "walk"))]
 fn answer(returned: u64) -> Answer {
     match ((returned >> 32) as u32, returned as u32) {
         (0, written) => Answer::Written(written as usize),

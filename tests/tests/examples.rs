@@ -6,11 +6,12 @@ use reference::decode;
 use reference::image::{assemble, Header, DC, DL, DP, RC, RL, RP, RS, SB, SC, SL, SV, TS};
 use reference::keys;
 use reference::leaves::{lowest, Leaf};
+use reference::library;
 use reference::print::print;
 use reference::questions::{self, NONE};
 use reference::random::built;
 use reference::rebuild::accepts;
-use reference::walk::{at, Stand};
+use reference::walk::{at, write_records, Stand, RECORD_BYTES};
 
 /// The bytes of list A's image with dense 0 and n 0.
 const IMAGE_A: &[u8] = b"HD\x01\x00\x00\x00\x04\x00\x00\x00\x00\x00\x00\x00\
@@ -135,58 +136,43 @@ fn assert_seek(image: &[u8], start: &[u8], number: u32, key: &[u8]) {
     assert_eq!(replies, Ok(reply(b'S', number, key)), "seek {start:?}");
 }
 
-/// Builds with the reference, and with the library where it is linked; both answer
+/// Builds with the reference and with the library; both answer
 /// alike and leave the same output.
 fn build(list: &[u8], dense: u64, n: u64, out: &mut [u8]) -> Answer {
-    #[cfg(feature = "build")]
     let mut again = out.to_vec();
     let answer = build::build(list, dense, n, out);
-    #[cfg(feature = "build")]
-    {
-        assert_eq!(
-            reference::library::build(list, dense, n, &mut again),
-            answer
-        );
-        assert_eq!(again, out);
-    }
+    assert_eq!(library::build(list, dense, n, &mut again), answer);
+    assert_eq!(again, out);
     answer
 }
 
-/// Checks with the reference, and with the library where it is linked; both give the
+/// Checks with the reference and with the library; both give the
 /// same number.
 fn check(image: &[u8]) -> u32 {
     let number = check::check(image);
-    #[cfg(feature = "check")]
-    assert_eq!(reference::library::check(image), number);
+    assert_eq!(library::check(image), number);
     number
 }
 
-/// Walks with the reference, and with the library where it is linked; both answer alike
+/// Walks with the reference and with the library; both answer alike
 /// and leave the same records.
 fn walk_to(image: &[u8], place: u64) -> Stand {
     let stand = at(image, place);
-    #[cfg(feature = "walk")]
-    {
-        let mut records = [FILL; 3 * reference::walk::RECORD_BYTES];
-        let mut expected = records;
-        let answer = reference::walk::write_records(image, place, &mut expected);
-        let walked = reference::library::walk(image, place, &mut records);
-        assert_eq!((walked, records), (answer, expected));
-    }
+    let mut records = [FILL; 3 * RECORD_BYTES];
+    let mut expected = records;
+    let answer = write_records(image, place, &mut expected);
+    let walked = library::walk(image, place, &mut records);
+    assert_eq!((walked, records), (answer, expected));
     stand
 }
 
-/// Asks the reference, and the library where it is linked; both answer alike and
+/// Asks the reference and the library; both answer alike and
 /// leave the same reply buffer.
 fn ask(image: &[u8], file: &[u8], replies: &mut [u8]) -> Answer {
-    #[cfg(feature = "ask")]
     let mut again = replies.to_vec();
     let answer = questions::ask(image, file, replies);
-    #[cfg(feature = "ask")]
-    {
-        assert_eq!(reference::library::ask(image, file, &mut again), answer);
-        assert_eq!(again, replies);
-    }
+    assert_eq!(library::ask(image, file, &mut again), answer);
+    assert_eq!(again, replies);
     answer
 }
 

@@ -1,8 +1,6 @@
 //! The proved library's ask against the reference: the same answer and the same bytes
 //! of the reply buffer, with bytes around it that must keep their values.
 
-#![cfg(feature = "ask")]
-
 use reference::build::Answer;
 use reference::keys::MAX_KEY;
 use reference::leaves::{highest, lowest, Leaf};

@@ -1,8 +1,6 @@
 //! The proved library's build against the reference: the same answer and the same
 //! bytes of the output, with bytes around the output that must keep their values.
 
-#![cfg(feature = "build")]
-
 use reference::build::{build, Answer};
 use reference::keys::{self, MAX_RECORDS};
 use reference::library;

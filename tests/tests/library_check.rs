@@ -1,7 +1,5 @@
 //! The proved library's check against the reference, on built and damaged images.
 
-#![cfg(feature = "check")]
-
 use reference::check::check;
 use reference::library;
 use reference::random::{

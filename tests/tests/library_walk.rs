@@ -1,8 +1,6 @@
 //! The proved library's walk against the reference: the same answer and the same bytes
 //! of the buffer, with bytes around it that must keep their values.
 
-#![cfg(feature = "walk")]
-
 use reference::build::Answer;
 use reference::library;
 use reference::questions::accepted_leaves;
