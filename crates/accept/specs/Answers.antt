@@ -2,7 +2,7 @@
 use Prim.Native.Nat.{ℕ, zero, suc, _+_, _*_, _<_, _≤_}
 use mathlib.Core.Path.{_≡_, refl, sym, ap, ap₂, _∙_}
 use mathlib.Core.Bool.{Bool, true, false, cond}
-use mathlib.Core.List.{List, []}
+use mathlib.Core.List.{List}
 use mathlib.Core.Logic.{_⊎_, ⊎-elim}
 use native.Mathlib.Omega.{arith}
 use native.Mathlib.Nat.{mul-le-mul-right}
@@ -10,8 +10,7 @@ use lib.ListN.{length, drop, length-drop}
 use lib.Seq.{length-take-le}
 use Rattle.spec.specs.Bytes.{Bytes, blocks}
 use Rattle.spec.specs.Frame.{Parts, parts}
-use mathlib.Core.Option.{Option, none, some}
-use Rattle.spec.specs.Nodes.{Node, levels-of, leaves-of, nodes-of, read-nodes, read-leaves}
+use Rattle.spec.specs.Nodes.{levels-of, nodes-of}
 use Rattle.spec.specs.Trie.{builders-trie}
 use Rattle.spec.specs.Check.{header-right, spare-clear, ranks-right, slots-right, judge-bodies, verdict, Checked, accepted, refused, checked, check}
 use Rattle.frame.specs.Records.{part}
@@ -175,10 +174,3 @@ early n h = ⊎-elim (λ e. omega arith) (λ e. omega arith) h
 pub same-trie : (levels leaves n entries sparse : ℕ) (a a′ b b′ c c′ d d′ e e′ g g′ : Bytes) → a ≡ a′ → b ≡ b′ → c ≡ c′ → d ≡ d′ → e ≡ e′ → g ≡ g′
     → bits-right (trie-parts levels leaves n entries sparse a b c d e g) ≡ bits-right (trie-parts levels leaves n entries sparse a′ b′ c′ d′ e′ g′)
 same-trie levels leaves n entries sparse a a′ b b′ c c′ d d′ e e′ g g′ h i j k l m = rw (h, i, j, k, l, m)
-
--- An image's leaf list by its frame: what the calls that read an accepted image go by.
-pub frame-leaves : (s : Bytes) (f : Frame) → FrameOf s f → read-leaves s ≡ leaves-of (levels-of (nodes-of (frame-parts s f)))
-unfolding read-leaves read-nodes
-frame-leaves s f o =
-    ap (λ (ns : List Node). leaves-of (levels-of ns))
-    (ap (λ (z : Option (List Bytes)). elim z [ none ↦ [] | some bs ↦ nodes-of (parts s bs) ]) (o .bodies) ∙ ap nodes-of (o .parts-are))

@@ -1,5 +1,5 @@
 -- Tests and their conjunctions, as the laws of the check use them.
-use mathlib.Core.Path.{_≡_, refl, sym, ap, ap₂, _∙_}
+use mathlib.Core.Path.{_≡_, refl, sym, ap, _∙_}
 use mathlib.Core.Bool.{Bool, true, false, _&&_, true≢false, and-assoc}
 use mathlib.Core.List.{List, [], _∷_, _++_}
 use Rattle.spec.specs.Bytes.{all, every}
@@ -45,12 +45,6 @@ module _ {A : Type 0} where
   unfolding all
   all-both p q [] = refl
   all-both p q (x ∷ xs) = ap (λ (t : Bool). p x && q x && t) (all-both p q xs) ∙ swap-middle (p x) (q x) (all p xs) (all q xs)
-
-  -- tests that agree on every member
-  pub all-ext : (p q : A → Bool) → ((x : A) → p x ≡ q x) → (xs : List A) → all p xs ≡ all q xs
-  unfolding all
-  all-ext p q f [] = refl
-  all-ext p q f (x ∷ xs) = ap₂ _&&_ (f x) (all-ext p q f xs)
 
 -- ten tests in another order, two of them split
 pub regroup-ten : (a b c l h₁ h₂ x o₁ o₂ s d f : Bool)

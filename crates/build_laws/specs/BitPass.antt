@@ -86,12 +86,6 @@ module _ {A : Type 0} (inc : A → ℕ) (ones-at : ℕ → A → List ℕ) where
   write-all-bits [] s = s
   write-all-bits (e ∷ es) s = write-all-bits es (write-bits e s)
 
-  -- two runs of emissions
-  pub write-bits-append : (a b : List (Emission A)) (s : Bit-state) → write-all-bits (a ++ b) s ≡ write-all-bits b (write-all-bits a s)
-  unfolding write-all-bits
-  write-bits-append [] b s = refl
-  write-bits-append (e ∷ a) b s = write-bits-append a b (write-bits e s)
-
   -- the positions that values set, from a cursor on
   unfoldable pub cursor-ones : ℕ → List A → List ℕ
   cursor-ones c [] = []

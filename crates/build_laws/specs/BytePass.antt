@@ -36,12 +36,6 @@ unfoldable pub place-all : List (Emission ℕ) → Byte-state → Byte-state
 place-all [] s = s
 place-all (e ∷ es) s = place-all es (place e s)
 
--- two runs of emissions
-pub place-append : (a b : List (Emission ℕ)) (s : Byte-state) → place-all (a ++ b) s ≡ place-all b (place-all a s)
-unfolding place-all
-place-append [] b s = refl
-place-append (e ∷ a) b s = place-append a b (place e s)
-
 -- ---- what was placed so far
 
 below-next : (es : List (Emission ℕ)) (d k : ℕ) → length (values-below es d) + length (level-values d es) ≤ length (values-below es (suc d + k))

@@ -18,7 +18,7 @@ use Rattle.build_laws.specs.SetBits.{has-nil}
 use Rattle.build_laws.specs.BitPass.{Room, room-of, emitted-ones}
 use Rattle.build_laws.specs.BytePass.{one-step, sum-length}
 use Rattle.build_laws.specs.PassEmissions.{start-emissions, slot-emissions, emissions-below, first-longer, slots-below}
-use Rattle.build_laws.specs.PassSteps.{keys-few}
+use Rattle.build_laws.specs.SmallCounters.{keys-few}
 use Rattle.build_laws.specs.Counters.{entry-counts, node-counts, leaf-counts}
 
 -- a counter writes nothing

@@ -3,8 +3,7 @@ use Prim.Native.Nat.{ℕ, _+_, _*_}
 use mathlib.Core.Path.{_≡_, refl, sym, ap, ap₂, _∙_}
 use mathlib.Core.List.{List, _++_, append-assoc}
 use native.Mathlib.Omega.{arith}
-use lib.ListN.{length, take, drop, length-append}
-use lib.Seq.{take-at, drop-append-add, drop-drop}
+use lib.ListN.{length, drop, length-append}
 use Rattle.spec.specs.Bytes.{Bytes, blocks, letter, le32}
 use Rattle.spec.specs.Leaves.{Leaf, leaves}
 use Rattle.spec.specs.Image.{Settings, Bodies, nodes, marked, header, image}
@@ -112,10 +111,3 @@ module _ (st : Settings) (ks : List Bytes) (b : Built-from st ks) where
           (length-SC st ks b)) (length-SB st ks b)) (length-SV st ks b)) (length-RL st ks b)) (length-RC st ks b)) (length-RP st ks b)) (length-RS st ks b)) (length-TS st ks b)
 
 -- ---- one record behind the other
-
--- What stands at the front of an output grows by what is written behind it.
-pub written-next : (out o p front next : Bytes) → o ≡ front ++ drop (length front) out → p ≡ take (length front) o ++ next ++ drop (length front + length next) o → p ≡ front ++ next ++ drop (length (front ++ next)) out
-written-next out o p front next e f =
-    f ∙ ap₂ (λ (x y : Bytes). x ++ next ++ y)
-    (ap (take (length front)) e ∙ take-at front (drop (length front) out) (length front) refl)
-    (ap (drop (length front + length next)) e ∙ drop-append-add front (drop (length front) out) (length next) ∙ drop-drop (length next) (length front) out ∙ ap (λ (k : ℕ). drop k out) (sym (length-append front next)))

@@ -10,16 +10,14 @@ use Rattle.spec.specs.Leaves.{leaves, leaf}
 use Rattle.spec.specs.Image.{Settings, Bodies, nodes}
 use Rattle.spec.specs.Image as Literal
 use Rattle.spec.specs.Nodes.{is-exact}
-use Rattle.spec.specs.Build.{trie-entries}
 use Rattle.build_laws.specs.TrieItems.{Item, items-of, items-between, items-first, items-rest}
 use Rattle.build_laws.specs.Cursors.{sum-of, sums}
 use Rattle.build_laws.specs.NodeBodies.{labels-items, nodes-items, node-step}
-use Rattle.build_laws.specs.TrieFacts.{dense-nodes, sparse-nodes, dense-count, sparse-count, entries-count}
+use Rattle.build_laws.specs.TrieFacts.{dense-nodes, sparse-nodes, dense-count, sparse-count}
 use Rattle.build_laws.specs.Counters.{entry-counts, node-counts, entries-total, nodes-total}
 use Rattle.build_laws.specs.KeyBits.{key-bodies, bodies-are, some, fits, facts, chain, DL-bits, DC-bits, DP-bits, SC-bits, SB-bits, SV-bits}
 use Rattle.theory.specs.BuildLaws.{Built-from}
 use Rattle.theory.specs.NodeBits.{sparse-labels, length-sv}
-use Rattle.theory.specs.LevelTrie.{trie}
 use Rattle.theory.specs.SparseBits.{length-sc, length-sb, louds-ones}
 use Rattle.theory.specs.DenseBits.{length-dl, length-dc}
 use Rattle.theory.specs.Bits.{length-pack, length-ranks, length-samples}
@@ -64,13 +62,6 @@ module _ (st : Settings) (ks : List Bytes) (b : Built-from st ks) where
   -- the header's count of sparse nodes
   pub sparse-nodes-total : length (nodes (leaves (st .width) ks) (st .dense) 64) ≡ sums (node-counts ks) (st .dense) 64
   sparse-nodes-total = sparse-count st (leaves (st .width) ks) (fits st ks b) ∙ nodes-sparse
-
-  -- the trie's entries, by which the number 6 is decided
-  pub entries-in-trie : trie-entries (leaves (st .width) ks) ≡ sums (entry-counts ks) 0 64
-  entries-in-trie =
-      entries-count st (leaves (st .width) ks) (fits st ks b)
-      ∙ ap length (labels-items (concat (trie (leaves (st .width) ks)))) ∙ length-map (items-of (concat (trie (leaves (st .width) ks)))) (λ (i : Item). i .label)
-      ∙ ap length (items-rest 0 (leaves (st .width) ks) (omega arith) (chain st ks b .0) (chain st ks b .1)) ∙ entries-total (st .width) ks (some st ks b) (b .up) 0 (omega arith)
 
   -- ---- the bodies' lengths
 

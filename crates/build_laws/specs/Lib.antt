@@ -19,6 +19,5 @@ pub mod Lengths
 pub mod BodyLaws
 pub mod RankBodies
 pub mod ImageRecords
-pub mod PassSteps
-pub mod SuffixBits
+pub mod SmallCounters
 pub mod CounterRoom

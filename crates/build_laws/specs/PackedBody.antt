@@ -1,10 +1,10 @@
 -- A body of bits in bytes: bytes that were zero, with bits set at the positions of the ones, are the packed bits. Used by the bodies of bits.
-use Prim.Native.Nat.{ℕ, zero, suc, _+_, _-_, _*_, _^_, _<_, _≤_}
+use Prim.Native.Nat.{ℕ, zero, suc, _+_, _-_, _*_, _<_}
 use mathlib.Core.Path.{_≡_, refl, sym, ap, ap₂, _∙_}
-use mathlib.Core.Bool.{true, false}
+use mathlib.Core.Bool.{false}
 use mathlib.Core.List.{List, [], _∷_, _++_, append-assoc}
 use native.Mathlib.Omega.{arith}
-use lib.ListN.{length, getD, take, drop, replicate, length-take, length-drop, take-append-drop, replicate-append-replicate}
+use lib.ListN.{length, getD, take, drop, replicate, length-drop, take-append-drop, replicate-append-replicate}
 use Rattle.spec.specs.Bytes.{Bytes, Bits, blocks, low-first, packed, pack, low-bits, unpack}
 use Rattle.spec.specs.Image.{has, positions}
 use Rattle.spec.specs.Check.{no-spare}
@@ -41,14 +41,6 @@ unpack-same [] (y ∷ b) p q e = let w = ap length e in absurd (omega (arith, w)
 unpack-same (x ∷ a) [] p q e = let w = ap length e in absurd (omega (arith, w))
 unpack-same (x ∷ a) (y ∷ b) p q e =
     ap₂ _∷_ (sym (low-first-bits 8 x (p .0)) ∙ ap (λ (z : Bits). low-first (take 8 z)) e ∙ low-first-bits 8 y (q .0)) (unpack-same a b (p .1) (q .1) (ap (drop 8) e))
-
-low-first-below : (k : ℕ) (bs : Bits) → length bs ≤ k → low-first bs < 2 ^ k
-unfolding low-first
-low-first-below zero [] h = omega arith
-low-first-below zero (b ∷ bs) h = absurd (omega arith)
-low-first-below (suc k) [] h = omega (arith, low-first-below k [] (omega arith))
-low-first-below (suc k) (true ∷ bs) h = omega (arith, low-first-below k bs (omega arith))
-low-first-below (suc k) (false ∷ bs) h = omega (arith, low-first-below k bs (omega arith))
 
 -- packed bits, and zeros up to the byte's end
 pub unpack-pack : (bs : Bits) → unpack (pack bs) ≡ bs ++ replicate (8 * blocks 8 (length bs) - length bs) false

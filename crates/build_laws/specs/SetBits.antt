@@ -21,11 +21,6 @@ pub set-none : (bs : Bits) → set-bits [] bs ≡ bs
 unfolding set-bits
 set-none bs = refl
 
--- one position
-pub set-one : (i : ℕ) (bs : Bits) → set-bits (i ∷ []) bs ≡ set bs i true
-unfolding set-bits
-set-one i bs = refl
-
 -- two runs of positions
 pub set-append : (is js : List ℕ) (bs : Bits) → set-bits (is ++ js) bs ≡ set-bits js (set-bits is bs)
 unfolding set-bits

@@ -1,6 +1,6 @@
 -- What holds of the trie's nodes of a key list, dense and sparse; and the bodies of document 01 by the trie's levels. Used by the laws of the bodies.
 use Prim.Native.Nat.{ℕ}
-use mathlib.Core.Path.{_≡_, refl, sym, ap, ap₂, _∙_}
+use mathlib.Core.Path.{_≡_, sym, ap, ap₂, _∙_}
 use mathlib.Core.List.{List, [], _∷_, _++_, map, map-append}
 use native.Mathlib.Omega.{arith}
 use lib.ListN.{length, take, drop, length-map}

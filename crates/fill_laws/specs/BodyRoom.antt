@@ -13,7 +13,7 @@ use Rattle.build_laws.specs.BitPass.{Room, Positions-below}
 use Rattle.build_laws.specs.BytePass.{one-step, at-cursor}
 use Rattle.build_laws.specs.DenseRows.{cell-step, cell-ones}
 use Rattle.build_laws.specs.PassEmissions.{label-emissions, child-emissions, start-emissions, dense-label-emissions, dense-child-emissions, dense-exact-emissions, slot-emissions}
-use Rattle.build_laws.specs.PassSteps.{room-map}
+use Rattle.build_laws.specs.SmallCounters.{room-map}
 use Rattle.build_laws.specs.Counters.{entry-counts, node-counts, leaf-counts, Cursors-at}
 use Rattle.build_laws.specs.CounterRoom.{entry-counts-few, node-counts-few, leaf-counts-few, sums-few}
 use Rattle.build_laws.specs.KeyBits.{key-bodies}

@@ -1,11 +1,11 @@
 // Branches of a node of an accepted image: found by their label, with the node or the slot that they lead to.
 ghost use mathlib.Core.Path.{_≡_};
-ghost use Prim.Native.Nat.{ℕ, _+_, _-_, _*_, _≤_, _<_};
+ghost use Prim.Native.Nat.{_+_, _-_, _*_, _≤_, _<_};
 ghost use lib.ListN.{length, getD, drop};
 ghost use Rattle.spec.specs.Bytes.{bit};
 ghost use Rattle.query_laws.specs.Descent.{goes-on};
 ghost use Rattle.query_laws.specs.LabelMaps.{matches};
-ghost use Rattle.navigate.specs.Accepted.{Accepted, nodes};
+ghost use Rattle.navigate.specs.Accepted.{Accepted};
 ghost use Rattle.navigate.specs.NextBranch.{Next-branch};
 ghost use Rattle.navigate.specs.Positions.{branches, place, child-at, slot-at, Within, Branch-at};
 use super::nodes::dense_before;

@@ -1,6 +1,6 @@
 // Where a key leads from the root of an accepted image.
 ghost use mathlib.Core.Path.{_≡_};
-ghost use Prim.Native.Nat.{_+_, _*_, _≤_, _<_};
+ghost use Prim.Native.Nat.{_+_, _≤_, _<_};
 ghost use lib.ListN.{length, drop};
 ghost use Rattle.query_laws.specs.Descent.{descend};
 ghost use Rattle.query_laws.specs.Steps.{stop-of};

@@ -1,12 +1,12 @@
 -- One level of a descent, by what a node has at a label: no branch (0), one that ends at an open leaf (1), one that continues (2).
 use Prim.Native.Nat.{ℕ, zero, suc, _+_, _<_}
-use mathlib.Core.Path.{_≡_, refl, sym}
-use mathlib.Core.Bool.{Bool, true, false, cond, _||_, true≢false}
+use mathlib.Core.Path.{_≡_, refl}
+use mathlib.Core.Bool.{Bool, true, false, cond, _||_}
 use mathlib.Core.List.{List, [], _∷_}
 use native.Mathlib.Omega.{arith}
 use lib.ListN.{length, drop}
 use Rattle.spec.specs.Bytes.{Bytes, bit}
-use Rattle.spec.specs.Nodes.{Branch, to-node, to-leaf, Node, branches-of, is-exact}
+use Rattle.spec.specs.Nodes.{Branch, Node, branches-of, is-exact}
 use Rattle.spec.specs.Trie.{leaf-count}
 use Rattle.query_laws.specs.Counting.{labels-below}
 use Rattle.query_laws.specs.Slots.{node-at, slot-number}
@@ -19,16 +19,6 @@ abbrev pub stop-of : ℕ → ℕ → Bytes → Stop
 stop-of zero v r = miss
 stop-of (suc zero) v r = at-exact
 stop-of (suc (suc i)) v r = at-open v r
-
--- what a node has at a label
-abbrev pub kind-of : ℕ → List Branch → ℕ
-kind-of y fs = bit (matches y fs) + bit (goes-on y fs)
-
-not-both : (y : ℕ) (fs : List Branch) → goes-on y fs ≡ true → ends-at y fs ≡ true → ⊥
-unfolding goes-on ends-at
-not-both y [] g e = true≢false (sym g)
-not-both y (to-leaf x s ∷ fs) g e = true≢false (sym g)
-not-both y (to-node x ∷ fs) g e = true≢false (sym e)
 
 kinds : (y : ℕ) (fs : List Branch) (P : ℕ → Type 0) → (goes-on y fs ≡ false → ends-at y fs ≡ false → P 0) → (goes-on y fs ≡ false → ends-at y fs ≡ true → P 1) → (goes-on y fs ≡ true → P 2) → P (bit (matches y fs) + bit (goes-on y fs))
 kinds y fs P a b c = go (goes-on y fs) (ends-at y fs) (matches y fs) refl refl (matches-is y fs)

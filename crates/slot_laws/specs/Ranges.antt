@@ -73,9 +73,3 @@ module _ (f : ℕ → Bool) where
       go false e =
           let l = leb-false m n e in
           from-pass i (n - i) (λ j x y. g j x (omega arith) (omega arith)) ∙ sym (from-end m n (omega arith))
-
--- tests that agree on these numbers
-pub from-same : (f g : ℕ → Bool) (i k : ℕ) → ((j : ℕ) → i ≤ j → j < i + k → f j ≡ g j) → all-from f i k ≡ all-from g i k
-unfolding all-from
-from-same f g i zero h = refl
-from-same f g i (suc k) h = ap₂ _&&_ (h i (omega arith) (omega arith)) (from-same f g (suc i) k (λ j a b. h j (omega arith) (omega arith)))

@@ -11,7 +11,7 @@ ghost use Rattle.slot_laws.specs.Judged.{sc-body, Judged, slots-pass};
 ghost use Rattle.slot_laws.specs.LevelStarts.{dense-leaf-count};
 ghost use Rattle.slot_laws.specs.SlotTests.{sparse-clear, deep-clear};
 ghost use Rattle.slot_laws.specs.Descent.{Deep, two-clear};
-ghost use Rattle.slots.specs.Sizes.{Sized, clear-slot};
+ghost use Rattle.slots.specs.Sizes.{clear-slot};
 ghost use Rattle.slots.specs.Placed.{Placed};
 use super::dense::dense_clear;
 use super::levels::Totals;

@@ -1,6 +1,6 @@
 // The levels 62 and 63, the only ones with suffix bits past a key's 64th byte: found level by level, each start by the branches that continue before the last.
 ghost use mathlib.Core.Path.{_≡_};
-ghost use Prim.Native.Nat.{_+_, _-_, _≤_};
+ghost use Prim.Native.Nat.{_+_, _-_};
 ghost use Rattle.bits.specs.Bits.{rank, select};
 ghost use Rattle.slot_laws.specs.Descent.{starts, Found, Step, Descends, Deep, two-clear};
 use super::runs::past_clear;

@@ -5,7 +5,7 @@ use Prim.Native.String.{String, len, charAt}
 use mathlib.Core.Bool.{Bool, true, false, cond, not, _&&_, _||_, Bool·beq}
 use mathlib.Core.List.{List, [], _∷_, _++_}
 use lib.ListN.{length, getD, take, drop}
-use lib.Dec.{leb, ltb, eqb}
+use lib.Dec.{leb, eqb}
 
 -- a key, or any byte string
 abbrev pub Bytes : Type 0

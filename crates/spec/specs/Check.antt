@@ -1,5 +1,5 @@
 -- Document 01, "Turning a file down": the public call check. The first of 11 to 16 that applies, each judged over the whole image before the next.
-use Prim.Native.Nat.{ℕ, zero, suc, _+_, _-_, _/_, _*_}
+use Prim.Native.Nat.{ℕ, zero, suc, _+_, _-_, _*_}
 use mathlib.Core.Bool.{Bool, true, false, _&&_}
 use mathlib.Core.List.{List, [], _∷_}
 use mathlib.Core.Option.{Option, none, some}

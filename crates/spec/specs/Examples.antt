@@ -9,7 +9,7 @@ use Rattle.spec.specs.Keys.{within}
 use Rattle.spec.specs.Leaves.{Leaf, leaves}
 use Rattle.spec.specs.Image.{Bodies, bodies, image}
 use Rattle.spec.specs.Nodes.{read-leaves}
-use Rattle.spec.specs.Questions.{point, counted, seek, Sought, none, found}
+use Rattle.spec.specs.Questions.{point, counted, seek, none, found}
 
 -- ---- the lists
 

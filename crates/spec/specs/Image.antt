@@ -1,5 +1,5 @@
 -- Document 01, "Records of an image": the trie's nodes in level order, the twelve bodies, the header and the image.
-use Prim.Native.Nat.{ℕ, suc, _+_, _-_, _/_, _*_}
+use Prim.Native.Nat.{ℕ, suc, _+_, _-_, _*_}
 use mathlib.Core.Bool.{Bool, true, false, cond, not, _&&_}
 use mathlib.Core.List.{List, [], _∷_, _++_, map}
 use lib.ListN.{length, getD, take, replicate}
