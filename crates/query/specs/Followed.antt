@@ -2,21 +2,16 @@
 use Prim.Native.Nat.{ℕ, zero, suc, _+_, _-_, _*_, _<_, _≤_}
 use mathlib.Core.Path.{_≡_, refl, sym, ap, _∙_}
 use mathlib.Core.List.{[], _∷_}
-use mathlib.Core.Bool.{Bool, true, false}
 use native.Mathlib.Omega.{arith}
-use native.Mathlib.Nat.{mul-le-mul-left}
-use lib.Dec.{ltb}
-use borrow.Author.Tests.{ltb-true, ltb-false}
 use lib.ListN.{length, getD, drop, length-append, drop-of-length-le}
 use Rattle.spec.specs.Bytes.{Bytes, bit}
-use Rattle.spec.specs.Nodes.{is-exact, total, children-of}
-use Rattle.spec.specs.Trie.{leaf-count}
+use Rattle.spec.specs.Nodes.{is-exact}
 use Rattle.frame.specs.declared.Frame.{Frame}
-use Rattle.query_laws.specs.Slots.{node-at, leaves-before, slot-number}
-use Rattle.query_laws.specs.Descent.{descend, children-before, child-number, goes-on}
+use Rattle.query_laws.specs.Slots.{node-at, slot-number}
+use Rattle.query_laws.specs.Descent.{descend, child-number, goes-on}
 use Rattle.query_laws.specs.LabelMaps.{matches}
-use Rattle.query_laws.specs.LevelSums.{slots-below, slots-on, slots-off, slots-ended, slots-full, below-sums, between-nowhere}
-use Rattle.query_laws.specs.Root.{child-in, child-range, children-all}
+use Rattle.query_laws.specs.LevelSums.{slots-below, slots-on, slots-off, below-sums, between-nowhere}
+use Rattle.query_laws.specs.Root.{child-in, child-range}
 use Rattle.query_laws.specs.Steps.{stop-of, goes-there, descend-none, descend-open, descend-on, descend-end, descend-nowhere, below-nowhere, slot-in}
 use Rattle.query_laws.specs.SuffixBytes.{key-next, bit-le}
 use Rattle.navigate.specs.Accepted.{Accepted, nodes, dense-nodes, sparse-nodes}
@@ -120,52 +115,12 @@ module _ (s : Bytes) (f : Frame) (a : Accepted s f) (key : Bytes) where
         ap (slots-below (nodes s f) l m) (key-next key d h) ∙ slots-off (nodes s f) m (getD key d 0) (drop (d + 1) key) kind is l k
         ∙ ap (λ (x : Bytes). slot-number (nodes s f) m (place s f m (getD key d 0)) + slots-below (nodes s f) (l - 1) (child-number (nodes s f) m (place s f m (getD key d 0))) x) (sym (drop-of-length-le key {i = length key} (omega arith)))
 
-  module _ (m depth kind slot at : ℕ) (o : Followed s f key m depth kind slot at) (h : length key ≤ depth) where
-    -- a key that has ended: the first node behind those before node m
-    pub ended-next : Followed s f key (1 + children-before (nodes s f) m) depth kind slot at
-    ended-next = record {
-      some = o .some;
-      short = o .short;
-      within = o .within;
-      node-in = omega (arith, a .node-total (o .some), children-all (nodes s f) m);
-      on = λ q. absurd (omega arith);
-      off = o .off;
-    }
-
-    -- and its sum
-    pub ended-sum : (l : ℕ) → 0 < l → slots-below (nodes s f) l m (drop depth key) ≡ leaves-before (nodes s f) m + slots-below (nodes s f) (l - 1) (1 + children-before (nodes s f) m) (drop depth key)
-    ended-sum l g = rw (drop-of-length-le key {i = depth} h) (slots-ended (nodes s f) l m g)
-
-    -- behind the last node, a key that has ended and all leaves on each level left
-    pub end-sum : m ≡ f .dense + f .sparse → (l : ℕ) → slots-below (nodes s f) l m (drop depth key) ≡ l * f .leaves
-    end-sum e l =
-        let t = length-append (dense-nodes s f) (sparse-nodes s f) in
-        let z : length (nodes s f) ≡ m = omega (arith, a .dense-size, a .sparse-size) in
-        let c : leaf-count (nodes s f) ≡ f .leaves = omega (arith, a .writable .leaf-total) in
-        let n : length (nodes s f) ≡ 1 + total children-of (nodes s f) = omega (arith, a .node-total (o .some)) in
-        ap (slots-below (nodes s f) l m) (drop-of-length-le key {i = depth} h) ∙ slots-full (nodes s f) l m (omega arith) (omega arith) ∙ ap (λ (x : ℕ). l * x) c
-
--- a bound behind the last node: its key has ended
-pub past-ended : (s : Bytes) (f : Frame) (key : Bytes) (m depth kind slot at : ℕ) → Followed s f key m depth kind slot at → m ≡ f .dense + f .sparse → length key ≤ depth
-past-ended s f key m depth kind slot at o e = go (ltb depth (length key)) refl
-  where
-    go : (b : Bool) → ltb depth (length key) ≡ b → length key ≤ depth
-    go true t = absurd (omega (arith, o .on (ltb-true depth (length key) t) .0))
-    go false t = ltb-false depth (length key) t
-
 -- ---- the levels left
 
 -- one level fewer
 pub level-next : (d : ℕ) → 64 - d - 1 ≡ 64 - (d + 1)
 level-next d = omega arith
 
-pub levels-fall : (d : ℕ) → d < 64 → (0 < 64 - d) × (64 - (d + 1) < 64 - d)
-levels-fall d h = (omega arith, omega arith)
-
 -- and one byte fewer left on it
 pub fewer-left : (x y d : ℕ) → d < 64 → x ≤ y - 1 → y ≤ 64 - d → x ≤ 64 - (d + 1)
 fewer-left x y d h p q = omega arith
-
--- the leaves passed on the levels left are few
-pub few-left : (d x : ℕ) → x ≤ 65535 → (64 - d) * x ≤ (64 - d) * 65535
-few-left d x h = mul-le-mul-left (64 - d) h

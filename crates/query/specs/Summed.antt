@@ -13,14 +13,14 @@ use Rattle.query_laws.specs.Bounds.{high-passed}
 use Rattle.query_laws.specs.Slots.{node-at, leaves-before, slot-number, slot-of}
 use Rattle.query_laws.specs.Descent.{descend, children-before, child-number, goes-on, value}
 use Rattle.query_laws.specs.LabelMaps.{matches}
-use Rattle.query_laws.specs.LevelSums.{slots-below, slots-ended, slots-full}
+use Rattle.query_laws.specs.LevelSums.{slots-below, slots-full}
 use Rattle.query_laws.specs.Root.{child-range, slot-range, children-all, leaves-all}
 use Rattle.query_laws.specs.Steps.{stop-of, descend-end}
 use Rattle.query_laws.specs.SuffixBytes.{bit-le}
 use Rattle.navigate.specs.Accepted.{Accepted, nodes, dense-nodes, sparse-nodes}
 use Rattle.navigate.specs.Positions.{branches, place}
 use Rattle.query.specs.Answers.{value-none, value-open}
-use Rattle.query.specs.Followed.{byte-on, byte-off, sum-on, sum-off, level-next, levels-fall}
+use Rattle.query.specs.Followed.{byte-on, byte-off, sum-on, sum-off, level-next}
 
 -- the sum of the slot numbers of the empty key's bound, which is the first node of every level
 abbrev pub level-starts : Bytes → Frame → ℕ
@@ -134,10 +134,6 @@ module _ (s : Bytes) (f : Frame) (a : Accepted s f) where
   -- behind the last node: all leaves, on each level left
   pub rest-full : (node l : ℕ) → node ≡ f .dense + f .sparse → slots-below (nodes s f) l node [] ≡ l * f .leaves
   rest-full node l h = slots-full (nodes s f) l node (omega (arith, node-count)) node-few ∙ ap (λ (n : ℕ). l * n) (a .writable .leaf-total)
-
-  -- one level taken off
-  pub rest-next : (node d : ℕ) → d < 64 → slots-below (nodes s f) (64 - d) node [] ≡ leaves-before (nodes s f) node + slots-below (nodes s f) (64 - (d + 1)) (1 + children-before (nodes s f) node) []
-  rest-next node d h = rw (← level-next d) (slots-ended (nodes s f) (64 - d) node (levels-fall d h .0))
 
   -- the first node of the next level is one of the nodes, or behind the last
   pub rest-node : (node : ℕ) → 0 < f .dense + f .sparse → 1 + children-before (nodes s f) node ≤ f .dense + f .sparse

@@ -10,6 +10,8 @@ ghost use Rattle.navigate.specs.Accepted.{Accepted, nodes};
 ghost use Rattle.query.specs.Followed.{Stopped, Followed};
 use super::descent::NOWHERE;
 use super::descent::Stop;
+use super::levels::LevelSum;
+use super::levels::sum_below;
 use super::suffix::high_below;
 use super::suffix::low_above;
 use bits::NodeNum;
@@ -18,7 +20,6 @@ use bits::numbers::wide;
 use frame::Frame;
 use navigate::behind::child_and_slot;
 use navigate::branches::find;
-use navigate::nodes::before;
 use navigate::nodes::exact;
 
 // A bound on one level: the first node that does not lie before it, the sum of its slot numbers on the levels above, the bytes of its key passed,
@@ -80,26 +81,6 @@ fn next_byte(image: &[u8], f: Frame, key: &[u8], b: Bound) -> Bound
     }
 }
 
-// One level of a bound: a key that has ended leads to the first node behind those before it.
-fn next_level(image: &[u8], f: Frame, key: &[u8], b: Bound) -> Bound
-    requires { ⌜ Accepted (now image) f × Followed (now image) f (now key) (b .node) (b .depth) (b .stop .kind) (b .stop .slot .0) (b .stop .depth) × (b .sum ≤ 4194240) ⌝ }
-    ensures { λ r. ⌜ Followed (now (image .entry)) f (now (key .entry)) (r .node) (r .depth) (r .stop .kind) (r .stop .slot .0) (r .stop .depth)
-        × ((l : ℕ) → 0 < l → b .sum + slots-below (nodes (now (image .entry)) f) l (b .node) (drop (b .depth) (now (key .entry))) ≡ r .sum + slots-below (nodes (now (image .entry)) f) (l - 1) (r .node) (drop (r .depth) (now (key .entry))))
-        × (length (now (key .entry)) - r .depth ≤ length (now (key .entry)) - b .depth - 1) × (r .sum ≤ b .sum + 65535) ⌝ }
-{
-    if b.depth < key.len() {
-        return next_byte(image, f, key, b);
-    }
-    let first = before(image, f, NodeNum(b.node));
-    let stop = b.stop;
-    Bound {
-        node: first.children + 1,
-        sum: b.sum + first.leaves,
-        depth: b.depth,
-        stop: stop,
-    }
-}
-
 // The bound of a key in an image without nodes.
 const NO_BOUND: Bound = Bound {
     node: 0,
@@ -108,25 +89,29 @@ const NO_BOUND: Bound = Bound {
     stop: NOWHERE,
 };
 
-// The bound of a key from the root through 64 levels: the sum of its slot numbers, and where the key leads. On a level behind the last node it is past all leaves.
+// The bound of a key: along the key from the root, and from where it has led through the levels below; the sum of its slot numbers over 64 levels, and where the key leads.
 pub fn follow(image: &[u8], f: Frame, key: &[u8]) -> Bound
     requires { ⌜ Accepted (now image) f × (length (now key) ≤ 64) ⌝ }
     ensures { λ r. ⌜ (r .sum ≡ slots-below (nodes (now (image .entry)) f) 64 0 (now (key .entry))) × Stopped (now (image .entry)) f (now (key .entry)) (r .stop .kind) (r .stop .slot .0) (r .stop .depth) × (r .sum ≤ 4194240) ⌝ }
 {
-    let nodes = f.dense + f.sparse;
-    if nodes == 0 {
+    if f.dense + f.sparse == 0 {
         return NO_BOUND;
     }
     let mut b = arrive(image, f, key, NodeNum(0), 0, 0);
     let mut d = 0usize;
-    while d < 64 {
-        if b.node == nodes {
-            b.sum = b.sum + (64 - d) * f.leaves;
-            return b;
-        }
-        b = next_level(image, f, key, b);
+    while b.depth < key.len() {
+        b = next_byte(image, f, key, b);
         d = d + 1;
     }
+    b.sum = sum_below(
+        image,
+        f,
+        LevelSum {
+            node: b.node,
+            depth: d,
+            sum: b.sum,
+        },
+    );
     b
 }
 

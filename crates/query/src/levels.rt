@@ -23,24 +23,29 @@ pub const AT_ROOT: LevelSum = LevelSum {
     sum: 0,
 };
 
-// The sum over all levels for a bound whose key has ended: each further level has the leaves before the first node there. Once all nodes lie before it, each has all leaves.
+// The leaves before a node on its level, and before the first node behind it on each of the levels left: the same task one level lower each time, at most 64 times.
+// Once all nodes lie before it, each level has all leaves.
+fn sum_levels(image: &[u8], f: Frame, levels: usize, node: NodeNum) -> usize
+    requires { ⌜ Accepted (now image) f × (levels ≤ 64) × (node .0 ≤ f .dense + f .sparse) ⌝ }
+    ensures { λ r. ⌜ (r ≡ slots-below (nodes (now (image .entry)) f) levels (node .0) []) × (r ≤ levels * 65535) ⌝ }
+{
+    if levels == 0 {
+        return 0;
+    }
+    if node.0 == f.dense + f.sparse {
+        return levels * f.leaves;
+    }
+    let first = before(image, f, node);
+    let below = sum_levels(image, f, levels - 1, NodeNum(first.children + 1));
+    first.leaves + below
+}
+
+// The sum over all levels for a bound whose key has ended.
 pub fn sum_below(image: &[u8], f: Frame, from: LevelSum) -> usize
     requires { ⌜ Accepted (now image) f × (from .node ≤ f .dense + f .sparse) × (from .depth ≤ 64) × (from .sum ≤ from .depth * 65535 + 1) ⌝ }
-    ensures { λ r. ⌜ r ≡ from .sum + slots-below (nodes (now (image .entry)) f) (64 - from .depth) (from .node) [] ⌝ }
+    ensures { λ r. ⌜ (r ≡ from .sum + slots-below (nodes (now (image .entry)) f) (64 - from .depth) (from .node) []) × (r ≤ from .sum + (64 - from .depth) * 65535) ⌝ }
 {
-    let mut node = from.node;
-    let mut sum = from.sum;
-    let mut d = from.depth;
-    while d < 64 {
-        if node == f.dense + f.sparse {
-            return sum + (64 - d) * f.leaves;
-        }
-        let first = before(image, f, NodeNum(node));
-        node = first.children + 1;
-        sum = sum + first.leaves;
-        d = d + 1;
-    }
-    sum
+    from.sum + sum_levels(image, f, 64 - from.depth, NodeNum(from.node))
 }
 
 // The sum for the empty key, whose bound is the first node of every level. The sum for another key less this one is the number of leaves before that key.

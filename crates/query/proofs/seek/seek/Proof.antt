@@ -43,7 +43,7 @@ sub-t20 c =
     let a = c .before .before .before .before .before .before .before .before .before .before .before .before .before .before .args in
     let p = c .before .before .before .before .before .before .before .before .before .before .before .before .before .before .pre in
     let b = c .before .before .before .before .before .before .before .before .before .before .next-leaf .ensures .5 (omega (arith, c .before .before .before .before .before .before .before .if1 .left)) in
-    passed-sums (a .image .now) (a .f) (p .0) (a .start .now) (a .starts) (c .sum-below .result) (p .2) (p .1) (b .sums ∙ sym (c .sum-below .ensures)) .0
+    passed-sums (a .image .now) (a .f) (p .0) (a .start .now) (a .starts) (c .sum-below .result) (p .2) (p .1) (b .sums ∙ sym (c .sum-below .ensures .0)) .0
 
 returns-2 : tie.Need-returns-2
 returns-2 c =
@@ -53,7 +53,7 @@ returns-2 c =
     let l = c .before .before .before .before .before .lowest-key in
     let g = c .before .before .greater-key in
     let b = s .ensures .5 (omega (arith, c .before .before .before .before .before .before .before .if1 .left)) in
-    let number = passed-sums (a .image .now) (a .f) (p .0) (a .start .now) (a .starts) (c .sum-below .result) (p .2) (p .1) (b .sums ∙ sym (c .sum-below .ensures)) .1 in
+    let number = passed-sums (a .image .now) (a .f) (p .0) (a .start .now) (a .starts) (c .sum-below .result) (p .2) (p .1) (b .sums ∙ sym (c .sum-below .ensures .0)) .1 in
     (seek-found (a .image .now) (a .f) (p .0) (a .start .now) (s .result .stop .kind) (s .result .stop .slot .0) _ (s .ensures .0) (c .sum-below .result - a .starts) _ _ (l .ensures .0) (g .ensures .0) number, g .ensures .1, omega arith, omega (arith, number, few-passed (a .image .now) (a .f) (p .0) (a .start .now)))
 
 pub seek-spec : {M : Type 1} → statement M
