@@ -13,6 +13,7 @@ use lib.Dec.{leb, eqb}
 use borrow.Author.Tests.{eq-eqb, leb-true}
 use Rattle.spec.specs.Bytes.{Bytes, blocks, every, from32, unpack}
 use Rattle.spec.specs.Frame.{marks, has-header, read-bodies, Parts, parts}
+use Rattle.bits.specs.Bits.{rank}
 use Rattle.spec.specs.Check.{sizes, sized, header-right, judge-bodies, verdict}
 use Rattle.frame.specs.Records.{part, ends, bodies, whole, last-end, read-ends}
 use Rattle.frame.specs.Located.{settings-right, front-sized, middle-sized, back-sized, spaced, ends-chained, sized-spaced, spaced-first}
@@ -84,6 +85,8 @@ pub record FrameOf (s : Bytes) (f : Frame) : Type 0 where
   pub rs : f .rs ≡ f .rp + 4 * blocks 64 (f .dense) + 6
   pub ts : f .ts ≡ f .rs + 4 * blocks 512 (f .entries) + 6
   pub end : f .ts + 4 * blocks 64 (f .sparse) ≡ length s
+  pub children : f .children ≡ rank (drop (f .dc) s) (256 * f .dense)
+  pub items : f .items ≡ rank (drop (f .dl) s) (256 * f .dense) + rank (drop (f .dp) s) (f .dense)
 
 -- what reading the frame gives: a frame of the image; or 11 or 12, which is then the verdict
 abbrev pub Framed-right : Bytes → Framed → Type 0
@@ -232,22 +235,22 @@ module _ (s : Bytes) (levels width leaves dense entries sparse e0 e1 e2 e3 e4 e5
   tests-are = by-lengths ∙ regroup (eqb (getD s 2 0) 1) (leb levels 4) (leb width 16) (eqb (getD s 5 0) 0) (leb leaves 65535)
       (eqb (22 + 6 + 32 * dense) e0) (eqb (e0 + 6 + 32 * dense) e1) (eqb (e1 + 6 + blocks 8 dense) e2) (eqb (e2 + 6 + entries) e3) (eqb (e3 + 6 + blocks 8 entries) e4) (eqb (e4 + 6 + blocks 8 entries) e5) (eqb (e5 + 6 + blocks 8 (leaves * width)) e6) (eqb (e6 + 6 + 4 * blocks 64 (256 * dense)) e7) (eqb (e7 + 6 + 4 * blocks 64 (256 * dense)) e8) (eqb (e8 + 6 + 4 * blocks 64 dense) e9) (eqb (e9 + 6 + 4 * blocks 512 entries) e10) (eqb (e10 + 6 + 4 * blocks 64 sparse) (length s))
 
-  -- the frame that the reader makes of these
-  abbrev pub frame-12 : Frame
-  frame-12 = record { levels = levels; width = width; leaves = leaves; dense = dense; entries = entries; sparse = sparse; dl = 28; dc = e0 + 6; dp = e1 + 6; sl = e2 + 6; sc = e3 + 6; sb = e4 + 6; sv = e5 + 6; rl = e6 + 6; rc = e7 + 6; rp = e8 + 6; rs = e9 + 6; ts = e10 + 6 }
+  -- the frame that the reader makes of these and of the totals of the dense nodes
+  abbrev pub frame-12 : ℕ → ℕ → Frame
+  frame-12 children items = record { levels = levels; width = width; leaves = leaves; dense = dense; entries = entries; sparse = sparse; dl = 28; dc = e0 + 6; dp = e1 + 6; sl = e2 + 6; sc = e3 + 6; sb = e4 + 6; sv = e5 + 6; rl = e6 + 6; rc = e7 + 6; rp = e8 + 6; rs = e9 + 6; ts = e10 + 6; children = children; items = items }
 
-  parts-same : parts s bs ≡ parts s (frame-bodies s frame-12) → parts s (frame-bodies s frame-12) ≡ frame-parts s frame-12
+  parts-same : (children items : ℕ) → parts s bs ≡ parts s (frame-bodies s (frame-12 children items)) → parts s (frame-bodies s (frame-12 children items)) ≡ frame-parts s (frame-12 children items)
   unfolding parts
-  parts-same e = rw (q₁, q₂, q₃, q₄, q₅, q₆)
+  parts-same children items e = rw (q₁, q₂, q₃, q₄, q₅, q₆)
 
   -- where the tests fail, 12
   pub frame-wrong : tests-12 ≡ false → verdict s ≡ 12
   frame-wrong f = bodies-judged s bs h stand ∙ header-wrong s bs (tests-are ∙ f)
 
   -- where they pass, it is the image's frame
-  pub frame-found : tests-12 ≡ true → FrameOf s frame-12
+  pub frame-found : (children items : ℕ) → children ≡ rank (drop (e0 + 6) s) (256 * dense) → items ≡ rank (drop 28 s) (256 * dense) + rank (drop (e1 + 6) s) dense → tests-12 ≡ true → FrameOf s (frame-12 children items)
   unfolding body-sizes bs bodies
-  frame-found t =
+  frame-found children items c i t =
       let right : header-right s (parts s bs) bs ≡ true = tests-are ∙ t in
       let p = six-pass _ _ _ _ _ _ (sym by-lengths ∙ right) in
       let t0 = spaced-first 22 (32 * dense) e0 (32 * dense ∷ blocks 8 dense ∷ entries ∷ blocks 8 entries ∷ blocks 8 entries ∷ blocks 8 (leaves * width) ∷ 4 * blocks 64 (256 * dense) ∷ 4 * blocks 64 (256 * dense) ∷ 4 * blocks 64 dense ∷ 4 * blocks 512 entries ∷ 4 * blocks 64 sparse ∷ []) (e1 ∷ e2 ∷ e3 ∷ e4 ∷ e5 ∷ e6 ∷ e7 ∷ e8 ∷ e9 ∷ e10 ∷ length s ∷ []) (p .5) in
@@ -274,11 +277,11 @@ module _ (s : Bytes) (levels width leaves dense entries sparse e0 e1 e2 e3 e4 e5
       let z9 : e9 - (e8 + 6) ≡ 4 * blocks 64 dense = over e8 e9 (4 * blocks 64 dense) (t9 .0) in
       let z10 : e10 - (e9 + 6) ≡ 4 * blocks 512 entries = over e9 e10 (4 * blocks 512 entries) (t10 .0) in
       let z11 : length s - (e10 + 6) ≡ 4 * blocks 64 sparse = over e10 (length s) (4 * blocks 64 sparse) (t11 .0) in
-      let same : bs ≡ frame-bodies s frame-12 = rw (z0, z1, z2, z3, z4, z5, z6, z7, z8, z9, z10, z11) in
+      let same : bs ≡ frame-bodies s (frame-12 children items) = rw (z0, z1, z2, z3, z4, z5, z6, z7, z8, z9, z10, z11) in
       record {
         header = h;
         bodies = stand ∙ ap some same;
-        parts-are = parts-same (ap (parts s) same);
+        parts-are = parts-same children items (ap (parts s) same);
         right = rw (← same) right;
         levels = leb-true levels 4 (p .1);
         width = leb-true width 16 (p .2);
@@ -299,4 +302,18 @@ module _ (s : Bytes) (levels width leaves dense entries sparse e0 e1 e2 e3 e4 e5
         rs = omega (arith, t9 .0);
         ts = omega (arith, t10 .0);
         end = omega (arith, t11 .0);
+        children = c;
+        items = i;
       }
+
+  -- and the bits of DL, DC and DP lie within the image
+  pub dense-within : tests-12 ≡ true
+      → ((28 ≤ length s) × (256 * dense ≤ 8 * (length s - 28))) × ((e0 + 6 ≤ length s) × (256 * dense ≤ 8 * (length s - (e0 + 6)))) × ((e1 + 6 ≤ length s) × (dense ≤ 8 * (length s - (e1 + 6))))
+  dense-within t =
+      let f = frame-found _ _ refl refl t in
+      let w = standing s e0 e1 e2 e3 e4 e5 e6 e7 e8 e9 e10 le h en in
+      (
+        (omega (arith, f .dc, w .within0), omega (arith, f .dc, w .within0)),
+        (omega (arith, f .dp, w .within1), omega (arith, f .dp, w .within1)),
+        (omega (arith, f .sl, w .within2), omega (arith, f .sl, w .within2)),
+      )

@@ -7,7 +7,7 @@ use mathlib.Core.Option.{Option, none, some}
 use mathlib.Core.Logic.{_⊎_, inl, inr, ⊎-elim}
 use native.Mathlib.Omega.{arith}
 use lib.ListN.{length, getD, take, drop, length-drop}
-use lib.Seq.{drop-drop, getD-drop}
+use lib.Seq.{drop-drop, getD-drop, take-all}
 use lib.Dec.{leb, eqb}
 use borrow.Author.Tests.{leb-true, le-leb, lt-leb, eqb-true, eqb-false, eq-eqb, ne-eqb}
 use Rattle.spec.specs.Bytes.{Bytes, every, from32}
@@ -16,6 +16,10 @@ use Rattle.spec.specs.Frame.{is-record, read-bodies}
 -- len bytes from an offset
 abbrev pub part : Bytes → ℕ → ℕ → Bytes
 part s off len = take len (drop off s)
+
+-- a part of s to its end
+pub tail-part : (s : Bytes) (at : ℕ) → take (length s - at) (drop at s) ≡ drop at s
+tail-part s at = take-all (length s - at) (drop at s) (omega (arith, length-drop at s))
 
 -- where the record at an offset ends, by its length
 abbrev pub record-end : Bytes → ℕ → ℕ

@@ -1,17 +1,19 @@
 // The frame of an image: the header and the twelve records behind it, by their offsets. Judges the numbers 11 and 12 of the check.
 // Used by the check and by every call that reads an accepted image.
 ghost use mathlib.Core.Path.{_≡_};
-ghost use Prim.Native.Nat.{_+_, _*_, _^_, _≤_, _<_};
+ghost use Prim.Native.Nat.{_+_, _-_, _*_, _^_, _≤_, _<_};
 ghost use mathlib.Core.List.{[], _∷_};
-ghost use lib.ListN.{length, getD};
+ghost use lib.ListN.{length, getD, drop};
+ghost use Rattle.bits.specs.Bits.{rank};
 ghost use Rattle.frame.specs.Records.{ends};
 ghost use Rattle.frame.specs.Framed.{record-found, records-found, four-marks};
 ghost use Rattle.frame.specs.Located.{settings-right, front-sized, middle-sized, back-sized};
 ghost use Rattle.frame.specs.FrameOf.{Standing, Framed-right};
 use bits::numbers::read32;
 use bits::numbers::wide;
+use bits::ones::rank_from;
 
-// The settings, the counts, and the offset of each record's body.
+// The settings, the counts, the offset of each record's body, and the totals of the dense nodes.
 pub struct Frame {
     pub levels: usize, // the dense levels
     pub width: usize, // a suffix slot's bits
@@ -31,6 +33,8 @@ pub struct Frame {
     pub rp: usize,
     pub rs: usize,
     pub ts: usize,
+    pub children: usize, // the continuing branches of the dense nodes
+    pub items: usize, // their branches and exact leaves
 }
 
 // What an image's frame is: read, or refused with 11 or 12.
@@ -158,6 +162,14 @@ fn back_sized(
         & (e10 + 6 + 4 * ((sparse + 63) / 64) == e11)
 }
 
+// The ones among the first n bits of the body at an offset.
+fn count_ones(image: &[u8], at: usize, n: usize) -> usize
+    requires { ⌜ (at ≤ length (now image)) × (n ≤ 8 * (length (now image) - at)) ⌝ }
+    ensures { λ r. ⌜ r ≡ rank (drop at (now (image .entry))) n ⌝ }
+{
+    rank_from(&image[at..], 0, 0, n)
+}
+
 // The frame of an image whose records end at e0 to e10 and at its own end, or 12.
 fn judge_header(
     image: &[u8],
@@ -206,6 +218,8 @@ fn judge_header(
             rp: e8 + 6,
             rs: e9 + 6,
             ts: e10 + 6,
+            children: count_ones(image, e0 + 6, 256 * dense),
+            items: count_ones(image, 28, 256 * dense) + count_ones(image, e1 + 6, dense),
         })
     } else {
         Framed::Refused(12)

@@ -16,10 +16,6 @@ use Rattle.theory.specs.NodeBits.{dense-labels, dense-has-child, sparse-has-chi
 use Rattle.theory.specs.DenseBits.{length-dl, length-dc}
 use Rattle.theory.specs.SparseBits.{length-sc, length-sb, louds-ones}
 
--- a part of s to its end
-pub tail-part : (s : Bytes) (at : ℕ) → take (length s - at) (drop at s) ≡ drop at s
-tail-part s at = take-all (length s - at) (drop at s) (omega (arith, length-drop at s))
-
 -- n bits and their ranks by blocks of w
 abbrev pub Ranked : ℕ → ℕ → Bytes → Bytes → Type 0
 Ranked w n s rt = (n ≤ 8 * length s) × ((b : ℕ) → w * b < n → Rank-entry w s rt b)

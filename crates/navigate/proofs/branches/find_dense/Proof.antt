@@ -1,5 +1,6 @@
 use Rattle.navigate.specs.Positions.{bits-dense, branch-dense}
-use Rattle.navigate.specs.Tables.{tail-part, labels-ranked, children-ranked}
+use Rattle.frame.specs.Records.{tail-part}
+use Rattle.navigate.specs.Tables.{labels-ranked, children-ranked}
 use Rattle.bits.specs.Bits.{bit-at}
 use mathlib.Core.List.{List}
 use Prim.Native.Nat.{ℕ, _+_, _*_}

@@ -1,5 +1,6 @@
 use Rattle.navigate.specs.Positions.{branches, place, labels-room, place-sparse, branch-sparse, none-end, none-other, one-there}
-use Rattle.navigate.specs.Tables.{tail-part, entries-ranked}
+use Rattle.frame.specs.Records.{tail-part}
+use Rattle.navigate.specs.Tables.{entries-ranked}
 use Rattle.query_laws.specs.Counting.{labels-below-le}
 use Rattle.bits.specs.Bits.{bit-at}
 use lib.ListN.{length-drop}

@@ -1,6 +1,7 @@
 use Rattle.navigate.specs.NextBranch.{sparse-none, sparse-some}
 use Rattle.navigate.specs.Positions.{labels-room, place-sparse}
-use Rattle.navigate.specs.Tables.{tail-part, entries-ranked}
+use Rattle.frame.specs.Records.{tail-part}
+use Rattle.navigate.specs.Tables.{entries-ranked}
 use Rattle.bits.specs.Bits.{bit-at}
 use lib.ListN.{length-drop}
 use mathlib.Core.List.{List}

@@ -1,5 +1,6 @@
 use Rattle.navigate.specs.Positions.{exact-dense}
-use Rattle.navigate.specs.Tables.{tail-part, exacts-ranked}
+use Rattle.frame.specs.Records.{tail-part}
+use Rattle.navigate.specs.Tables.{exacts-ranked}
 use Rattle.bits.specs.Bits.{bit-at}
 use mathlib.Core.List.{List}
 use Prim.Native.Nat.{ℕ}

@@ -2,7 +2,8 @@ use mathlib.Core.Path.{ap, _∙_}
 use mathlib.Core.List.{List}
 use Prim.Native.Nat.{ℕ}
 use Rattle.bits.specs.Bits.{rank}
-use Rattle.navigate.specs.Tables.{tail-part, entries-ranked}
+use Rattle.frame.specs.Records.{tail-part}
+use Rattle.navigate.specs.Tables.{entries-ranked}
 use borrow.Author.Needs.{needs}
 use Rattle.navigate.proofs.ranks.entry_rank.Statement.{statement}
 use Rattle.navigate.proofs.ranks.entry_rank.Tie as tie

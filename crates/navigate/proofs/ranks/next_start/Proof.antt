@@ -3,7 +3,8 @@ use mathlib.Core.List.{List}
 use Prim.Native.Nat.{ℕ, _+_}
 use native.Mathlib.Omega.{arith}
 use Rattle.bits.specs.Bits.{rank, select}
-use Rattle.navigate.specs.Tables.{tail-part, starts-sampled}
+use Rattle.frame.specs.Records.{tail-part}
+use Rattle.navigate.specs.Tables.{starts-sampled}
 use borrow.Author.Needs.{needs}
 use Rattle.navigate.proofs.ranks.next_start.Statement.{statement}
 use Rattle.navigate.proofs.ranks.next_start.Tie as tie

@@ -2,7 +2,8 @@ use mathlib.Core.Path.{ap, _∙_}
 use mathlib.Core.List.{List}
 use Prim.Native.Nat.{ℕ, _-_}
 use Rattle.bits.specs.Bits.{select}
-use Rattle.navigate.specs.Tables.{tail-part, starts-sampled}
+use Rattle.frame.specs.Records.{tail-part}
+use Rattle.navigate.specs.Tables.{starts-sampled}
 use borrow.Author.Needs.{needs}
 use Rattle.navigate.proofs.ranks.node_start.Statement.{statement}
 use Rattle.navigate.proofs.ranks.node_start.Tie as tie

@@ -1,4 +1,4 @@
-use Rattle.navigate.specs.Tables.{tail-part}
+use Rattle.frame.specs.Records.{tail-part}
 use Rattle.navigate.specs.Accepted.{nodes}
 use Rattle.query_laws.specs.SuffixBytes.{slot-bit, slot-small}
 use Rattle.bits.specs.Bits.{bit-at, word}
