@@ -60,7 +60,8 @@ frame-parts s f = record {
   sv = take (f .leaves * f .width) (unpack (part s (f .sv) (blocks 8 (f .leaves * f .width))));
 }
 
--- a frame of an image: each body stands at its offset with the length that the counts give, the last one up to the end, and neither 11 nor 12 applies
+-- a frame of an image: each body stands at its offset with the length that the counts give, the last one up to the end, neither 11 nor 12 applies,
+-- and the totals are the ones of DC, and those of DL and DP
 pub record FrameOf (s : Bytes) (f : Frame) : Type 0 where
   pub header : has-header s ≡ true
   pub bodies : read-bodies marks (drop 22 s) ≡ some (frame-bodies s f)
@@ -311,8 +312,7 @@ module _ (s : Bytes) (levels width leaves dense entries sparse e0 e1 e2 e3 e4 e5
       → ((28 ≤ length s) × (256 * dense ≤ 8 * (length s - 28))) × ((e0 + 6 ≤ length s) × (256 * dense ≤ 8 * (length s - (e0 + 6)))) × ((e1 + 6 ≤ length s) × (dense ≤ 8 * (length s - (e1 + 6))))
   dense-within t =
       let f = frame-found _ _ refl refl t in
-      let w = standing s e0 e1 e2 e3 e4 e5 e6 e7 e8 e9 e10 le h en in
-      (
+      let w = standing s e0 e1 e2 e3 e4 e5 e6 e7 e8 e9 e10 le h en in (
         (omega (arith, f .dc, w .within0), omega (arith, f .dc, w .within0)),
         (omega (arith, f .dp, w .within1), omega (arith, f .dp, w .within1)),
         (omega (arith, f .sl, w .within2), omega (arith, f .sl, w .within2)),

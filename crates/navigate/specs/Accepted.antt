@@ -1,5 +1,5 @@
 -- What an accepted image holds, by its frame: the facts that every function of this crate asks for.
-use Prim.Native.Nat.{ℕ, _+_, _<_, _≤_}
+use Prim.Native.Nat.{ℕ, _+_, _*_, _<_, _≤_}
 use mathlib.Core.Path.{_≡_}
 use mathlib.Core.List.{List, _++_, map}
 use lib.ListN.{length, take, drop}
@@ -7,6 +7,7 @@ use Rattle.spec.specs.Bytes.{Bytes, concat, pack}
 use Rattle.spec.specs.Image.{ranks, samples}
 use Rattle.spec.specs.Leaves.{Leaf}
 use Rattle.spec.specs.Nodes.{Node, is-exact, read-nodes, read-leaves, total, children-of}
+use Rattle.bits.specs.Bits.{rank}
 use Rattle.frame.specs.declared.Frame.{Frame}
 use Rattle.query_laws.specs.Stored.{Starts}
 use Rattle.theory.specs.LeafLists.{Realizable, All-well-sized}
@@ -30,7 +31,7 @@ nodes s f = dense-nodes s f ++ sparse-nodes s f
 abbrev pub Body : Bytes → Bytes → ℕ → Type 0
 Body b s at = (at ≤ length s) × Starts b (drop at s)
 
--- What the image s with the frame f holds: the bodies are those of the dense nodes ds and the sparse nodes ss, the counts agree,
+-- What the image s with the frame f holds: the bodies are those of the dense nodes ds and the sparse nodes ss, the counts and the totals agree,
 -- nodes are continuing branches plus one, and they are the trie of the leaf list ls.
 pub record Holds (s : Bytes) (f : Frame) (ds ss : List Node) (ls : List Leaf) : Type 0 where
   pub writable : Writable (f .width) (f .leaves) ds ss
@@ -53,6 +54,8 @@ pub record Holds (s : Bytes) (f : Frame) (ds ss : List Node) (ls : List Leaf) : 
   pub RP : Body (ranks 64 (map is-exact ds)) s (f .rp)
   pub RS : Body (ranks 512 (concat (map sparse-has-child ss))) s (f .rs)
   pub TS : Body (samples (concat (map louds ss))) s (f .ts)
+  pub children : f .children ≡ rank (drop (f .dc) s) (256 * f .dense)
+  pub items : f .items ≡ rank (drop (f .dl) s) (256 * f .dense) + rank (drop (f .dp) s) (f .dense)
 
 -- The image with this frame is accepted: it holds the nodes and the leaf list that are read from it.
 abbrev pub Accepted : Bytes → Frame → Type 0

@@ -112,6 +112,8 @@ module _ (s : Bytes) (f : Frame) (fr : FrameOf s f) (st : Settings) (ls : List L
     RP = body-at s _ (f .rp) (4 * blocks 64 (f .dense)) (starts .9) (body 9);
     RS = body-at s _ (f .rs) (4 * blocks 512 (f .entries)) (starts .10) (body 10);
     TS = body-at s _ (f .ts) (4 * blocks 64 (f .sparse)) (starts .11) (body 11);
+    children = fr .children;
+    items = fr .items;
   }
 
   is-dense : ds ≡ dense-nodes s f

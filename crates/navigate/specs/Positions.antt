@@ -87,6 +87,10 @@ module _ (s : Bytes) (f : Frame) (a : Accepted s f) where
       let l = dense-leaves-before (dense-nodes s f) (sparse-nodes s f) (drop (f .dl) s) (drop (f .dc) s) (drop (f .dp) s) (a .DL .1) (a .DC .1) (a .DP .1) (a .writable .dense-labelled) (a .writable .dense-bytes) m (omega arith) in
       (k, l .0, l .1)
 
+  -- the frame's totals are what stands before the first sparse node
+  pub dense-totals : (f .children ≡ children-before (nodes s f) (f .dense)) × (f .items ≡ leaves-before (nodes s f) (f .dense) + f .children)
+  dense-totals = let d = before-dense (f .dense) (omega arith) in (omega (arith, a .children, d .0), omega (arith, a .items, a .children, d .1, d .2))
+
   module _ (m y : ℕ) (h : m < f .dense) where
     inside : m < length (dense-nodes s f)
     inside = omega (arith, a .dense-size)

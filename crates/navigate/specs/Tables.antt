@@ -3,8 +3,7 @@ use Prim.Native.Nat.{ℕ, _+_, _-_, _*_, _<_, _≤_}
 use mathlib.Core.Path.{_≡_, sym, ap, _∙_}
 use mathlib.Core.List.{map}
 use native.Mathlib.Omega.{arith}
-use lib.ListN.{length, take, drop, length-drop, length-map}
-use lib.Seq.{take-all}
+use lib.ListN.{length, drop, length-map}
 use Rattle.spec.specs.Bytes.{Bytes, Bits, concat, ones}
 use Rattle.spec.specs.Nodes.{is-exact}
 use Rattle.bits.specs.Bits.{rank, select}

@@ -3,7 +3,6 @@ ghost use mathlib.Core.Path.{_≡_};
 ghost use Prim.Native.Nat.{_+_, _-_, _<_};
 ghost use Rattle.navigate.specs.Accepted.{Accepted};
 ghost use Rattle.navigate.specs.Positions.{child-at, slot-at, Within};
-use super::nodes::dense_before;
 use super::ranks::child_rank;
 use super::ranks::entry_rank;
 use super::ranks::exact_rank;
@@ -33,10 +32,9 @@ pub fn child_and_slot(image: &[u8], f: Frame, m: NodeNum, at: BitPos) -> Behind
             slot: ValuePos(labels - children + exacts),
         };
     }
-    let dense = dense_before(image, f, NodeNum(f.dense));
     let children = entry_rank(image, f, at);
     Behind {
-        child: NodeNum(dense.children + children + 1),
-        slot: ValuePos(dense.leaves + (at.0 - children)),
+        child: NodeNum(f.children + children + 1),
+        slot: ValuePos(f.items - f.children + (at.0 - children)),
     }
 }

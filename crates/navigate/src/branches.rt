@@ -8,7 +8,6 @@ ghost use Rattle.query_laws.specs.LabelMaps.{matches};
 ghost use Rattle.navigate.specs.Accepted.{Accepted};
 ghost use Rattle.navigate.specs.NextBranch.{Next-branch};
 ghost use Rattle.navigate.specs.Positions.{branches, place, child-at, slot-at, Within, Branch-at};
-use super::nodes::dense_before;
 use super::nodes::entries_of;
 use super::ranks::child_rank;
 use super::ranks::entry_rank;
@@ -30,8 +29,7 @@ pub fn child(image: &[u8], f: Frame, m: NodeNum, at: BitPos) -> NodeNum
     if m.0 < f.dense {
         return NodeNum(child_rank(image, f, at) + 1);
     }
-    let dense = child_rank(image, f, BitPos(256 * f.dense));
-    NodeNum(dense + entry_rank(image, f, at) + 1)
+    NodeNum(f.children + entry_rank(image, f, at) + 1)
 }
 
 // The slot of the leaf behind a branch: an exact leaf stands before its node's branches.
@@ -44,8 +42,7 @@ pub fn slot(image: &[u8], f: Frame, m: NodeNum, at: BitPos) -> ValuePos
         let children = child_rank(image, f, at);
         return ValuePos(labels - children + exact_rank(image, f, NodeNum(m.0 + 1)));
     }
-    let dense = dense_before(image, f, NodeNum(f.dense));
-    ValuePos(dense.leaves + (at.0 - entry_rank(image, f, at)))
+    ValuePos(f.items - f.children + (at.0 - entry_rank(image, f, at)))
 }
 
 // The first of the labels from `from` to `to`, which ascend, that is not below y, or the end.

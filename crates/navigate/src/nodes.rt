@@ -27,7 +27,7 @@ pub struct Passed {
 }
 
 // What stands before a dense node, or before the first sparse one.
-pub fn dense_before(image: &[u8], f: Frame, m: NodeNum) -> Passed
+fn dense_before(image: &[u8], f: Frame, m: NodeNum) -> Passed
     requires { ⌜ Accepted (now image) f × (m .0 ≤ f .dense) ⌝ }
     ensures { λ r. ⌜ (r .children ≡ children-before (nodes (now (image .entry)) f) (m .0)) × (r .leaves ≡ leaves-before (nodes (now (image .entry)) f) (m .0)) ⌝ }
 {
@@ -41,17 +41,16 @@ pub fn dense_before(image: &[u8], f: Frame, m: NodeNum) -> Passed
     }
 }
 
-// What stands before a sparse node, or behind the last one.
+// What stands before a sparse node, or behind the last one: the totals of the dense nodes, and the entries before its start.
 fn sparse_before(image: &[u8], f: Frame, m: NodeNum) -> Passed
     requires { ⌜ Accepted (now image) f × (f .dense ≤ m .0) × (m .0 ≤ f .dense + f .sparse) ⌝ }
     ensures { λ r. ⌜ (r .children ≡ children-before (nodes (now (image .entry)) f) (m .0)) × (r .leaves ≡ leaves-before (nodes (now (image .entry)) f) (m .0)) ⌝ }
 {
-    let dense = dense_before(image, f, NodeNum(f.dense));
     let start = node_start(image, f, m);
     let children = entry_rank(image, f, start);
     Passed {
-        children: dense.children + children,
-        leaves: dense.leaves + (start.0 - children),
+        children: f.children + children,
+        leaves: f.items - f.children + (start.0 - children),
     }
 }
 

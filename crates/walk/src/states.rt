@@ -70,6 +70,8 @@ fn refused(number: u32, place: usize) -> State
             rp: 0,
             rs: 0,
             ts: 0,
+            children: 0,
+            items: 0,
         },
         cursor: Cursor {
             nodes: [0usize; 64],

@@ -1,9 +1,9 @@
 -- Counted from the first word on.
 use mathlib.Core.Path.{ap, sym, _∙_}
 use mathlib.Core.List.{List}
-use Prim.Native.Nat.{ℕ, _-_}
+use Prim.Native.Nat.{ℕ}
 use native.Mathlib.Omega.{arith}
-use lib.ListN.{length, drop, length-drop}
+use lib.ListN.{drop, length-drop}
 use Rattle.bits.specs.Bits.{rank}
 use Rattle.bits.proofs.RankLaws.{rank-zero}
 use Rattle.frame.specs.Records.{tail-part}

@@ -1,9 +1,8 @@
-use Rattle.navigate.specs.Positions.{child-at, few-children, dense-kids, before-dense}
+use Rattle.navigate.specs.Positions.{child-at, few-children, dense-kids, dense-totals}
 use lib.ListN.{drop}
 use Rattle.bits.proofs.RankLaws.{rank-le}
 use borrow.Author.Tests.{lt-ltb, le-ltb}
 use native.Mathlib.Omega.{arith}
-use borrow.Author.Needs.{needs}
 use Rattle.navigate.proofs.branches.child.Statement.{statement}
 use Rattle.navigate.proofs.branches.child.Tie as tie
 
@@ -11,8 +10,8 @@ child-rank-requires : tie.Need-child-rank-requires
 child-rank-requires c κs =
     (c .before .before .before .before .pre .0, c .before .before .before .before .pre .1 .dense (omega arith) .0)
 
-add-t8 : tie.Need-add-t8
-add-t8 c =
+add-t7 : tie.Need-add-t7
+add-t7 c =
     let a = c .before .before .before .before .before .args in
     omega (arith, c .child-rank .ensures, rank-le (drop (a .f .dc) (a .image .now)) (a .at .0), c .before .before .before .before .before .pre .1 .dense (omega arith) .0, c .before .before .before .before .before .pre .0 .dense-size, c .before .before .before .before .before .pre .0 .writable .few-dense)
 
@@ -22,42 +21,30 @@ returns c =
     let a = c .before .before .before .before .before .args in
     rw (lt-ltb (a .m .0) (a .f .dense) (omega arith)) (omega (arith, c .child-rank .ensures))
 
-mul-t9 : tie.Need-mul-t9
-mul-t9 c = search needs
-
-child-rank-requires-2 : tie.Need-child-rank-requires-2
-child-rank-requires-2 c κs = search needs
-
 entry-rank-requires : tie.Need-entry-rank-requires
 entry-rank-requires c κs =
-    (c .before .before .before .before .before .before .pre .0, c .before .before .before .before .before .before .pre .1 .sparse (omega arith))
+    (c .before .before .before .before .pre .0, c .before .before .before .before .pre .1 .sparse (omega arith))
 
-add-t11 : tie.Need-add-t11
-add-t11 c =
-    let a = c .before .before .before .before .before .before .before .args in
-    omega (arith, c .before .child-rank2 .ensures, before-dense (a .image .now) (a .f) (c .before .before .before .before .before .before .before .pre .0) (a .f .dense) (omega arith) .0, few-children (a .image .now) (a .f) (c .before .before .before .before .before .before .before .pre .0) (a .f .dense) (omega arith), c .entry-rank .ensures, rank-le (drop (a .f .sc) (a .image .now)) (a .at .0), c .before .before .before .before .before .before .before .pre .1 .sparse (omega arith), c .before .before .before .before .before .before .before .pre .0 .entry-size, c .before .before .before .before .before .before .before .pre .0 .writable .few-entries)
+add-t9 : tie.Need-add-t9
+add-t9 c =
+    let a = c .before .before .before .before .before .before .args in
+    let p = c .before .before .before .before .before .before .pre in
+    omega (arith, dense-totals (a .image .now) (a .f) (p .0) .0, few-children (a .image .now) (a .f) (p .0) (a .f .dense) (omega arith), c .before .entry-rank .ensures, rank-le (drop (a .f .sc) (a .image .now)) (a .at .0), p .1 .sparse (omega arith), p .0 .entry-size, p .0 .writable .few-entries)
 
-add-t12 : tie.Need-add-t12
-add-t12 c =
-    let a = c .before .before .before .before .before .before .before .args in
-    omega (arith, c .before .child-rank2 .ensures, before-dense (a .image .now) (a .f) (c .before .before .before .before .before .before .before .pre .0) (a .f .dense) (omega arith) .0, few-children (a .image .now) (a .f) (c .before .before .before .before .before .before .before .pre .0) (a .f .dense) (omega arith), c .entry-rank .ensures, rank-le (drop (a .f .sc) (a .image .now)) (a .at .0), c .before .before .before .before .before .before .before .pre .1 .sparse (omega arith), c .before .before .before .before .before .before .before .pre .0 .entry-size, c .before .before .before .before .before .before .before .pre .0 .writable .few-entries)
+add-t10 : tie.Need-add-t10
+add-t10 c =
+    let a = c .before .before .before .before .before .before .args in
+    let p = c .before .before .before .before .before .before .pre in
+    omega (arith, dense-totals (a .image .now) (a .f) (p .0) .0, few-children (a .image .now) (a .f) (p .0) (a .f .dense) (omega arith), c .before .entry-rank .ensures, rank-le (drop (a .f .sc) (a .image .now)) (a .at .0), p .1 .sparse (omega arith), p .0 .entry-size, p .0 .writable .few-entries)
 
 returns-2 : tie.Need-returns-2
 unfolding child-at
 returns-2 c =
-    let a = c .before .before .before .before .before .before .before .args in
-    rw (le-ltb (a .m .0) (a .f .dense) (omega arith)) (omega (arith, c .before .child-rank2 .ensures, before-dense (a .image .now) (a .f) (c .before .before .before .before .before .before .before .pre .0) (a .f .dense) (omega arith) .0, c .entry-rank .ensures, dense-kids (a .image .now) (a .f) (c .before .before .before .before .before .before .before .pre .0)))
+    let a = c .before .before .before .before .before .before .args in
+    let p = c .before .before .before .before .before .before .pre .0 in
+    rw (le-ltb (a .m .0) (a .f .dense) (omega arith)) (omega (arith, dense-totals (a .image .now) (a .f) p .0, c .before .entry-rank .ensures, dense-kids (a .image .now) (a .f) p))
 
 pub child-spec : {M : Type 1} → statement M
 child-spec =
     tie.close
-    (tie.spec
-    child-rank-requires
-    add-t8
-    returns
-    mul-t9
-    child-rank-requires-2
-    entry-rank-requires
-    add-t11
-    add-t12
-    returns-2)
+    (tie.spec child-rank-requires add-t7 returns entry-rank-requires add-t9 add-t10 returns-2)

@@ -1,4 +1,4 @@
-use Rattle.navigate.specs.Positions.{slot-at, dense-leaves}
+use Rattle.navigate.specs.Positions.{slot-at, dense-leaves, dense-totals}
 use Rattle.navigate.specs.Accepted.{nodes}
 use lib.ListN.{drop}
 use Rattle.query_laws.specs.Root.{leaves-all}
@@ -18,18 +18,18 @@ child-rank-requires : tie.Need-child-rank-requires
 child-rank-requires c κs =
     (c .before .before .before .before .before .pre .0, c .before .before .before .before .before .pre .1 .dense (omega arith) .0)
 
-sub-t9 : tie.Need-sub-t9
-sub-t9 c =
+sub-t8 : tie.Need-sub-t8
+sub-t8 c =
     omega (arith, c .before .label-rank .ensures, c .child-rank .ensures, c .before .before .before .before .before .before .pre .1 .dense (omega arith) .1)
 
-add-t11 : tie.Need-add-t11
-add-t11 c = search needs
+add-t10 : tie.Need-add-t10
+add-t10 c = search needs
 
 exact-rank-requires : tie.Need-exact-rank-requires
 exact-rank-requires c κs = search needs
 
-add-t13 : tie.Need-add-t13
-add-t13 c =
+add-t12 : tie.Need-add-t12
+add-t12 c =
     let a = c .before .before .before .before .before .before .before .before .args in
     omega (arith, c .before .before .before .label-rank .ensures, rank-le (drop (a .f .dl) (a .image .now)) (a .at .0), c .exact-rank .ensures, rank-le (drop (a .f .dp) (a .image .now)) (a .m .0 + 1), c .before .before .before .before .before .before .before .before .pre .1 .dense (omega arith) .0, c .before .before .before .before .before .before .before .before .pre .0 .dense-size, c .before .before .before .before .before .before .before .before .pre .0 .writable .few-dense)
 
@@ -39,29 +39,33 @@ returns c =
     let a = c .before .before .before .before .before .before .before .before .args in
     rw (lt-ltb (a .m .0) (a .f .dense) (omega arith)) (omega (arith, c .before .before .before .label-rank .ensures, c .before .before .child-rank .ensures, c .exact-rank .ensures))
 
-dense-before-requires : tie.Need-dense-before-requires
-dense-before-requires c κs = search needs
+sub-t13 : tie.Need-sub-t13
+sub-t13 c =
+    let a = c .before .before .before .before .before .args in
+    omega (arith, dense-totals (a .image .now) (a .f) (c .before .before .before .before .before .pre .0) .1)
 
 entry-rank-requires : tie.Need-entry-rank-requires
 entry-rank-requires c κs =
     (c .before .before .before .before .before .pre .0, c .before .before .before .before .before .pre .1 .sparse (omega arith))
 
-sub-t16 : tie.Need-sub-t16
-sub-t16 c =
+sub-t15 : tie.Need-sub-t15
+sub-t15 c =
     let a = c .before .before .before .before .before .before .before .args in
     omega (arith, c .before .entry-rank .ensures, rank-le (drop (a .f .sc) (a .image .now)) (a .at .0))
 
-add-t17 : tie.Need-add-t17
-add-t17 c =
-    let a = c .before .before .before .before .before .before .before .before .args in
-    let t = c .before .before .before .before .before .before .before .before .pre .0 .writable in
-    omega (arith, c .before .before .before .dense-before .ensures .1, leaves-all (nodes (a .image .now) (a .f)) (a .f .dense), t .leaf-total, t .few, c .before .before .before .before .before .before .before .before .pre .1 .sparse (omega arith), t .few-entries, c .before .before .before .before .before .before .before .before .pre .0 .entry-size)
+add-t16 : tie.Need-add-t16
+add-t16 c =
+    let a = c .before .before .before .before .before .before .before .args in
+    let p = c .before .before .before .before .before .before .before .pre in
+    let t = p .0 .writable in
+    omega (arith, dense-totals (a .image .now) (a .f) (p .0) .1, leaves-all (nodes (a .image .now) (a .f)) (a .f .dense), t .leaf-total, t .few, p .1 .sparse (omega arith), t .few-entries, p .0 .entry-size)
 
 returns-2 : tie.Need-returns-2
 unfolding slot-at
 returns-2 c =
-    let a = c .before .before .before .before .before .before .before .before .args in
-    rw (le-ltb (a .m .0) (a .f .dense) (omega arith)) (omega (arith, c .before .before .before .dense-before .ensures .1, c .before .before .entry-rank .ensures, dense-leaves (a .image .now) (a .f) (c .before .before .before .before .before .before .before .before .pre .0)))
+    let a = c .before .before .before .before .before .before .before .args in
+    let p = c .before .before .before .before .before .before .before .pre .0 in
+    rw (le-ltb (a .m .0) (a .f .dense) (omega arith)) (omega (arith, dense-totals (a .image .now) (a .f) p .1, c .before .entry-rank .ensures, dense-leaves (a .image .now) (a .f) p))
 
 pub slot-spec : {M : Type 1} → statement M
 slot-spec =
@@ -69,13 +73,13 @@ slot-spec =
     (tie.spec
     label-rank-requires
     child-rank-requires
-    sub-t9
-    add-t11
+    sub-t8
+    add-t10
     exact-rank-requires
-    add-t13
+    add-t12
     returns
-    dense-before-requires
+    sub-t13
     entry-rank-requires
-    sub-t16
-    add-t17
+    sub-t15
+    add-t16
     returns-2)
