@@ -1,4 +1,4 @@
-//! The calls of the proved library, made by `rt staticlib filter`, as safe functions.
+//! The calls of the proved library, made by `rt staticlib range_filter`, as safe functions.
 
 use crate::build::Answer;
 

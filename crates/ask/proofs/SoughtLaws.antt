@@ -5,8 +5,8 @@ use mathlib.Core.List.{List, []}
 use Rattle.spec.specs.Bytes.{Bytes}
 use Rattle.spec.specs.Leaves.{Leaf}
 use Rattle.spec.specs.Questions.{QS, seek, reply}
-use Rattle.question_laws.specs.ReplyLaws.{answer, seek-reply-found, seek-reply-none}
-use Rattle.query.specs.Sought.{sought-of}
+use Rattle.ask_laws.specs.ReplyLaws.{answer, seek-reply-found, seek-reply-none}
+use Rattle.query_laws.specs.Sought.{sought-of}
 
 module _ (ls : List Leaf) (start : Bytes) (some number : ℕ) (key : Bytes) (e : sought-of some number key ≡ seek ls start) where
   -- none: FFFFFFFF without a key

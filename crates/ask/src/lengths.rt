@@ -5,17 +5,17 @@ ghost use lib.ListN.{length};
 ghost use lib.Dec.{leb};
 ghost use Rattle.spec.specs.Nodes.{read-leaves};
 ghost use Rattle.spec.specs.Questions.{reply, questions-of};
-ghost use Rattle.navigate.specs.Accepted.{Accepted};
-ghost use Rattle.query.specs.Summed.{level-starts};
-ghost use Rattle.question_laws.specs.FileLaws.{Taken-from};
-ghost use Rattle.questions.specs.Questions.{Inside, question-of};
+ghost use Rattle.nav_laws.specs.Accepted.{Accepted};
+ghost use Rattle.query_laws.specs.Summed.{level-starts};
+ghost use Rattle.ask_laws.specs.FileLaws.{Taken-from};
+ghost use Rattle.ask_files.specs.Questions.{Inside, question-of};
 ghost use Rattle.ask.specs.Outcomes.{file-replies};
 use super::replies::seek_reply;
-use frame::Frame;
-use query::levels::level_starts;
-use questions::file::QuestionAt;
-use questions::file::key_at;
-use questions::file::question_at;
+use ask_files::file::QuestionAt;
+use ask_files::file::key_at;
+use ask_files::file::question_at;
+use image_types::Frame;
+use query_count::levels::level_starts;
 
 // The length of the key in the reply to a question. Only a seek's reply has one, so no other question is answered for it. `starts` is the sum of slot numbers for the empty key.
 fn key_length(image: &[u8], f: Frame, starts: usize, file: &[u8], question: QuestionAt) -> usize

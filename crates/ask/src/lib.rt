@@ -2,14 +2,14 @@
 ghost use mathlib.Core.Path.{_≡_};
 ghost use Rattle.spec.specs.Check.{verdict};
 ghost use Rattle.spec.specs.Ask.{ask};
-ghost use Rattle.frame.specs.FrameOf.{FrameOf};
+ghost use Rattle.image_types.specs.FrameOf.{FrameOf};
 ghost use Rattle.ask.specs.Outcomes.{outcome};
-use accept::Accepted;
-use accept::accept;
-use frame::Frame;
+use ask_files::file::Judged;
+use ask_files::file::judge_file;
+use check_image::Accepted;
+use check_image::accept;
+use image_types::Frame;
 use lengths::replies_fit;
-use questions::file::Judged;
-use questions::file::judge_file;
 use replies::write_replies;
 
 pub mod lengths; // lengths.rt: whether all replies fit into the buffer

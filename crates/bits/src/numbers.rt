@@ -3,7 +3,7 @@ ghost use mathlib.Core.Path.{_≡_};
 ghost use Prim.Native.Nat.{_+_, _*_, _≤_, _<_, min};
 ghost use lib.ListN.{length, drop};
 ghost use Rattle.spec.specs.Bytes.{from32, le32};
-ghost use Rattle.bits.specs.Bits.{word, placed};
+ghost use Rattle.bits_laws.specs.Bits.{word, placed};
 
 // A byte as a usize.
 pub fn wide(x: u8) -> usize

@@ -2,7 +2,7 @@
 ghost use mathlib.Core.Path.{_≡_};
 ghost use Prim.Native.Nat.{_+_, _*_, _≤_, _<_};
 ghost use lib.ListN.{length};
-ghost use Rattle.bits.specs.Bits.{bit-at, rank, with-bit};
+ghost use Rattle.bits_laws.specs.Bits.{bit-at, rank, with-bit};
 use super::numbers::read_word;
 use super::numbers::wide;
 

@@ -3,7 +3,7 @@ ghost use mathlib.Core.Path.{_≡_};
 ghost use Prim.Native.Nat.{_+_, _*_, _%_, _^_, _≤_, _<_};
 ghost use lib.ListN.{length};
 ghost use lib.Count.{ones};
-ghost use Rattle.bits.specs.Bits.{rank, select};
+ghost use Rattle.bits_laws.specs.Bits.{rank, select};
 use super::numbers::read_word;
 use super::numbers::smaller;
 use super::ones::ones_before;

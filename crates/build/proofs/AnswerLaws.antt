@@ -15,10 +15,10 @@ use Rattle.spec.specs.Build.{build, in-range}
 use Rattle.theory.specs.KeyFiles.{keys-exactly}
 use Rattle.theory.specs.Words.{Is-bytes}
 use Rattle.theory.specs.BuildLaws.{build-is, build-writes, in-range-exactly}
-use Rattle.keys.specs.Keys.{judgement}
-use Rattle.keys.specs.declared.list.Judged.the-variants.{Keys, Refused as List-refused}
-use Rattle.keys.proofs.ListedLaws.{listed, keys-of-is, judged-keys, judged-refused}
-use Rattle.records.specs.Records.{settings}
+use Rattle.build_list.specs.Judged.{judgement}
+use Rattle.build_list.specs.declared.judge.Judged.the-variants.{Keys, Refused as List-refused}
+use Rattle.build_list.proofs.ListedLaws.{listed, keys-of-is, judged-keys, judged-refused}
+use Rattle.image_types.specs.Header.{settings}
 use Rattle.build.specs.declared.Built.the-variants.{Refused}
 use Rattle.build.specs.Build.{outcome, Ready}
 

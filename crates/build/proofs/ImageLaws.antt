@@ -10,18 +10,20 @@ use Rattle.spec.specs.Leaves.{leaves}
 use Rattle.spec.specs.Image.{Settings, Bodies, marked, header, image}
 use Rattle.spec.specs.Answer.{write, refuse, success}
 use Rattle.theory.specs.OutcomeLaws.{write-fits, write-short}
-use Rattle.bits.specs.Bits.{placed, rank}
+use Rattle.bits_laws.specs.Bits.{placed, rank}
 use Rattle.build_laws.specs.Cursors.{sums}
 use Rattle.build_laws.specs.Counters.{entry-counts, node-counts}
 use Rattle.build_laws.specs.Lengths.{length-DL, length-DC, length-DP, length-SL, length-SC, length-SB, length-SV, length-RL, length-RC, length-RP, length-RS, length-TS}
 use Rattle.build_laws.specs.ImageRecords.{records-of, image-written, length-image}
-use Rattle.records.specs.declared.frame.Counts.{Counts}
-use Rattle.records.specs.Records.{settings, rank-entries, sample-entries}
-use Rattle.bits.specs.Placing.{placed-behind, length-placed}
-use Rattle.fill_laws.specs.TableBodies.{RL-entries, RC-entries, RP-entries, RS-entries, SB-rank, TS-entries}
+use Rattle.image_types.specs.declared.Counts.{Counts}
+use Rattle.image_types.specs.Header.{settings}
+use Rattle.rank_tables_laws.specs.Entries.{rank-entries, sample-entries}
+use Rattle.bits_laws.specs.Placing.{placed-behind, length-placed}
+use Rattle.build_laws.specs.TableBodies.{RL-entries, RC-entries, RP-entries, RS-entries, SB-rank, TS-entries}
 use Rattle.build.specs.declared.image.Layout.{Layout}
 use Rattle.build.specs.declared.Built.the-variants.{Bytes as Written-bytes, Refused}
-use Rattle.build.specs.Build.{outcome, Ready, Counted, Laid, part, list-bodies, list-header, dense-records, sparse-records, slot-record, rank-records, table-records, body-records}
+use Rattle.build.specs.Build.{outcome, Ready, Counted, Laid, list-bodies, list-header, dense-records, sparse-records, slot-record, rank-records, table-records, body-records}
+use Rattle.bits_laws.specs.Bits.{part}
 use Rattle.build.proofs.RecordLaws.{length-marked, three-placed, part-kept, part-placed, part-part, part-middle, first-body, second-body, third-body}
 
 -- a part before what was placed is kept

@@ -8,11 +8,11 @@ use lib.ListN.{length, getD, take, drop, length-append, length-drop}
 use lib.Seq.{take-all, take-at, take-take, take-add, drop-at, drop-drop, length-take-le}
 use Rattle.spec.specs.Bytes.{Bytes, le32}
 use Rattle.spec.specs.Image.{marked}
-use Rattle.bits.specs.Bits.{placed}
-use Rattle.records.specs.Records.{mark-bytes}
-use Rattle.bits.specs.Placing.{length-placed, placed-behind}
-use Rattle.records.proofs.Placed.{take-placed, lent-placed, length-le32}
-use Rattle.build.specs.Build.{part}
+use Rattle.bits_laws.specs.Bits.{placed}
+use Rattle.image_types.specs.Header.{mark-bytes}
+use Rattle.bits_laws.specs.Placing.{length-placed, placed-behind}
+use Rattle.bits_laws.specs.Placing.{take-placed, lent-placed, length-le32}
+use Rattle.bits_laws.specs.Bits.{part}
 
 -- a mark and a length
 abbrev pub front : ℕ → ℕ → ℕ → Bytes

@@ -8,13 +8,13 @@ use Rattle.spec.specs.Keys.{keys-of}
 use Rattle.spec.specs.Image.{Bodies, marked}
 use Rattle.spec.specs.Answer.{Answer, written, refused, Outcome}
 use Rattle.theory.specs.BuildLaws.{Built-from}
-use Rattle.keys.specs.Keys.{Records}
+use Rattle.build_laws.specs.Listed.{Records}
 use Rattle.build_laws.specs.Cursors.{sums}
 use Rattle.build_laws.specs.Counters.{entry-counts, node-counts}
 use Rattle.build_laws.specs.KeyBits.{key-bodies}
 use Rattle.build_laws.specs.ImageRecords.{key-header}
-use Rattle.records.specs.declared.frame.Counts.{Counts}
-use Rattle.records.specs.Records.{settings}
+use Rattle.image_types.specs.declared.Counts.{Counts}
+use Rattle.image_types.specs.Header.{settings}
 use Rattle.build.specs.declared.Built.{Built}
 use Rattle.build.specs.declared.Built.the-variants.{Bytes as Written-bytes, Refused}
 use Rattle.build.specs.declared.image.Layout.{Layout}
@@ -66,10 +66,6 @@ pub record Laid (c : Counts) (width : ℕ) (l : Layout) : Type 0 where
   pub ranks : l .ranks ≡ l .slots + 6 + blocks 8 (c .leaves * width)
   pub tables : l .tables ≡ l .ranks + 18 + 32 * c .dense + 4 * blocks 64 (c .dense)
   pub end : l .end ≡ l .tables + 12 + 4 * blocks 512 (c .entries) + 4 * blocks 64 (c .sparse)
-
--- m bytes of s from `from`
-abbrev pub part : Bytes → ℕ → ℕ → Bytes
-part s from m = take m (drop from s)
 
 -- ---- groups of records
 

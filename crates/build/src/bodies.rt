@@ -5,17 +5,17 @@ ghost use Prim.Native.Nat.{_+_, _≤_};
 ghost use lib.ListN.{length, getD, drop};
 ghost use Rattle.spec.specs.Keys.{keys-of};
 ghost use Rattle.spec.specs.Image.{marked};
-ghost use Rattle.bits.specs.Bits.{placed};
-ghost use Rattle.fill_laws.specs.BodyChoice.{body-of, counters-of, levels-of};
+ghost use Rattle.bits_laws.specs.Bits.{placed};
+ghost use Rattle.build_laws.specs.BodyChoice.{body-of, counters-of, levels-of};
 ghost use Rattle.build.specs.Build.{Ready, list-bodies};
 use super::Settings;
-use passes::Body;
-use passes::Kind;
-use passes::Levels;
-use passes::fill::write_keys;
-use passes::starts::start_levels;
-use records::frame::begin_record;
-use records::frame::clear;
+use build_laws::Body;
+use build_laws::Kind;
+use build_laws::Levels;
+use build_passes::fill::write_keys;
+use build_passes::starts::start_levels;
+use image_records::header::begin_record;
+use image_records::header::clear;
 
 // The levels that a body's pass goes over.
 fn levels_of(body: Body, dense: usize) -> Levels

@@ -8,21 +8,22 @@ ghost use Rattle.spec.specs.Keys.{keys-of};
 ghost use Rattle.spec.specs.Leaves.{leaves};
 ghost use Rattle.spec.specs.Image.{image};
 ghost use Rattle.spec.specs.Answer.{write};
-ghost use Rattle.bits.specs.Bits.{placed};
+ghost use Rattle.bits_laws.specs.Bits.{placed};
 ghost use Rattle.build_laws.specs.Counters.{entry-counts, node-counts, leaf-counts};
-ghost use Rattle.records.specs.Records.{settings};
-ghost use Rattle.build.specs.Build.{outcome, Ready, Counted, Few, Laid, part, list-bodies, list-header, dense-records, sparse-records, rank-records, table-records, body-records};
+ghost use Rattle.image_types.specs.Header.{settings};
+ghost use Rattle.build.specs.Build.{outcome, Ready, Counted, Few, Laid, list-bodies, list-header, dense-records, sparse-records, rank-records, table-records, body-records};
+ghost use Rattle.bits_laws.specs.Bits.{part};
 use super::Built;
 use super::Settings;
 use super::bodies::write_body;
 use super::tables::write_ranks;
 use super::tables::write_samples;
-use passes::Body;
-use passes::Kind;
-use passes::count::count_levels;
-use passes::starts::total;
-use records::frame::Counts;
-use records::frame::write_header;
+use build_laws::Body;
+use build_laws::Kind;
+use build_passes::count::count_levels;
+use build_passes::starts::total;
+use image_records::header::write_header;
+use image_types::Counts;
 
 // Where the groups of records start, and where the image ends.
 pub struct Layout {

@@ -1,11 +1,11 @@
 // The public call build: a key list, settings and an output give the answer, and the image in the output.
 ghost use mathlib.Core.Path.{_≡_};
 ghost use Rattle.spec.specs.Build.{build};
-ghost use Rattle.records.specs.Records.{settings};
+ghost use Rattle.image_types.specs.Header.{settings};
 ghost use Rattle.build.specs.Build.{outcome};
+use build_list::judge::Judged;
+use build_list::judge::judge_list;
 use image::build_image;
-use keys::list::Judged;
-use keys::list::judge_list;
 
 pub mod bodies; // bodies.rt: a record with a body that is filled from the keys
 pub mod tables; // tables.rt: a record with a table that is counted in a finished body

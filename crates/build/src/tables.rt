@@ -4,12 +4,12 @@ ghost use Prim.Native.Nat.{ℕ, _+_, _*_, _≤_, _<_};
 ghost use lib.ListN.{length, getD};
 ghost use Rattle.spec.specs.Bytes.{blocks};
 ghost use Rattle.spec.specs.Image.{marked};
-ghost use Rattle.bits.specs.Bits.{placed, rank};
-ghost use Rattle.records.specs.Records.{rank-entries, sample-entries};
-ghost use Rattle.build.specs.Build.{part};
-use records::frame::begin_record;
-use records::ranks::fill_ranks;
-use records::samples::fill_samples;
+ghost use Rattle.bits_laws.specs.Bits.{placed, rank};
+ghost use Rattle.rank_tables_laws.specs.Entries.{rank-entries, sample-entries};
+ghost use Rattle.bits_laws.specs.Bits.{part};
+use image_records::header::begin_record;
+use rank_tables::rank_write::fill_ranks;
+use rank_tables::sample_write::fill_samples;
 
 // The record of n ranks of the body of m bytes from `from`, for blocks of so many words, goes to out from `at`, and all else stays.
 pub fn write_ranks(

@@ -1,0 +1,39 @@
+// The types that the laws of the builder speak of: a key of the list with its neighbours, an entry, the bodies that a pass fills, and a range of levels. No function is declared here.
+
+// A key of the list: where its bytes start and how many there are, the first level on which it starts a node, and the length of the prefix that it shares with the key behind.
+pub struct Key {
+    pub at: usize,
+    pub len: usize,
+    pub first: usize,
+    pub next: usize,
+}
+
+// An entry of the trie: whether it starts its node, whether it is the exact leaf that its node is, whether it continues, and its label.
+pub struct Entry {
+    pub start: bool,
+    pub exact: bool,
+    pub child: bool,
+    pub label: u8,
+}
+
+// The bodies that have something of every entry.
+pub enum Kind {
+    DL,
+    DC,
+    DP,
+    SL,
+    SC,
+    SB,
+}
+
+// The bodies that are filled from the keys: of entries, or of suffix slots.
+pub enum Body {
+    Entries(Kind),
+    Slots,
+}
+
+// The levels from lo to below hi.
+pub struct Levels {
+    pub lo: usize,
+    pub hi: usize,
+}

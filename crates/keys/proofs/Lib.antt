@@ -1,5 +1,2 @@
 pub mod PrefixLaws
 pub mod OrderLaws
-pub mod RecordLaws
-pub mod ListLaws
-pub mod ListedLaws

@@ -10,7 +10,7 @@ use lib.ListN.{length, getD, take, drop, length-drop}
 use lib.Seq.{drop-cons}
 use Rattle.spec.specs.Bytes.{Bytes, shared, equal}
 use Rattle.spec.specs.Keys.{below}
-use Rattle.keys.specs.Keys.{order}
+use Rattle.keys.specs.Order.{order}
 use Rattle.keys.specs.declared.compare.Order.the-variants.{Below, Equal, Above}
 use Rattle.keys.proofs.PrefixLaws.{shared-add, shared-same}
 

@@ -13,8 +13,8 @@ use lib.Pow.{high, low, field, mod-mod-pow, mod-pow-add}
 use lib.Bits.{bitXor, xor-mod, xor-add-and, and-le-l, and-le-r}
 use lib.Count.{trailingZeros, under}
 use Rattle.spec.specs.Bytes.{Bytes, shared}
-use Rattle.bits.specs.Bits.{value, word}
-use Rattle.bits.proofs.ValueLaws.{Small, small-drop}
+use Rattle.bits_laws.specs.Bits.{value, word}
+use Rattle.bits_laws.specs.ValueLaws.{Small, small-drop}
 
 -- ---- bytes
 

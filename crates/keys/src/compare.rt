@@ -3,7 +3,7 @@ ghost use mathlib.Core.Path.{_≡_};
 ghost use Prim.Native.Nat.{min, _*_, _≤_, _^_, _%_};
 ghost use lib.ListN.{length, take};
 ghost use Rattle.spec.specs.Bytes.{shared};
-ghost use Rattle.keys.specs.Keys.{order};
+ghost use Rattle.keys.specs.Order.{order};
 use bits::numbers::read64;
 
 // How a key stands to another.

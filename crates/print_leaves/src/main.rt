@@ -2,5 +2,5 @@
 use libc::STDIN_FILENO;
 
 fn main() {
-    printer::print(STDIN_FILENO);
+    print_pages::print(STDIN_FILENO);
 }

@@ -11,7 +11,7 @@ use Rattle.spec.specs.Bytes.{Bytes, Bits, blocks, begins, equal, filled}
 use Rattle.spec.specs.Keys.{below}
 use Rattle.spec.specs.Leaves.{Leaf, highest, lowest, trimmed}
 use Rattle.theory.specs.Order.{below-asym, equal-order}
-use Rattle.query_laws.specs.Counting.{counts}
+use Rattle.nav_laws.specs.Counting.{counts}
 
 -- an open leaf's highest key behind its cut key of c bytes
 unfoldable pub high-rest : ℕ → Bits → Bytes

@@ -9,11 +9,11 @@ use lib.Seq.{take-nil, take-all}
 use Rattle.spec.specs.Bytes.{Bytes, bit}
 use Rattle.spec.specs.Nodes.{Node, branches-of, total, children-of}
 use Rattle.spec.specs.Trie.{leaf-count}
-use Rattle.query_laws.specs.Counting.{labels-below}
-use Rattle.query_laws.specs.Slots.{node-at, leaves-before, slot-number}
-use Rattle.query_laws.specs.Descent.{children-before, child-number, goes-on, leaves-between, leaves-below}
-use Rattle.query_laws.specs.LabelMaps.{matches}
-use Rattle.query_laws.specs.Root.{children-up, leaves-up, child-range, slot-range}
+use Rattle.nav_laws.specs.Counting.{labels-below}
+use Rattle.nav_laws.specs.Slots.{node-at, leaves-before, slot-number}
+use Rattle.nav_laws.specs.Descent.{children-before, child-number, goes-on, leaves-between, leaves-below}
+use Rattle.nav_laws.specs.LabelMaps.{matches}
+use Rattle.nav_laws.specs.NumberBounds.{children-up, leaves-up, child-range, slot-range}
 use Rattle.query_laws.specs.Steps.{says}
 
 -- the leaves before node m of a level, and before the first node behind it on each of the levels below; l levels left

@@ -8,11 +8,12 @@ use lib.ListN.{length, drop}
 use Rattle.spec.specs.Bytes.{Bytes, bit}
 use Rattle.spec.specs.Nodes.{Branch, Node, branches-of, is-exact}
 use Rattle.spec.specs.Trie.{leaf-count}
-use Rattle.query_laws.specs.Counting.{labels-below}
-use Rattle.query_laws.specs.Slots.{node-at, slot-number}
-use Rattle.query_laws.specs.Descent.{child-number, goes-on, ends-at, Stop, miss, at-exact, at-open, descend, leaves-below}
-use Rattle.query_laws.specs.LabelMaps.{matches, matches-is}
-use Rattle.query_laws.specs.Root.{branch-leaves-in, below-empty, descend-empty}
+use Rattle.nav_laws.specs.Counting.{labels-below}
+use Rattle.nav_laws.specs.Slots.{node-at, slot-number}
+use Rattle.nav_laws.specs.Descent.{child-number, goes-on, ends-at, Stop, miss, at-exact, at-open, descend, leaves-below}
+use Rattle.nav_laws.specs.LabelMaps.{matches, matches-is}
+use Rattle.nav_laws.specs.NumberBounds.{branch-leaves-in}
+use Rattle.query_laws.specs.Root.{below-empty, descend-empty}
 
 -- a stop by number: nowhere, an exact leaf, an open one with its slot number and the rest of the key
 abbrev pub stop-of : ℕ → ℕ → Bytes → Stop

@@ -16,9 +16,9 @@ use Rattle.spec.specs.Keys.{below}
 use Rattle.spec.specs.Leaves.{trimmed}
 use Rattle.spec.specs.Nodes.{Node}
 use Rattle.spec.specs.Trie.{leaf-count}
-use Rattle.bits.specs.Bits.{bit-at}
-use Rattle.query_laws.specs.Slots.{slot-of}
-use Rattle.query_laws.specs.Stored.{Starts, bits-at, bits-room}
+use Rattle.bits_laws.specs.Bits.{bit-at}
+use Rattle.nav_laws.specs.Slots.{slot-of}
+use Rattle.nav_laws.specs.Stored.{Starts, bits-at, bits-room}
 use Rattle.query_laws.specs.Bounds.{high-rest, low-rest, high-passed, low-reached}
 use Rattle.theory.specs.Words.{All}
 use Rattle.theory.specs.NodeBits.{Slots-width, slots, length-sv}

@@ -29,7 +29,7 @@ use denote.Triple.Spec.{tripleOf}
 use denote.Triple.Walked.{says}
 use denote.Triple.Clauses.{ensured, lasts}
 use Rattle.spec.specs.Walk.{open-walk}
-use Rattle.leaf.specs.Value.{Sized}
+use Rattle.image_types.specs.Value.{Sized}
 use Rattle.walk.specs.Walks.{stand-of, Walks, Moved}
 use Rattle.walk.specs.declared.states.Standing.{Standing}
 use Rattle.walk.specs.declared.walker.Walker.{Walker}

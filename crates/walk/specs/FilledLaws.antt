@@ -14,10 +14,10 @@ use Rattle.spec.specs.Nodes.{read-leaves}
 use Rattle.spec.specs.Answer.{Outcome, written, refuse, success}
 use Rattle.spec.specs.Walk.{Stand, refused, leaf, done, stand-at, open-walk}
 use Rattle.theory.specs.AskLaws.{walk-right}
-use Rattle.leaf.specs.declared.Leaf.{Leaf as Value}
-use Rattle.leaf.specs.Value.{leaf-of, Sized}
-use Rattle.bits.specs.Bits.{placed}
-use Rattle.bits.specs.Placing.{length-placed, placed-behind}
+use Rattle.image_types.specs.declared.Leaf.{Leaf as Value}
+use Rattle.image_types.specs.Value.{leaf-of, Sized}
+use Rattle.bits_laws.specs.Bits.{placed}
+use Rattle.bits_laws.specs.Placing.{length-placed, placed-behind}
 use Rattle.walk.specs.Record.{leaf-record, leaf-records, records-from, written-by, walk-records, outcome, Filled}
 use Rattle.walk.specs.declared.record.Walked.the-variants.{Written, Refused}
 

@@ -10,7 +10,7 @@ use Rattle.spec.specs.Nodes.{read-leaves}
 use Rattle.spec.specs.Answer.{Outcome, refuse, success}
 use Rattle.spec.specs.Answer as Spec
 use Rattle.spec.specs.Walk.{Stand, refused, leaf, done, open-walk}
-use Rattle.bits.specs.Bits.{placed}
+use Rattle.bits_laws.specs.Bits.{placed}
 use Rattle.walk.specs.declared.record.Walked.{Walked}
 use Rattle.walk.specs.declared.record.Walked.the-variants.{Written, Refused}
 

@@ -12,8 +12,8 @@ use lib.Pow.{pow-pos, pow-mono, mod-pow-add}
 use lib.Seq.{paste, length-take-le, drop-at, drop-drop}
 use borrow.Author.Tests.{eqb-true, eqb-false}
 use Rattle.spec.specs.Bytes.{Bytes, bit, low-first, low-bits}
-use Rattle.leaf.specs.declared.Leaf.{Leaf as Value}
-use Rattle.leaf.specs.Value.{leaf-of}
+use Rattle.image_types.specs.declared.Leaf.{Leaf as Value}
+use Rattle.image_types.specs.Value.{leaf-of}
 use Rattle.walk.specs.Record.{kind-byte, le16, leaf-record}
 
 -- the last bit

@@ -11,14 +11,14 @@ use Rattle.spec.specs.Check.{verdict}
 use Rattle.spec.specs.Leaves.{Leaf}
 use Rattle.spec.specs.Nodes.{read-leaves}
 use Rattle.spec.specs.Walk.{Stand, refused, leaf, done, open-walk}
-use Rattle.frame.specs.declared.Frame.{Frame}
-use Rattle.frame.specs.FrameOf.{FrameOf}
-use Rattle.navigate.specs.Accepted.{Accepted}
-use Rattle.navigate.specs.FromCheck.{checked-accepted}
-use Rattle.query.specs.Answers.{all-small}
-use Rattle.cursor.specs.declared.Cursor.{Cursor}
-use Rattle.cursor.specs.Stands.{Stands}
-use Rattle.cursor.specs.Places.{leaf-total}
+use Rattle.image_types.specs.declared.Frame.{Frame}
+use Rattle.image_types.specs.FrameOf.{FrameOf}
+use Rattle.nav_laws.specs.Accepted.{Accepted}
+use Rattle.nav_laws.specs.FromCheck.{checked-accepted}
+use Rattle.query_laws.specs.Answers.{all-small}
+use Rattle.walk_cursor.specs.declared.Cursor.{Cursor}
+use Rattle.walk_cursor.specs.Stands.{Stands}
+use Rattle.walk_cursor.specs.Places.{leaf-total}
 use Rattle.walk.specs.declared.states.State.{State}
 use Rattle.walk.specs.Walks.{stand-as, At-place, Walks, Moved}
 use Rattle.walk.specs.WalkLaws.{check-refuses, place-refused, at-leaf, at-done, next-leaf, next-stays, next-at, next-refused}

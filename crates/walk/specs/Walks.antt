@@ -7,9 +7,9 @@ use Rattle.spec.specs.Bytes.{Bytes}
 use Rattle.spec.specs.Check.{verdict}
 use Rattle.spec.specs.Leaves.{Leaf}
 use Rattle.spec.specs.Walk.{Stand, refused, leaf, done, open-walk, next-place, next}
-use Rattle.leaf.specs.Value.{leaf-of}
-use Rattle.navigate.specs.Accepted.{Accepted}
-use Rattle.cursor.specs.Stands.{Stands}
+use Rattle.image_types.specs.Value.{leaf-of}
+use Rattle.nav_laws.specs.Accepted.{Accepted}
+use Rattle.walk_cursor.specs.Stands.{Stands}
 use Rattle.walk.specs.declared.states.Standing.{Standing}
 use Rattle.walk.specs.declared.states.State.{State}
 

@@ -7,17 +7,17 @@ ghost use lib.ListN.{length, drop};
 ghost use lib.Seq.{paste};
 ghost use Rattle.spec.specs.Bytes.{low-first, low-bits};
 ghost use Rattle.spec.specs.Nodes.{read-leaves};
-ghost use Rattle.bits.specs.Bits.{placed};
-ghost use Rattle.leaf.specs.Value.{leaf-of, Sized};
-ghost use Rattle.navigate.specs.Accepted.{Accepted};
-ghost use Rattle.cursor.specs.Stands.{Stands};
+ghost use Rattle.bits_laws.specs.Bits.{placed};
+ghost use Rattle.image_types.specs.Value.{leaf-of, Sized};
+ghost use Rattle.nav_laws.specs.Accepted.{Accepted};
+ghost use Rattle.walk_cursor.specs.Stands.{Stands};
 ghost use Rattle.walk.specs.Record.{kind-byte, leaf-record, records-from, walk-records, outcome};
 use super::states::locate;
-use cursor::Cursor;
-use cursor::leaf_at;
-use cursor::step;
-use frame::Frame;
-use leaf::Leaf;
+use image_types::Frame;
+use image_types::Leaf;
+use walk_cursor::Cursor;
+use walk_cursor::leaf_at;
+use walk_cursor::step;
 
 // So many bytes of records written, or a refusal's number.
 pub enum Walked {

@@ -2,19 +2,19 @@
 ghost use mathlib.Core.Path.{_≡_};
 ghost use Prim.Native.Nat.{_≤_};
 ghost use Rattle.spec.specs.Walk.{open-walk};
-ghost use Rattle.leaf.specs.Value.{Sized};
-ghost use Rattle.navigate.specs.Accepted.{Accepted as Accepted-image};
-ghost use Rattle.cursor.specs.Stands.{Stands};
+ghost use Rattle.image_types.specs.Value.{Sized};
+ghost use Rattle.nav_laws.specs.Accepted.{Accepted as Accepted-image};
+ghost use Rattle.walk_cursor.specs.Stands.{Stands};
 ghost use Rattle.walk.specs.Walks.{stand-of, Walks, Moved};
-use accept::Accepted;
-use accept::accept;
-use bits::ValuePos;
-use cursor::Cursor;
-use cursor::first;
-use cursor::leaf_at;
-use cursor::step;
-use frame::Frame;
-use leaf::Leaf;
+use check_image::Accepted;
+use check_image::accept;
+use image_types::Frame;
+use image_types::Leaf;
+use image_types::ValuePos;
+use walk_cursor::Cursor;
+use walk_cursor::first;
+use walk_cursor::leaf_at;
+use walk_cursor::step;
 
 // What a walk says at a place: the number of a refusal; or, where that is 0, done or a leaf.
 pub struct Standing {

@@ -1,7 +1,7 @@
 // A walker holds the image's slice and where it stands; its functions call those of states.rt on the slice. The image is checked once, as the walker is opened.
 ghost use mathlib.Core.Path.{_≡_};
 ghost use Rattle.spec.specs.Walk.{open-walk, next};
-ghost use Rattle.leaf.specs.Value.{Sized};
+ghost use Rattle.image_types.specs.Value.{Sized};
 ghost use Rattle.walk.specs.Walks.{stand-of, Walks, Moved};
 use super::states::Standing;
 use super::states::State;

@@ -5,10 +5,10 @@ use borrow.Author.Needs.{needs}
 use lib.ListN.{length}
 use borrow.Author.Tests.{not-true, not-false, leb-true, leb-false}
 use Rattle.spec.specs.Questions.{questions-of}
-use Rattle.navigate.specs.FromCheck.{checked-accepted}
-use Rattle.query.specs.Answers.{all-small}
-use Rattle.question_laws.specs.AskJoined.{ask-joined}
-use Rattle.questions.proofs.JudgeLaws.{judged-taken, judged-refused}
+use Rattle.nav_laws.specs.FromCheck.{checked-accepted}
+use Rattle.query_laws.specs.Answers.{all-small}
+use Rattle.ask_laws.specs.AskJoined.{ask-joined}
+use Rattle.ask_files.proofs.JudgeLaws.{judged-taken, judged-refused}
 use Rattle.ask.specs.Outcomes.{file-replies}
 use Rattle.ask.proofs.ask_accepted.Statement.{statement}
 use Rattle.ask.proofs.ask_accepted.Tie as tie

@@ -3,7 +3,7 @@ use mathlib.Core.Path.{_∙_}
 use native.Mathlib.Omega.{arith}
 use borrow.Author.Needs.{needs}
 use Rattle.spec.specs.Nodes.{read-leaves}
-use Rattle.questions.proofs.AnswerLaws.{inside-told, reply-told, reply-key, seek-told, keyless-told}
+use Rattle.ask_files.proofs.AnswerLaws.{inside-told, reply-told, reply-key, seek-told, keyless-told}
 use Rattle.ask.proofs.lengths.key_length.Statement.{statement}
 use Rattle.ask.proofs.lengths.key_length.Tie as tie
 

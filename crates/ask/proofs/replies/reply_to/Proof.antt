@@ -2,7 +2,7 @@
 use mathlib.Core.Path.{_∙_}
 use borrow.Author.Needs.{needs}
 use Rattle.spec.specs.Nodes.{read-leaves}
-use Rattle.questions.proofs.AnswerLaws.{inside-told, reply-told, point-told, seek-told, begins-told, range-told, count-told}
+use Rattle.ask_files.proofs.AnswerLaws.{inside-told, reply-told, point-told, seek-told, begins-told, range-told, count-told}
 use Rattle.ask.proofs.replies.reply_to.Statement.{statement}
 use Rattle.ask.proofs.replies.reply_to.Tie as tie
 

@@ -1,8 +1,8 @@
 use Prim.Native.Nat.{_%_, _^_}
 use native.Mathlib.Omega.{arith}
 use lib.Count.{ones-le}
-use Rattle.bits.proofs.ValueLaws.{Small}
-use Rattle.bits.proofs.RankLaws.{rank-word, one-shl}
+use Rattle.bits_laws.specs.ValueLaws.{Small}
+use Rattle.bits_laws.specs.RankLaws.{rank-word, one-shl}
 use native.Mathlib.Nat.{mod-lt}
 use lib.Pow.{pow-pos}
 use borrow.Author.Needs.{needs}

@@ -1,8 +1,8 @@
 use Prim.Native.Nat.{_*_}
 use native.Mathlib.Omega.{arith}
 use lib.Count.{ones-le}
-use Rattle.bits.proofs.ValueLaws.{Small, word-lt}
-use Rattle.bits.proofs.RankLaws.{rank-whole-word}
+use Rattle.bits_laws.specs.ValueLaws.{Small, word-lt}
+use Rattle.bits_laws.specs.RankLaws.{rank-whole-word}
 use borrow.Author.Needs.{needs}
 use Rattle.bits.proofs.ones.ones_word.Statement.{statement}
 use Rattle.bits.proofs.ones.ones_word.Tie as tie

@@ -1,9 +1,9 @@
 use mathlib.Core.Path.{_≡_, ap}
 use Prim.Native.Nat.{_+_, _*_, _-_, _/_, _%_, _≤_}
 use native.Mathlib.Omega.{arith}
-use Rattle.bits.proofs.RankLaws.{rank-le}
+use Rattle.bits_laws.specs.RankLaws.{rank-le}
 use borrow.Author.Needs.{needs}
-use Rattle.bits.specs.Bits.{rank}
+use Rattle.bits_laws.specs.Bits.{rank}
 use Rattle.bits.proofs.ones.rank_from.Statement.{statement}
 use Rattle.bits.proofs.ones.rank_from.Tie as tie
 

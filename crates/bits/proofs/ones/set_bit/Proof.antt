@@ -1,8 +1,8 @@
 use mathlib.Core.Path.{sym}
 use Prim.Native.Nat.{_%_}
-use Rattle.bits.proofs.RankLaws.{one-shl}
+use Rattle.bits_laws.specs.RankLaws.{one-shl}
 use native.Mathlib.Nat.{mod-lt, zero-lt-suc}
-use Rattle.bits.proofs.BitLaws.{with-bit-is}
+use Rattle.bits_laws.specs.BitLaws.{with-bit-is}
 use borrow.Author.Needs.{needs}
 use Rattle.bits.proofs.ones.set_bit.Statement.{statement}
 use Rattle.bits.proofs.ones.set_bit.Tie as tie

@@ -2,11 +2,11 @@ use mathlib.Core.Path.{_≡_, sym, _∙_}
 use Prim.Native.Nat.{_+_, _*_, _/_, _-_, _≤_}
 use native.Mathlib.Omega.{arith}
 use borrow.Author.Needs.{needs}
-use Rattle.bits.specs.Bits.{rank}
-use Rattle.bits.proofs.ValueLaws.{Small}
-use Rattle.bits.proofs.RankLaws.{rank-up}
-use Rattle.bits.proofs.WordLaws.{rank-clear, select-word}
-use Rattle.bits.proofs.SelectLaws.{select-all}
+use Rattle.bits_laws.specs.Bits.{rank}
+use Rattle.bits_laws.specs.ValueLaws.{Small}
+use Rattle.bits_laws.specs.RankLaws.{rank-up}
+use Rattle.bits_laws.specs.WordLaws.{rank-clear, select-word}
+use Rattle.bits_laws.specs.SelectLaws.{select-all}
 use Rattle.bits.proofs.select.next_from.Statement.{statement}
 use Rattle.bits.proofs.select.next_from.Tie as tie
 

@@ -3,11 +3,11 @@ use Prim.Native.Nat.{_+_, _*_, _-_, _/_, _%_, _≤_}
 use native.Mathlib.Omega.{arith}
 use borrow.Author.Needs.{needs}
 use lib.Count.{ones, ones-le}
-use Rattle.bits.specs.Bits.{rank}
-use Rattle.bits.proofs.ValueLaws.{Small}
-use Rattle.bits.proofs.RankLaws.{rank-up, rank-whole-word}
-use Rattle.bits.proofs.SelectLaws.{select-all}
-use Rattle.bits.proofs.WordLaws.{select-word}
+use Rattle.bits_laws.specs.Bits.{rank}
+use Rattle.bits_laws.specs.ValueLaws.{Small}
+use Rattle.bits_laws.specs.RankLaws.{rank-up, rank-whole-word}
+use Rattle.bits_laws.specs.SelectLaws.{select-all}
+use Rattle.bits_laws.specs.WordLaws.{select-word}
 use Rattle.bits.proofs.select.select_from.Statement.{statement}
 use Rattle.bits.proofs.select.select_from.Tie as tie
 

@@ -3,7 +3,7 @@ use Prim.Native.Nat.{ℕ, _+_, _%_, _^_, _-_, _≤_}
 use native.Mathlib.Omega.{arith}
 use borrow.Author.Needs.{needs}
 use lib.Count.{ones}
-use Rattle.bits.proofs.WordLaws.{cleared, some-left}
+use Rattle.bits_laws.specs.WordLaws.{cleared, some-left}
 use Rattle.bits.proofs.select.select_in_word.Statement.{statement}
 use Rattle.bits.proofs.select.select_in_word.Tie as tie
 

@@ -6,7 +6,7 @@ use lib.ListN.{length, drop}
 use borrow.Author.Needs.{needs}
 use Rattle.spec.specs.Bytes.{Bytes}
 use Rattle.theory.specs.Lists.{nil-of}
-use Rattle.fill_laws.specs.BodyChoice.{body-of}
+use Rattle.build_laws.specs.BodyChoice.{body-of}
 use Rattle.build.specs.Build.{list-bodies}
 use Rattle.build.proofs.bodies.fill_body.Statement.{statement}
 use Rattle.build.proofs.bodies.fill_body.Tie as tie

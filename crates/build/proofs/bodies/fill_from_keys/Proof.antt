@@ -9,14 +9,14 @@ use Rattle.build_laws.specs.Cursors.{sums}
 use Rattle.build_laws.specs.PackedBody.{small-of}
 use Rattle.build_laws.specs.BytePass.{byte-state}
 use Rattle.build_laws.specs.Counters.{Cursors-at}
-use Rattle.records.specs.Records.{settings}
-use Rattle.passes.specs.declared.Body.{Body}
-use Rattle.passes.specs.declared.Levels.{Levels}
-use Rattle.passes.specs.List.{Accepted}
-use Rattle.passes.specs.Writes.{write-keys, Keys-room}
-use Rattle.fill_laws.specs.BodyChoice.{body-of, counters-of, levels-of}
-use Rattle.fill_laws.specs.BodyRoom.{counters-few, body-room}
-use Rattle.fill_laws.specs.BodyFilled.{body-filled}
+use Rattle.image_types.specs.Header.{settings}
+use Rattle.build_laws.specs.declared.Body.{Body}
+use Rattle.build_laws.specs.declared.Levels.{Levels}
+use Rattle.build_laws.specs.List.{Accepted}
+use Rattle.build_laws.specs.Writes.{write-keys, Keys-room}
+use Rattle.build_laws.specs.BodyChoice.{body-of, counters-of, levels-of}
+use Rattle.build_laws.specs.BodyRoom.{counters-few, body-room}
+use Rattle.build_laws.specs.BodyFilled.{body-filled}
 use Rattle.build.specs.Build.{Ready, list-bodies}
 use mathlib.Core.List.{List, _++_}
 use Prim.Native.Nat.{ℕ, _≤_}

@@ -1,9 +1,9 @@
 -- Each body in its turn.
 use borrow.Author.Needs.{needs}
-use Rattle.passes.specs.declared.Kind.{Kind}
-use Rattle.passes.specs.declared.Body.{Body}
-use Rattle.passes.specs.declared.Body.the-variants.{Entries}
-use Rattle.fill_laws.specs.BodyChoice.{levels-of}
+use Rattle.build_laws.specs.declared.Kind.{Kind}
+use Rattle.build_laws.specs.declared.Body.{Body}
+use Rattle.build_laws.specs.declared.Body.the-variants.{Entries}
+use Rattle.build_laws.specs.BodyChoice.{levels-of}
 use mathlib.Core.Path.{sym, ap, _∙_}
 use Rattle.build.proofs.bodies.levels_of.Statement.{statement}
 use Rattle.build.proofs.bodies.levels_of.Tie as tie

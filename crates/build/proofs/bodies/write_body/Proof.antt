@@ -1,6 +1,6 @@
 -- The body is filled in the part behind the mark and the length.
 use borrow.Author.Needs.{needs}
-use Rattle.fill_laws.specs.BodyChoice.{body-of}
+use Rattle.build_laws.specs.BodyChoice.{body-of}
 use Rattle.build.specs.Build.{list-bodies}
 use Rattle.build.proofs.RecordLaws.{record-lent}
 use native.Mathlib.Omega.{arith}

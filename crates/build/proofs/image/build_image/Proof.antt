@@ -5,10 +5,10 @@ use Rattle.spec.specs.Keys.{keys-of}
 use Rattle.build_laws.specs.Cursors.{sums}
 use Rattle.build_laws.specs.Counters.{entry-counts, node-counts}
 use Rattle.build_laws.specs.CounterRoom.{counters-room}
-use Rattle.passes.specs.declared.Kind.the-variants.{DL, SL}
-use Rattle.passes.specs.declared.Body.the-variants.{Entries}
-use Rattle.passes.specs.List.{Accepted}
-use Rattle.fill_laws.specs.BodyRoom.{counters-few}
+use Rattle.build_laws.specs.declared.Kind.the-variants.{DL, SL}
+use Rattle.build_laws.specs.declared.Body.the-variants.{Entries}
+use Rattle.build_laws.specs.List.{Accepted}
+use Rattle.build_laws.specs.BodyRoom.{counters-few}
 use Rattle.build.specs.Build.{Ready, Counted, Few}
 use Rattle.build.proofs.ImageLaws.{dense-there, sparse-there, too-long, image-done}
 use mathlib.Core.List.{List}

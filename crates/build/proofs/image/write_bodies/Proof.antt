@@ -1,6 +1,6 @@
 -- The header, then the groups of records, one behind the other.
 use native.Mathlib.Nat.{mul-le-mul}
-use Rattle.bits.specs.Bits.{placed}
+use Rattle.bits_laws.specs.Bits.{placed}
 use Rattle.build.proofs.ImageLaws.{len-SV, header-is, bodies-written}
 use mathlib.Core.Path.{ap, _∙_}
 use Prim.Native.Nat.{ℕ, _*_, _≤_}

@@ -1,10 +1,10 @@
 -- Three tables, each counted in its dense body.
 use borrow.Author.Needs.{needs}
-use Rattle.bits.specs.Bits.{placed}
+use Rattle.bits_laws.specs.Bits.{placed}
 use Rattle.spec.specs.Bytes.{blocks, letter}
 use Rattle.spec.specs.Image.{marked}
-use Rattle.records.specs.Records.{rank-entries}
-use Rattle.build.specs.Build.{part}
+use Rattle.rank_tables_laws.specs.Entries.{rank-entries}
+use Rattle.bits_laws.specs.Bits.{part}
 use Rattle.build.proofs.ImageLaws.{ranks-written}
 use mathlib.Core.Path.{ap, _∙_}
 use Prim.Native.Nat.{ℕ, _+_, _*_}

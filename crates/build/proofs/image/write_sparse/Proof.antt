@@ -1,6 +1,6 @@
 -- Three records, one behind the other.
 use borrow.Author.Needs.{needs}
-use Rattle.bits.specs.Bits.{placed}
+use Rattle.bits_laws.specs.Bits.{placed}
 use Rattle.spec.specs.Bytes.{letter}
 use Rattle.spec.specs.Image.{marked}
 use Rattle.build.specs.Build.{list-bodies}

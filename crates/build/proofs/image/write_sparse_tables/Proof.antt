@@ -1,10 +1,10 @@
 -- The ranks are counted in SC, the samples in SB.
 use borrow.Author.Needs.{needs}
-use Rattle.bits.specs.Bits.{placed, rank}
+use Rattle.bits_laws.specs.Bits.{placed, rank}
 use Rattle.spec.specs.Bytes.{blocks, letter}
 use Rattle.spec.specs.Image.{marked}
-use Rattle.records.specs.Records.{rank-entries, sample-entries}
-use Rattle.build.specs.Build.{part}
+use Rattle.rank_tables_laws.specs.Entries.{rank-entries, sample-entries}
+use Rattle.bits_laws.specs.Bits.{part}
 use Rattle.build.proofs.ImageLaws.{samples-count, tables-written}
 use mathlib.Core.Path.{_≡_, sym, ap, _∙_}
 use mathlib.Core.List.{List}

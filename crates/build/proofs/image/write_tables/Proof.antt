@@ -1,7 +1,8 @@
 -- The dense ranks, then the sparse tables.
 use Rattle.spec.specs.Bytes.{blocks}
-use Rattle.build.specs.Build.{part, list-bodies, rank-records, table-records}
-use Rattle.bits.specs.Placing.{placed-behind}
+use Rattle.bits_laws.specs.Bits.{part}
+use Rattle.build.specs.Build.{list-bodies, rank-records, table-records}
+use Rattle.bits_laws.specs.Placing.{placed-behind}
 use Rattle.build.proofs.RecordLaws.{part-kept}
 use Rattle.build.proofs.ImageLaws.{length-ranks, length-tables}
 use mathlib.Core.Path.{ap, _∙_}

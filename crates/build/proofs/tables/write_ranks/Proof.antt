@@ -1,10 +1,10 @@
 -- The table is placed in the part that starts at the body.
 use borrow.Author.Needs.{needs}
 use borrow.Rule.Slice.PartMut.{midOf}
-use Rattle.bits.specs.Bits.{placed, rank}
-use Rattle.records.specs.Records.{rank-entries}
-use Rattle.records.proofs.Placed.{length-entries}
-use Rattle.build.specs.Build.{part}
+use Rattle.bits_laws.specs.Bits.{placed, rank}
+use Rattle.rank_tables_laws.specs.Entries.{rank-entries}
+use Rattle.rank_tables_laws.specs.Entries.{length-entries}
+use Rattle.bits_laws.specs.Bits.{part}
 use Rattle.build.proofs.RecordLaws.{table-lent, counted-part}
 use mathlib.Core.Path.{sym, ap, _∙_}
 use mathlib.Core.List.{List}

@@ -2,10 +2,10 @@
 use borrow.Author.Needs.{needs}
 use borrow.Rule.Slice.PartMut.{midOf}
 use Rattle.spec.specs.Bytes.{blocks}
-use Rattle.bits.specs.Bits.{placed, rank, select}
-use Rattle.records.specs.Records.{sample-entries}
-use Rattle.records.proofs.Placed.{length-entries}
-use Rattle.build.specs.Build.{part}
+use Rattle.bits_laws.specs.Bits.{placed, rank, select}
+use Rattle.rank_tables_laws.specs.Entries.{sample-entries}
+use Rattle.rank_tables_laws.specs.Entries.{length-entries}
+use Rattle.bits_laws.specs.Bits.{part}
 use Rattle.build.proofs.RecordLaws.{table-lent, counted-part, mid-is}
 use lib.ListN.{length-drop, length}
 use mathlib.Core.Path.{sym, ap, ap₂, _∙_}

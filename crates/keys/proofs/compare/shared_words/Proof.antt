@@ -1,7 +1,7 @@
 use mathlib.Core.Path.{_≡_, refl, sym, ap, _∙_}
 use Prim.Native.Nat.{ℕ, _*_, _-_, _%_, _^_, _≤_}
 use Rattle.keys.proofs.PrefixLaws.{same-word}
-use Rattle.bits.proofs.ValueLaws.{Small}
+use Rattle.bits_laws.specs.ValueLaws.{Small}
 use native.Mathlib.Omega.{arith}
 use borrow.Author.Needs.{needs}
 use lib.ListN.{take}

@@ -3,7 +3,7 @@ use mathlib.Core.Path.{sym}
 use native.Mathlib.Omega.{arith}
 use lib.Pow.{pow-pos}
 use borrow.Author.Needs.{needs}
-use Rattle.bits.proofs.RankLaws.{one-shl}
+use Rattle.bits_laws.specs.RankLaws.{one-shl}
 use Rattle.walk.specs.RecordLaws.{low-number, number-small}
 use Rattle.walk.proofs.record.suffix_number.Statement.{statement}
 use Rattle.walk.proofs.record.suffix_number.Tie as tie

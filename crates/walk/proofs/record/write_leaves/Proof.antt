@@ -6,9 +6,9 @@ use borrow.Author.Tests.{ltb-true, ltb-false}
 use mathlib.Core.Logic.{⊎-elim}
 use lib.ListN.{length, getElem?}
 use Rattle.spec.specs.Nodes.{read-leaves}
-use Rattle.leaf.specs.Value.{leaf-of}
-use Rattle.cursor.specs.Stands.{Stands}
-use Rattle.cursor.specs.Places.{leaf-total}
+use Rattle.image_types.specs.Value.{leaf-of}
+use Rattle.walk_cursor.specs.Stands.{Stands}
+use Rattle.walk_cursor.specs.Places.{leaf-total}
 use Rattle.walk.specs.Record.{Filled}
 use Rattle.walk.specs.FilledLaws.{cut-small, filled-none, filled-length, filled-more, filled-full, filled-done}
 use Rattle.walk.proofs.record.write_leaves.Statement.{statement}

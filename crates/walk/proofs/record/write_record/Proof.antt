@@ -7,8 +7,8 @@ use native.Mathlib.Omega.{arith}
 use borrow.Author.Needs.{needs}
 use lib.ListN.{length, take, drop}
 use lib.Seq.{paste, paste-zero, paste-suc, length-paste, take-all}
-use Rattle.bits.specs.Bits.{placed}
-use Rattle.leaf.specs.Value.{leaf-of}
+use Rattle.bits_laws.specs.Bits.{placed}
+use Rattle.image_types.specs.Value.{leaf-of}
 use Rattle.walk.specs.FilledLaws.{record-length, cut-small}
 use Rattle.walk.proofs.record.write_record.Statement.{statement}
 use Rattle.walk.proofs.record.write_record.Tie as tie

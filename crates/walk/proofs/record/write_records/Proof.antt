@@ -3,7 +3,7 @@ use mathlib.Core.Path.{_≡_, sym, ap, _∙_}
 use native.Mathlib.Omega.{arith}
 use borrow.Author.Needs.{needs}
 use Rattle.spec.specs.Walk.{open-walk}
-use Rattle.cursor.specs.Places.{leaf-total}
+use Rattle.walk_cursor.specs.Places.{leaf-total}
 use Rattle.walk.specs.FilledLaws.{writes-refused, writes-records}
 use Rattle.walk.proofs.record.write_records.Statement.{statement}
 use Rattle.walk.proofs.record.write_records.Tie as tie

@@ -1,9 +1,9 @@
 -- The check's number, 17, or the place that the steps lead to.
 use mathlib.Core.Path.{refl}
 use borrow.Author.Needs.{needs}
-use Rattle.frame.specs.declared.Frame.{Frame}
-use Rattle.accept.specs.Answers.{Accepted-right}
-use Rattle.accept.specs.declared.Accepted.the-variants.{At, Refused}
+use Rattle.image_types.specs.declared.Frame.{Frame}
+use Rattle.check_image.specs.Answers.{Accepted-right}
+use Rattle.check_image.specs.declared.Accepted.the-variants.{At, Refused}
 use Rattle.walk.specs.StateLaws.{opened-unchecked, checked, opened-past, opened-at}
 use Rattle.walk.proofs.states.locate.Statement.{statement}
 use Rattle.walk.proofs.states.locate.Tie as tie

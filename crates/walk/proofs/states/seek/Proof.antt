@@ -2,7 +2,7 @@
 use Prim.Native.Nat.{_-_, _≤_}
 use mathlib.Core.Path.{_≡_}
 use native.Mathlib.Omega.{arith}
-use Rattle.cursor.specs.Stands.{Stands}
+use Rattle.walk_cursor.specs.Stands.{Stands}
 use Rattle.walk.proofs.states.seek.Statement.{statement}
 use Rattle.walk.proofs.states.seek.Tie as tie
 

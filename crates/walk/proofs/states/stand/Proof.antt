@@ -1,7 +1,7 @@
 -- What is said, by the tests of the state.
 use mathlib.Core.Bool.{false}
 use borrow.Author.Needs.{needs}
-use Rattle.leaf.specs.Value.{leaf-of}
+use Rattle.image_types.specs.Value.{leaf-of}
 use Rattle.walk.specs.StateLaws.{says-refused, says-done, can-step, says-leaf}
 use Rattle.walk.proofs.states.stand.Statement.{statement}
 use Rattle.walk.proofs.states.stand.Tie as tie

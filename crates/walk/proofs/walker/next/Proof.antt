@@ -35,7 +35,7 @@ use denote.Exit.{yes}
 use denote.Triple.Clauses.{ensured}
 use Rattle.spec.specs.Walk as Walk
 use Rattle.spec.specs.Walk.{open-walk, next}
-use Rattle.leaf.specs.Value.{Sized}
+use Rattle.image_types.specs.Value.{Sized}
 use Rattle.walk.specs.Walks.{stand-of, Walks}
 use Rattle.walk.specs.declared.states.Standing.{Standing}
 use Rattle.walk.specs.declared.walker.Walker.{Walker}

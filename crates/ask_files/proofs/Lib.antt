@@ -1,0 +1,4 @@
+pub mod PlacedLaws
+pub mod AnswerLaws
+pub mod JudgeLaws
+pub mod StepLaws

@@ -1,0 +1,111 @@
+-- What the answers of this crate's functions say of document 01's question files and replies.
+use Prim.Native.Nat.{ℕ, _+_, _-_, _≤_, _<_}
+use mathlib.Core.Path.{_≡_}
+use mathlib.Core.Bool.{false}
+use mathlib.Core.List.{[], _∷_, _++_}
+use lib.ListN.{length, take, drop}
+use Rattle.spec.specs.Bytes.{Bytes, le32}
+use Rattle.spec.specs.Keys.{below}
+use Rattle.spec.specs.Questions.{Question, QP, QS, QB, QR, QC, bad, got, read-key, two-keys, read-question, Parsed-questions, refused, taken, Reply}
+use Rattle.bits_laws.specs.Bits.{key}
+use Rattle.ask_laws.specs.QuestionAt.{One-key, Two-keys, No-keys}
+use Rattle.ask_laws.specs.AskedAt.{Key-part, Followed}
+use Rattle.ask_laws.specs.ReplyLaws.{answer}
+use Rattle.ask_files.specs.declared.file.Step.{Step}
+use Rattle.ask_files.specs.declared.file.Step.the-variants.{End, Number}
+use Rattle.ask_files.specs.declared.file.Keys.{Keys}
+use Rattle.ask_files.specs.declared.file.Keys.the-variants.{One, Two, Wrong}
+use Rattle.ask_files.specs.declared.file.Judged.{Judged}
+use Rattle.ask_files.specs.declared.file.Judged.the-variants.{Taken, Refused}
+use Rattle.ask_files.specs.declared.file.QuestionAt.{QuestionAt}
+use Rattle.ask_files.specs.declared.file.QuestionAt.the-variants.{Point, Seek, Begins, Range, Count}
+use Rattle.ask_files.specs.declared.file.Asked.{Asked}
+use Rattle.ask_files.specs.declared.reply.Answered.{Answered}
+
+-- the bytes from a to e
+abbrev pub part : Bytes → ℕ → ℕ → Bytes
+part s a e = key s a (e - a)
+
+-- what a step says of the key at `at`
+abbrev pub Reads-key : Bytes → ℕ → Step → Type 0
+Reads-key s at (Number r) = read-key (drop at s) ≡ bad r
+Reads-key s at (End e) = (at < e) × (e ≤ length s) × (read-key (drop at s) ≡ got (part s (at + 1) e) (drop e s))
+
+-- what a step says of the upper bound at m, behind the lower bound from a to m: of every byte string that begins with that lower bound
+abbrev pub Reads-upper : Bytes → ℕ → ℕ → Step → Type 0
+Reads-upper s a m (Number r) = (c : Bytes → Bytes → Question) (t : Bytes) → read-key t ≡ got (part s a m) (drop m s) → two-keys c t ≡ bad r
+Reads-upper s a m (End e) =
+    (m < e) × (e ≤ length s)
+    × ((c : Bytes → Bytes → Question) (t : Bytes) → read-key t ≡ got (part s a m) (drop m s) → two-keys c t ≡ got (c (part s a m) (part s (m + 1) e)) (drop e s))
+
+-- what a step says of the two bounds at `at`
+abbrev pub Reads-bounds : Bytes → ℕ → Step → Type 0
+Reads-bounds s at (Number r) = (c : Bytes → Bytes → Question) → two-keys c (drop at s) ≡ bad r
+Reads-bounds s at (End e) = (lo hi : Bytes) × (at < e) × (e ≤ length s) × ((c : Bytes → Bytes → Question) → two-keys c (drop at s) ≡ got (c lo hi) (drop e s))
+
+-- what the keys asked for say of a letter
+abbrev pub Asks : ℕ → Keys → Type 0
+Asks x One = One-key x
+Asks x Two = Two-keys x
+Asks x Wrong = No-keys x
+
+-- what a step says of the question at `at`
+abbrev pub Reads-question : Bytes → ℕ → Step → Type 0
+Reads-question s at (Number r) = read-question (drop at s) ≡ bad r
+Reads-question s at (End e) = (q : Question) × (at < e) × (e ≤ length s) × (read-question (drop at s) ≡ got q (drop e s))
+
+-- the questions read so far, and what the rest of the file is
+unfoldable pub counted : ℕ → Parsed-questions → Judged
+counted n (refused r) = Refused r
+counted n (taken qs) = Taken (n + length qs)
+
+-- the answer to a file: how many questions it has, or the number that turns it down
+unfoldable pub judgement : Parsed-questions → Judged
+unfolding counted
+judgement p = counted 0 p
+
+-- ---- a question by the offsets of its keys
+
+-- the question
+abbrev pub question-of : Bytes → QuestionAt → Question
+question-of s (Point a n) = QP (key s a n)
+question-of s (Seek a n) = QS (key s a n)
+question-of s (Begins a n) = QB (key s a n)
+question-of s (Range a n b m) = QR (key s a n) (key s b m)
+question-of s (Count a n b m) = QC (key s a n) (key s b m)
+
+-- two bounds, the lower not above the upper
+abbrev pub Bounds : Bytes → ℕ → ℕ → ℕ → ℕ → Type 0
+Bounds s a n b m = Key-part s a n × Key-part s b m × (below (key s b m) (key s a n) ≡ false)
+
+-- its keys stand in the file, with at most 64 bytes each, and bounds are the right way round
+abbrev pub Inside : Bytes → QuestionAt → Type 0
+Inside s (Point a n) = Key-part s a n
+Inside s (Seek a n) = Key-part s a n
+Inside s (Begins a n) = Key-part s a n
+Inside s (Range a n b m) = Bounds s a n b m
+Inside s (Count a n b m) = Bounds s a n b m
+
+-- what reading the question at `at` says
+pub record Located (file : Bytes) (at : ℕ) (r : Asked) : Type 0 where
+  pub inside : Inside file (r .question)
+  pub followed : Followed file at (question-of file (r .question)) (r .next)
+
+-- ---- replies
+
+-- a reply's mark and letter
+abbrev pub reply-mark : ℕ → Bytes
+reply-mark letter = 65 ∷ 78 ∷ letter ∷ []
+
+-- a reply's bytes before a key of n bytes
+abbrev pub reply-head : ℕ → ℕ → ℕ → Bytes
+reply-head letter number n = reply-mark letter ++ le32 number ++ (n ∷ [])
+
+-- a reply by value as document 01's reply
+abbrev pub reply-of : Answered → Reply
+reply-of a = answer (a .letter) (a .number) (take (a .n) (a .key))
+
+-- its key stands in the array
+pub record Sized (a : Answered) : Type 0 where
+  pub small : a .n ≤ 64
+  pub array : length (a .key) ≡ 64

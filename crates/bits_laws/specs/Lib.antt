@@ -1,0 +1,9 @@
+pub mod Bits
+pub mod BitLaws
+pub mod UnpackLaws
+pub mod ValueLaws
+pub mod CoverLaws
+pub mod Placing
+pub mod RankLaws
+pub mod SelectLaws
+pub mod WordLaws

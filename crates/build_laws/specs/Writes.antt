@@ -1,0 +1,137 @@
+-- What the passes that fill bodies do, emission by emission, to the bytes of a body and the cursors of the levels.
+use Prim.Native.Nat.{ℕ, _+_, _*_}
+use mathlib.Core.Bool.{Bool, true, false, not, _&&_}
+use mathlib.Core.List.{List, [], _∷_}
+use lib.ListN.{length, getD, set}
+use lib.Dec.{leb, ltb, eqb}
+use Rattle.spec.specs.Bytes.{Bytes}
+use Rattle.bits_laws.specs.Bits.{with-bit}
+use Rattle.build_laws.specs.LevelItems.{pred}
+use Rattle.build_laws.specs.Emissions.{Emission, emission, key-emissions, emissions}
+use Rattle.build_laws.specs.KeyItems.{continues-at}
+use Rattle.build_laws.specs.BitPass.{Room}
+use Rattle.build_laws.specs.BytePass.{Byte-state, place, one-step, at-cursor}
+use Rattle.build_laws.specs.DenseRows.{Cell, cell, cell-step, cell-ones}
+use Rattle.build_laws.specs.PassEmissions.{leaf-level, key-slot, slot-emissions}
+use Rattle.build_laws.specs.BodyLaws.{bit-at, slot-at}
+use Rattle.build_laws.specs.declared.Entry.{Entry}
+use Rattle.build_laws.specs.declared.Kind.{Kind}
+use Rattle.build_laws.specs.declared.Kind.the-variants.{DL, DC, DP, SL, SC, SB}
+use Rattle.build_laws.specs.declared.Body.{Body}
+use Rattle.build_laws.specs.declared.Body.the-variants.{Entries, Slots}
+
+-- the bits at these positions set, one after the other
+unfoldable pub with-bits : List ℕ → Bytes → Bytes
+unfolding with-bit
+with-bits [] s = s
+with-bits (i ∷ is) s = with-bits is (with-bit s i)
+
+module _ {A : Type 0} (inc : A → ℕ) (ones-at : ℕ → A → List ℕ) where
+  -- an emission sets the bits that its level's cursor and its value give, and moves the cursor on
+  abbrev pub set-at-cursor : Emission A → Byte-state → Byte-state
+  set-at-cursor (emission d x) s = record {
+    bytes = with-bits (ones-at (getD (s .cursors) d 0) x) (s .bytes);
+    cursors = set (s .cursors) d (getD (s .cursors) d 0 + inc x);
+  }
+
+  -- emissions one after the other
+  unfoldable pub set-all : List (Emission A) → Byte-state → Byte-state
+  set-all [] s = s
+  set-all (e ∷ es) s = set-all es (set-at-cursor e s)
+
+-- ---- entries
+
+-- the cell of D-Labels: an entry's label, but for an exact leaf
+abbrev pub label-cell : Entry → Cell
+label-cell e = cell (e .start) (not (e .exact)) (e .label)
+
+-- the cell of D-HasChild: the label of an entry that continues
+abbrev pub child-cell : Entry → Cell
+child-cell e = cell (e .start) (e .child) (e .label)
+
+-- the cell of D-IsPrefixKey: an exact leaf
+abbrev pub exact-cell : Entry → Cell
+exact-cell e = cell (e .start) (e .exact) 0
+
+-- how far an entry moves its level's cursor: by an entry, or by a node
+abbrev pub kind-step : Kind → Entry → ℕ
+kind-step DL e = cell-step (label-cell e)
+kind-step DC e = cell-step (child-cell e)
+kind-step DP e = cell-step (exact-cell e)
+kind-step SL e = 1
+kind-step SC e = 1
+kind-step SB e = 1
+
+-- the positions that an entry sets: bits, and for S-Labels a byte
+abbrev pub kind-ones : Kind → ℕ → Entry → List ℕ
+kind-ones DL c e = cell-ones 256 c (label-cell e)
+kind-ones DC c e = cell-ones 256 c (child-cell e)
+kind-ones DP c e = cell-ones 1 c (exact-cell e)
+kind-ones SL c e = at-cursor c (e .label)
+kind-ones SC c e = bit-at c (e .child)
+kind-ones SB c e = bit-at c (e .start)
+
+-- how many positions n bytes have
+abbrev pub capacity : Kind → ℕ → ℕ
+capacity DL n = 8 * n
+capacity DC n = 8 * n
+capacity DP n = 8 * n
+capacity SL n = n
+capacity SC n = 8 * n
+capacity SB n = 8 * n
+
+-- what an entry does in a body
+abbrev pub write-entry : Kind → Emission Entry → Byte-state → Byte-state
+write-entry DL (emission d e) s = set-at-cursor cell-step (cell-ones 256) (emission d (label-cell e)) s
+write-entry DC (emission d e) s = set-at-cursor cell-step (cell-ones 256) (emission d (child-cell e)) s
+write-entry DP (emission d e) s = set-at-cursor cell-step (cell-ones 1) (emission d (exact-cell e)) s
+write-entry SL (emission d e) s = place (emission d (e .label)) s
+write-entry SC (emission d e) s = set-at-cursor one-step bit-at (emission d (e .child)) s
+write-entry SB (emission d e) s = set-at-cursor one-step bit-at (emission d (e .start)) s
+
+-- entries one after the other
+unfoldable pub write-entries : Kind → List (Emission Entry) → Byte-state → Byte-state
+write-entries kind [] s = s
+write-entries kind (e ∷ es) s = write-entries kind es (write-entry kind e s)
+
+-- the branch of a key k on level d of its cut key; p is the first level on which the key starts a node, q what it shares with the key behind
+abbrev pub entry-at : ℕ → ℕ → Bytes → ℕ → Entry
+entry-at p q k d = record { start = leb p d; exact = false; child = continues-at p q (length k) d; label = getD k d 0 }
+
+-- the exact leaf, the first entry of its node
+abbrev pub exact-entry : Entry
+exact-entry = record { start = true; exact = true; child = false; label = 255 }
+
+-- the key is an exact leaf on one of the levels
+abbrev pub key-exact : ℕ → ℕ → ℕ → ℕ → Bool
+key-exact q n lo hi = eqb q n && (leb lo n && ltb n hi)
+
+-- a key's entries on the levels from lo to below hi
+abbrev pub key-entries : ℕ → ℕ → ℕ → ℕ → Bytes → List (Emission Entry)
+key-entries lo hi p q k = key-emissions lo hi (entry-at p q k) exact-entry (pred p) q (length k)
+
+-- the entries of keys on these levels
+abbrev pub all-entries : ℕ → ℕ → ℕ → List Bytes → List (Emission Entry)
+all-entries lo hi p ks = emissions lo hi entry-at exact-entry p ks
+
+-- ---- bodies
+
+-- what a key does in a body, n the suffix width
+abbrev pub write-key : Body → ℕ → ℕ → ℕ → ℕ → ℕ → Bytes → Byte-state → Byte-state
+write-key (Entries kind) lo hi n p q k s = write-entries kind (key-entries lo hi p q k) s
+write-key Slots lo hi n p q k s = set-at-cursor one-step (slot-at n) (emission (leaf-level (pred p) q (length k)) (key-slot n (pred p) q k)) s
+
+-- what keys do in a body
+abbrev pub write-keys : Body → ℕ → ℕ → ℕ → ℕ → List Bytes → Byte-state → Byte-state
+write-keys (Entries kind) lo hi n p ks s = write-entries kind (all-entries lo hi p ks) s
+write-keys Slots lo hi n p ks s = set-all one-step (slot-at n) (slot-emissions n p ks) s
+
+-- there is room in so many bytes for what a key does
+abbrev pub Key-room : Body → ℕ → ℕ → ℕ → ℕ → ℕ → Bytes → ℕ → List ℕ → Type 0
+Key-room (Entries kind) lo hi n p q k size c = Room (kind-step kind) (kind-ones kind) (capacity kind size) 8600000 (key-entries lo hi p q k) c
+Key-room Slots lo hi n p q k size c = Room one-step (slot-at n) (8 * size) 8600000 (emission (leaf-level (pred p) q (length k)) (key-slot n (pred p) q k) ∷ []) c
+
+-- there is room for what keys do
+abbrev pub Keys-room : Body → ℕ → ℕ → ℕ → ℕ → List Bytes → ℕ → List ℕ → Type 0
+Keys-room (Entries kind) lo hi n p ks size c = Room (kind-step kind) (kind-ones kind) (capacity kind size) 8600000 (all-entries lo hi p ks) c
+Keys-room Slots lo hi n p ks size c = Room one-step (slot-at n) (8 * size) 8600000 (slot-emissions n p ks) c

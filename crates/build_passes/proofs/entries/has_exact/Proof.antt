@@ -1,0 +1,22 @@
+-- By cases of the tests.
+use Rattle.build_laws.specs.KeyLaws.{exact-within, exact-below, exact-not}
+use Rattle.build_passes.proofs.entries.has_exact.Statement.{statement}
+use Rattle.build_passes.proofs.entries.has_exact.Tie as tie
+
+returns : tie.Need-returns
+returns c =
+    let k = c .before .before .before .before .before .before .before .args .k in
+    exact-within (k .next) (k .len) (c .before .before .before .before .before .before .before .args .l .lo) (c .before .before .before .before .before .before .before .args .l .hi) (c .before .before .before .before .before .if1 .taken) (c .before .before .if2 .taken)
+
+returns-2 : tie.Need-returns-2
+returns-2 c =
+    let k = c .before .before .before .before .before .args .k in
+    exact-below (k .next) (k .len) (c .before .before .before .before .before .args .l .lo) (c .before .before .before .before .before .args .l .hi) (c .before .before .before .if1 .taken) (c .if2 .left)
+
+returns-3 : tie.Need-returns-3
+returns-3 c =
+    let k = c .before .before .args .k in
+    exact-not (k .next) (k .len) (c .before .before .args .l .lo) (c .before .before .args .l .hi) (c .if1 .left)
+
+pub has-exact-spec : {M : Type 1} → statement M
+has-exact-spec = tie.close (tie.spec returns returns-2 returns-3)

@@ -1,0 +1,4 @@
+pub mod Located
+pub mod Found
+pub mod Framed
+pub mod Groups

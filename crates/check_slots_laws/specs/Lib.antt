@@ -1,0 +1,15 @@
+pub mod Ranges
+pub mod NodeSlots
+pub mod DenseExact
+pub mod Judged
+pub mod LeavesBefore
+pub mod LevelSlots
+pub mod SparseExact
+pub mod LevelStarts
+pub mod TableEntries
+pub mod DenseSlots
+pub mod SlotBits
+pub mod SlotTests
+pub mod Descent
+pub mod Words
+pub mod SparseWords

@@ -1,0 +1,15 @@
+pub mod Tests
+pub mod LevelEnds
+pub mod Shapes
+pub mod DenseNodes
+pub mod SparseNodes
+pub mod BitTests
+pub mod Climb
+pub mod Positions
+pub mod NodeBranches
+pub mod BodyTests
+pub mod DensePositions
+pub mod EntryPositions
+pub mod MaskLaws
+pub mod WordEntries
+pub mod LaneLaws

@@ -1,5 +1,0 @@
-pub mod Records
-pub mod Framed
-pub mod Located
-pub mod FrameOf
-pub mod Groups

@@ -1,0 +1,4 @@
+pub mod FrameOf
+pub mod Header
+pub mod Records
+pub mod Value

@@ -1,0 +1,62 @@
+-- What an accepted image holds, by its frame: the facts that every function of this crate asks for.
+use Prim.Native.Nat.{ℕ, _+_, _*_, _<_, _≤_}
+use mathlib.Core.Path.{_≡_}
+use mathlib.Core.List.{List, _++_, map}
+use lib.ListN.{length, take, drop}
+use Rattle.spec.specs.Bytes.{Bytes, concat, pack}
+use Rattle.spec.specs.Image.{ranks, samples}
+use Rattle.spec.specs.Leaves.{Leaf}
+use Rattle.spec.specs.Nodes.{Node, is-exact, read-nodes, read-leaves, total, children-of}
+use Rattle.bits_laws.specs.Bits.{rank}
+use Rattle.image_types.specs.declared.Frame.{Frame}
+use Rattle.nav_laws.specs.Stored.{Starts}
+use Rattle.theory.specs.LeafLists.{Realizable, All-well-sized}
+use Rattle.theory.specs.ImageParts.{Writable}
+use Rattle.theory.specs.NodeBits.{sparse-labels, dense-labels, dense-has-child, sparse-has-child, louds, slots}
+use Rattle.theory.specs.LevelTrie.{trie}
+
+-- the dense nodes of an image, by its frame's count
+abbrev pub dense-nodes : Bytes → Frame → List Node
+dense-nodes s f = take (f .dense) (read-nodes s)
+
+-- its sparse nodes
+abbrev pub sparse-nodes : Bytes → Frame → List Node
+sparse-nodes s f = drop (f .dense) (read-nodes s)
+
+-- all its nodes in level order
+abbrev pub nodes : Bytes → Frame → List Node
+nodes s f = dense-nodes s f ++ sparse-nodes s f
+
+-- the body b stands in s from offset `at` on
+abbrev pub Body : Bytes → Bytes → ℕ → Type 0
+Body b s at = (at ≤ length s) × Starts b (drop at s)
+
+-- What the image s with the frame f holds: the bodies are those of the dense nodes ds and the sparse nodes ss, the counts and the totals agree,
+-- nodes are continuing branches plus one, and they are the trie of the leaf list ls.
+pub record Holds (s : Bytes) (f : Frame) (ds ss : List Node) (ls : List Leaf) : Type 0 where
+  pub writable : Writable (f .width) (f .leaves) ds ss
+  pub dense-size : length ds ≡ f .dense
+  pub entry-size : length (concat (map sparse-labels ss)) ≡ f .entries
+  pub sparse-size : length ss ≡ f .sparse
+  pub node-total : 0 < f .dense + f .sparse → f .dense + f .sparse ≡ 1 + total children-of (ds ++ ss)
+  pub realizable : Realizable (f .width) ls
+  pub well-sized : All-well-sized (f .width) ls
+  pub trie-is : ds ++ ss ≡ concat (trie ls)
+  pub DL : Body (pack (concat (map dense-labels ds))) s (f .dl)
+  pub DC : Body (pack (concat (map dense-has-child ds))) s (f .dc)
+  pub DP : Body (pack (map is-exact ds)) s (f .dp)
+  pub SL : Body (concat (map sparse-labels ss)) s (f .sl)
+  pub SC : Body (pack (concat (map sparse-has-child ss))) s (f .sc)
+  pub SB : Body (pack (concat (map louds ss))) s (f .sb)
+  pub SV : Body (pack (concat (map slots (ds ++ ss)))) s (f .sv)
+  pub RL : Body (ranks 64 (concat (map dense-labels ds))) s (f .rl)
+  pub RC : Body (ranks 64 (concat (map dense-has-child ds))) s (f .rc)
+  pub RP : Body (ranks 64 (map is-exact ds)) s (f .rp)
+  pub RS : Body (ranks 512 (concat (map sparse-has-child ss))) s (f .rs)
+  pub TS : Body (samples (concat (map louds ss))) s (f .ts)
+  pub children : f .children ≡ rank (drop (f .dc) s) (256 * f .dense)
+  pub items : f .items ≡ rank (drop (f .dl) s) (256 * f .dense) + rank (drop (f .dp) s) (f .dense)
+
+-- The image with this frame is accepted: it holds the nodes and the leaf list that are read from it.
+abbrev pub Accepted : Bytes → Frame → Type 0
+Accepted s f = Holds s f (dense-nodes s f) (sparse-nodes s f) (read-leaves s)

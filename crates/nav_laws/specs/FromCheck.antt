@@ -1,0 +1,136 @@
+-- An image that the check takes, with its frame, is accepted: where the facts that this crate asks for come from.
+use Prim.Native.Nat.{ℕ, _*_, _≤_}
+use mathlib.Core.Path.{_≡_, refl, sym, ap, ap₂, subst, _∙_}
+use mathlib.Core.List.{List, [], _++_, map}
+use mathlib.Core.Option.{Option, none, some}
+use native.Mathlib.Omega.{arith}
+use lib.ListN.{length, getD, take, drop, length-append, take-append-drop}
+use lib.Seq.{take-at, drop-at}
+use Rattle.spec.specs.Bytes.{Bytes, blocks, concat}
+use Rattle.spec.specs.Leaves.{Leaf}
+use Rattle.spec.specs.Image.{Settings}
+use Rattle.spec.specs.Frame.{read-bodies, marks, Parts, parts}
+use Rattle.spec.specs.Nodes.{Node, is-exact, nodes-of, read-nodes, read-leaves}
+use Rattle.spec.specs.Check.{verdict}
+use Rattle.image_types.specs.declared.Frame.{Frame}
+use Rattle.bits_laws.specs.Bits.{part}
+use Rattle.image_types.specs.FrameOf.{FrameOf, frame-bodies, frame-parts}
+use Rattle.nav_laws.specs.NumberBounds.{node-total}
+use Rattle.nav_laws.specs.Accepted.{Body, Holds, Accepted, dense-nodes, sparse-nodes}
+use Rattle.theory.specs.LeafLists.{Realizable, All-well-sized}
+use Rattle.theory.specs.Words.{Is-bytes}
+use Rattle.theory.specs.ReadBack.{read-back}
+use Rattle.theory.specs.ImageParts.{Writable, node-image-bodies, parts-of-nodes, parts-back, nodes-back, image-holds}
+use Rattle.theory.specs.NodeBits.{node-image, layout, bodies, bodies-of, dense-labels, dense-has-child, sparse-labels, sparse-has-child, louds, slots, bodies-bits}
+use Rattle.theory.specs.LevelTrie.{trie}
+use Rattle.theory.specs.Accept.{accepted-is-image}
+
+-- a body at its offset
+body-at : (s b : Bytes) (at n : ℕ) → at ≤ length s → part s at n ≡ b → Body b s at
+body-at s b at n h e = (h, (drop n (drop at s), sym (take-append-drop n (drop at s)) ∙ ap (λ (z : Bytes). z ++ drop n (drop at s)) e))
+
+framed-nodes : (s : Bytes) (bs : List Bytes) → read-bodies marks (drop 22 s) ≡ some bs → read-nodes s ≡ nodes-of (parts s bs)
+unfolding read-nodes
+framed-nodes s bs h = ap {B = List Node} (λ (f : Option (List Bytes)). elim f [ none ↦ [] | some bs ↦ nodes-of (parts s bs) ]) h
+
+some-same : {A : Type 0} (a b : A) → some a ≡ some b → a ≡ b
+some-same a b h = cc
+
+-- body number i of two lists of bodies that are the same
+body-same : (cs bs : List Bytes) → cs ≡ bs → (i : ℕ) → getD cs i [] ≡ getD bs i []
+body-same cs bs e i = ap (λ (z : List Bytes). getD z i []) e
+
+module _ (s : Bytes) (f : Frame) (fr : FrameOf s f) (st : Settings) (ls : List Leaf) (ds ss : List Node) (w : Writable (st .width) (length ls) ds ss) (is : s ≡ node-image st (length ls) ds ss)
+    (whole : ds ++ ss ≡ concat (trie ls)) (good : Realizable (st .width) ls) (ok : All-well-sized (st .width) ls) where
+  framed : read-bodies marks (drop 22 s) ≡ some (layout (bodies ds ss))
+  framed = rw is (node-image-bodies st (length ls) ds ss w)
+
+  bodies-same : frame-bodies s f ≡ layout (bodies-of (concat (map dense-labels ds)) (concat (map dense-has-child ds)) (map is-exact ds) (concat (map sparse-labels ss)) (concat (map sparse-has-child ss)) (concat (map louds ss)) (concat (map slots (ds ++ ss))))
+  bodies-same = some-same (frame-bodies s f) (layout (bodies ds ss)) (sym (fr .bodies) ∙ framed) ∙ ap layout (bodies-bits ds ss)
+
+  parts-same : frame-parts s f ≡ parts-of-nodes st (length ls) ds ss
+  parts-same =
+      sym (fr .parts-are) ∙ ap (parts s) (some-same (frame-bodies s f) (layout (bodies ds ss)) (sym (fr .bodies) ∙ framed))
+      ∙ ap (λ (z : Bytes). parts z (layout (bodies ds ss))) is ∙ parts-back st (length ls) ds ss w
+
+  width-same : f .width ≡ st .width
+  width-same = ap (λ (p : Parts). p .width) parts-same
+
+  leaves-same : f .leaves ≡ length ls
+  leaves-same = ap (λ (p : Parts). p .leaves) parts-same
+
+  dense-same : f .dense ≡ length ds
+  dense-same = ap (λ (p : Parts). p .dense-count) parts-same
+
+  entries-same : f .entries ≡ length (concat (map sparse-labels ss))
+  entries-same = ap (λ (p : Parts). p .entry-count) parts-same
+
+  sparse-same : f .sparse ≡ length ss
+  sparse-same = ap (λ (p : Parts). p .sparse-count) parts-same
+
+  nodes-same : read-nodes s ≡ ds ++ ss
+  nodes-same = framed-nodes s (layout (bodies ds ss)) framed ∙ ap (λ (z : Bytes). nodes-of (parts z (layout (bodies ds ss)))) is ∙ ap nodes-of (parts-back st (length ls) ds ss w) ∙ nodes-back st (length ls) ds ss w
+
+  body : (i : ℕ) → getD (frame-bodies s f) i [] ≡ getD (layout (bodies-of (concat (map dense-labels ds)) (concat (map dense-has-child ds)) (map is-exact ds) (concat (map sparse-labels ss)) (concat (map sparse-has-child ss)) (concat (map louds ss)) (concat (map slots (ds ++ ss))))) i []
+  body i = body-same _ _ bodies-same i
+
+  -- the offsets lie within the image
+  starts : (f .dl ≤ length s) × (f .dc ≤ length s) × (f .dp ≤ length s) × (f .sl ≤ length s) × (f .sc ≤ length s) × (f .sb ≤ length s) × (f .sv ≤ length s) × (f .rl ≤ length s) × (f .rc ≤ length s) × (f .rp ≤ length s) × (f .rs ≤ length s) × (f .ts ≤ length s)
+  starts =
+      let t : f .ts ≤ length s = omega (arith, fr .end) in
+      let rs : f .rs ≤ length s = omega (arith, fr .ts) in
+      let rp : f .rp ≤ length s = omega (arith, fr .rs) in
+      let rc : f .rc ≤ length s = omega (arith, fr .rp) in
+      let rl : f .rl ≤ length s = omega (arith, fr .rc) in
+      let sv : f .sv ≤ length s = omega (arith, fr .rl) in
+      let sb : f .sb ≤ length s = omega (arith, fr .sv) in
+      let sc : f .sc ≤ length s = omega (arith, fr .sb) in
+      let sl : f .sl ≤ length s = omega (arith, fr .sc) in
+      let dp : f .dp ≤ length s = omega (arith, fr .sl) in
+      let dc : f .dc ≤ length s = omega (arith, fr .dp) in
+      (omega (arith, fr .dc), dc, dp, sl, sc, sb, sv, rl, rc, rp, rs, t)
+
+  holds : Holds s f ds ss ls
+  holds = record {
+    writable = rw (width-same, leaves-same) w;
+    dense-size = sym dense-same;
+    entry-size = sym entries-same;
+    sparse-size = sym sparse-same;
+    node-total = λ h. let l = length-append ds ss in omega (arith, dense-same, sparse-same, node-total (st .width) ls (ds ++ ss) good ok whole (omega (arith, dense-same, sparse-same)));
+    realizable = rw width-same good;
+    well-sized = rw width-same ok;
+    trie-is = whole;
+    DL = body-at s _ (f .dl) (32 * f .dense) (starts .0) (body 0);
+    DC = body-at s _ (f .dc) (32 * f .dense) (starts .1) (body 1);
+    DP = body-at s _ (f .dp) (blocks 8 (f .dense)) (starts .2) (body 2);
+    SL = body-at s _ (f .sl) (f .entries) (starts .3) (body 3);
+    SC = body-at s _ (f .sc) (blocks 8 (f .entries)) (starts .4) (body 4);
+    SB = body-at s _ (f .sb) (blocks 8 (f .entries)) (starts .5) (body 5);
+    SV = body-at s _ (f .sv) (blocks 8 (f .leaves * f .width)) (starts .6) (body 6);
+    RL = body-at s _ (f .rl) (4 * blocks 64 (256 * f .dense)) (starts .7) (body 7);
+    RC = body-at s _ (f .rc) (4 * blocks 64 (256 * f .dense)) (starts .8) (body 8);
+    RP = body-at s _ (f .rp) (4 * blocks 64 (f .dense)) (starts .9) (body 9);
+    RS = body-at s _ (f .rs) (4 * blocks 512 (f .entries)) (starts .10) (body 10);
+    TS = body-at s _ (f .ts) (4 * blocks 64 (f .sparse)) (starts .11) (body 11);
+    children = fr .children;
+    items = fr .items;
+  }
+
+  is-dense : ds ≡ dense-nodes s f
+  is-dense = sym (ap₂ take dense-same nodes-same ∙ take-at ds ss (length ds) refl)
+
+  is-sparse : ss ≡ sparse-nodes s f
+  is-sparse = sym (ap₂ drop dense-same nodes-same ∙ drop-at ds ss (length ds) refl)
+
+  read-holds : ls ≡ read-leaves s → Accepted s f
+  read-holds e =
+      subst (λ (z : List Leaf). Holds s f (dense-nodes s f) (sparse-nodes s f) z) e
+      (subst (λ (z : List Node). Holds s f (dense-nodes s f) z ls) is-sparse (subst (λ (z : List Node). Holds s f z ss ls) is-dense holds))
+
+-- AN IMAGE THAT THE CHECK TAKES IS ACCEPTED, with the frame that is read from it.
+pub checked-accepted : (s : Bytes) (f : Frame) → Is-bytes s → FrameOf s f → verdict s ≡ 0 → Accepted s f
+checked-accepted s f small fr v =
+    let a = accepted-is-image s small v in
+    let h = image-holds (a .settings) (a .leaves) (a .fits) in
+    read-holds s f fr (a .settings) (a .leaves) (h .dense-nodes) (h .sparse-nodes) (h .writable) (a .image-is ∙ h .image-is) (h .whole) (a .fits .realizable) (a .fits .well-sized)
+    (sym (ap read-leaves (a .image-is) ∙ read-back (a .settings) (a .leaves) (a .fits)))

@@ -1,0 +1,14 @@
+pub mod Stored
+pub mod Accepted
+pub mod Counting
+pub mod Slots
+pub mod Descent
+pub mod LabelMaps
+pub mod DensePositions
+pub mod NumberBounds
+pub mod FromCheck
+pub mod SparsePositions
+pub mod NextLabel
+pub mod Positions
+pub mod NextBranch
+pub mod Tables

@@ -1,5 +1,0 @@
-pub mod Accepted
-pub mod Tables
-pub mod Positions
-pub mod NextBranch
-pub mod FromCheck

@@ -1,3 +1,0 @@
-pub mod List
-pub mod Writes
-pub mod Counts

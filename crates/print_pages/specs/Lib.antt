@@ -1,0 +1,4 @@
+pub mod Openings
+pub mod OpeningLaws
+pub mod Pages
+pub mod PageLaws

@@ -1,4 +1,0 @@
-pub mod Openings
-pub mod Pages
-pub mod OpeningLaws
-pub mod PageLaws

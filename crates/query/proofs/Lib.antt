@@ -1,2 +1,0 @@
-pub mod SeekLaws
-pub mod RangeLaws

@@ -1,0 +1,124 @@
+-- What an accepted image's nodes say of its leaf list, by where a key leads: the laws that join the questions' code to their definitions.
+use Prim.Native.Nat.{ℕ, zero, suc, _+_, _-_, _<_, _≤_}
+use mathlib.Core.Path.{_≡_, refl, sym, ap, _∙_}
+use mathlib.Core.Bool.{Bool, true, false, not, _&&_}
+use mathlib.Core.List.{List, [], _∷_, _++_, append-assoc}
+use mathlib.Core.Logic.{_⊎_, inl, inr}
+use native.Mathlib.Omega.{arith}
+use native.Mathlib.Numerals.{add-one}
+use lib.ListN.{length, getD, take, drop, set, replicate, length-append}
+use lib.Seq.{take-at, take-all, take-suc, take-append-add, set-at, length-take-le}
+use Rattle.spec.specs.Bytes.{Bytes, Bits, bit}
+use Rattle.spec.specs.Leaves.{Leaf}
+use Rattle.spec.specs.Nodes.{read-leaves}
+use Rattle.spec.specs.Questions.{point, range, counted, begins-with, stem-end}
+use Rattle.theory.specs.Words.{Is-bytes, Bound}
+use Rattle.image_types.specs.declared.Frame.{Frame}
+use Rattle.nav_laws.specs.Slots.{slot-of}
+use Rattle.nav_laws.specs.Descent.{descend, leaves-below, value}
+use Rattle.query_laws.specs.Bounds.{high-passed, low-reached}
+use Rattle.query_laws.specs.Ordered.{passed, reached, counted-is}
+use Rattle.query_laws.specs.LevelSums.{slots-below, slots-nothing, below-sums}
+use Rattle.query_laws.specs.Root.{point-value, point-is, passed-is, reached-is}
+use Rattle.query_laws.specs.Steps.{stop-of}
+use Rattle.nav_laws.specs.Accepted.{Accepted, nodes}
+
+-- bytes by position are bytes
+pub all-small : (k : Bytes) → ((i : ℕ) → getD k i 0 < 256) → Is-bytes k
+all-small [] h = tt
+all-small (x ∷ k) h = (h 0, all-small k (λ i. h (suc i)))
+
+-- a key of at most 64 bytes
+pub bound : (k : Bytes) → ((i : ℕ) → getD k i 0 < 256) → length k ≤ 64 → Bound k
+bound k h l = record { fits = l; bytes = all-small k h }
+
+module _ (s : Bytes) (f : Frame) (a : Accepted s f) (k : Bytes) where
+  point-stops : Bound k → point (read-leaves s) k ≡ point-value (f .width) (nodes s f) (length k) (descend (nodes s f) 0 k)
+  point-stops b = point-is (f .width) (f .width) (read-leaves s) (nodes s f) (a .realizable) (a .well-sized) (a .trie-is) (a .writable .wide) k b
+
+  passed-stops : passed (read-leaves s) k ≡ leaves-below (nodes s f) 64 0 0 k + value false (high-passed (length k)) (f .width) (nodes s f) (descend (nodes s f) 0 k)
+  passed-stops = passed-is (f .width) (f .width) (read-leaves s) (nodes s f) (a .realizable) (a .well-sized) (a .trie-is) (a .writable .wide) k
+
+  reached-stops : reached (read-leaves s) k ≡ leaves-below (nodes s f) 64 0 0 k + value true (low-reached (length k)) (f .width) (nodes s f) (descend (nodes s f) 0 k)
+  reached-stops = reached-is (f .width) (f .width) (read-leaves s) (nodes s f) (a .realizable) (a .well-sized) (a .trie-is) (a .writable .wide) k
+
+  module _ (kind v d : ℕ) (e : descend (nodes s f) 0 k ≡ stop-of kind v (drop d k)) where
+    -- nowhere: no leaf has the key
+    pub point-none : Bound k → kind ≡ 0 → point (read-leaves s) k ≡ 0
+    unfolding point-value
+    point-none b h = point-stops b ∙ ap (point-value (f .width) (nodes s f) (length k)) e ∙ rw h
+
+    -- an exact leaf has it
+    pub point-exact : Bound k → kind ≡ 1 → point (read-leaves s) k ≡ 1
+    unfolding point-value
+    point-exact b h = point-stops b ∙ ap (point-value (f .width) (nodes s f) (length k)) e ∙ rw h
+
+    -- an open one has it if it lies between its lowest and its highest key
+    pub point-open : Bound k → kind ≡ 2 → point (read-leaves s) k ≡ bit (low-reached (length k) (slot-of (f .width) (nodes s f) v) (drop d k) && not (high-passed (length k) (slot-of (f .width) (nodes s f) v) (drop d k)))
+    unfolding point-value
+    point-open b h = point-stops b ∙ ap (point-value (f .width) (nodes s f) (length k)) e ∙ rw h
+
+    -- What counts where the key leads: nothing; an exact leaf; an open one that passes the test.
+    module _ (ends : Bool) (q : Bits → Bytes → Bool) where
+      pub value-none : kind ≡ 0 → value ends q (f .width) (nodes s f) (descend (nodes s f) 0 k) ≡ 0
+      unfolding value
+      value-none h = ap (value ends q (f .width) (nodes s f)) e ∙ rw h
+
+      pub value-exact : kind ≡ 1 → value ends q (f .width) (nodes s f) (descend (nodes s f) 0 k) ≡ bit ends
+      unfolding value
+      value-exact h = ap (value ends q (f .width) (nodes s f)) e ∙ rw h
+
+      pub value-open : kind ≡ 2 → value ends q (f .width) (nodes s f) (descend (nodes s f) 0 k) ≡ bit (q (slot-of (f .width) (nodes s f) v) (drop d k))
+      unfolding value
+      value-open h = ap (value ends q (f .width) (nodes s f)) e ∙ rw h
+
+-- Count: the leaves that the upper bound has reached, less those that the lower one has passed.
+pub count-is : (s : Bytes) (f : Frame) → Accepted s f → (lo hi : Bytes) → counted (read-leaves s) lo hi ≡ reached (read-leaves s) hi - passed (read-leaves s) lo
+count-is s f a lo hi = counted-is (f .width) (read-leaves s) lo hi (a .realizable .ordered) (a .well-sized)
+
+-- By the bounds of both keys: the sums of their slot numbers, and what counts where each key leads.
+pub count-bounds : (s : Bytes) (f : Frame) → Accepted s f → (lo hi : Bytes) → length lo ≤ 64 → length hi ≤ 64 → (a b u v : ℕ) → a ≡ slots-below (nodes s f) 64 0 lo → b ≡ slots-below (nodes s f) 64 0 hi
+    → u ≡ value false (high-passed (length lo)) (f .width) (nodes s f) (descend (nodes s f) 0 lo) → v ≡ value true (low-reached (length hi)) (f .width) (nodes s f) (descend (nodes s f) 0 hi)
+    → counted (read-leaves s) lo hi ≡ (b + v) - (a + u)
+count-bounds s f z lo hi g h a b u v d e p q =
+    count-is s f z lo hi ∙ omega (arith, passed-stops s f z lo, reached-stops s f z hi, below-sums (nodes s f) 64 0 0 lo (omega arith) g, below-sums (nodes s f) 64 0 0 hi (omega arith) h)
+
+-- The leaves that a key has passed: the sum of the slot numbers of its bound, with what counts where it leads, less that of the empty key's.
+pub passed-sums : (s : Bytes) (f : Frame) → Accepted s f → (k : Bytes) (starts sum : ℕ) → length k ≤ 64 → starts ≡ slots-below (nodes s f) 64 0 []
+    → slots-below (nodes s f) 64 0 k + value false (high-passed (length k)) (f .width) (nodes s f) (descend (nodes s f) 0 k) ≡ sum → (starts ≤ sum) × (sum - starts ≡ passed (read-leaves s) k)
+passed-sums s f a k starts sum h p q =
+    let n = slots-nothing (nodes s f) 64 0 in
+    let w = below-sums (nodes s f) 64 0 0 k (omega arith) h in
+    (omega arith, omega (arith, passed-stops s f a k))
+
+-- a number below two
+pub none-or-one : (n : ℕ) → n < 2 → (n ≡ 0) ⊎ (n ≡ 1)
+none-or-one zero h = inl refl
+none-or-one (suc zero) h = inr refl
+none-or-one (suc (suc n)) h = absurd (omega arith)
+
+-- A begins-with question is the range to its stem's end.
+pub stem-range : (ls : List Leaf) (stem : Bytes) → begins-with ls stem ≡ range ls stem (stem-end stem)
+unfolding begins-with
+stem-range ls stem = refl
+
+-- a stem of 64 bytes is its own end
+pub stem-whole : (stem : Bytes) → length stem ≡ 64 → stem-end stem ≡ stem
+stem-whole stem h = take-at stem (255 ∷ []) 64 h
+
+-- A shorter one is followed by one FF; filled with FF to 64 bytes, it has that end.
+pub stem-longer : (stem : Bytes) (i : ℕ) → i ≡ length stem → length stem < 64 → take (i + 1) (take i stem ++ replicate (64 - i) 255) ≡ stem-end stem
+stem-longer stem i e h =
+    let z : 64 - i ≡ suc (64 - (i + 1)) = omega arith in
+    let w : take i stem ≡ stem = take-all i stem (omega arith) in
+    rw (w, z, e) (take-append-add stem (255 ∷ replicate (64 - (length stem + 1)) 255) 1 ∙ sym (take-all 64 (stem ++ (255 ∷ [])) (omega (arith, length-append stem (255 ∷ [])))))
+
+-- one byte of it more
+pub stem-step : (stem end : Bytes) (i : ℕ) → i < length stem → i < 64 → end ≡ take i stem ++ replicate (64 - i) 255 → set end i (getD stem i 0) ≡ take (i + 1) stem ++ replicate (64 - (i + 1)) 255
+stem-step stem end i h l e =
+    let z : 64 - i ≡ suc (64 - (i + 1)) = omega arith in
+    rw (e, z, add-one i) (set-at (take i stem) 255 (replicate (64 - suc i) 255) (getD stem i 0) i (length-take-le i stem (omega arith))
+    ∙ (append-cons (take i stem) (getD stem i 0) (replicate (64 - suc i) 255) ∙ ap (λ (x : Bytes). x ++ replicate (64 - suc i) 255) (sym (take-suc stem i 0 h))))
+  where
+    append-cons : (a : Bytes) (x : ℕ) (b : Bytes) → a ++ x ∷ b ≡ (a ++ (x ∷ [])) ++ b
+    append-cons a x b = sym (append-assoc a (x ∷ []) b)

@@ -1,0 +1,116 @@
+// The suffix of an open leaf: its bytes, filled up with ones or zeros, and its highest and lowest keys against a key that begins with the cut key.
+ghost use mathlib.Core.Path.{_≡_};
+ghost use mathlib.Core.Bool.{Bool, not};
+ghost use Prim.Native.Nat.{ℕ, _+_, _-_, _*_, _/_, _%_, _^_, _≤_, _<_};
+ghost use lib.ListN.{length, getD, drop};
+ghost use Rattle.spec.specs.Bytes.{bit, fill};
+ghost use Rattle.nav_laws.specs.Slots.{slot-of};
+ghost use Rattle.query_laws.specs.Bounds.{high-passed, low-reached};
+ghost use Rattle.nav_laws.specs.Accepted.{Accepted, nodes};
+ghost use Rattle.query_laws.specs.SlotBits.{mirrored};
+use bits::numbers::read_from;
+use bits::numbers::smaller;
+use bits::numbers::wide;
+use image_types::Frame;
+use image_types::ValuePos;
+
+// The eight lowest bits of a number in the opposite order.
+fn reversed(x: u64) -> usize
+    ensures { λ r. ⌜ (r ≡ mirrored 8 x) × (r < 256) ⌝ }
+{
+    let high = x % 2 * 128 + x / 2 % 2 * 64 + x / 4 % 2 * 32 + x / 8 % 2 * 16;
+    let low = x / 16 % 2 * 8 + x / 32 % 2 * 4 + x / 64 % 2 * 2 + x / 128 % 2;
+    (high + low) as usize
+}
+
+// The n highest bits of a byte, and the filling below them.
+fn filled_below(x: usize, n: usize, ones: bool) -> usize
+    requires { ⌜ (x < 256) × (n ≤ 8) ⌝ }
+    ensures { λ r. ⌜ r ≡ x / 2 ^ (8 - n) * 2 ^ (8 - n) + bit ones * (2 ^ (8 - n) - 1) ⌝ }
+{
+    let unit = 1usize << (8 - n);
+    let kept = x / unit * unit;
+    if ones {
+        return kept + (unit - 1);
+    }
+    kept
+}
+
+// The bits of a slot from bit i on as a number, the first lowest; what stands behind the slot's bits is not said.
+pub fn slot_bits(image: &[u8], f: Frame, slot: ValuePos, i: usize) -> u64
+    requires { ⌜ Accepted (now image) f × (slot .0 < f .leaves) × (i < f .width) ⌝ }
+    ensures { λ r. ⌜ ((ones : Bool) (j : ℕ) → i + j < f .width → r / 2 ^ j % 2 ≡ bit (getD (slot-of (f .width) (nodes (now (image .entry)) f) (slot .0)) (i + j) ones)) ⌝ }
+{
+    let w = f.width;
+    let sv = f.sv;
+    let k = slot.0 * w + i;
+    read_from(&image[sv..], k / 8) >> (k % 8)
+}
+
+// Byte i of a slot's bits, the high bit first, filled up.
+pub fn suffix_byte(image: &[u8], f: Frame, slot: ValuePos, i: usize, ones: bool) -> usize
+    requires { ⌜ Accepted (now image) f × (slot .0 < f .leaves) × (i < 64) ⌝ }
+    ensures { λ r. ⌜ (r ≡ fill ones 8 (drop (8 * i) (slot-of (f .width) (nodes (now (image .entry)) f) (slot .0)))) × (r < 256) ⌝ }
+{
+    let w = f.width;
+    let first = 8 * i;
+    if w <= first {
+        return filled_below(0, 0, ones);
+    }
+    let x = slot_bits(image, f, slot, first);
+    filled_below(reversed(x), smaller(w - first, 8), ones)
+}
+
+// Byte i of a key, zero where it has ended.
+fn key_byte(key: &[u8], i: usize) -> usize
+    ensures { λ r. ⌜ r ≡ getD (now (key .entry)) i 0 ⌝ }
+{
+    if i < key.len() {
+        return wide(key[i]);
+    }
+    0
+}
+
+// Whether the leaf's highest key lies below the key, whose first d bytes are the cut key.
+pub fn high_below(image: &[u8], f: Frame, slot: ValuePos, key: &[u8], d: usize) -> bool
+    requires { ⌜ Accepted (now image) f × (slot .0 < f .leaves) × (d ≤ length (now key)) × (length (now key) ≤ 64) ⌝ }
+    ensures { λ r. ⌜ r ≡ high-passed (length (now (key .entry))) (slot-of (f .width) (nodes (now (image .entry)) f) (slot .0)) (drop d (now (key .entry))) ⌝ }
+{
+    let mut i = d;
+    while i < key.len() {
+        let x = suffix_byte(image, f, slot, i - d, true);
+        let y = wide(key[i]);
+        if x < y {
+            return true;
+        }
+        if y < x {
+            return false;
+        }
+        i = i + 1;
+    }
+    false
+}
+
+// Whether the leaf's lowest key lies above the key, whose first d bytes are the cut key.
+pub fn low_above(image: &[u8], f: Frame, slot: ValuePos, key: &[u8], d: usize) -> bool
+    requires { ⌜ Accepted (now image) f × (slot .0 < f .leaves) × (d ≤ length (now key)) × (length (now key) ≤ 64) ⌝ }
+    ensures { λ r. ⌜ low-reached (length (now (key .entry))) (slot-of (f .width) (nodes (now (image .entry)) f) (slot .0)) (drop d (now (key .entry))) ≡ not r ⌝ }
+{
+    let w = f.width;
+    let mut i = d;
+    while i < 64 {
+        if 8 * (i - d) >= w {
+            return false;
+        }
+        let x = suffix_byte(image, f, slot, i - d, false);
+        let y = key_byte(key, i);
+        if y < x {
+            return true;
+        }
+        if x < y {
+            return false;
+        }
+        i = i + 1;
+    }
+    false
+}

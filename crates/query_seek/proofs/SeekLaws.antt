@@ -1,0 +1,95 @@
+-- What a seek finds over an accepted image, from the lowest key of the first leaf that the start has not passed and the number of those that it has.
+use Prim.Native.Nat.{ℕ, _<_, _≤_}
+use mathlib.Core.Path.{_≡_, refl, sym, ap, _∙_}
+use mathlib.Core.Bool.{Bool, true, false, cond}
+use mathlib.Core.List.{List, _++_}
+use mathlib.Core.Option.{Option, some}
+use mathlib.Core.Logic.{inr}
+use native.Mathlib.Omega.{arith}
+use lib.ListN.{length, take, drop}
+use lib.Seq.{length-take-le, take-length}
+use Rattle.spec.specs.Bytes.{Bytes, equal, concat}
+use Rattle.spec.specs.Keys.{below}
+use Rattle.spec.specs.Leaves.{Leaf, highest}
+use Rattle.spec.specs.Nodes.{Node, read-leaves}
+use Rattle.spec.specs.Questions.{none, found, greater, seek}
+use Rattle.spec.specs.Trie.{leaf-count}
+use Rattle.image_types.specs.declared.Frame.{Frame}
+use Rattle.keys.specs.Order.{order}
+use Rattle.keys.specs.declared.compare.Order.the-variants.{Below, Equal, Above}
+use Rattle.keys.proofs.OrderLaws.{order-is-below, order-not-below}
+use Rattle.nav_laws.specs.Accepted.{Accepted, nodes}
+use Rattle.query_laws.specs.Bounds.{low-rest}
+use Rattle.query_laws.specs.Ordered.{passed, next-leaf, seek-is}
+use Rattle.nav_laws.specs.Slots.{slot-of}
+use Rattle.query_laws.specs.SuffixBytes.{slot-length}
+use Rattle.query_laws.specs.Seeks.{low-each, low-of, found-low, found-each}
+use Rattle.theory.specs.Levels.{leaf-count-root}
+use Rattle.theory.specs.LevelTrie.{trie}
+use Rattle.theory.specs.Lists.{count-bound}
+use Rattle.theory.specs.Order.{equal-true}
+use Rattle.query_laws.specs.Seeking.{copied}
+use Rattle.theory.specs.TrieTests.{Empty-or-right, empty-list, right-trie, realizable-trie}
+
+-- a slot has as many bits as the settings say
+pub slot-width : (s : Bytes) (f : Frame) → Accepted s f → (v : ℕ) → v < f .leaves → length (slot-of (f .width) (nodes s f) v) ≡ f .width
+slot-width s f a v h = slot-length (f .width) (nodes s f) (drop (f .sv) s) (a .writable .wide) (a .SV .1) v (omega (arith, a .writable .leaf-total))
+
+-- the lowest key of an open leaf, whose cut key is the first d bytes of the key
+pub low-open : (w : ℕ) (ns : List Node) (kind v d : ℕ) (key low : Bytes) → kind ≡ 2 → d ≤ length key → low ≡ take d key ++ low-rest d (slot-of w ns v) → low-of w ns kind v (take d key) ≡ some low
+low-open w ns kind v d key low e h q = rw (e, length-take-le d key h) (ap some (sym q))
+
+-- ---- the greater of two keys, by their order
+
+module _ (a b : Bytes) where
+  -- the second of two that rise
+  pub greater-below : order a b ≡ Below → b ≡ greater a b
+  unfolding greater
+  greater-below e = rw (order-is-below a b e)
+
+  -- either of two that are the same, here the second
+  pub greater-equal : order a b ≡ Equal → b ≡ greater a b
+  unfolding order greater
+  greater-equal e = go (below a b) (equal a b) refl e
+    where
+      go : (l q : Bool) → equal a b ≡ q → cond l Below (cond q Equal Above) ≡ Equal → b ≡ cond l b a
+      go true q h e = refl
+      go false true h e = sym (equal-true a b h)
+      go false false h e = let z : _≡_ {A = ℕ} 0 1 = cc in absurd (omega arith)
+
+  -- the first of two that fall
+  pub greater-above : order a b ≡ Above → a ≡ greater a b
+  unfolding greater
+  greater-above e = rw (order-not-below a b (inr e))
+
+-- a key that was copied to the front of another
+pub copied-whole : (start key copy : Bytes) (n : ℕ) → n ≡ length start → copy ≡ take (length start) start ++ drop (length start) key → take n copy ≡ start
+copied-whole start key copy n e h = rw (e, h) (copied start key (length start) (omega arith) ∙ take-length start)
+
+-- ---- what is found
+
+module _ (s : Bytes) (f : Frame) (a : Accepted s f) (start : Bytes) where
+  -- by the lowest key of the first leaf that the start has not passed
+  seek-low : seek (read-leaves s) start ≡ found-low (low-each (next-leaf (read-leaves s) start)) (passed (read-leaves s) start) start
+  seek-low = seek-is (f .width) (read-leaves s) start (a .realizable .ordered) (a .well-sized) ∙ found-each (next-leaf (read-leaves s) start) (passed (read-leaves s) start) start
+
+  -- the start has passed no more leaves than there are
+  pub few-passed : passed (read-leaves s) start ≤ 65535
+  unfolding passed
+  few-passed = omega (arith, count-bound (λ l. below (highest l) start) (read-leaves s), leaves-few, a .writable .few)
+    where
+      go : {ls : List Leaf} → Empty-or-right ls → length ls ≤ leaf-count (concat (trie ls))
+      go empty-list = omega arith
+      go (right-trie {ls = ls} t) = omega (arith, leaf-count-root (trie ls) ls (t .linked) (t .root))
+
+      leaves-few : length (read-leaves s) ≤ f .leaves
+      leaves-few = omega (arith, go (realizable-trie (f .width) (read-leaves s) (a .realizable) (a .well-sized)), ap leaf-count (a .trie-is), a .writable .leaf-total)
+
+  module _ (kind v : ℕ) (cut : Bytes) (e : low-each (next-leaf (read-leaves s) start) ≡ low-of (f .width) (nodes s f) kind v cut) where
+    -- no leaf
+    pub seek-none : kind ≡ 0 → none ≡ seek (read-leaves s) start
+    seek-none h = sym (seek-low ∙ ap (λ (o : Option Bytes). found-low o (passed (read-leaves s) start) start) e ∙ rw h)
+
+    -- a leaf whose lowest key is `low`
+    pub seek-found : (number : ℕ) (low key : Bytes) → low-of (f .width) (nodes s f) kind v cut ≡ some low → key ≡ greater start low → number ≡ passed (read-leaves s) start → found number key ≡ seek (read-leaves s) start
+    seek-found number low key l g n = sym (seek-low ∙ ap (λ (o : Option Bytes). found-low o (passed (read-leaves s) start) start) (e ∙ l) ∙ rw (g, n))

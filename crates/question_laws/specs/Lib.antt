@@ -1,7 +1,0 @@
-pub mod KeyAt
-pub mod QuestionAt
-pub mod FileLaws
-pub mod AskedAt
-pub mod ReplyLaws
-pub mod AskJoined
-pub mod ReplyBound

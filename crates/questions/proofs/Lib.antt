@@ -1,4 +1,0 @@
-pub mod StepLaws
-pub mod JudgeLaws
-pub mod PlacedLaws
-pub mod AnswerLaws

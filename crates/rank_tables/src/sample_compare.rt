@@ -1,0 +1,75 @@
+// The samples against S-LOUDS, by a running count of ones.
+ghost use mathlib.Core.Path.{_≡_};
+ghost use Prim.Native.Nat.{_+_, _*_, _≤_, _<_, min};
+ghost use lib.ListN.{length};
+ghost use Rattle.spec.specs.Bytes.{equal, blocks};
+ghost use Rattle.bits_laws.specs.Bits.{rank, select};
+ghost use Rattle.rank_tables_laws.specs.Entries.{entries};
+ghost use Rattle.rank_tables_laws.specs.Samples.{sampled};
+ghost use Rattle.rank_tables_laws.specs.Tables.{Held};
+use super::words::whole_word_ones;
+use bits::numbers::read32;
+use bits::ones::bit_at;
+use bits::ones::ones_before;
+
+// The ones in word q of s that are among its first n bits.
+fn ones_among(s: &[u8], q: usize, n: usize) -> usize
+    requires { ⌜ (n ≤ 8 * length (now s)) × (64 * q < n) ⌝ }
+    ensures { λ r. ⌜ (rank (now (s .entry)) (min (64 * q + 64) n) ≡ rank (now (s .entry)) (64 * q) + r) × (r ≤ 64) ⌝ }
+{
+    let left = n - 64 * q;
+    if left < 64 {
+        return ones_before(s, q, left);
+    }
+    whole_word_ones(s, q)
+}
+
+// Whether entry t is there and is the position of one number 64 t, from 0, which word q holds among the first n bits, with so many ones before the word.
+// The entry is tested at its own place: it lies in the word, is set, and has just 64 t ones before it.
+fn sample_right(s: &[u8], n: usize, q: usize, before: usize, table: &[u8], t: usize) -> bool
+    requires { ⌜ Held (now s) n q before t ⌝ }
+    ensures { λ r. ⌜ r ≡ sampled (now (s .entry)) n (now (table .entry)) t ⌝ }
+{
+    if table.len() < 4 * t + 4 {
+        return false;
+    }
+    let p = read32(table, 4 * t);
+    if p < 64 * q {
+        return false;
+    }
+    let j = p - 64 * q;
+    if 64 <= j {
+        return false;
+    }
+    if n <= p {
+        return false;
+    }
+    if ones_before(s, q, j) != 64 * t - before {
+        return false;
+    }
+    bit_at(s, p) == 1
+}
+
+// Whether the table is that of the positions of one number 64 t, from 0, among the first n bits, for each begun 64 ones.
+// A word has at most 64 ones, so at most one of these stands in it.
+pub fn samples_right(s: &[u8], n: usize, table: &[u8]) -> bool
+    requires { ⌜ (n ≤ 8 * length (now s)) × (n < 4294967296) ⌝ }
+    ensures { λ r. ⌜ r ≡ equal (now (table .entry)) (entries (λ t. select (now (s .entry)) n (64 * t)) (blocks 64 (rank (now (s .entry)) n))) ⌝ }
+{
+    let mut q = 0usize; // the next word
+    let mut ones = 0usize; // the ones before it
+    let mut t = 0usize; // the next entry
+    while 64 * q < n {
+        let word = q;
+        let before = ones;
+        q = word + 1;
+        ones = before + ones_among(s, word, n);
+        if 64 * t < ones {
+            if !sample_right(s, n, word, before, table, t) {
+                return false;
+            }
+            t = t + 1;
+        }
+    }
+    4 * t == table.len()
+}

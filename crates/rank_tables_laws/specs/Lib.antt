@@ -1,0 +1,5 @@
+pub mod Entries
+pub mod Ranks
+pub mod Samples
+pub mod Spare
+pub mod Tables

@@ -1,0 +1,84 @@
+-- What the functions of this crate ask of a body and its table.
+use Prim.Native.Nat.{ℕ, _+_, _-_, _*_, _≤_, _<_, min}
+use mathlib.Core.Path.{_≡_, refl, sym, ap, ap₂, _∙_}
+use mathlib.Core.Bool.{Bool, true, false, _&&_, and-false}
+use lib.ListN.{length}
+use lib.Dec.{leb, eqb}
+use borrow.Author.Tests.{le-leb, lt-leb, eq-eqb, ne-eqb, eqb-true, eqb-false}
+use Rattle.spec.specs.Bytes.{Bytes}
+use native.Mathlib.Omega.{arith}
+use Rattle.bits_laws.specs.Bits.{bit-at, rank, select}
+use Rattle.bits_laws.specs.RankLaws.{rank-up}
+use Rattle.rank_tables_laws.specs.Entries.{entry}
+use Rattle.rank_tables_laws.specs.Samples.{One-at, select-one, one-select, select-within, sampled}
+
+-- a body, and a table of n entries, one for each block of so many words that starts within the body
+pub record Ranked (body table : Bytes) (n words : ℕ) : Type 0 where
+  pub some : 0 < words
+  pub few : words ≤ 8
+  pub short : length body < 1099511627776
+  pub sized : length table ≡ 4 * n
+  pub starts : (b : ℕ) → b < n → 8 * (words * b) ≤ length body
+
+-- word q holds one number 64 t, from 0, of the first n bits, with so many ones before the word
+pub record Held (s : Bytes) (n q before t : ℕ) : Type 0 where
+  pub within : n ≤ 8 * length s
+  pub short : n < 4294967296
+  pub begun : 64 * q < n
+  pub ones : before ≡ rank s (64 * q)
+  pub low : before ≤ 64 * t
+  pub high : 64 * t < rank s (min (64 * q + 64) n)
+
+-- the place of that one: inside the word, below n, set, and with 64 t ones before it
+pub held-one : (s : Bytes) (n q before t : ℕ) → Held s n q before t → (64 * q ≤ select s n (64 * t)) × (select s n (64 * t) < 64 * q + 64) × One-at s n (64 * t) (select s n (64 * t))
+held-one s n q before t h =
+    let e : ℕ = min (64 * q + 64) n in
+    let a = h .begun in
+    let u = h .ones in
+    let l = h .low in
+    let w = select-within s n (64 * t) (64 * q) e (omega arith) (omega arith) (omega arith) (h .high) in
+    (w .0, omega (arith, w .1), select-one s n (64 * t) (omega (arith, h .high, rank-up s e n (omega arith))))
+
+-- The tests of entry t, which is p, each beside what it decides.
+module _ (s : Bytes) (n q before t : ℕ) (h : Held s n q before t) (table : Bytes) where
+  -- the table has ended
+  pub sample-missing : length table < 4 * t + 4 → false ≡ sampled s n table t
+  sample-missing l = sym (ap (λ (b : Bool). b && eqb (entry table t) (select s n (64 * t))) (lt-leb (4 * t + 4) (length table) l))
+
+  module _ (p : ℕ) (e : p ≡ entry table t) where
+    another : (p ≡ select s n (64 * t) → ⊥) → false ≡ sampled s n table t
+    another d = sym (ap (λ (b : Bool). leb (4 * t + 4) (length table) && b) (ne-eqb (entry table t) (select s n (64 * t)) (λ z. d (e ∙ z))) ∙ and-false (leb (4 * t + 4) (length table)))
+
+    -- it stands before the word
+    pub sample-early : p < 64 * q → false ≡ sampled s n table t
+    sample-early l = another (λ z. absurd (omega (arith, held-one s n q before t h .0)))
+
+    -- it stands behind the word
+    pub sample-late : 64 * q ≤ p → 64 ≤ p - 64 * q → false ≡ sampled s n table t
+    sample-late l m = another (λ z. absurd (omega (arith, held-one s n q before t h .1)))
+
+    -- it stands behind the bits
+    pub sample-past : n ≤ p → false ≡ sampled s n table t
+    sample-past l = another (λ z. absurd (omega (arith, held-one s n q before t h .2 .below)))
+
+    -- so many ones stand before it in the word
+    module _ (r : ℕ) (l : 64 * q ≤ p) (k : rank s (64 * q + (p - 64 * q)) ≡ rank s (64 * q) + r) where
+      ranked : rank s p ≡ before + r
+      ranked =
+          let w : 64 * q + (p - 64 * q) ≡ p = omega arith in
+          ap (rank s) (sym w) ∙ k ∙ ap (λ (x : ℕ). x + r) (sym (h .ones))
+
+      -- other than 64 t in all
+      pub sample-other : (r ≡ 64 * t - before → ⊥) → false ≡ sampled s n table t
+      sample-other d = another (λ z. d (omega (arith, ranked, ap (rank s) z, held-one s n q before t h .2 .before)))
+
+      -- its bit decides
+      pub sample-bit : 4 * t + 4 ≤ length table → p < n → r ≡ 64 * t - before → eqb (bit-at s p) 1 ≡ sampled s n table t
+      sample-bit m b d = go (eqb (bit-at s p) 1) refl
+        where
+          go : (v : Bool) → eqb (bit-at s p) 1 ≡ v → v ≡ sampled s n table t
+          go true f =
+              let g = ranked in
+              let o : One-at s n (64 * t) p = record { below = b; before = omega (arith, h .low); set = eqb-true (bit-at s p) 1 f } in
+              sym (ap₂ _&&_ (le-leb (4 * t + 4) (length table) m) (eq-eqb (entry table t) (select s n (64 * t)) (sym e ∙ sym (one-select s n (64 * t) p o))))
+          go false f = another (λ z. eqb-false (bit-at s p) 1 f (ap (bit-at s) z ∙ held-one s n q before t h .2 .set))

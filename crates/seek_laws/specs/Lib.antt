@@ -1,4 +1,0 @@
-pub mod Next
-pub mod Seeks
-pub mod LowestKeys
-pub mod Ranges

@@ -1,4 +1,0 @@
-pub mod Entries
-pub mod Ranks
-pub mod Samples
-pub mod Spare
