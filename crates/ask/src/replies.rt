@@ -14,7 +14,7 @@ use ask_files::file::QuestionAt;
 use ask_files::file::key_at;
 use ask_files::file::question_at;
 use ask_files::reply::Answered;
-use ask_files::reply::told;
+use ask_files::reply::keyless;
 use ask_files::reply::write_answered;
 use image_types::Frame;
 use query_count::count::count;
@@ -31,7 +31,7 @@ pub fn seek_reply(image: &[u8], f: Frame, starts: usize, start: &[u8]) -> Answer
 {
     let s = seek(image, f, starts, start);
     if s.some == 0 {
-        return told(b'S', 0xFFFFFFFF);
+        return keyless(b'S', 0xFFFFFFFF);
     }
     let key = s.key;
     Answered {
@@ -50,20 +50,20 @@ fn reply_to(image: &[u8], f: Frame, starts: usize, file: &[u8], question: Questi
     match question {
         QuestionAt::Point(at, n) => {
             let number = point(image, f, key_at(file, at, n));
-            told(b'P', number)
+            keyless(b'P', number)
         }
         QuestionAt::Seek(at, n) => seek_reply(image, f, starts, key_at(file, at, n)),
         QuestionAt::Begins(at, n) => {
             let number = begins_with(image, f, key_at(file, at, n));
-            told(b'B', number)
+            keyless(b'B', number)
         }
         QuestionAt::Range(lo, n, hi, m) => {
             let number = range(image, f, key_at(file, lo, n), key_at(file, hi, m));
-            told(b'R', number)
+            keyless(b'R', number)
         }
         QuestionAt::Count(lo, n, hi, m) => {
             let number = count(image, f, key_at(file, lo, n), key_at(file, hi, m));
-            told(b'C', number)
+            keyless(b'C', number)
         }
     }
 }

@@ -18,8 +18,8 @@ use Rattle.ask_files.specs.declared.reply.Answered.{Answered}
 use Rattle.ask_files.proofs.PlacedLaws.{key-length}
 
 -- what is known of a question, after a match
-pub inside-told : (file : Bytes) {q x : QuestionAt} → q ≡ x → Inside file q → Inside file x
-inside-told file h i = subst (Inside file) h i
+pub inside-keyless : (file : Bytes) {q x : QuestionAt} → q ≡ x → Inside file q → Inside file x
+inside-keyless file h i = subst (Inside file) h i
 
 -- a question that is no seek
 abbrev pub Not-seek : QuestionAt → Type 0
@@ -31,8 +31,8 @@ Not-seek (Count a n b m) = Unit
 
 module _ (ls : List Leaf) (file : Bytes) where
   -- the reply to a question, after a match
-  pub reply-told : {q x : QuestionAt} → q ≡ x → reply ls (question-of file x) ≡ reply ls (question-of file q)
-  reply-told h = ap (λ (z : QuestionAt). reply ls (question-of file z)) (sym h)
+  pub reply-keyless : {q x : QuestionAt} → q ≡ x → reply ls (question-of file x) ≡ reply ls (question-of file q)
+  reply-keyless h = ap (λ (z : QuestionAt). reply ls (question-of file z)) (sym h)
 
   -- the length of its key
   pub reply-key : (a : Answered) (q : QuestionAt) → Sized a → reply-of a ≡ reply ls (question-of file q) → a .n ≡ length (reply ls (question-of file q) .key)
@@ -40,21 +40,21 @@ module _ (ls : List Leaf) (file : Bytes) where
 
   -- the reply to each kind of question, with its keys as they are lent
   module _ (a n : ℕ) (k : Bytes) (lent : k ≡ key file a n) where
-    pub point-told : (x : ℕ) → x ≡ point ls k → answer 80 x [] ≡ reply ls (question-of file (Point a n))
-    point-told x h = ap (λ (m : ℕ). answer 80 m []) (h ∙ ap (point ls) lent) ∙ sym (point-reply ls (key file a n))
+    pub point-keyless : (x : ℕ) → x ≡ point ls k → answer 80 x [] ≡ reply ls (question-of file (Point a n))
+    point-keyless x h = ap (λ (m : ℕ). answer 80 m []) (h ∙ ap (point ls) lent) ∙ sym (point-reply ls (key file a n))
 
-    pub begins-told : (x : ℕ) → x ≡ begins-with ls k → answer 66 x [] ≡ reply ls (question-of file (Begins a n))
-    begins-told x h = ap (λ (m : ℕ). answer 66 m []) (h ∙ ap (begins-with ls) lent) ∙ sym (begins-reply ls (key file a n))
+    pub begins-keyless : (x : ℕ) → x ≡ begins-with ls k → answer 66 x [] ≡ reply ls (question-of file (Begins a n))
+    begins-keyless x h = ap (λ (m : ℕ). answer 66 m []) (h ∙ ap (begins-with ls) lent) ∙ sym (begins-reply ls (key file a n))
 
-    pub seek-told : reply ls (QS k) ≡ reply ls (question-of file (Seek a n))
-    seek-told = ap (λ (z : Bytes). reply ls (QS z)) lent
+    pub seek-keyless : reply ls (QS k) ≡ reply ls (question-of file (Seek a n))
+    seek-keyless = ap (λ (z : Bytes). reply ls (QS z)) lent
 
     module _ (b m : ℕ) (l : Bytes) (lent-too : l ≡ key file b m) where
-      pub range-told : (x : ℕ) → x ≡ range ls k l → answer 82 x [] ≡ reply ls (question-of file (Range a n b m))
-      range-told x h = ap (λ (i : ℕ). answer 82 i []) (h ∙ ap₂ (range ls) lent lent-too) ∙ sym (range-reply ls (key file a n) (key file b m))
+      pub range-keyless : (x : ℕ) → x ≡ range ls k l → answer 82 x [] ≡ reply ls (question-of file (Range a n b m))
+      range-keyless x h = ap (λ (i : ℕ). answer 82 i []) (h ∙ ap₂ (range ls) lent lent-too) ∙ sym (range-reply ls (key file a n) (key file b m))
 
-      pub count-told : (x : ℕ) → x ≡ counted ls k l → answer 67 x [] ≡ reply ls (question-of file (Count a n b m))
-      count-told x h = ap (λ (i : ℕ). answer 67 i []) (h ∙ ap₂ (counted ls) lent lent-too) ∙ sym (count-reply ls (key file a n) (key file b m))
+      pub count-keyless : (x : ℕ) → x ≡ counted ls k l → answer 67 x [] ≡ reply ls (question-of file (Count a n b m))
+      count-keyless x h = ap (λ (i : ℕ). answer 67 i []) (h ∙ ap₂ (counted ls) lent lent-too) ∙ sym (count-reply ls (key file a n) (key file b m))
 
   -- only a seek's reply has a key
   keyless : (q : QuestionAt) → Not-seek q → length (reply ls (question-of file q) .key) ≡ 0
@@ -65,8 +65,8 @@ module _ (ls : List Leaf) (file : Bytes) where
   keyless (Count a n b m) t = ap (λ r. length (r .key)) (count-reply ls (key file a n) (key file b m))
 
   -- the same of a question that was matched
-  pub keyless-told : {q x : QuestionAt} → q ≡ x → Not-seek x → 0 ≡ length (reply ls (question-of file q) .key)
-  keyless-told {q} {x} h t = sym (ap (λ (z : QuestionAt). length (reply ls (question-of file z) .key)) h ∙ keyless x t)
+  pub keyless-keyless : {q x : QuestionAt} → q ≡ x → Not-seek x → 0 ≡ length (reply ls (question-of file q) .key)
+  keyless-keyless {q} {x} h t = sym (ap (λ (z : QuestionAt). length (reply ls (question-of file z) .key)) h ∙ keyless x t)
 
 -- ask's second pass with replies by value: room for the next one, and the buffer with it
 module _ (ls : List Leaf) (file out : Bytes) (room : length (replies ls (questions-of file)) ≤ length out) (at to : ℕ) (new : Bytes) (p : Replied ls file out at to new) (next : ℕ) (q : QuestionAt) (w : Followed file at (question-of file q) next) (a : Answered) (s : Sized a) (e : reply-of a ≡ reply ls (question-of file q)) where

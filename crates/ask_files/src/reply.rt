@@ -60,7 +60,7 @@ pub fn write_reply(out: &mut [u8], at: usize, letter: u8, number: usize, key: &[
 }
 
 // A reply without a key.
-pub fn told(letter: u8, number: usize) -> Answered
+pub fn keyless(letter: u8, number: usize) -> Answered
     ensures { λ r. ⌜ Sized r × (reply-of r ≡ answer letter number []) ⌝ }
 {
     Answered {

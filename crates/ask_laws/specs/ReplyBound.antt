@@ -8,8 +8,8 @@ use lib.ListN.{length, length-append}
 use Rattle.spec.specs.Bytes.{Bytes}
 use Rattle.spec.specs.Keys.{below}
 use Rattle.spec.specs.Leaves.{Leaf, lowest, highest}
-use Rattle.spec.specs.Questions.{Question, QP, QS, QB, QR, QC, found, told, sought, greater, seek-from, seek, reply, reply-bytes, replies, taken, parse-questions}
-use Rattle.theory.specs.Words.{All, Is-bytes, Proper}
+use Rattle.spec.specs.Questions.{Question, QP, QS, QB, QR, QC, found, keyless, sought, greater, seek-from, seek, reply, reply-bytes, replies, taken, parse-questions}
+use Rattle.theory.specs.Terms.{All, Is-bytes, Proper}
 use Rattle.theory.specs.LeafLists.{All-well-sized}
 use Rattle.theory.specs.Intervals.{lowest-key}
 use Rattle.theory.specs.QuestionFiles.{questions-exactly}
@@ -26,7 +26,7 @@ greater-small a b h l = go (below a b)
 
 -- the key of a seek's reply
 sought-small : (w i : ℕ) (ls : List Leaf) (start : Bytes) → All-well-sized w ls → length start ≤ 64 → length (sought (seek-from i ls start) .key) ≤ 64
-unfolding seek-from sought told
+unfolding seek-from sought keyless
 sought-small w i [] start o h = omega arith
 sought-small w i (l ∷ ls) start o h = go (below (highest l) start) (sought-small w (suc i) ls start (o .1) h)
   where
@@ -36,7 +36,7 @@ sought-small w i (l ∷ ls) start o h = go (below (highest l) start) (sought-sma
 
 -- the key of any reply
 key-small : (w : ℕ) (ls : List Leaf) (q : Question) → All-well-sized w ls → Proper q → length (reply ls q .key) ≤ 64
-unfolding reply told seek
+unfolding reply keyless seek
 key-small w ls (QP k) o p = omega arith
 key-small w ls (QS start) o p = sought-small w 0 ls start o (p .fits)
 key-small w ls (QB stem) o p = omega arith

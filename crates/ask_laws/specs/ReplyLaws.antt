@@ -7,7 +7,7 @@ use lib.ListN.{length, take, drop, length-append, length-drop}
 use lib.Seq.{length-take-le, take-all, take-at, drop-at, take-append-seam, drop-append-seam, drop-drop, take-add}
 use Rattle.spec.specs.Bytes.{Bytes, concat, le32}
 use Rattle.spec.specs.Leaves.{Leaf}
-use Rattle.spec.specs.Questions.{Question, QP, QS, QB, QR, QC, Reply, told, sought, none, found, point, seek, begins-with, range, counted, reply, reply-bytes, replies, taken, parse-questions, questions-of}
+use Rattle.spec.specs.Questions.{Question, QP, QS, QB, QR, QC, Reply, keyless, sought, none, found, point, seek, begins-with, range, counted, reply, reply-bytes, replies, taken, parse-questions, questions-of}
 use Rattle.bits_laws.specs.Bits.{placed}
 use Rattle.ask_laws.specs.FileLaws.{questions-from, Taken-from, taken-start, taken-end, few-questions, questions-are}
 use Rattle.ask_laws.specs.AskedAt.{Followed}
@@ -20,19 +20,19 @@ answer letter number key = record { letter = letter; number = number; key = key 
 
 module _ (ls : List Leaf) where
   pub point-reply : (k : Bytes) → reply ls (QP k) ≡ answer 80 (point ls k) []
-  unfolding reply told
+  unfolding reply keyless
   point-reply k = refl
 
   pub begins-reply : (stem : Bytes) → reply ls (QB stem) ≡ answer 66 (begins-with ls stem) []
-  unfolding reply told
+  unfolding reply keyless
   begins-reply stem = refl
 
   pub range-reply : (lo hi : Bytes) → reply ls (QR lo hi) ≡ answer 82 (range ls lo hi) []
-  unfolding reply told
+  unfolding reply keyless
   range-reply lo hi = refl
 
   pub count-reply : (lo hi : Bytes) → reply ls (QC lo hi) ≡ answer 67 (counted ls lo hi) []
-  unfolding reply told
+  unfolding reply keyless
   count-reply lo hi = refl
 
   pub seek-reply-found : (start : Bytes) (i : ℕ) (k : Bytes) → seek ls start ≡ found i k → reply ls (QS start) ≡ answer 83 i k
@@ -40,7 +40,7 @@ module _ (ls : List Leaf) where
   seek-reply-found start i k h = ap sought h
 
   pub seek-reply-none : (start : Bytes) → seek ls start ≡ none → reply ls (QS start) ≡ answer 83 0xFFFFFFFF []
-  unfolding reply sought told
+  unfolding reply sought keyless
   seek-reply-none start h = ap sought h
 
   -- ---- replies, one behind the other

@@ -13,7 +13,7 @@ use Rattle.spec.specs.Image.{Settings, image}
 use Rattle.spec.specs.Answer.{Outcome, refuse, write}
 use Rattle.spec.specs.Build.{build, in-range}
 use Rattle.theory.specs.KeyFiles.{keys-exactly}
-use Rattle.theory.specs.Words.{Is-bytes}
+use Rattle.theory.specs.Terms.{Is-bytes}
 use Rattle.theory.specs.BuildLaws.{build-is, build-writes, in-range-exactly}
 use Rattle.build_list.specs.Judged.{judgement}
 use Rattle.build_list.specs.declared.judge.Judged.the-variants.{Keys, Refused as List-refused}

@@ -13,7 +13,7 @@ use lib.Dec.{eqb}
 use borrow.Author.Tests.{eqb-true, eqb-false, eq-eqb}
 use Rattle.spec.specs.Bytes.{Bits, any, concat}
 use Rattle.spec.specs.Image.{has, positions}
-use Rattle.theory.specs.Words.{All}
+use Rattle.theory.specs.Terms.{All}
 use Rattle.build_laws.specs.Emissions.{Emission, emission, level-values, values-below, Levels-below, level-none, level-here, level-else}
 use Rattle.build_laws.specs.Cursors.{sum-of, counts, level-start, start-sum}
 use Rattle.build_laws.specs.SetBits.{set-bits, set-none, set-append, has-append, has-nil, positions-append}

@@ -8,7 +8,7 @@ use lib.Seq.{drop-at}
 use Rattle.spec.specs.Bytes.{Bytes, unpack}
 use Rattle.spec.specs.Image.{Settings}
 use Rattle.theory.specs.BuildLaws.{Built-from}
-use Rattle.theory.specs.Words.{Is-bytes}
+use Rattle.theory.specs.Terms.{Is-bytes}
 use Rattle.build_laws.specs.Emissions.{Emission}
 use Rattle.build_laws.specs.BitPass.{bit-state, write-all-bits, Room}
 use Rattle.build_laws.specs.BytePass.{Byte-state, byte-state, place-all, one-step}

@@ -29,7 +29,7 @@ use Rattle.build_laws.specs.KeyBits.{key-bodies, bodies-are, some, facts
 use Rattle.build_laws.specs.Lengths.{length-SL, length-SC-bits, length-SB-bits, length-SV-bits, length-DL-bits, length-DC-bits, length-DP-bits}
 use Rattle.build_laws.specs.Counters.{sparse-top, dense-top, entry-counts, node-counts, leaf-counts, Cursors-at, sparse-starts-at, dense-started, leaf-starts-at}
 use Rattle.theory.specs.BuildLaws.{Built-from}
-use Rattle.theory.specs.Words.{All, Is-bytes}
+use Rattle.theory.specs.Terms.{All, Is-bytes}
 use Rattle.theory.specs.Bits.{length-pack}
 use Rattle.theory.specs.LevelTrie.{trie}
 use Rattle.theory.specs.NodeBits.{slots}

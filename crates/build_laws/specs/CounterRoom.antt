@@ -10,7 +10,7 @@ use lib.ListN.{length, getD, set, replicate, getD-replicate, length-replicate}
 use lib.Dec.{leb, eqb}
 use Rattle.spec.specs.Bytes.{Bytes, bit}
 use Rattle.spec.specs.Image.{has}
-use Rattle.theory.specs.Words.{Ascending, Keys}
+use Rattle.theory.specs.Terms.{Ascending, Keys}
 use Rattle.theory.specs.Neighbours.{next-shared}
 use Rattle.build_laws.specs.Emissions.{Emission, emission, level-values, Levels-below}
 use Rattle.build_laws.specs.Cursors.{sum-of, counts, counts-at, sums}

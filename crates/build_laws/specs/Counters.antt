@@ -11,7 +11,7 @@ use lib.Dec.{ltb}
 use borrow.Author.Tests.{ltb-true, ltb-false}
 use Rattle.spec.specs.Bytes.{Bytes, bit}
 use Rattle.spec.specs.Leaves.{leaves}
-use Rattle.theory.specs.Words.{Ascending}
+use Rattle.theory.specs.Terms.{Ascending}
 use Rattle.build_laws.specs.TrieItems.{Item, items-between}
 use Rattle.theory.specs.Neighbours.{Nonempty, next-shared}
 use Rattle.build_laws.specs.Emissions.{Emission, level-values, values-below, map-emissions, level-map}

@@ -18,7 +18,7 @@ use Rattle.build_laws.specs.Cursors.{sum-of}
 use Rattle.build_laws.specs.SetBits.{has-append, has-nil, has-cons, positions-append, positions-at, positions-before}
 use Rattle.build_laws.specs.BitPass.{cursor-ones, cursor-append}
 use Rattle.build_laws.specs.NodeBodies.{node-part, items-cons, items-none, Any-node, all-any}
-use Rattle.theory.specs.Words.{All, Is-bytes}
+use Rattle.theory.specs.Terms.{All, Is-bytes}
 use Rattle.theory.specs.LinkedLevels.{Labelled}
 use Rattle.theory.specs.Lists.{length-iota}
 use Rattle.theory.specs.NodeBits.{Byte-labels, dense-labels, dense-has-child}

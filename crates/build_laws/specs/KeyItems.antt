@@ -13,7 +13,7 @@ use borrow.Author.Tests.{eqb-true, eqb-false, ltb-true}
 use Rattle.spec.specs.Bytes.{Bytes, Bits, shared, concat, iota}
 use Rattle.spec.specs.Leaves.{Leaf, leaves, bits-behind}
 use Rattle.spec.specs.Nodes.{to-node, to-leaf}
-use Rattle.theory.specs.Words.{Ascending}
+use Rattle.theory.specs.Terms.{Ascending}
 use Rattle.theory.specs.Order.{shared-comm, above-short, shared-le}
 use Rattle.build_laws.specs.LevelItems.{tagged, branch-at, leaf-items, next-new, level-items, pred, pred-leb}
 use Rattle.build_laws.specs.TrieItems.{Item, item-of, items-between}

@@ -12,7 +12,7 @@ use borrow.Author.Tests.{ne-eqb, eqb-true, eqb-false, eq-eqb}
 use Rattle.spec.specs.Bytes.{Bytes, shared}
 use Rattle.spec.specs.Keys.{below}
 use Rattle.spec.specs.Leaves.{Leaf, leaves, bits-behind}
-use Rattle.theory.specs.Words.{Ascending}
+use Rattle.theory.specs.Terms.{Ascending}
 use Rattle.theory.specs.Order.{shared-comm, below-cons, shared-eq, shared-ne, above-short, shared-le}
 use Rattle.build_laws.specs.LevelItems.{Follows, Chain, Node-leaf}
 use Rattle.build_laws.specs.TrieItems.{Rooted}

@@ -12,7 +12,7 @@ use Rattle.spec.specs.Trie.{leaf-count, open-leaves}
 use Rattle.build_laws.specs.LevelItems.{tagged, tag-first, node-items}
 use Rattle.build_laws.specs.TrieItems.{Item, item-of, items-of}
 use Rattle.build_laws.specs.Cursors.{sum-of, sum-append}
-use Rattle.theory.specs.Words.{All}
+use Rattle.theory.specs.Terms.{All}
 use Rattle.theory.specs.Lists.{concat-append}
 use Rattle.theory.specs.LinkedLevels.{Labelled}
 use Rattle.theory.specs.NodeBits.{sparse-labels, sparse-has-child, louds, slots, Branch-width, Slots-width}

@@ -10,7 +10,7 @@ use Rattle.spec.specs.Image.{has, positions}
 use Rattle.spec.specs.Check.{no-spare}
 use Rattle.build_laws.specs.SetBits.{set-bits, set-zeros}
 use Rattle.theory.specs.Lists.{bytes-append}
-use Rattle.theory.specs.Words.{Is-bytes}
+use Rattle.theory.specs.Terms.{Is-bytes}
 use Rattle.theory.specs.Bits.{low-first-bits, unpack-pack as bits-pack, length-unpack, length-pack, clear-is-replicate}
 use Rattle.theory.specs.ImageBytes.{bytes-pack}
 

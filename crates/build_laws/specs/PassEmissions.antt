@@ -9,7 +9,7 @@ use lib.Dec.{leb, eqb}
 use borrow.Author.Tests.{eqb-true, eqb-false}
 use Rattle.spec.specs.Bytes.{Bytes, Bits, shared}
 use Rattle.spec.specs.Leaves.{bits-behind}
-use Rattle.theory.specs.Words.{Ascending, Keys}
+use Rattle.theory.specs.Terms.{Ascending, Keys}
 use Rattle.theory.specs.Order.{shared-comm, above-short}
 use Rattle.build_laws.specs.LevelItems.{pred}
 use Rattle.build_laws.specs.TrieItems.{Item}

@@ -9,7 +9,7 @@ use lib.Dec.{leb, ltb, eqb}
 use borrow.Author.Tests.{eqb-true, eqb-false, eq-eqb, ne-eqb, ltb-true, lt-ltb, le-ltb, le-leb}
 use Rattle.spec.specs.Bytes.{Bytes, Bits, filter, concat, bit}
 use Rattle.spec.specs.Leaves.{bits-behind}
-use Rattle.theory.specs.Words.{All}
+use Rattle.theory.specs.Terms.{All}
 use Rattle.build_laws.specs.LevelItems.{pred}
 use Rattle.build_laws.specs.TrieItems.{Item}
 use Rattle.theory.specs.Neighbours.{next-shared}

@@ -12,7 +12,7 @@ use borrow.Author.Tests.{leb-true, leb-false, eq-eqb, ne-eqb}
 use Rattle.spec.specs.Bytes.{Bytes, Bits, high-first, bits-of, padded}
 use Rattle.spec.specs.Leaves.{bits-behind}
 use Rattle.spec.specs.Image.{positions}
-use Rattle.theory.specs.Words.{Is-bytes}
+use Rattle.theory.specs.Terms.{Is-bytes}
 
 -- a test of a number's bit
 bit-test : (w a b : ℕ) → (w ≤ a → b ≡ 1) → (a < w → b ≡ 0) → leb w a ≡ eqb b 1

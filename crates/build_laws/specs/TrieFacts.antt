@@ -11,7 +11,7 @@ use Rattle.spec.specs.Image as Literal
 use Rattle.spec.specs.Nodes.{Node, is-exact}
 use Rattle.spec.specs.Trie.{leaf-count}
 use Rattle.spec.specs.Build.{trie-entries}
-use Rattle.theory.specs.Words.{All}
+use Rattle.theory.specs.Terms.{All}
 use Rattle.theory.specs.LevelTrie.{trie}
 use Rattle.theory.specs.LinkedLevels.{Labelled}
 use Rattle.theory.specs.NodeBits.{Byte-labels, Slots-width, bodies-of, dense-labels, dense-has-child, sparse-labels, sparse-has-child, louds, slots}

@@ -8,7 +8,7 @@ use lib.ListN.{length, getD, set, replicate, length-set}
 use borrow.Author.Tests.{lt-ltb}
 use Rattle.spec.specs.Bytes.{Bytes, bit, shared}
 use Rattle.spec.specs.Keys.{keys-of}
-use Rattle.theory.specs.Words.{Keys, Ascending}
+use Rattle.theory.specs.Terms.{Keys, Ascending}
 use Rattle.bits_laws.specs.Bits.{key}
 use Rattle.build_laws.specs.Listed.{Records}
 use Rattle.build_laws.specs.LevelItems.{pred}

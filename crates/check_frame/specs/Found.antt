@@ -1,4 +1,4 @@
--- What the reader of the frame finds: `Framed-right` is its contract, and the laws below give a frame from the ends of the records.
+-- What the reader of the frame finds: `Framed-valid` is its contract, and the laws below give a frame from the ends of the records.
 use Prim.Native.Nat.{ℕ, _+_, _-_, _*_, _≤_, _<_}
 use mathlib.Core.Path.{_≡_, refl, sym, ap, _∙_}
 use mathlib.Core.Bool.{Bool, true, false, _&&_, true≢false, and-assoc, and-true}
@@ -12,12 +12,12 @@ use lib.Dec.{leb, eqb}
 use borrow.Author.Tests.{eq-eqb, leb-true}
 use Rattle.spec.specs.Bytes.{Bytes, blocks, every, from32}
 use Rattle.spec.specs.Frame.{marks, has-header, read-bodies, parts}
-use Rattle.spec.specs.Check.{sizes, sized, header-right, verdict}
+use Rattle.spec.specs.Check.{sizes, sized, header-valid, verdict}
 use Rattle.bits_laws.specs.Bits.{rank}
 use Rattle.image_types.specs.Records.{ends, bodies, whole, last-end, read-ends}
 use Rattle.image_types.specs.FrameOf.{frame-bodies, frame-parts, FrameOf, bodies-judged, header-wrong}
 use Rattle.image_types.specs.declared.Frame.{Frame}
-use Rattle.check_frame.specs.Located.{settings-right, front-sized, middle-sized, back-sized, spaced, ends-chained, sized-spaced, spaced-first}
+use Rattle.check_frame.specs.Located.{settings-valid, front-sized, middle-sized, back-sized, spaced, ends-chained, sized-spaced, spaced-first}
 use Rattle.check_frame.specs.declared.Framed.{Framed}
 use Rattle.check_frame.specs.declared.Framed.the-variants.{At, Refused}
 
@@ -26,9 +26,9 @@ abbrev pub image-ends : Bytes → ℕ → ℕ → ℕ → ℕ → ℕ → ℕ �
 image-ends s e0 e1 e2 e3 e4 e5 e6 e7 e8 e9 e10 = e0 ∷ e1 ∷ e2 ∷ e3 ∷ e4 ∷ e5 ∷ e6 ∷ e7 ∷ e8 ∷ e9 ∷ e10 ∷ length s ∷ []
 
 -- what reading the frame gives: a frame of the image; or 11 or 12, which is then the verdict
-abbrev pub Framed-right : Bytes → Framed → Type 0
-Framed-right s (At f) = FrameOf s f
-Framed-right s (Refused n) = ((n ≡ 11) ⊎ (n ≡ 12)) × (verdict s ≡ n)
+abbrev pub Framed-valid : Bytes → Framed → Type 0
+Framed-valid s (At f) = FrameOf s f
+Framed-valid s (Refused n) = ((n ≡ 11) ⊎ (n ≡ 12)) × (verdict s ≡ n)
 
 -- header and records stand, the records ending at these offsets and at the image's end
 pub record Standing (s : Bytes) (e0 e1 e2 e3 e4 e5 e6 e7 e8 e9 e10 : ℕ) : Type 0 where
@@ -109,7 +109,7 @@ module _ (s : Bytes) (levels width leaves dense entries sparse e0 e1 e2 e3 e4 e5
   -- the tests of number 12, as the reader makes them
   abbrev pub tests-12 : Bool
   tests-12 =
-      settings-right s levels width leaves
+      settings-valid s levels width leaves
       && front-sized dense entries e0 e1 e2 e3 e4 e5
       && middle-sized (leaves * width) dense e5 e6 e7 e8
       && back-sized dense entries sparse e8 e9 e10 (length s)
@@ -132,19 +132,19 @@ module _ (s : Bytes) (levels width leaves dense entries sparse e0 e1 e2 e3 e4 e5
   unfolding bs
   lengths-are = ap (λ (z : List ℕ). sized z bs) sizes-are ∙ sized-spaced body-sizes s 22 (image-ends s e0 e1 e2 e3 e4 e5 e6 e7 e8 e9 e10) (ends-chained marks s 22 (image-ends s e0 e1 e2 e3 e4 e5 e6 e7 e8 e9 e10) le en)
 
-  by-lengths : header-right s (parts s bs) bs
+  by-lengths : header-valid s (parts s bs) bs
       ≡ every (eqb (getD s 2 0) 1 ∷ leb levels 4 ∷ leb width 16 ∷ eqb (getD s 5 0) 0 ∷ leb leaves 65535 ∷ spaced 22 body-sizes (image-ends s e0 e1 e2 e3 e4 e5 e6 e7 e8 e9 e10) ∷ [])
-  unfolding header-right parts
+  unfolding header-valid parts
   by-lengths = same-tests (eqb (getD s 2 0) 1) (eqb (getD s 5 0) 0) (getD s 3 0) levels (getD s 4 0) width (from32 (drop 6 s)) leaves _ _ (sym q₁) (sym q₂) (sym q₃) lengths-are
 
-  tests-are : header-right s (parts s bs) bs ≡ tests-12
+  tests-are : header-valid s (parts s bs) bs ≡ tests-12
   unfolding spaced body-sizes
   tests-are = by-lengths ∙ regroup (eqb (getD s 2 0) 1) (leb levels 4) (leb width 16) (eqb (getD s 5 0) 0) (leb leaves 65535)
       (eqb (22 + 6 + 32 * dense) e0) (eqb (e0 + 6 + 32 * dense) e1) (eqb (e1 + 6 + blocks 8 dense) e2) (eqb (e2 + 6 + entries) e3) (eqb (e3 + 6 + blocks 8 entries) e4) (eqb (e4 + 6 + blocks 8 entries) e5) (eqb (e5 + 6 + blocks 8 (leaves * width)) e6) (eqb (e6 + 6 + 4 * blocks 64 (256 * dense)) e7) (eqb (e7 + 6 + 4 * blocks 64 (256 * dense)) e8) (eqb (e8 + 6 + 4 * blocks 64 dense) e9) (eqb (e9 + 6 + 4 * blocks 512 entries) e10) (eqb (e10 + 6 + 4 * blocks 64 sparse) (length s))
 
   -- the frame that the reader makes of these and of the totals of the dense nodes
   abbrev pub frame-12 : ℕ → ℕ → Frame
-  frame-12 children items = record { levels = levels; width = width; leaves = leaves; dense = dense; entries = entries; sparse = sparse; dl = 28; dc = e0 + 6; dp = e1 + 6; sl = e2 + 6; sc = e3 + 6; sb = e4 + 6; sv = e5 + 6; rl = e6 + 6; rc = e7 + 6; rp = e8 + 6; rs = e9 + 6; ts = e10 + 6; children = children; items = items }
+  frame-12 children items = record { width = width; leaves = leaves; dense = record { levels = levels; nodes = dense; children = children; entries = items }; sparse = record { nodes = sparse; entries = entries }; dl = 28; dc = e0 + 6; dp = e1 + 6; sl = e2 + 6; sc = e3 + 6; sb = e4 + 6; sv = e5 + 6; rl = e6 + 6; rc = e7 + 6; rp = e8 + 6; rs = e9 + 6; ts = e10 + 6 }
 
   parts-same : (children items : ℕ) → parts s bs ≡ parts s (frame-bodies s (frame-12 children items)) → parts s (frame-bodies s (frame-12 children items)) ≡ frame-parts s (frame-12 children items)
   unfolding parts
@@ -158,8 +158,8 @@ module _ (s : Bytes) (levels width leaves dense entries sparse e0 e1 e2 e3 e4 e5
   pub frame-found : (children items : ℕ) → children ≡ rank (drop (e0 + 6) s) (256 * dense) → items ≡ rank (drop 28 s) (256 * dense) + rank (drop (e1 + 6) s) dense → tests-12 ≡ true → FrameOf s (frame-12 children items)
   unfolding body-sizes bs bodies
   frame-found children items c i t =
-      let right : header-right s (parts s bs) bs ≡ true = tests-are ∙ t in
-      let p = six-pass _ _ _ _ _ _ (sym by-lengths ∙ right) in
+      let valid : header-valid s (parts s bs) bs ≡ true = tests-are ∙ t in
+      let p = six-pass _ _ _ _ _ _ (sym by-lengths ∙ valid) in
       let t0 = spaced-first 22 (32 * dense) e0 (32 * dense ∷ blocks 8 dense ∷ entries ∷ blocks 8 entries ∷ blocks 8 entries ∷ blocks 8 (leaves * width) ∷ 4 * blocks 64 (256 * dense) ∷ 4 * blocks 64 (256 * dense) ∷ 4 * blocks 64 dense ∷ 4 * blocks 512 entries ∷ 4 * blocks 64 sparse ∷ []) (e1 ∷ e2 ∷ e3 ∷ e4 ∷ e5 ∷ e6 ∷ e7 ∷ e8 ∷ e9 ∷ e10 ∷ length s ∷ []) (p .5) in
       let t1 = spaced-first e0 (32 * dense) e1 (blocks 8 dense ∷ entries ∷ blocks 8 entries ∷ blocks 8 entries ∷ blocks 8 (leaves * width) ∷ 4 * blocks 64 (256 * dense) ∷ 4 * blocks 64 (256 * dense) ∷ 4 * blocks 64 dense ∷ 4 * blocks 512 entries ∷ 4 * blocks 64 sparse ∷ []) (e2 ∷ e3 ∷ e4 ∷ e5 ∷ e6 ∷ e7 ∷ e8 ∷ e9 ∷ e10 ∷ length s ∷ []) (t0 .1) in
       let t2 = spaced-first e1 (blocks 8 dense) e2 (entries ∷ blocks 8 entries ∷ blocks 8 entries ∷ blocks 8 (leaves * width) ∷ 4 * blocks 64 (256 * dense) ∷ 4 * blocks 64 (256 * dense) ∷ 4 * blocks 64 dense ∷ 4 * blocks 512 entries ∷ 4 * blocks 64 sparse ∷ []) (e3 ∷ e4 ∷ e5 ∷ e6 ∷ e7 ∷ e8 ∷ e9 ∷ e10 ∷ length s ∷ []) (t1 .1) in
@@ -189,7 +189,7 @@ module _ (s : Bytes) (levels width leaves dense entries sparse e0 e1 e2 e3 e4 e5
         header = h;
         bodies = stand ∙ ap some same;
         parts-are = parts-same children items (ap (parts s) same);
-        right = rw (← same) right;
+        valid = rw (← same) valid;
         levels = leb-true levels 4 (p .1);
         width = leb-true width 16 (p .2);
         leaves = leb-true leaves 65535 (p .4);

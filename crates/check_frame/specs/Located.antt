@@ -16,8 +16,8 @@ use Rattle.bits_laws.specs.Bits.{part}
 use Rattle.image_types.specs.Records.{record-end, before, ends, bodies, record-within}
 
 -- the header's version, settings, zero byte and leaf count
-abbrev pub settings-right : Bytes → ℕ → ℕ → ℕ → Bool
-settings-right s levels width leaves = eqb (getD s 2 0) 1 && leb levels 4 && leb width 16 && eqb (getD s 5 0) 0 && leb leaves 65535
+abbrev pub settings-valid : Bytes → ℕ → ℕ → ℕ → Bool
+settings-valid s levels width leaves = eqb (getD s 2 0) 1 && leb levels 4 && leb width 16 && eqb (getD s 5 0) 0 && leb leaves 65535
 
 -- the lengths of DL, DC, DP, SL, SC and SB by their ends
 abbrev pub front-sized : ℕ → ℕ → ℕ → ℕ → ℕ → ℕ → ℕ → ℕ → Bool

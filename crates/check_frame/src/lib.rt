@@ -7,12 +7,14 @@ ghost use lib.ListN.{length, getD, drop};
 ghost use Rattle.bits_laws.specs.Bits.{rank};
 ghost use Rattle.image_types.specs.Records.{ends};
 ghost use Rattle.check_frame.specs.Framed.{record-found, records-found, four-marks};
-ghost use Rattle.check_frame.specs.Located.{settings-right, front-sized, middle-sized, back-sized};
-ghost use Rattle.check_frame.specs.Found.{Standing, Framed-right};
+ghost use Rattle.check_frame.specs.Located.{settings-valid, front-sized, middle-sized, back-sized};
+ghost use Rattle.check_frame.specs.Found.{Standing, Framed-valid};
 use bits::numbers::read32;
 use bits::numbers::wide;
 use bits::ones::rank_from;
+use image_types::Dense;
 use image_types::Frame;
+use image_types::Sparse;
 
 // What an image's frame is: read, or refused with 11 or 12.
 pub enum Framed {
@@ -82,9 +84,9 @@ fn four_records(
 }
 
 // The version, the settings, the zero byte and the leaf count are in range.
-fn settings_right(image: &[u8], levels: usize, width: usize, leaves: usize) -> bool
+fn settings_valid(image: &[u8], levels: usize, width: usize, leaves: usize) -> bool
     requires { ⌜ 22 ≤ length (now image) ⌝ }
-    ensures { λ r. ⌜ r ≡ settings-right (now (image .entry)) levels width leaves ⌝ }
+    ensures { λ r. ⌜ r ≡ settings-valid (now (image .entry)) levels width leaves ⌝ }
 {
     (image[2] == 1) & (levels <= 4) & (width <= 16) & (image[5] == 0) & (leaves <= 65535)
 }
@@ -163,7 +165,7 @@ fn judge_header(
     e10: usize,
 ) -> Framed
     requires { ⌜ Standing (now image) e0 e1 e2 e3 e4 e5 e6 e7 e8 e9 e10 ⌝ }
-    ensures { λ r. ⌜ Framed-right (now (image .entry)) r ⌝ }
+    ensures { λ r. ⌜ Framed-valid (now (image .entry)) r ⌝ }
 {
     let levels = wide(image[3]);
     let width = wide(image[4]);
@@ -171,18 +173,14 @@ fn judge_header(
     let dense = read32(image, 10);
     let entries = read32(image, 14);
     let sparse = read32(image, 18);
-    let right = settings_right(image, levels, width, leaves)
+    let valid = settings_valid(image, levels, width, leaves)
         & front_sized(dense, entries, e0, e1, e2, e3, e4, e5)
         & middle_sized(leaves * width, dense, e5, e6, e7, e8)
         & back_sized(dense, entries, sparse, e8, e9, e10, image.len());
-    if right {
+    if valid {
         Framed::At(Frame {
-            levels,
             width,
             leaves,
-            dense,
-            entries,
-            sparse,
             dl: 28,
             dc: e0 + 6,
             dp: e1 + 6,
@@ -195,8 +193,16 @@ fn judge_header(
             rp: e8 + 6,
             rs: e9 + 6,
             ts: e10 + 6,
-            children: count_ones(image, e0 + 6, 256 * dense),
-            items: count_ones(image, 28, 256 * dense) + count_ones(image, e1 + 6, dense),
+            dense: Dense {
+                levels,
+                nodes: dense,
+                children: count_ones(image, e0 + 6, 256 * dense),
+                entries: count_ones(image, 28, 256 * dense) + count_ones(image, e1 + 6, dense),
+            },
+            sparse: Sparse {
+                nodes: sparse,
+                entries,
+            },
         })
     } else {
         Framed::Refused(12)
@@ -205,7 +211,7 @@ fn judge_header(
 
 // The frame of an image, or 11 where a part of it does not stand there, or 12 where the header or a length is wrong.
 pub fn read_frame(image: &[u8]) -> Framed
-    ensures { λ r. ⌜ Framed-right (now (image .entry)) r ⌝ }
+    ensures { λ r. ⌜ Framed-valid (now (image .entry)) r ⌝ }
 {
     if image.len() < 22 {
         return Framed::Refused(11);

@@ -12,11 +12,11 @@ use Rattle.spec.specs.Bytes.{Bytes, blocks}
 use Rattle.spec.specs.Frame.{Parts, parts}
 use Rattle.spec.specs.Nodes.{levels-of, nodes-of}
 use Rattle.spec.specs.Trie.{builders-trie}
-use Rattle.spec.specs.Check.{header-right, spare-clear, ranks-right, slots-right, judge-bodies, verdict, Checked, accepted, refused, checked, check}
+use Rattle.spec.specs.Check.{header-valid, spare-clear, ranks-valid, slots-valid, judge-bodies, verdict, Checked, accepted, refused, checked, check}
 use Rattle.bits_laws.specs.Bits.{part}
 use Rattle.image_types.specs.FrameOf.{FrameOf, frame-bodies, frame-parts, bodies-judged}
 use Rattle.image_types.specs.declared.Frame.{Frame}
-use Rattle.check_trie_laws.specs.BitTests.{Sized, bits-right, builders-trie-is}
+use Rattle.check_trie_laws.specs.BitTests.{Sized, bits-valid, builders-trie-is}
 use Rattle.check_trie_laws.specs.BodyTests.{trie-parts}
 use Rattle.check_trie_laws.specs.Positions.{length-bits}
 use Rattle.check_image.specs.declared.Checked.{Checked as Answer}
@@ -31,34 +31,34 @@ answer (Refused n) = refused n
 
 -- each body within the image
 pub record Within (s : Bytes) (f : Frame) : Type 0 where
-  pub dl : f .dl + 32 * f .dense ≤ length s
-  pub dc : f .dc + 32 * f .dense ≤ length s
-  pub dp : f .dp + blocks 8 (f .dense) ≤ length s
-  pub sl : f .sl + f .entries ≤ length s
-  pub sc : f .sc + blocks 8 (f .entries) ≤ length s
-  pub sb : f .sb + blocks 8 (f .entries) ≤ length s
+  pub dl : f .dl + 32 * f .dense .nodes ≤ length s
+  pub dc : f .dc + 32 * f .dense .nodes ≤ length s
+  pub dp : f .dp + blocks 8 (f .dense .nodes) ≤ length s
+  pub sl : f .sl + f .sparse .entries ≤ length s
+  pub sc : f .sc + blocks 8 (f .sparse .entries) ≤ length s
+  pub sb : f .sb + blocks 8 (f .sparse .entries) ≤ length s
   pub sv : f .sv + blocks 8 (f .leaves * f .width) ≤ length s
-  pub rl : f .rl + 4 * blocks 64 (256 * f .dense) ≤ length s
-  pub rc : f .rc + 4 * blocks 64 (256 * f .dense) ≤ length s
-  pub rp : f .rp + 4 * blocks 64 (f .dense) ≤ length s
-  pub rs : f .rs + 4 * blocks 512 (f .entries) ≤ length s
-  pub ts : f .ts + 4 * blocks 64 (f .sparse) ≤ length s
+  pub rl : f .rl + 4 * blocks 64 (256 * f .dense .nodes) ≤ length s
+  pub rc : f .rc + 4 * blocks 64 (256 * f .dense .nodes) ≤ length s
+  pub rp : f .rp + 4 * blocks 64 (f .dense .nodes) ≤ length s
+  pub rs : f .rs + 4 * blocks 512 (f .sparse .entries) ≤ length s
+  pub ts : f .ts + 4 * blocks 64 (f .sparse .nodes) ≤ length s
   pub slots : f .leaves * f .width < 1099511627776
 
 pub within : (s : Bytes) (f : Frame) → FrameOf s f → Within s f
 within s f o =
-    let ts : f .ts + 4 * blocks 64 (f .sparse) ≤ length s = omega (arith, o .end) in
-    let rs : f .rs + 4 * blocks 512 (f .entries) ≤ length s = omega (arith, o .ts) in
-    let rp : f .rp + 4 * blocks 64 (f .dense) ≤ length s = omega (arith, o .rs) in
-    let rc : f .rc + 4 * blocks 64 (256 * f .dense) ≤ length s = omega (arith, o .rp) in
-    let rl : f .rl + 4 * blocks 64 (256 * f .dense) ≤ length s = omega (arith, o .rc) in
+    let ts : f .ts + 4 * blocks 64 (f .sparse .nodes) ≤ length s = omega (arith, o .end) in
+    let rs : f .rs + 4 * blocks 512 (f .sparse .entries) ≤ length s = omega (arith, o .ts) in
+    let rp : f .rp + 4 * blocks 64 (f .dense .nodes) ≤ length s = omega (arith, o .rs) in
+    let rc : f .rc + 4 * blocks 64 (256 * f .dense .nodes) ≤ length s = omega (arith, o .rp) in
+    let rl : f .rl + 4 * blocks 64 (256 * f .dense .nodes) ≤ length s = omega (arith, o .rc) in
     let sv : f .sv + blocks 8 (f .leaves * f .width) ≤ length s = omega (arith, o .rl) in
-    let sb : f .sb + blocks 8 (f .entries) ≤ length s = omega (arith, o .sv) in
-    let sc : f .sc + blocks 8 (f .entries) ≤ length s = omega (arith, o .sb) in
-    let sl : f .sl + f .entries ≤ length s = omega (arith, o .sc) in
-    let dp : f .dp + blocks 8 (f .dense) ≤ length s = omega (arith, o .sl) in
-    let dc : f .dc + 32 * f .dense ≤ length s = omega (arith, o .dp) in
-    let dl : f .dl + 32 * f .dense ≤ length s = omega (arith, o .dc) in
+    let sb : f .sb + blocks 8 (f .sparse .entries) ≤ length s = omega (arith, o .sv) in
+    let sc : f .sc + blocks 8 (f .sparse .entries) ≤ length s = omega (arith, o .sb) in
+    let sl : f .sl + f .sparse .entries ≤ length s = omega (arith, o .sc) in
+    let dp : f .dp + blocks 8 (f .dense .nodes) ≤ length s = omega (arith, o .sl) in
+    let dc : f .dc + 32 * f .dense .nodes ≤ length s = omega (arith, o .dp) in
+    let dl : f .dl + 32 * f .dense .nodes ≤ length s = omega (arith, o .dc) in
     record {
       dl = dl;
       dc = dc;
@@ -87,21 +87,21 @@ pub sized-parts : (s : Bytes) (f : Frame) → FrameOf s f → Sized (frame-parts
 sized-parts s f o =
     let w = within s f o in
     record {
-      dl = length-bits (part s (f .dl) (32 * f .dense)) (256 * f .dense) (omega (arith, length-part s (f .dl) (32 * f .dense) (w .dl)));
-      dc = length-bits (part s (f .dc) (32 * f .dense)) (256 * f .dense) (omega (arith, length-part s (f .dc) (32 * f .dense) (w .dc)));
-      dp = length-bits (part s (f .dp) (blocks 8 (f .dense))) (f .dense) (omega (arith, length-part s (f .dp) (blocks 8 (f .dense)) (w .dp)));
-      sl = length-part s (f .sl) (f .entries) (w .sl);
-      sc = length-bits (part s (f .sc) (blocks 8 (f .entries))) (f .entries) (omega (arith, length-part s (f .sc) (blocks 8 (f .entries)) (w .sc)));
-      sb = length-bits (part s (f .sb) (blocks 8 (f .entries))) (f .entries) (omega (arith, length-part s (f .sb) (blocks 8 (f .entries)) (w .sb)));
+      dl = length-bits (part s (f .dl) (32 * f .dense .nodes)) (256 * f .dense .nodes) (omega (arith, length-part s (f .dl) (32 * f .dense .nodes) (w .dl)));
+      dc = length-bits (part s (f .dc) (32 * f .dense .nodes)) (256 * f .dense .nodes) (omega (arith, length-part s (f .dc) (32 * f .dense .nodes) (w .dc)));
+      dp = length-bits (part s (f .dp) (blocks 8 (f .dense .nodes))) (f .dense .nodes) (omega (arith, length-part s (f .dp) (blocks 8 (f .dense .nodes)) (w .dp)));
+      sl = length-part s (f .sl) (f .sparse .entries) (w .sl);
+      sc = length-bits (part s (f .sc) (blocks 8 (f .sparse .entries))) (f .sparse .entries) (omega (arith, length-part s (f .sc) (blocks 8 (f .sparse .entries)) (w .sc)));
+      sb = length-bits (part s (f .sb) (blocks 8 (f .sparse .entries))) (f .sparse .entries) (omega (arith, length-part s (f .sb) (blocks 8 (f .sparse .entries)) (w .sb)));
       dense = o .levels;
     }
 
 -- number 14 by the bodies
 pub trie-by-bits : (s : Bytes) (f : Frame) → FrameOf s f
     → builders-trie (frame-parts s f)
-    ≡ bits-right (trie-parts (f .levels) (f .leaves) (f .dense) (f .entries) (f .sparse) (part s (f .dl) (32 * f .dense)) (part s (f .dc) (32 * f .dense)) (part s (f .dp) (blocks 8 (f .dense)))
-    (part s (f .sl) (f .entries)) (part s (f .sc) (blocks 8 (f .entries))) (part s (f .sb) (blocks 8 (f .entries))))
-unfolding bits-right
+    ≡ bits-valid (trie-parts (f .dense .levels) (f .leaves) (f .dense .nodes) (f .sparse .entries) (f .sparse .nodes) (part s (f .dl) (32 * f .dense .nodes)) (part s (f .dc) (32 * f .dense .nodes)) (part s (f .dp) (blocks 8 (f .dense .nodes)))
+    (part s (f .sl) (f .sparse .entries)) (part s (f .sc) (blocks 8 (f .sparse .entries))) (part s (f .sb) (blocks 8 (f .sparse .entries))))
+unfolding bits-valid
 trie-by-bits s f o = builders-trie-is (frame-parts s f) (sized-parts s f o)
 
 -- ---- the stages
@@ -112,9 +112,9 @@ chain a b c d e = cond a (cond b (cond c (cond d (cond e 0 16) 15) 14) 13) 12
 
 judge-chain : (s : Bytes) (bs : List Bytes)
     → judge-bodies s bs
-    ≡ chain (header-right s (parts s bs) bs) (spare-clear (parts s bs) bs) (builders-trie (parts s bs)) (ranks-right (parts s bs) bs) (slots-right 0 (levels-of (nodes-of (parts s bs))))
+    ≡ chain (header-valid s (parts s bs) bs) (spare-clear (parts s bs) bs) (builders-trie (parts s bs)) (ranks-valid (parts s bs) bs) (slots-valid 0 (levels-of (nodes-of (parts s bs))))
 unfolding judge-bodies
-judge-chain s bs = go (header-right s (parts s bs) bs) (spare-clear (parts s bs) bs) (builders-trie (parts s bs)) (ranks-right (parts s bs) bs) (slots-right 0 (levels-of (nodes-of (parts s bs))))
+judge-chain s bs = go (header-valid s (parts s bs) bs) (spare-clear (parts s bs) bs) (builders-trie (parts s bs)) (ranks-valid (parts s bs) bs) (slots-valid 0 (levels-of (nodes-of (parts s bs))))
   where
     go : (a b c d e : Bool)
         → _≡_ {A = ℕ} (elim a [ false ↦ 12 | true ↦ elim b [ false ↦ 13 | true ↦ elim c [ false ↦ 14 | true ↦ elim d [ false ↦ 15 | true ↦ elim e [ false ↦ 16 | true ↦ 0 ] ] ] ] ]) (chain a b c d e)
@@ -130,10 +130,10 @@ module _ (s : Bytes) (f : Frame) (o : FrameOf s f) where
   abbrev p : Parts
   p = frame-parts s f
 
-  pub by-stages : verdict s ≡ chain true (spare-clear p (frame-bodies s f)) (builders-trie p) (ranks-right p (frame-bodies s f)) (slots-right 0 (levels-of (nodes-of p)))
+  pub by-stages : verdict s ≡ chain true (spare-clear p (frame-bodies s f)) (builders-trie p) (ranks-valid p (frame-bodies s f)) (slots-valid 0 (levels-of (nodes-of p)))
   by-stages =
       bodies-judged s (frame-bodies s f) (o .header) (o .bodies) ∙ judge-chain s (frame-bodies s f)
-      ∙ ap₂ (λ (t : Bool) (q : Parts). chain t (spare-clear q (frame-bodies s f)) (builders-trie q) (ranks-right q (frame-bodies s f)) (slots-right 0 (levels-of (nodes-of q)))) (o .right) (o .parts-are)
+      ∙ ap₂ (λ (t : Bool) (q : Parts). chain t (spare-clear q (frame-bodies s f)) (builders-trie q) (ranks-valid q (frame-bodies s f)) (slots-valid 0 (levels-of (nodes-of q)))) (o .valid) (o .parts-are)
 
   -- each stage that fails, and all passed
   pub stage-13 : spare-clear p (frame-bodies s f) ≡ false → verdict s ≡ 13
@@ -142,19 +142,19 @@ module _ (s : Bytes) (f : Frame) (o : FrameOf s f) where
   pub stage-14 : spare-clear p (frame-bodies s f) ≡ true → builders-trie p ≡ false → verdict s ≡ 14
   stage-14 a b = by-stages ∙ rw (a, b)
 
-  pub stage-15 : spare-clear p (frame-bodies s f) ≡ true → builders-trie p ≡ true → ranks-right p (frame-bodies s f) ≡ false → verdict s ≡ 15
+  pub stage-15 : spare-clear p (frame-bodies s f) ≡ true → builders-trie p ≡ true → ranks-valid p (frame-bodies s f) ≡ false → verdict s ≡ 15
   stage-15 a b c = by-stages ∙ rw (a, b, c)
 
-  pub stage-16 : spare-clear p (frame-bodies s f) ≡ true → builders-trie p ≡ true → ranks-right p (frame-bodies s f) ≡ true → slots-right 0 (levels-of (nodes-of p)) ≡ false → verdict s ≡ 16
+  pub stage-16 : spare-clear p (frame-bodies s f) ≡ true → builders-trie p ≡ true → ranks-valid p (frame-bodies s f) ≡ true → slots-valid 0 (levels-of (nodes-of p)) ≡ false → verdict s ≡ 16
   stage-16 a b c d = by-stages ∙ rw (a, b, c, d)
 
-  pub stage-0 : spare-clear p (frame-bodies s f) ≡ true → builders-trie p ≡ true → ranks-right p (frame-bodies s f) ≡ true → slots-right 0 (levels-of (nodes-of p)) ≡ true → verdict s ≡ 0
+  pub stage-0 : spare-clear p (frame-bodies s f) ≡ true → builders-trie p ≡ true → ranks-valid p (frame-bodies s f) ≡ true → slots-valid 0 (levels-of (nodes-of p)) ≡ true → verdict s ≡ 0
   stage-0 a b c d = by-stages ∙ rw (a, b, c, d)
 
 -- what accepting an image gives: its frame, with a verdict of 0; or the verdict's number
-abbrev pub Accepted-right : Bytes → Found → Type 0
-Accepted-right s (found.At f) = FrameOf s f × (verdict s ≡ 0)
-Accepted-right s (found.Refused n) = (verdict s ≡ n) × (1 ≤ n)
+abbrev pub Accepted-valid : Bytes → Found → Type 0
+Accepted-valid s (found.At f) = FrameOf s f × (verdict s ≡ 0)
+Accepted-valid s (found.Refused n) = (verdict s ≡ n) × (1 ≤ n)
 
 -- the answer of check, from that
 pub check-accepted : (s : Bytes) → verdict s ≡ 0 → answer Accepted ≡ check s
@@ -172,5 +172,5 @@ early n h = ⊎-elim (λ e. omega arith) (λ e. omega arith) h
 
 -- number 14 of equal bodies
 pub same-trie : (levels leaves n entries sparse : ℕ) (a a′ b b′ c c′ d d′ e e′ g g′ : Bytes) → a ≡ a′ → b ≡ b′ → c ≡ c′ → d ≡ d′ → e ≡ e′ → g ≡ g′
-    → bits-right (trie-parts levels leaves n entries sparse a b c d e g) ≡ bits-right (trie-parts levels leaves n entries sparse a′ b′ c′ d′ e′ g′)
+    → bits-valid (trie-parts levels leaves n entries sparse a b c d e g) ≡ bits-valid (trie-parts levels leaves n entries sparse a′ b′ c′ d′ e′ g′)
 same-trie levels leaves n entries sparse a a′ b b′ c c′ d d′ e e′ g g′ h i j k l m = rw (h, i, j, k, l, m)

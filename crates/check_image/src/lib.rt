@@ -6,13 +6,13 @@ ghost use Rattle.spec.specs.Check.{check};
 ghost use Rattle.spec.specs.Trie.{builders-trie};
 ghost use Rattle.image_types.specs.FrameOf.{FrameOf, frame-parts};
 ghost use Rattle.bits_laws.specs.Bits.{part};
-ghost use Rattle.check_image.specs.Answers.{answer, Accepted-right};
+ghost use Rattle.check_image.specs.Answers.{answer, Accepted-valid};
 use check_frame::Framed;
 use check_frame::read_frame;
-use check_slots::judge::slots_right;
-use check_tables::judge::tables_right;
+use check_slots::judge::slots_valid;
+use check_tables::judge::tables_valid;
 use check_tables::spare::spare_clear;
-use check_trie::trie::trie_right;
+use check_trie::trie::trie_valid;
 use image_types::Frame;
 
 // What check says of an image: accepted, or refused with the first of 11 to 16 that applies.
@@ -37,34 +37,34 @@ fn body(image: &[u8], at: usize, len: usize) -> &[u8]
 }
 
 // Number 14 does not apply.
-fn nodes_right(image: &[u8], f: Frame) -> bool
+fn nodes_valid(image: &[u8], f: Frame) -> bool
     requires { ⌜ FrameOf (now image) f ⌝ }
     ensures { λ r. ⌜ r ≡ builders-trie (frame-parts (now (image .entry)) f) ⌝ }
 {
-    let dl = body(image, f.dl, 32 * f.dense);
-    let dc = body(image, f.dc, 32 * f.dense);
-    let dp = body(image, f.dp, (f.dense + 7) / 8);
-    let sl = body(image, f.sl, f.entries);
-    let sc = body(image, f.sc, (f.entries + 7) / 8);
-    let sb = body(image, f.sb, (f.entries + 7) / 8);
-    trie_right(
+    let dl = body(image, f.dl, 32 * f.dense.nodes);
+    let dc = body(image, f.dc, 32 * f.dense.nodes);
+    let dp = body(image, f.dp, (f.dense.nodes + 7) / 8);
+    let sl = body(image, f.sl, f.sparse.entries);
+    let sc = body(image, f.sc, (f.sparse.entries + 7) / 8);
+    let sb = body(image, f.sb, (f.sparse.entries + 7) / 8);
+    trie_valid(
         dl,
         dc,
         dp,
         sl,
         sc,
         sb,
-        f.levels,
+        f.dense.levels,
         f.leaves,
-        f.dense,
-        f.entries,
-        f.sparse,
+        f.dense.nodes,
+        f.sparse.entries,
+        f.sparse.nodes,
     )
 }
 
 // The frame of an accepted image, or the number of the refusal.
 pub fn accept(image: &[u8]) -> Accepted
-    ensures { λ r. ⌜ Accepted-right (now (image .entry)) r ⌝ }
+    ensures { λ r. ⌜ Accepted-valid (now (image .entry)) r ⌝ }
 {
     match read_frame(image) {
         Framed::Refused(n) => Accepted::Refused(n),
@@ -72,13 +72,13 @@ pub fn accept(image: &[u8]) -> Accepted
             if !spare_clear(image, f) {
                 return Accepted::Refused(13);
             }
-            if !nodes_right(image, f) {
+            if !nodes_valid(image, f) {
                 return Accepted::Refused(14);
             }
-            if !tables_right(image, f) {
+            if !tables_valid(image, f) {
                 return Accepted::Refused(15);
             }
-            if !slots_right(image, f) {
+            if !slots_valid(image, f) {
                 return Accepted::Refused(16);
             }
             Accepted::At(f)

@@ -15,5 +15,5 @@ pub record Placed (s : Bytes) (sc sb sv entries bits : ℕ) : Type 0 where
   pub few-bits : bits ≤ 1048560
 
 -- so they do at a frame's offsets
-pub placed : (s : Bytes) (f : Frame) → FrameOf s f → Placed s (f .sc) (f .sb) (f .sv) (f .entries) (f .leaves * f .width)
+pub placed : (s : Bytes) (f : Frame) → FrameOf s f → Placed s (f .sc) (f .sb) (f .sv) (f .sparse .entries) (f .leaves * f .width)
 placed s f o = let b = bodies-inside s f o in record { children = b .sc .0; starts = b .sb .0; slots = b .sv .0; few-entries = o .entries; few-bits = few-bits s f o }

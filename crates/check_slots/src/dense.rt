@@ -34,7 +34,7 @@ fn next_set(s: &[u8], n: usize, from: usize) -> usize
 // The slot of the exact leaf that dense node m is, before which stand so many exact leaves: the leaves before it.
 // The tables hold counts modulo 2^32, and the slot is below that.
 fn dense_slot(image: &[u8], f: Frame, m: usize, exacts: usize) -> usize
-    requires { ⌜ Judged (now image) f × (0 < f .leaves) × (m < f .dense) × (exacts ≡ rank (dp-body (now image) f) m) ⌝ }
+    requires { ⌜ Judged (now image) f × (0 < f .leaves) × (m < f .dense .nodes) × (exacts ≡ rank (dp-body (now image) f) m) ⌝ }
     ensures { λ r. ⌜ r ≡ dense-slot (dl-body (now (image .entry)) f) (dc-body (now (image .entry)) f) (dp-body (now (image .entry)) f) m ⌝ }
 {
     let labels = read32(image, f.rl + 16 * m);
@@ -44,7 +44,7 @@ fn dense_slot(image: &[u8], f: Frame, m: usize, exacts: usize) -> usize
 
 // Whether the slot of the exact leaf that dense node m is, before which stand so many exact leaves, is clear.
 fn exact_clear(image: &[u8], f: Frame, m: usize, exacts: usize) -> bool
-    requires { ⌜ Judged (now image) f × (0 < f .leaves) × (m < f .dense) × (exacts ≡ rank (dp-body (now image) f) m) ⌝ }
+    requires { ⌜ Judged (now image) f × (0 < f .leaves) × (m < f .dense .nodes) × (exacts ≡ rank (dp-body (now image) f) m) ⌝ }
     ensures { λ r. ⌜ r ≡ clear-at (now (image .entry)) f 0 (dense-slot (dl-body (now (image .entry)) f) (dc-body (now (image .entry)) f) (dp-body (now (image .entry)) f) m) ⌝ }
 {
     let v = dense_slot(image, f, m, exacts);
@@ -55,12 +55,12 @@ fn exact_clear(image: &[u8], f: Frame, m: usize, exacts: usize) -> bool
 
 // The first dense node from `from` on that is an exact leaf, or their number.
 fn next_exact(image: &[u8], f: Frame, from: usize) -> usize
-    requires { ⌜ Judged (now image) f × (from ≤ f .dense) ⌝ }
-    ensures { λ r. ⌜ (from ≤ r) × (r ≤ f .dense) × (rank (dp-body (now (image .entry)) f) r ≡ rank (dp-body (now (image .entry)) f) from) × (r < f .dense → bit-at (dp-body (now (image .entry)) f) r ≡ 1) ⌝ }
+    requires { ⌜ Judged (now image) f × (from ≤ f .dense .nodes) ⌝ }
+    ensures { λ r. ⌜ (from ≤ r) × (r ≤ f .dense .nodes) × (rank (dp-body (now (image .entry)) f) r ≡ rank (dp-body (now (image .entry)) f) from) × (r < f .dense .nodes → bit-at (dp-body (now (image .entry)) f) r ≡ 1) ⌝ }
 {
     let dp = f.dp;
-    let end = dp + (f.dense + 7) / 8;
-    next_set(&image[dp..end], f.dense, from)
+    let end = dp + (f.dense.nodes + 7) / 8;
+    next_set(&image[dp..end], f.dense.nodes, from)
 }
 
 // Whether the slots of the exact leaves among the dense nodes are clear.
@@ -70,7 +70,7 @@ pub fn dense_clear(image: &[u8], f: Frame) -> bool
 {
     let mut exacts = 0usize;
     let mut m = next_exact(image, f, 0);
-    while m < f.dense {
+    while m < f.dense.nodes {
         if !exact_clear(image, f, m, exacts) {
             return false;
         }

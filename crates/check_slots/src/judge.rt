@@ -34,14 +34,14 @@ fn ones_at(image: &[u8], at: usize, n: usize, from: usize, before: usize) -> usi
 // The sparse entries that continue, by the last entry of the rank table.
 fn continuing(image: &[u8], f: Frame) -> usize
     requires { ⌜ Judged (now image) f ⌝ }
-    ensures { λ r. ⌜ r ≡ rank (sc-body (now (image .entry)) f) (f .entries) ⌝ }
+    ensures { λ r. ⌜ r ≡ rank (sc-body (now (image .entry)) f) (f .sparse .entries) ⌝ }
 {
-    if f.entries == 0 {
+    if f.sparse.entries == 0 {
         return 0;
     }
-    let b = (f.entries - 1) / 512;
+    let b = (f.sparse.entries - 1) / 512;
     let before = read32(image, f.rs + 4 * b);
-    ones_at(image, f.sc, f.entries, 8 * b, before)
+    ones_at(image, f.sc, f.sparse.entries, 8 * b, before)
 }
 
 // Whether the slots of the exact leaves among the sparse nodes are clear, whose bodies stand at these offsets.
@@ -71,7 +71,7 @@ fn sparse_part(image: &[u8], f: Frame, base: usize) -> bool
     let z = Sizes {
         leaves: f.leaves,
         width: f.width,
-        entries: f.entries,
+        entries: f.sparse.entries,
         dense: base,
     };
     sparse_at(image, f.sl, f.sc, f.sb, f.sv, z)
@@ -111,13 +111,13 @@ fn two_at(
 
 // Whether no suffix bit is set past a key's 64th byte: on the levels 62 and 63; so many sparse entries continue, and the dense nodes have `base` leaves.
 fn deep_part(image: &[u8], f: Frame, ones: usize, base: usize) -> bool
-    requires { ⌜ Judged (now image) f × (0 < f .leaves) × (ones ≡ rank (sc-body (now image) f) (f .entries)) × (base ≡ dense-leaf-count (now image) f) ⌝ }
+    requires { ⌜ Judged (now image) f × (0 < f .leaves) × (ones ≡ rank (sc-body (now image) f) (f .sparse .entries)) × (base ≡ dense-leaf-count (now image) f) ⌝ }
     ensures { λ r. ⌜ r ≡ deep-clear (now (image .entry)) f ⌝ }
 {
-    let nodes = f.dense + f.sparse;
+    let nodes = f.dense.nodes + f.sparse.nodes;
     let t = Totals {
-        entries: f.entries,
-        dense: f.dense,
+        entries: f.sparse.entries,
+        dense: f.dense.nodes,
         nodes,
         children: nodes - 1 - ones,
     };
@@ -130,12 +130,12 @@ fn deep_part(image: &[u8], f: Frame, ones: usize, base: usize) -> bool
         f.leaves,
         f.width,
         base,
-        62 - f.levels,
+        62 - f.dense.levels,
     )
 }
 
 // Whether number 16 does not apply: an exact leaf's slot is zero, and no suffix bit is set past a key's 64th byte.
-pub fn slots_right(image: &[u8], f: Frame) -> bool
+pub fn slots_valid(image: &[u8], f: Frame) -> bool
     requires { ⌜ Judged (now image) f ⌝ }
     ensures { λ r. ⌜ r ≡ slots-pass (now (image .entry)) f ⌝ }
 {
@@ -146,7 +146,7 @@ pub fn slots_right(image: &[u8], f: Frame) -> bool
         return true;
     }
     let ones = continuing(image, f);
-    let base = f.leaves + ones - f.entries;
+    let base = f.leaves + ones - f.sparse.entries;
     if !dense_clear(image, f) {
         return false;
     }

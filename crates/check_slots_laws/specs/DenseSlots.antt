@@ -21,30 +21,30 @@ difference x y e h l = omega arith
 
 module _ (s : Bytes) (f : Frame) (j : Judged s f) where
   -- the entries of a dense node stand within the image
-  pub entries-inside : (m : ℕ) → m < f .dense → Inside s (f .rl + 16 * m) 4 × Inside s (f .rc + 16 * m) 4
-  entries-inside m h = let b = bodies-inside s f (j .frame) in (inside (f .rl) m (f .dense) h (b .rl), inside (f .rc) m (f .dense) h (b .rc))
+  pub entries-inside : (m : ℕ) → m < f .dense .nodes → Inside s (f .rl + 16 * m) 4 × Inside s (f .rc + 16 * m) 4
+  entries-inside m h = let b = bodies-inside s f (j .frame) in (inside (f .rl) m (f .dense .nodes) h (b .rl), inside (f .rc) m (f .dense .nodes) h (b .rc))
     where
       inside : (at m n : ℕ) → m < n → Inside s at (4 * ((256 * n + 63) / 64)) → Inside s (at + 16 * m) 4
       inside at m n h l = (omega (arith, l .0), omega (arith, l .1))
 
   -- the slot of the exact leaf that dense node m is
-  pub slot-read : 0 < f .leaves → (m labels children exacts : ℕ) → m < f .dense → labels ≡ from32 (drop (f .rl + 16 * m) s) → children ≡ from32 (drop (f .rc + 16 * m) s)
+  pub slot-read : 0 < f .leaves → (m labels children exacts : ℕ) → m < f .dense .nodes → labels ≡ from32 (drop (f .rl + 16 * m) s) → children ≡ from32 (drop (f .rc + 16 * m) s)
       → exacts ≡ rank (dp-body s f) m → (labels + 4294967296 + exacts - children) % 4294967296 ≡ dense-slot (dl-body s f) (dc-body s f) (dp-body s f) m
   slot-read some m labels children exacts h a b e =
       let z = bodies-sized s f (j .frame) in
       let w = bits-pass s f j .within in
-      let low = labels-more (dl-body s f) (dc-body s f) (dp-body s f) (f .dense) (omega (arith, z .dl)) (omega (arith, z .dc)) (omega (arith, z .dp)) w m (omega arith) in
-      let up = dense-slot-le (dl-body s f) (dc-body s f) (dp-body s f) (f .dense) (omega (arith, z .dl)) (omega (arith, z .dc)) (omega (arith, z .dp)) w (f .dense - m) m (omega arith) in
+      let low = labels-more (dl-body s f) (dc-body s f) (dp-body s f) (f .dense .nodes) (omega (arith, z .dl)) (omega (arith, z .dc)) (omega (arith, z .dp)) w m (omega arith) in
+      let up = dense-slot-le (dl-body s f) (dc-body s f) (dp-body s f) (f .dense .nodes) (omega (arith, z .dl)) (omega (arith, z .dc)) (omega (arith, z .dp)) w (f .dense .nodes - m) m (omega arith) in
       let x : labels ≡ rank (dl-body s f) (256 * m) % 4294967296 = a ∙ label-entry s f j m h in
       let y : children ≡ rank (dc-body s f) (256 * m) % 4294967296 = b ∙ child-entry s f j m h in
       rw (x, y, e) (difference (rank (dl-body s f) (256 * m)) (rank (dc-body s f) (256 * m)) (rank (dp-body s f) m) low (few up))
     where
-      few : dense-slot (dl-body s f) (dc-body s f) (dp-body s f) m ≤ dense-slot (dl-body s f) (dc-body s f) (dp-body s f) (f .dense) → dense-slot (dl-body s f) (dc-body s f) (dp-body s f) m < 4294967296
+      few : dense-slot (dl-body s f) (dc-body s f) (dp-body s f) m ≤ dense-slot (dl-body s f) (dc-body s f) (dp-body s f) (f .dense .nodes) → dense-slot (dl-body s f) (dc-body s f) (dp-body s f) m < 4294967296
       few u =
           let c = counts s f j some .leaf-total in
-          let l = rank-le (sc-body s f) (f .entries) in
+          let l = rank-le (sc-body s f) (f .sparse .entries) in
           let k = j .frame .leaves in
-          sum (rank (dl-body s f) (256 * f .dense)) (rank (dp-body s f) (f .dense)) (f .entries) (f .leaves) (rank (dc-body s f) (256 * f .dense)) (rank (sc-body s f) (f .entries)) (dense-slot (dl-body s f) (dc-body s f) (dp-body s f) m) c l k u
+          sum (rank (dl-body s f) (256 * f .dense .nodes)) (rank (dp-body s f) (f .dense .nodes)) (f .sparse .entries) (f .leaves) (rank (dc-body s f) (256 * f .dense .nodes)) (rank (sc-body s f) (f .sparse .entries)) (dense-slot (dl-body s f) (dc-body s f) (dp-body s f) m) c l k u
         where
           sum : (x p n l y c v : ℕ) → x + p + n ≡ l + y + c → c ≤ n → l ≤ 65535 → v ≤ x + p - y → v < 4294967296
           sum x p n l y c v a b d e = omega arith

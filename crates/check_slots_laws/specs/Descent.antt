@@ -202,19 +202,19 @@ module _ (sc sb : Bytes) (n dense nodes children : ℕ) where
 
 module _ (s : Bytes) (f : Frame) (j : Judged s f) (some : 0 < f .leaves) where
   abbrev children : ℕ
-  children = rank (dc-body s f) (256 * f .dense)
+  children = rank (dc-body s f) (256 * f .dense .nodes)
 
   -- the levels of the image
-  pub level-starts : (k : ℕ) → f .levels + k ≤ 64 → starts (sc-body s f) (sb-body s f) (f .entries) (f .dense) (node-count f) children k ≡ level-start s f (f .levels + k)
+  pub level-starts : (k : ℕ) → f .dense .levels + k ≤ 64 → starts (sc-body s f) (sb-body s f) (f .sparse .entries) (f .dense .nodes) (node-count f) children k ≡ level-start s f (f .dense .levels + k)
   unfolding starts
-  level-starts zero h = let e : f .levels + 0 ≡ f .levels = omega arith in rw e (sym (start-first s f j some))
+  level-starts zero h = let e : f .dense .levels + 0 ≡ f .dense .levels = omega arith in rw e (sym (start-first s f j some))
   level-starts (suc k) h =
-      let e : f .levels + suc k ≡ suc (f .levels + k) = omega arith in
-      ap (λ (x : ℕ). next-start (sc-body s f) (sb-body s f) (f .entries) (f .dense) (node-count f) children x) (level-starts k (omega arith))
-      ∙ sym (start-next s f j some (f .levels + k) (omega arith) (omega arith)) ∙ ap (level-start s f) (sym e)
+      let e : f .dense .levels + suc k ≡ suc (f .dense .levels + k) = omega arith in
+      ap (λ (x : ℕ). next-start (sc-body s f) (sb-body s f) (f .sparse .entries) (f .dense .nodes) (node-count f) children x) (level-starts k (omega arith))
+      ∙ sym (start-next s f j some (f .dense .levels + k) (omega arith) (omega arith)) ∙ ap (level-start s f) (sym e)
 
   -- down to any level
-  pub descends : (steps : ℕ) → f .levels + steps ≤ 64 → Descends (sc-body s f) (sb-body s f) (f .entries) (f .dense) (node-count f) children steps
+  pub descends : (steps : ℕ) → f .dense .levels + steps ≤ 64 → Descends (sc-body s f) (sb-body s f) (f .sparse .entries) (f .dense .nodes) (node-count f) children steps
   descends steps h =
       let z = bodies-sized s f (j .frame) in
       let c = counts s f j some in
@@ -226,38 +226,38 @@ module _ (s : Bytes) (f : Frame) (j : Judged s f) (some : 0 < f .leaves) where
         node-total = omega (arith, bits-pass s f j .starts);
         child-total = omega (arith, c .node-total);
         rising = λ k l.
-            let e : f .levels + suc k ≡ suc (f .levels + k) = omega arith in
-            omega (arith, level-starts k (omega arith), level-starts (suc k) (omega arith), start-up s f j some (f .levels + k) (omega arith), ap (level-start s f) e);
+            let e : f .dense .levels + suc k ≡ suc (f .dense .levels + k) = omega arith in
+            omega (arith, level-starts k (omega arith), level-starts (suc k) (omega arith), start-up s f j some (f .dense .levels + k) (omega arith), ap (level-start s f) e);
       }
 
   -- the levels 62 and 63
-  pub deep : Deep (sc-body s f) (sb-body s f) (f .entries) (f .dense) (node-count f) children (sv-body s f) (f .leaves) (f .width) (dense-leaf-count s f) (62 - f .levels)
+  pub deep : Deep (sc-body s f) (sb-body s f) (f .sparse .entries) (f .dense .nodes) (node-count f) children (sv-body s f) (f .leaves) (f .width) (dense-leaf-count s f) (62 - f .dense .levels)
   deep =
       let z = bodies-sized s f (j .frame) in
       let l = j .frame .levels in
-      let e : f .levels + suc (62 - f .levels) ≡ 63 = omega arith in
-      let r = rank-le (sc-body s f) (f .entries) in
+      let e : f .dense .levels + suc (62 - f .dense .levels) ≡ 63 = omega arith in
+      let r = rank-le (sc-body s f) (f .sparse .entries) in
       record {
-        descends = descends (suc (62 - f .levels)) (omega arith);
+        descends = descends (suc (62 - f .dense .levels)) (omega arith);
         slots = omega (arith, z .sv);
         few-leaves = j .frame .leaves;
         narrow = j .frame .width;
         base-few = omega (arith, j .frame .leaves);
         total = total-leaves;
         entries-few = j .frame .entries;
-        last = rw (level-starts (suc (62 - f .levels)) (omega arith), e) (slots-within s f j some);
+        last = rw (level-starts (suc (62 - f .dense .levels)) (omega arith), e) (slots-within s f j some);
       }
     where
-      total-leaves : dense-leaf-count s f + (f .entries - rank (sc-body s f) (f .entries)) ≡ f .leaves
+      total-leaves : dense-leaf-count s f + (f .sparse .entries - rank (sc-body s f) (f .sparse .entries)) ≡ f .leaves
       total-leaves =
-          let e : node-count f - f .dense ≡ f .sparse = omega arith in
-          let k : first-entry s f (node-count f) ≡ f .entries = ap (select (sb-body s f) (f .entries)) e ∙ select-all (sb-body s f) (f .entries) (f .sparse) (omega (arith, bits-pass s f j .starts)) in
+          let e : node-count f - f .dense .nodes ≡ f .sparse .nodes = omega arith in
+          let k : first-entry s f (node-count f) ≡ f .sparse .entries = ap (select (sb-body s f) (f .sparse .entries)) e ∙ select-all (sb-body s f) (f .sparse .entries) (f .sparse .nodes) (omega (arith, bits-pass s f j .starts)) in
           ap (λ (k : ℕ). dense-leaf-count s f + (k - rank (sc-body s f) k)) (sym k) ∙ leaves-last s f j some
 
   -- the test of them is that of number 16
-  pub deep-is : two-clear (sc-body s f) (sb-body s f) (f .entries) (f .dense) (node-count f) children (sv-body s f) (f .leaves) (f .width) (dense-leaf-count s f) (62 - f .levels) ≡ deep-clear s f
+  pub deep-is : two-clear (sc-body s f) (sb-body s f) (f .sparse .entries) (f .dense .nodes) (node-count f) children (sv-body s f) (f .leaves) (f .width) (dense-leaf-count s f) (62 - f .dense .levels) ≡ deep-clear s f
   deep-is =
       let l = j .frame .levels in
-      let a : f .levels + (62 - f .levels) ≡ 62 = omega arith in
-      let b : f .levels + suc (62 - f .levels) ≡ 63 = omega arith in
-      rw (level-starts (62 - f .levels) (omega arith), level-starts (suc (62 - f .levels)) (omega arith), a, b)
+      let a : f .dense .levels + (62 - f .dense .levels) ≡ 62 = omega arith in
+      let b : f .dense .levels + suc (62 - f .dense .levels) ≡ 63 = omega arith in
+      rw (level-starts (62 - f .dense .levels) (omega arith), level-starts (suc (62 - f .dense .levels)) (omega arith), a, b)

@@ -12,8 +12,8 @@ use borrow.Author.Tests.{eqb-true}
 use Rattle.spec.specs.Bytes.{Bytes, all, blocks, ones}
 use Rattle.spec.specs.Frame.{Parts, parts}
 use Rattle.spec.specs.Nodes.{zip-entries, split, extra-ends, sparse-nodes, nodes-of, levels-of}
-use Rattle.spec.specs.Trie.{first-set, covered, nodes-right, builders-trie}
-use Rattle.spec.specs.Check.{ranks-right, slots-right}
+use Rattle.spec.specs.Trie.{first-set, covered, nodes-valid, builders-trie}
+use Rattle.spec.specs.Check.{ranks-valid, slots-valid}
 use Rattle.bits_laws.specs.Bits.{rank}
 use Rattle.bits_laws.specs.Bits.{part}
 use Rattle.image_types.specs.FrameOf.{FrameOf, frame-bodies, frame-parts}
@@ -24,44 +24,44 @@ use Rattle.theory.specs.Lists.{every-true}
 
 -- the bodies of an image
 abbrev pub dl-body : Bytes → Frame → Bytes
-dl-body s f = part s (f .dl) (32 * f .dense)
+dl-body s f = part s (f .dl) (32 * f .dense .nodes)
 
 abbrev pub dc-body : Bytes → Frame → Bytes
-dc-body s f = part s (f .dc) (32 * f .dense)
+dc-body s f = part s (f .dc) (32 * f .dense .nodes)
 
 abbrev pub dp-body : Bytes → Frame → Bytes
-dp-body s f = part s (f .dp) (blocks 8 (f .dense))
+dp-body s f = part s (f .dp) (blocks 8 (f .dense .nodes))
 
 abbrev pub sl-body : Bytes → Frame → Bytes
-sl-body s f = part s (f .sl) (f .entries)
+sl-body s f = part s (f .sl) (f .sparse .entries)
 
 abbrev pub sc-body : Bytes → Frame → Bytes
-sc-body s f = part s (f .sc) (blocks 8 (f .entries))
+sc-body s f = part s (f .sc) (blocks 8 (f .sparse .entries))
 
 abbrev pub sb-body : Bytes → Frame → Bytes
-sb-body s f = part s (f .sb) (blocks 8 (f .entries))
+sb-body s f = part s (f .sb) (blocks 8 (f .sparse .entries))
 
 abbrev pub sv-body : Bytes → Frame → Bytes
 sv-body s f = part s (f .sv) (blocks 8 (f .leaves * f .width))
 
 -- number 16 does not apply
 abbrev pub slots-pass : Bytes → Frame → Bool
-slots-pass s f = slots-right 0 (levels-of (nodes-of (parts s (frame-bodies s f))))
+slots-pass s f = slots-valid 0 (levels-of (nodes-of (parts s (frame-bodies s f))))
 
 -- the image passed the numbers 11 to 15
 pub record Judged (s : Bytes) (f : Frame) : Type 0 where
   pub frame : FrameOf s f
   pub trie : builders-trie (parts s (frame-bodies s f)) ≡ true
-  pub ranks : ranks-right (parts s (frame-bodies s f)) (frame-bodies s f) ≡ true
+  pub ranks : ranks-valid (parts s (frame-bodies s f)) (frame-bodies s f) ≡ true
 
 -- each body has the length that the counts give
 pub record Bodies-sized (s : Bytes) (f : Frame) : Type 0 where
-  pub dl : length (dl-body s f) ≡ 32 * f .dense
-  pub dc : length (dc-body s f) ≡ 32 * f .dense
-  pub dp : length (dp-body s f) ≡ blocks 8 (f .dense)
-  pub sl : length (sl-body s f) ≡ f .entries
-  pub sc : length (sc-body s f) ≡ blocks 8 (f .entries)
-  pub sb : length (sb-body s f) ≡ blocks 8 (f .entries)
+  pub dl : length (dl-body s f) ≡ 32 * f .dense .nodes
+  pub dc : length (dc-body s f) ≡ 32 * f .dense .nodes
+  pub dp : length (dp-body s f) ≡ blocks 8 (f .dense .nodes)
+  pub sl : length (sl-body s f) ≡ f .sparse .entries
+  pub sc : length (sc-body s f) ≡ blocks 8 (f .sparse .entries)
+  pub sb : length (sb-body s f) ≡ blocks 8 (f .sparse .entries)
   pub sv : length (sv-body s f) ≡ blocks 8 (f .leaves * f .width)
 
 -- a part stands within the image, at a small offset
@@ -70,22 +70,22 @@ Inside s at len = (at + len ≤ length s) × (at + len < 17592186044416)
 
 -- where the bodies and tables stand that number 16 reads
 pub record Bodies-inside (s : Bytes) (f : Frame) : Type 0 where
-  pub dp : Inside s (f .dp) (blocks 8 (f .dense))
-  pub sl : Inside s (f .sl) (f .entries)
-  pub sc : Inside s (f .sc) (blocks 8 (f .entries))
-  pub sb : Inside s (f .sb) (blocks 8 (f .entries))
+  pub dp : Inside s (f .dp) (blocks 8 (f .dense .nodes))
+  pub sl : Inside s (f .sl) (f .sparse .entries)
+  pub sc : Inside s (f .sc) (blocks 8 (f .sparse .entries))
+  pub sb : Inside s (f .sb) (blocks 8 (f .sparse .entries))
   pub sv : Inside s (f .sv) (blocks 8 (f .leaves * f .width))
-  pub rl : Inside s (f .rl) (4 * blocks 64 (256 * f .dense))
-  pub rc : Inside s (f .rc) (4 * blocks 64 (256 * f .dense))
-  pub rs : Inside s (f .rs) (4 * blocks 512 (f .entries))
+  pub rl : Inside s (f .rl) (4 * blocks 64 (256 * f .dense .nodes))
+  pub rc : Inside s (f .rc) (4 * blocks 64 (256 * f .dense .nodes))
+  pub rs : Inside s (f .rs) (4 * blocks 512 (f .sparse .entries))
 
 -- what number 14 says of the bits
-pub record Bits-right (s : Bytes) (f : Frame) : Type 0 where
-  pub first : first-set (bits (sb-body s f) (f .entries)) ≡ true
-  pub starts : rank (sb-body s f) (f .entries) ≡ f .sparse
-  pub within : covered (bits (dc-body s f) (256 * f .dense)) (bits (dl-body s f) (256 * f .dense)) ≡ true
-  pub extra : all extra-ends (split (zip-entries (sl-body s f) (bits (sc-body s f) (f .entries))) (bits (sb-body s f) (f .entries))) ≡ true
-  pub nodes : nodes-right (f .levels) (f .dense) (f .leaves) (nodes-of (frame-parts s f)) ≡ true
+pub record Bits-valid (s : Bytes) (f : Frame) : Type 0 where
+  pub first : first-set (bits (sb-body s f) (f .sparse .entries)) ≡ true
+  pub starts : rank (sb-body s f) (f .sparse .entries) ≡ f .sparse .nodes
+  pub within : covered (bits (dc-body s f) (256 * f .dense .nodes)) (bits (dl-body s f) (256 * f .dense .nodes)) ≡ true
+  pub extra : all extra-ends (split (zip-entries (sl-body s f) (bits (sc-body s f) (f .sparse .entries))) (bits (sb-body s f) (f .sparse .entries))) ≡ true
+  pub nodes : nodes-valid (f .dense .levels) (f .dense .nodes) (f .leaves) (nodes-of (frame-parts s f)) ≡ true
 
 -- a part within the image has its length
 pub length-part : (s : Bytes) (at len : ℕ) → at + len ≤ length s → length (part s at len) ≡ len
@@ -94,12 +94,12 @@ length-part s at len h = length-take-le len (drop at s) (omega (arith, length-dr
 module _ (s : Bytes) (f : Frame) where
   pub bodies-sized : FrameOf s f → Bodies-sized s f
   bodies-sized o = record {
-    dl = length-part s (f .dl) (32 * f .dense) (omega (arith, o .dl, o .dc, o .dp, o .sl, o .sc, o .sb, o .sv, o .rl, o .rc, o .rp, o .rs, o .ts, o .end));
-    dc = length-part s (f .dc) (32 * f .dense) (omega (arith, o .dc, o .dp, o .sl, o .sc, o .sb, o .sv, o .rl, o .rc, o .rp, o .rs, o .ts, o .end));
-    dp = length-part s (f .dp) (blocks 8 (f .dense)) (omega (arith, o .dp, o .sl, o .sc, o .sb, o .sv, o .rl, o .rc, o .rp, o .rs, o .ts, o .end));
-    sl = length-part s (f .sl) (f .entries) (omega (arith, o .sl, o .sc, o .sb, o .sv, o .rl, o .rc, o .rp, o .rs, o .ts, o .end));
-    sc = length-part s (f .sc) (blocks 8 (f .entries)) (omega (arith, o .sc, o .sb, o .sv, o .rl, o .rc, o .rp, o .rs, o .ts, o .end));
-    sb = length-part s (f .sb) (blocks 8 (f .entries)) (omega (arith, o .sb, o .sv, o .rl, o .rc, o .rp, o .rs, o .ts, o .end));
+    dl = length-part s (f .dl) (32 * f .dense .nodes) (omega (arith, o .dl, o .dc, o .dp, o .sl, o .sc, o .sb, o .sv, o .rl, o .rc, o .rp, o .rs, o .ts, o .end));
+    dc = length-part s (f .dc) (32 * f .dense .nodes) (omega (arith, o .dc, o .dp, o .sl, o .sc, o .sb, o .sv, o .rl, o .rc, o .rp, o .rs, o .ts, o .end));
+    dp = length-part s (f .dp) (blocks 8 (f .dense .nodes)) (omega (arith, o .dp, o .sl, o .sc, o .sb, o .sv, o .rl, o .rc, o .rp, o .rs, o .ts, o .end));
+    sl = length-part s (f .sl) (f .sparse .entries) (omega (arith, o .sl, o .sc, o .sb, o .sv, o .rl, o .rc, o .rp, o .rs, o .ts, o .end));
+    sc = length-part s (f .sc) (blocks 8 (f .sparse .entries)) (omega (arith, o .sc, o .sb, o .sv, o .rl, o .rc, o .rp, o .rs, o .ts, o .end));
+    sb = length-part s (f .sb) (blocks 8 (f .sparse .entries)) (omega (arith, o .sb, o .sv, o .rl, o .rc, o .rp, o .rs, o .ts, o .end));
     sv = length-part s (f .sv) (blocks 8 (f .leaves * f .width)) (omega (arith, o .sv, o .rl, o .rc, o .rp, o .rs, o .ts, o .end));
   }
 
@@ -110,28 +110,28 @@ module _ (s : Bytes) (f : Frame) where
   pub bodies-inside : FrameOf s f → Bodies-inside s f
   bodies-inside o =
       let k = few-bits o in
-      let ts : f .ts ≤ length s = head (f .ts) (4 * blocks 64 (f .sparse)) (length s) (o .end) in
-      let rs = back (f .rs) (4 * blocks 512 (f .entries)) (f .ts) (length s) (o .ts) ts in
-      let rp = back (f .rp) (4 * blocks 64 (f .dense)) (f .rs) (length s) (o .rs) (rs .1) in
-      let rc = back (f .rc) (4 * blocks 64 (256 * f .dense)) (f .rp) (length s) (o .rp) (rp .1) in
-      let rl = back (f .rl) (4 * blocks 64 (256 * f .dense)) (f .rc) (length s) (o .rc) (rc .1) in
+      let ts : f .ts ≤ length s = head (f .ts) (4 * blocks 64 (f .sparse .nodes)) (length s) (o .end) in
+      let rs = back (f .rs) (4 * blocks 512 (f .sparse .entries)) (f .ts) (length s) (o .ts) ts in
+      let rp = back (f .rp) (4 * blocks 64 (f .dense .nodes)) (f .rs) (length s) (o .rs) (rs .1) in
+      let rc = back (f .rc) (4 * blocks 64 (256 * f .dense .nodes)) (f .rp) (length s) (o .rp) (rp .1) in
+      let rl = back (f .rl) (4 * blocks 64 (256 * f .dense .nodes)) (f .rc) (length s) (o .rc) (rc .1) in
       let sv = back (f .sv) (blocks 8 (f .leaves * f .width)) (f .rl) (length s) (o .rl) (rl .1) in
-      let sb = back (f .sb) (blocks 8 (f .entries)) (f .sv) (length s) (o .sv) (sv .1) in
-      let sc = back (f .sc) (blocks 8 (f .entries)) (f .sb) (length s) (o .sb) (sb .1) in
-      let sl = back (f .sl) (f .entries) (f .sc) (length s) (o .sc) (sc .1) in
-      let dp = back (f .dp) (blocks 8 (f .dense)) (f .sl) (length s) (o .sl) (sl .1) in
-      let b = sizes (f .leaves * f .width) (f .dense) (f .entries) k (o .dense) (o .entries) in
-      let dl′ = near (f .dl) (32 * f .dense) (f .dc) 28 (o .dc) (start (f .dl) (o .dl)) (b .0) (lit≤ tt) in
-      let dc′ = near (f .dc) (32 * f .dense) (f .dp) 1099511627804 (o .dp) (dl′ .1) (b .0) (lit≤ tt) in
-      let dp′ = near (f .dp) (blocks 8 (f .dense)) (f .sl) 2199023255580 (o .sl) (dc′ .1) (b .1) (lit≤ tt) in
-      let sl′ = near (f .sl) (f .entries) (f .sc) 3298534883356 (o .sc) (dp′ .1) (b .2) (lit≤ tt) in
-      let sc′ = near (f .sc) (blocks 8 (f .entries)) (f .sb) 4398046511132 (o .sb) (sl′ .1) (b .3) (lit≤ tt) in
-      let sb′ = near (f .sb) (blocks 8 (f .entries)) (f .sv) 5497558138908 (o .sv) (sc′ .1) (b .3) (lit≤ tt) in
+      let sb = back (f .sb) (blocks 8 (f .sparse .entries)) (f .sv) (length s) (o .sv) (sv .1) in
+      let sc = back (f .sc) (blocks 8 (f .sparse .entries)) (f .sb) (length s) (o .sb) (sb .1) in
+      let sl = back (f .sl) (f .sparse .entries) (f .sc) (length s) (o .sc) (sc .1) in
+      let dp = back (f .dp) (blocks 8 (f .dense .nodes)) (f .sl) (length s) (o .sl) (sl .1) in
+      let b = sizes (f .leaves * f .width) (f .dense .nodes) (f .sparse .entries) k (o .dense) (o .entries) in
+      let dl′ = near (f .dl) (32 * f .dense .nodes) (f .dc) 28 (o .dc) (start (f .dl) (o .dl)) (b .0) (lit≤ tt) in
+      let dc′ = near (f .dc) (32 * f .dense .nodes) (f .dp) 1099511627804 (o .dp) (dl′ .1) (b .0) (lit≤ tt) in
+      let dp′ = near (f .dp) (blocks 8 (f .dense .nodes)) (f .sl) 2199023255580 (o .sl) (dc′ .1) (b .1) (lit≤ tt) in
+      let sl′ = near (f .sl) (f .sparse .entries) (f .sc) 3298534883356 (o .sc) (dp′ .1) (b .2) (lit≤ tt) in
+      let sc′ = near (f .sc) (blocks 8 (f .sparse .entries)) (f .sb) 4398046511132 (o .sb) (sl′ .1) (b .3) (lit≤ tt) in
+      let sb′ = near (f .sb) (blocks 8 (f .sparse .entries)) (f .sv) 5497558138908 (o .sv) (sc′ .1) (b .3) (lit≤ tt) in
       let sv′ = near (f .sv) (blocks 8 (f .leaves * f .width)) (f .rl) 6597069766684 (o .rl) (sb′ .1) (b .4) (lit≤ tt) in
-      let rl′ = near (f .rl) (4 * blocks 64 (256 * f .dense)) (f .rc) 7696581394460 (o .rc) (sv′ .1) (b .5) (lit≤ tt) in
-      let rc′ = near (f .rc) (4 * blocks 64 (256 * f .dense)) (f .rp) 8796093022236 (o .rp) (rl′ .1) (b .5) (lit≤ tt) in
-      let rp′ = near (f .rp) (4 * blocks 64 (f .dense)) (f .rs) 9895604650012 (o .rs) (rc′ .1) (b .6) (lit≤ tt) in
-      let rs′ = near (f .rs) (4 * blocks 512 (f .entries)) (f .ts) 10995116277788 (o .ts) (rp′ .1) (b .7) (lit≤ tt) in
+      let rl′ = near (f .rl) (4 * blocks 64 (256 * f .dense .nodes)) (f .rc) 7696581394460 (o .rc) (sv′ .1) (b .5) (lit≤ tt) in
+      let rc′ = near (f .rc) (4 * blocks 64 (256 * f .dense .nodes)) (f .rp) 8796093022236 (o .rp) (rl′ .1) (b .5) (lit≤ tt) in
+      let rp′ = near (f .rp) (4 * blocks 64 (f .dense .nodes)) (f .rs) 9895604650012 (o .rs) (rc′ .1) (b .6) (lit≤ tt) in
+      let rs′ = near (f .rs) (4 * blocks 512 (f .sparse .entries)) (f .ts) 10995116277788 (o .ts) (rp′ .1) (b .7) (lit≤ tt) in
       record { dp = (dp .0, dp′ .0); sl = (sl .0, sl′ .0); sc = (sc .0, sc′ .0); sb = (sb .0, sb′ .0); sv = (sv .0, sv′ .0); rl = (rl .0, rl′ .0); rc = (rc .0, rc′ .0); rs = (rs .0, rs′ .0) }
     where
       head : (at len n : ℕ) → at + len ≡ n → at ≤ n
@@ -156,34 +156,34 @@ module _ (s : Bytes) (f : Frame) where
     parts-sized =
         let z = bodies-sized (j .frame) in
         record {
-          dl = length-bits (dl-body s f) (256 * f .dense) (omega (arith, z .dl));
-          dc = length-bits (dc-body s f) (256 * f .dense) (omega (arith, z .dc));
-          dp = length-bits (dp-body s f) (f .dense) (omega (arith, z .dp));
+          dl = length-bits (dl-body s f) (256 * f .dense .nodes) (omega (arith, z .dl));
+          dc = length-bits (dc-body s f) (256 * f .dense .nodes) (omega (arith, z .dc));
+          dp = length-bits (dp-body s f) (f .dense .nodes) (omega (arith, z .dp));
           sl = z .sl;
-          sc = length-bits (sc-body s f) (f .entries) (omega (arith, z .sc));
-          sb = length-bits (sb-body s f) (f .entries) (omega (arith, z .sb));
+          sc = length-bits (sc-body s f) (f .sparse .entries) (omega (arith, z .sc));
+          sb = length-bits (sb-body s f) (f .sparse .entries) (omega (arith, z .sb));
           dense = j .frame .levels;
         }
 
-    pub trie-right : builders-trie (frame-parts s f) ≡ true
-    trie-right = ap builders-trie (sym (j .frame .parts-are)) ∙ j .trie
+    pub trie-valid : builders-trie (frame-parts s f) ≡ true
+    trie-valid = ap builders-trie (sym (j .frame .parts-are)) ∙ j .trie
 
-    pub bits-pass : Bits-right s f
+    pub bits-pass : Bits-valid s f
     unfolding builders-trie sparse-nodes
     bits-pass =
         let p : Parts = frame-parts s f in
-        let q = every-true (first-set (p .sb) ∷ eqb (ones (p .sb)) (p .sparse-count) ∷ covered (p .dc) (p .dl) ∷ all extra-ends (sparse-nodes p) ∷ nodes-right (p .dense) (p .dense-count) (p .leaves) (nodes-of p) ∷ []) trie-right in
+        let q = every-true (first-set (p .sb) ∷ eqb (ones (p .sb)) (p .sparse-count) ∷ covered (p .dc) (p .dl) ∷ all extra-ends (sparse-nodes p) ∷ nodes-valid (p .dense) (p .dense-count) (p .leaves) (nodes-of p) ∷ []) trie-valid in
         record {
           first = q .0;
-          starts = sym (ones-all (sb-body s f) (f .entries)) ∙ eqb-true (ones (p .sb)) (f .sparse) (q .1 .0);
+          starts = sym (ones-all (sb-body s f) (f .sparse .entries)) ∙ eqb-true (ones (p .sb)) (f .sparse .nodes) (q .1 .0);
           within = q .1 .1 .0;
           extra = q .1 .1 .1 .0;
           nodes = q .1 .1 .1 .1 .0;
         }
 
     -- number 16 over the frame's parts
-    pub slots-parts : slots-pass s f ≡ slots-right 0 (levels-of (nodes-of (frame-parts s f)))
-    slots-parts = ap (λ (p : Parts). slots-right 0 (levels-of (nodes-of p))) (j .frame .parts-are)
+    pub slots-parts : slots-pass s f ≡ slots-valid 0 (levels-of (nodes-of (frame-parts s f)))
+    slots-parts = ap (λ (p : Parts). slots-valid 0 (levels-of (nodes-of p))) (j .frame .parts-are)
 
 -- the length of a part by its ends
 pub by-end : (at len : ℕ) → at + len - at ≡ len

@@ -8,24 +8,24 @@ use lib.ListN.{length, getD, take, drop, length-append, length-drop, take-append
 use lib.Seq.{getD-drop, take-nil, take-at, drop-append-add}
 use Rattle.spec.specs.Bytes.{all, concat}
 use Rattle.spec.specs.Nodes.{Node, slot, branches-of, exact-slot}
-use Rattle.spec.specs.Check.{clear-behind, slot-right, slots-right}
+use Rattle.spec.specs.Check.{clear-behind, slot-valid, slots-valid}
 use Rattle.check_trie_laws.specs.Tests.{both, and, under, swap-middle, all-append, all-both}
 use Rattle.check_slots_laws.specs.NodeSlots.{exact-clear, open-clear, clear-more}
 
 -- the slots of branches on the levels from level d on
-unfoldable open-right : ℕ → List (List Node) → Bool
+unfoldable open-valid : ℕ → List (List Node) → Bool
 unfolding all
-open-right d [] = true
-open-right d (ns ∷ ls) = all (open-clear (63 - d)) ns && open-right (suc d) ls
+open-valid d [] = true
+open-valid d (ns ∷ ls) = all (open-clear (63 - d)) ns && open-valid (suc d) ls
 
 -- exact leaves apart from branches
-split-levels : (d : ℕ) (ls : List (List Node)) → slots-right d ls ≡ all (exact-clear 0) (concat ls) && open-right d ls
-unfolding slots-right slot-right open-right concat all
+split-levels : (d : ℕ) (ls : List (List Node)) → slots-valid d ls ≡ all (exact-clear 0) (concat ls) && open-valid d ls
+unfolding slots-valid slot-valid open-valid concat all
 split-levels d [] = refl
 split-levels d (ns ∷ ls) =
     ap₂ _&&_ (all-both (exact-clear 0) (open-clear (63 - d)) ns) (split-levels (suc d) ls)
-    ∙ swap-middle (all (exact-clear 0) ns) (all (open-clear (63 - d)) ns) (all (exact-clear 0) (concat ls)) (open-right (suc d) ls)
-    ∙ ap (λ (t : Bool). t && (all (open-clear (63 - d)) ns && open-right (suc d) ls)) (sym (all-append (exact-clear 0) ns (concat ls)))
+    ∙ swap-middle (all (exact-clear 0) ns) (all (open-clear (63 - d)) ns) (all (exact-clear 0) (concat ls)) (open-valid (suc d) ls)
+    ∙ ap (λ (t : Bool). t && (all (open-clear (63 - d)) ns && open-valid (suc d) ls)) (sym (all-append (exact-clear 0) ns (concat ls)))
 
 -- a test that follows from another
 all-follow : {A : Type 0} (p q : A → Bool) → ((x : A) → p x ≡ true → q x ≡ true) → (xs : List A) → all p xs ≡ true → all q xs ≡ true
@@ -40,8 +40,8 @@ module _ (k : ℕ) where
   more-clear ns h = all-follow (open-clear 2) (open-clear (2 + k)) (λ n p. all-follow (λ e. clear-behind 2 (slot e)) (λ e. clear-behind (2 + k) (slot e)) (λ e q. clear-more 2 k (slot e) q) (branches-of n) p) ns h
 
 -- have no bits past the 64th byte above level 62
-shallow : (k d : ℕ) (ls : List (List Node)) → d + k ≤ 62 → all (open-clear 2) (concat ls) ≡ true → open-right d ls ≡ open-right (d + k) (drop k ls)
-unfolding open-right concat
+shallow : (k d : ℕ) (ls : List (List Node)) → d + k ≤ 62 → all (open-clear 2) (concat ls) ≡ true → open-valid d ls ≡ open-valid (d + k) (drop k ls)
+unfolding open-valid concat
 shallow zero d ls h s = let e : d + 0 ≡ d = omega arith in rw e
 shallow (suc k) d [] h s = refl
 shallow (suc k) d (ns ∷ ls) h s =
@@ -49,14 +49,14 @@ shallow (suc k) d (ns ∷ ls) h s =
     let e : suc d + k ≡ d + suc k = omega arith in
     let f : 2 + (61 - d) ≡ 63 - d = omega arith in
     let t : all (open-clear (63 - d)) ns ≡ true = ap (λ (m : ℕ). all (open-clear m) ns) (sym f) ∙ more-clear (61 - d) ns (p .0) in
-    rw t (shallow k (suc d) ls (omega arith) (p .1) ∙ ap (λ (z : ℕ). open-right z (drop k ls)) e)
+    rw t (shallow k (suc d) ls (omega arith) (p .1) ∙ ap (λ (z : ℕ). open-valid z (drop k ls)) e)
 
 -- the levels 62 and 63
-last-two : (ls : List (List Node)) → length ls ≤ 64 → open-right 62 (drop 62 ls) ≡ all (open-clear 1) (getD ls 62 []) && all (open-clear 0) (getD ls 63 [])
-unfolding open-right all
+last-two : (ls : List (List Node)) → length ls ≤ 64 → open-valid 62 (drop 62 ls) ≡ all (open-clear 1) (getD ls 62 []) && all (open-clear 0) (getD ls 63 [])
+unfolding open-valid all
 last-two ls h = rest (drop 62 ls) (omega (arith, length-drop 62 ls)) ∙ ap₂ (λ (a b : List Node). all (open-clear 1) a && all (open-clear 0) b) (getD-drop 62 ls 0 []) (getD-drop 62 ls 1 [])
   where
-    rest : (r : List (List Node)) → length r ≤ 2 → open-right 62 r ≡ all (open-clear 1) (getD r 0 []) && all (open-clear 0) (getD r 1 [])
+    rest : (r : List (List Node)) → length r ≤ 2 → open-valid 62 r ≡ all (open-clear 1) (getD r 0 []) && all (open-clear 0) (getD r 1 [])
     rest [] l = refl
     rest (a ∷ []) l = refl
     rest (a ∷ b ∷ []) l = ap (λ (t : Bool). all (open-clear 1) a && t) (and-true (all (open-clear 0) b))
@@ -112,7 +112,7 @@ part-clear m i e ns = all (λ x. exact-clear m x && open-clear m x) (part i e ns
 
 -- Number 16: the slots of exact leaves are clear, and on the levels 62 and 63 no bit is set past the 64th byte.
 pub levels-slots : (ls : List (List Node)) (ns : List Node) → concat ls ≡ ns → length ls ≤ 64 → all (open-clear 2) ns ≡ true
-    → slots-right 0 ls ≡ all (exact-clear 0) ns && (part-clear 1 (above ls 62) (above ls 63) ns && part-clear 0 (above ls 63) (above ls 64) ns)
+    → slots-valid 0 ls ≡ all (exact-clear 0) ns && (part-clear 1 (above ls 62) (above ls 63) ns && part-clear 0 (above ls 63) (above ls 64) ns)
 levels-slots ls ns w h s =
     split-levels 0 ls
     ∙ ap₂ (λ (a : List Node) (t : Bool). all (exact-clear 0) a && t) w (shallow 62 0 ls (omega arith) (ap (all (open-clear 2)) w ∙ s) ∙ last-two ls h)

@@ -11,7 +11,7 @@ use borrow.Author.Tests.{eqb-true, eqb-false, eq-eqb, leb-true, le-leb, lt-ltb}
 use Rattle.spec.specs.Bytes.{Bytes, Bits, concat, ones}
 use Rattle.spec.specs.Frame.{Parts}
 use Rattle.spec.specs.Nodes.{Shape, Node, zip-entries, split, sparse-shape, sparse-nodes, nodes-of, dense-shapes, children-of, total, later, levels-of}
-use Rattle.spec.specs.Trie.{first-set, covered, nodes-right}
+use Rattle.spec.specs.Trie.{first-set, covered, nodes-valid}
 use Rattle.bits_laws.specs.Bits.{rank, select}
 use Rattle.bits_laws.specs.RankLaws.{rank-le, rank-zero}
 use Rattle.bits_laws.specs.SelectLaws.{select-all, select-le}
@@ -21,15 +21,15 @@ use Rattle.check_trie_laws.specs.Tests.{both, and}
 use Rattle.check_trie_laws.specs.LevelEnds.{before, rise, level-end, nodes-above, nodes-above-ext, levels-are}
 use Rattle.check_trie_laws.specs.Shapes.{leaves-at, length-slotted, before-slotted}
 use Rattle.check_trie_laws.specs.DenseNodes.{length-dense, dense-leaves}
-use Rattle.check_trie_laws.specs.BitTests.{sparse-right, branches-to, counts-right, bits-right, builders-trie-is, long, before-all, total-append}
+use Rattle.check_trie_laws.specs.BitTests.{sparse-valid, branches-to, counts-valid, bits-valid, builders-trie-is, long, before-all, total-append}
 use Rattle.check_trie_laws.specs.SparseNodes.{place-of}
-use Rattle.check_trie_laws.specs.DenseNodes.{dense-nodes-right}
+use Rattle.check_trie_laws.specs.DenseNodes.{dense-nodes-valid}
 use Rattle.check_trie_laws.specs.Positions.{bits, ones-bits, ones-all, place-select}
 use Rattle.check_slots_laws.specs.LevelSlots.{above, above-up}
 use Rattle.check_slots_laws.specs.SparseExact.{sparse-slot}
 use Rattle.check_slots_laws.specs.LeavesBefore.{sparse-leaves}
-use Rattle.check_slots_laws.specs.Judged.{dl-body, dc-body, dp-body, sl-body, sc-body, sb-body, Judged, Bits-right, bodies-sized, parts-sized, trie-right, bits-pass}
-use Rattle.theory.specs.TrieTests.{nodes-right-none, nodes-right-true, nodes-right-levels}
+use Rattle.check_slots_laws.specs.Judged.{dl-body, dc-body, dp-body, sl-body, sc-body, sb-body, Judged, Bits-valid, bodies-sized, parts-sized, trie-valid, bits-pass}
+use Rattle.theory.specs.TrieTests.{nodes-valid-none, nodes-valid-true, nodes-valid-levels}
 
 -- ---- ends of levels, from the last
 
@@ -54,18 +54,18 @@ module _ (K : ℕ → ℕ) (N : ℕ) where
 
 -- ---- the levels of nodes that pass number 14
 
-record Levels-right (ns : List Node) : Type 0 where
+record Levels-valid (ns : List Node) : Type 0 where
   whole : concat (levels-of ns) ≡ ns
   shallow : length (levels-of ns) ≤ 64
   ends : (t : ℕ) → t ≤ 64 → above (levels-of ns) t ≡ nodes-above (before children-of ns) (length ns) t
 
-levels-right : (levels dense leaves : ℕ) (ns : List Node) → nodes-right levels dense leaves ns ≡ true → 0 < leaves → Levels-right ns
+levels-valid : (levels dense leaves : ℕ) (ns : List Node) → nodes-valid levels dense leaves ns ≡ true → 0 < leaves → Levels-valid ns
 unfolding levels-of
-levels-right levels dense leaves [] h l = absurd (omega (arith, eqb-true leaves 0 (sym (nodes-right-none levels dense leaves) ∙ h)))
-levels-right levels dense leaves (r ∷ ns) h l =
-    let b = nodes-right-true levels dense leaves r ns h in
+levels-valid levels dense leaves [] h l = absurd (omega (arith, eqb-true leaves 0 (sym (nodes-valid-none levels dense leaves) ∙ h)))
+levels-valid levels dense leaves (r ∷ ns) h l =
+    let b = nodes-valid-true levels dense leaves r ns h in
     record {
-      whole = nodes-right-levels r ns b .whole;
+      whole = nodes-valid-levels r ns b .whole;
       shallow = b .shallow;
       ends = λ t u.
           let e : ℕ = above (levels-of (r ∷ ns)) t in
@@ -80,11 +80,11 @@ levels-right levels dense leaves (r ∷ ns) h l =
 
 -- all nodes
 abbrev pub node-count : Frame → ℕ
-node-count f = f .dense + f .sparse
+node-count f = f .dense .nodes + f .sparse .nodes
 
 -- the branches that continue before a node
 abbrev branches-before : Bytes → Frame → ℕ → ℕ
-branches-before s f = branches-to (f .dense) (bits (dc-body s f) (256 * f .dense)) (bits (sc-body s f) (f .entries)) (bits (sb-body s f) (f .entries))
+branches-before s f = branches-to (f .dense .nodes) (bits (dc-body s f) (256 * f .dense .nodes)) (bits (sc-body s f) (f .sparse .entries)) (bits (sb-body s f) (f .sparse .entries))
 
 -- the first node on level t, or the node count
 unfoldable pub level-start : Bytes → Frame → ℕ → ℕ
@@ -92,11 +92,11 @@ level-start s f t = nodes-above (branches-before s f) (node-count f) t
 
 -- the leaves of the dense nodes
 abbrev pub dense-leaf-count : Bytes → Frame → ℕ
-dense-leaf-count s f = f .leaves + rank (sc-body s f) (f .entries) - f .entries
+dense-leaf-count s f = f .leaves + rank (sc-body s f) (f .sparse .entries) - f .sparse .entries
 
 -- the first entry of node i, which is sparse
 abbrev pub first-entry : Bytes → Frame → ℕ → ℕ
-first-entry s f i = select (sb-body s f) (f .entries) (i - f .dense)
+first-entry s f i = select (sb-body s f) (f .sparse .entries) (i - f .dense .nodes)
 
 -- the leaves before it
 abbrev pub leaves-to : Bytes → Frame → ℕ → ℕ
@@ -105,9 +105,9 @@ leaves-to s f i = sparse-slot (sc-body s f) (dense-leaf-count s f) (first-entry 
 -- the counts of leaves and of nodes
 pub record Counts (s : Bytes) (f : Frame) : Type 0 where
   pub some-node : 0 < node-count f
-  pub leaf-total : rank (dl-body s f) (256 * f .dense) + rank (dp-body s f) (f .dense) + f .entries ≡ f .leaves + rank (dc-body s f) (256 * f .dense) + rank (sc-body s f) (f .entries)
-  pub node-total : node-count f ≡ rank (dc-body s f) (256 * f .dense) + rank (sc-body s f) (f .entries) + 1
-  pub top : nodes-above (branches-before s f) (node-count f) (f .levels) ≡ f .dense
+  pub leaf-total : rank (dl-body s f) (256 * f .dense .nodes) + rank (dp-body s f) (f .dense .nodes) + f .sparse .entries ≡ f .leaves + rank (dc-body s f) (256 * f .dense .nodes) + rank (sc-body s f) (f .sparse .entries)
+  pub node-total : node-count f ≡ rank (dc-body s f) (256 * f .dense .nodes) + rank (sc-body s f) (f .sparse .entries) + 1
+  pub top : nodes-above (branches-before s f) (node-count f) (f .dense .levels) ≡ f .dense .nodes
 
 module _ (s : Bytes) (f : Frame) (j : Judged s f) (some : 0 < f .leaves) where
   abbrev p : Parts
@@ -119,16 +119,16 @@ module _ (s : Bytes) (f : Frame) (j : Judged s f) (some : 0 < f .leaves) where
   abbrev N : ℕ
   N = node-count f
 
-  counts-pass : counts-right p ≡ true
-  unfolding bits-right
+  counts-pass : counts-valid p ≡ true
+  unfolding bits-valid
   counts-pass =
       let q = both (first-set (p .sb) && eqb (ones (p .sb)) (p .sparse-count) && covered (p .dc) (p .dl))
-      (sparse-right (eqb (p .dense-count) 0) (zip-entries (p .sl) (p .sc)) (p .sb) && dense-nodes-right true (p .dl) (p .dc) (p .dp) && counts-right p)
-      (sym (builders-trie-is p (parts-sized s f j)) ∙ trie-right s f j) in
-      both (sparse-right (eqb (p .dense-count) 0) (zip-entries (p .sl) (p .sc)) (p .sb) && dense-nodes-right true (p .dl) (p .dc) (p .dp)) (counts-right p) (q .1) .1
+      (sparse-valid (eqb (p .dense-count) 0) (zip-entries (p .sl) (p .sc)) (p .sb) && dense-nodes-valid true (p .dl) (p .dc) (p .dp) && counts-valid p)
+      (sym (builders-trie-is p (parts-sized s f j)) ∙ trie-valid s f j) in
+      both (sparse-valid (eqb (p .dense-count) 0) (zip-entries (p .sl) (p .sc)) (p .sb) && dense-nodes-valid true (p .dl) (p .dc) (p .dp)) (counts-valid p) (q .1) .1
 
   pub counts : Counts s f
-  unfolding counts-right
+  unfolding counts-valid
   counts = go (eqb N 0) refl counts-pass
     where
       L : Bool
@@ -148,10 +148,10 @@ module _ (s : Bytes) (f : Frame) (j : Judged s f) (some : 0 < f .leaves) where
           let l = eqb-true (ones (p .dl) + ones (p .dp) + p .entry-count) (p .leaves + ones (p .dc) + ones (p .sc)) (both L (ltb 0 (p .leaves)) (q .0) .0) in
           let r = both M (rise K N 63 1 && T) (q .1) in
           let m = eqb-true N (ones (p .dc) + ones (p .sc) + 1) (r .0) in
-          let x = ones-all (dl-body s f) (256 * f .dense) in
-          let y = ones-all (dc-body s f) (256 * f .dense) in
-          let z = ones-all (dp-body s f) (f .dense) in
-          let c = ones-all (sc-body s f) (f .entries) in
+          let x = ones-all (dl-body s f) (256 * f .dense .nodes) in
+          let y = ones-all (dc-body s f) (256 * f .dense .nodes) in
+          let z = ones-all (dp-body s f) (f .dense .nodes) in
+          let c = ones-all (sc-body s f) (f .sparse .entries) in
           record {
             some-node = positive N n;
             leaf-total = omega arith;
@@ -169,18 +169,18 @@ module _ (s : Bytes) (f : Frame) (j : Judged s f) (some : 0 < f .leaves) where
   abbrev sparse-part : List Shape
   sparse-part = map sparse-shape (split (zip-entries (p .sl) (p .sc)) (p .sb))
 
-  pass : Bits-right s f
+  pass : Bits-valid s f
   pass = bits-pass s f j
 
   set : ones (p .sb) ≡ p .sparse-count
-  set = ones-all (sb-body s f) (f .entries) ∙ pass .starts
+  set = ones-all (sb-body s f) (f .sparse .entries) ∙ pass .starts
 
   node-long : length (nodes-of p) ≡ N
   unfolding nodes-of sparse-nodes
   node-long = length-slotted (p .width) (dense-part ++ sparse-part) (p .sv) ∙ long p (parts-sized s f j) (pass .first) set (pass .within) (pass .extra)
 
-  in-levels : Levels-right (nodes-of p)
-  in-levels = levels-right (f .levels) (f .dense) (f .leaves) (nodes-of p) (pass .nodes) some
+  in-levels : Levels-valid (nodes-of p)
+  in-levels = levels-valid (f .dense .levels) (f .dense .nodes) (f .leaves) (nodes-of p) (pass .nodes) some
 
   -- the levels are all the nodes, and at most 64
   pub levels-whole : (concat (levels-of (nodes-of (frame-parts s f))) ≡ nodes-of (frame-parts s f)) × (length (levels-of (nodes-of (frame-parts s f))) ≤ 64)
@@ -196,56 +196,56 @@ module _ (s : Bytes) (f : Frame) (j : Judged s f) (some : 0 < f .leaves) where
 
   K-root : K 0 ≡ 0
   unfolding branches-to ones
-  K-root = rw (le-leb 0 (f .dense) (omega arith))
+  K-root = rw (le-leb 0 (f .dense .nodes) (omega arith))
 
   -- the first entry starts the first sparse node
-  pub first-place : select (sb-body s f) (f .entries) 0 ≡ 0
+  pub first-place : select (sb-body s f) (f .sparse .entries) 0 ≡ 0
   unfolding place-of first-set
-  first-place = sym (place-select (sb-body s f) (f .entries) 0 (omega (arith, bodies-sized s f (j .frame) .sb))) ∙ go (p .sb) (pass .first)
+  first-place = sym (place-select (sb-body s f) (f .sparse .entries) 0 (omega (arith, bodies-sized s f (j .frame) .sb))) ∙ go (p .sb) (pass .first)
     where
       go : (bs : Bits) → first-set bs ≡ true → place-of 0 bs ≡ 0
       go [] h = refl
       go (true ∷ bs) h = refl
       go (false ∷ bs) h = absurd (true≢false (sym h))
 
-  K-sparse : (i : ℕ) → f .dense ≤ i → K i ≡ rank (dc-body s f) (256 * f .dense) + rank (sc-body s f) (first-entry s f i)
+  K-sparse : (i : ℕ) → f .dense .nodes ≤ i → K i ≡ rank (dc-body s f) (256 * f .dense .nodes) + rank (sc-body s f) (first-entry s f i)
   unfolding branches-to
-  K-sparse i h = go (leb i (f .dense)) refl
+  K-sparse i h = go (leb i (f .dense .nodes)) refl
     where
-      go : (b : Bool) → leb i (f .dense) ≡ b
-          → cond b (ones (take (256 * i) (p .dc))) (ones (p .dc) + ones (take (place-of (i - f .dense) (p .sb)) (p .sc))) ≡ rank (dc-body s f) (256 * f .dense) + rank (sc-body s f) (first-entry s f i)
+      go : (b : Bool) → leb i (f .dense .nodes) ≡ b
+          → cond b (ones (take (256 * i) (p .dc))) (ones (p .dc) + ones (take (place-of (i - f .dense .nodes) (p .sb)) (p .sc))) ≡ rank (dc-body s f) (256 * f .dense .nodes) + rank (sc-body s f) (first-entry s f i)
       go true e =
-          let q : i ≡ f .dense = omega (arith, leb-true i (f .dense) e) in
-          let z : i - f .dense ≡ 0 = omega arith in
-          let k : first-entry s f i ≡ 0 = ap (select (sb-body s f) (f .entries)) z ∙ first-place in
-          omega (arith, ones-bits (dc-body s f) (256 * f .dense) (256 * i) (omega arith), ap (λ (n : ℕ). rank (dc-body s f) (256 * n)) q, ap (rank (sc-body s f)) k, rank-zero (sc-body s f))
+          let q : i ≡ f .dense .nodes = omega (arith, leb-true i (f .dense .nodes) e) in
+          let z : i - f .dense .nodes ≡ 0 = omega arith in
+          let k : first-entry s f i ≡ 0 = ap (select (sb-body s f) (f .sparse .entries)) z ∙ first-place in
+          omega (arith, ones-bits (dc-body s f) (256 * f .dense .nodes) (256 * i) (omega arith), ap (λ (n : ℕ). rank (dc-body s f) (256 * n)) q, ap (rank (sc-body s f)) k, rank-zero (sc-body s f))
       go false e =
-          ap₂ _+_ (ones-all (dc-body s f) (256 * f .dense))
-          (ap (λ (k : ℕ). ones (take k (p .sc))) (place-select (sb-body s f) (f .entries) (i - f .dense) (omega (arith, bodies-sized s f (j .frame) .sb)))
-          ∙ ones-bits (sc-body s f) (f .entries) (first-entry s f i) (select-le (sb-body s f) (f .entries) (i - f .dense)))
+          ap₂ _+_ (ones-all (dc-body s f) (256 * f .dense .nodes))
+          (ap (λ (k : ℕ). ones (take k (p .sc))) (place-select (sb-body s f) (f .sparse .entries) (i - f .dense .nodes) (omega (arith, bodies-sized s f (j .frame) .sb)))
+          ∙ ones-bits (sc-body s f) (f .sparse .entries) (first-entry s f i) (select-le (sb-body s f) (f .sparse .entries) (i - f .dense .nodes)))
 
   -- levels start one behind the other
   pub start-up : (t : ℕ) → t < 64 → level-start s f t ≤ level-start s f (suc t)
   start-up t h = omega (arith, start-is t (omega arith), start-is (suc t) (omega arith), above-up (levels-of (nodes-of p)) t)
 
   -- the first sparse level starts at the first sparse node
-  pub start-first : level-start s f (f .levels) ≡ f .dense
+  pub start-first : level-start s f (f .dense .levels) ≡ f .dense .nodes
   unfolding level-start
   start-first = counts .top
 
   -- a sparse level starts behind the dense nodes
-  pub start-low : (t : ℕ) → f .levels ≤ t → t ≤ 64 → f .dense ≤ level-start s f t
+  pub start-low : (t : ℕ) → f .dense .levels ≤ t → t ≤ 64 → f .dense .nodes ≤ level-start s f t
   start-low t h l =
-      let e : f .levels + (t - f .levels) ≡ t = omega arith in
-      rw e at (up (t - f .levels) (omega arith))
+      let e : f .dense .levels + (t - f .dense .levels) ≡ t = omega arith in
+      rw e at (up (t - f .dense .levels) (omega arith))
     where
-      up : (k : ℕ) → f .levels + k ≤ 64 → f .dense ≤ level-start s f (f .levels + k)
-      up zero l = let e : f .levels + 0 ≡ f .levels = omega arith in rw e (omega (arith, start-first))
-      up (suc k) l = let e : f .levels + suc k ≡ suc (f .levels + k) = omega arith in rw e (omega (arith, up k (omega arith), start-up (f .levels + k) (omega arith)))
+      up : (k : ℕ) → f .dense .levels + k ≤ 64 → f .dense .nodes ≤ level-start s f (f .dense .levels + k)
+      up zero l = let e : f .dense .levels + 0 ≡ f .dense .levels = omega arith in rw e (omega (arith, start-first))
+      up (suc k) l = let e : f .dense .levels + suc k ≡ suc (f .dense .levels + k) = omega arith in rw e (omega (arith, up k (omega arith), start-up (f .dense .levels + k) (omega arith)))
 
   -- the level below one starts behind the branches that continue before that one's start
-  pub start-next : (t : ℕ) → f .levels ≤ t → t < 64
-      → level-start s f (suc t) ≡ cond (ltb (level-start s f t) (node-count f)) (rank (dc-body s f) (256 * f .dense) + rank (sc-body s f) (first-entry s f (level-start s f t)) + 1) (level-start s f t)
+  pub start-next : (t : ℕ) → f .dense .levels ≤ t → t < 64
+      → level-start s f (suc t) ≡ cond (ltb (level-start s f t) (node-count f)) (rank (dc-body s f) (256 * f .dense .nodes) + rank (sc-body s f) (first-entry s f (level-start s f t)) + 1) (level-start s f t)
   unfolding level-start
   start-next t h l =
       nodes-above-last K N t K-root (counts .some-node)
@@ -259,38 +259,38 @@ module _ (s : Bytes) (f : Frame) (j : Judged s f) (some : 0 < f .leaves) where
   pub dense-part-leaves : total leaves-at dense-part ≡ dense-leaf-count s f
   dense-part-leaves =
       let z = parts-sized s f j in
-      let x = ones-all (dl-body s f) (256 * f .dense) in
-      let y = ones-all (dc-body s f) (256 * f .dense) in
-      let w = ones-all (dp-body s f) (f .dense) in
+      let x = ones-all (dl-body s f) (256 * f .dense .nodes) in
+      let y = ones-all (dc-body s f) (256 * f .dense .nodes) in
+      let w = ones-all (dp-body s f) (f .dense .nodes) in
       omega (arith, dense-leaves (p .dl) (p .dc) (p .dp) (omega (arith, z .dl, z .dp)) (omega (arith, z .dc, z .dp)) (pass .within), counts .leaf-total)
 
   -- the leaves before a sparse node
-  pub leaves-before : (i : ℕ) → f .dense ≤ i → total leaves-at (take i (dense-part ++ sparse-part)) ≡ leaves-to s f i
+  pub leaves-before : (i : ℕ) → f .dense .nodes ≤ i → total leaves-at (take i (dense-part ++ sparse-part)) ≡ leaves-to s f i
   leaves-before i h =
       let z = bodies-sized s f (j .frame) in
-      let m : ℕ = i - f .dense in
+      let m : ℕ = i - f .dense .nodes in
       let q : length dense-part + m ≡ i = omega (arith, length-dense (p .dl) (p .dc) (p .dp), parts-sized s f j .dp) in
       ap (λ (k : ℕ). total leaves-at (take k (dense-part ++ sparse-part))) (sym q) ∙ ap (total leaves-at) (take-append-add dense-part sparse-part m)
       ∙ total-append leaves-at dense-part (take m sparse-part)
-      ∙ ap₂ _+_ dense-part-leaves (sparse-leaves (sl-body s f) (sc-body s f) (sb-body s f) (f .entries) (z .sl) (omega (arith, z .sc)) (omega (arith, z .sb)) (pass .first) (pass .extra) m)
+      ∙ ap₂ _+_ dense-part-leaves (sparse-leaves (sl-body s f) (sc-body s f) (sb-body s f) (f .sparse .entries) (z .sl) (omega (arith, z .sc)) (omega (arith, z .sb)) (pass .first) (pass .extra) m)
 
   -- the sparse entries that end are leaves
-  pub entries-room : f .entries ≤ f .leaves + rank (sc-body s f) (f .entries)
+  pub entries-room : f .sparse .entries ≤ f .leaves + rank (sc-body s f) (f .sparse .entries)
   entries-room =
       let z = parts-sized s f j in
       omega (
         arith,
         counts .leaf-total,
         dense-leaves (p .dl) (p .dc) (p .dp) (omega (arith, z .dl, z .dp)) (omega (arith, z .dc, z .dp)) (pass .within),
-        ones-all (dl-body s f) (256 * f .dense),
-        ones-all (dc-body s f) (256 * f .dense),
-        ones-all (dp-body s f) (f .dense),
+        ones-all (dl-body s f) (256 * f .dense .nodes),
+        ones-all (dc-body s f) (256 * f .dense .nodes),
+        ones-all (dp-body s f) (f .dense .nodes),
       )
 
   -- all leaves
   pub leaves-last : leaves-to s f (node-count f) ≡ f .leaves
   leaves-last =
-      let e : node-count f - f .dense ≡ f .sparse = omega arith in
-      let k : first-entry s f (node-count f) ≡ f .entries = ap (select (sb-body s f) (f .entries)) e ∙ select-all (sb-body s f) (f .entries) (f .sparse) (omega (arith, pass .starts)) in
-      let r : rank (sc-body s f) (first-entry s f (node-count f)) ≡ rank (sc-body s f) (f .entries) = ap (rank (sc-body s f)) k in
-      omega (arith, rank-le (sc-body s f) (f .entries), counts .leaf-total, entries-room)
+      let e : node-count f - f .dense .nodes ≡ f .sparse .nodes = omega arith in
+      let k : first-entry s f (node-count f) ≡ f .sparse .entries = ap (select (sb-body s f) (f .sparse .entries)) e ∙ select-all (sb-body s f) (f .sparse .entries) (f .sparse .nodes) (omega (arith, pass .starts)) in
+      let r : rank (sc-body s f) (first-entry s f (node-count f)) ≡ rank (sc-body s f) (f .sparse .entries) = ap (rank (sc-body s f)) k in
+      omega (arith, rank-le (sc-body s f) (f .sparse .entries), counts .leaf-total, entries-room)

@@ -11,8 +11,8 @@ use borrow.Author.Tests.{eq-eqb}
 use Rattle.spec.specs.Bytes.{Bytes, all}
 use Rattle.spec.specs.Frame.{Parts}
 use Rattle.spec.specs.Nodes.{Shape, Node, zip-entries, split, sparse-shape, sparse-nodes, nodes-of, slotted, dense-shapes, total, levels-of, levels}
-use Rattle.spec.specs.Trie.{nodes-right}
-use Rattle.spec.specs.Check.{slots-right}
+use Rattle.spec.specs.Trie.{nodes-valid}
+use Rattle.spec.specs.Check.{slots-valid}
 use Rattle.bits_laws.specs.Bits.{rank}
 use Rattle.image_types.specs.FrameOf.{frame-parts}
 use Rattle.image_types.specs.declared.Frame.{Frame}
@@ -27,7 +27,7 @@ use Rattle.check_slots_laws.specs.SparseExact.{is-extra, sparse-slot, sp
 use Rattle.check_slots_laws.specs.Judged.{dl-body, dc-body, dp-body, sl-body, sc-body, sb-body, sv-body, slots-pass, Judged, bodies-sized, bits-pass, slots-parts}
 use Rattle.check_slots_laws.specs.LevelStarts.{node-count, level-start, dense-leaf-count, leaves-to, levels-whole, start-is, start-up, start-low, start-last, dense-part-leaves, leaves-before, leaves-last}
 use Rattle.theory.specs.Levels.{total-split}
-use Rattle.theory.specs.TrieTests.{nodes-right-true}
+use Rattle.theory.specs.TrieTests.{nodes-valid-true}
 
 -- slot v has no bit set behind its first m bytes
 abbrev pub clear-at : Bytes → Frame → ℕ → ℕ → Bool
@@ -35,11 +35,11 @@ clear-at s f m v = slot-clear m (f .width) (bits (sv-body s f) (f .leaves * f .w
 
 -- the slots of the exact leaves among the dense nodes are clear
 abbrev pub dense-clear : Bytes → Frame → Bool
-dense-clear s f = all-from (dense-exact (clear-at s f 0) (dl-body s f) (dc-body s f) (dp-body s f)) 0 (f .dense)
+dense-clear s f = all-from (dense-exact (clear-at s f 0) (dl-body s f) (dc-body s f) (dp-body s f)) 0 (f .dense .nodes)
 
 -- those among the sparse nodes
 abbrev pub sparse-clear : Bytes → Frame → Bool
-sparse-clear s f = all-from (sparse-exact (clear-at s f 0) (sl-body s f) (sc-body s f) (sb-body s f) (f .entries) (dense-leaf-count s f)) 0 (f .entries)
+sparse-clear s f = all-from (sparse-exact (clear-at s f 0) (sl-body s f) (sc-body s f) (sb-body s f) (f .sparse .entries) (dense-leaf-count s f)) 0 (f .sparse .entries)
 
 -- the first slot of level t
 abbrev pub level-slot : Bytes → Frame → ℕ → ℕ
@@ -78,9 +78,9 @@ module _ (s : Bytes) (f : Frame) (j : Judged s f) (some : 0 < f .leaves) where
       let e : 0 + total leaves-at dense-part ≡ dense-leaf-count s f = omega (arith, dense-part-leaves s f j some) in
       ap (all (exact-clear 0)) (sym from-start) ∙ all-exact w (p .sv) 0 shapes ∙ exact-parts (clear-at s f 0) 0 dense-part sparse-part
       ∙ ap₂ _&&_
-      (dense-exacts (dl-body s f) (dc-body s f) (dp-body s f) (f .dense) (omega (arith, z .dl)) (omega (arith, z .dc)) (omega (arith, z .dp)) (t .within) (clear-at s f 0))
+      (dense-exacts (dl-body s f) (dc-body s f) (dp-body s f) (f .dense .nodes) (omega (arith, z .dl)) (omega (arith, z .dc)) (omega (arith, z .dp)) (t .within) (clear-at s f 0))
       (ap (λ (v : ℕ). exact-from (clear-at s f 0) v sparse-part) e
-      ∙ sparse-exacts (clear-at s f 0) (sl-body s f) (sc-body s f) (sb-body s f) (f .entries) (dense-leaf-count s f) (z .sl) (omega (arith, z .sc)) (omega (arith, z .sb)) (t .first) (t .extra))
+      ∙ sparse-exacts (clear-at s f 0) (sl-body s f) (sc-body s f) (sb-body s f) (f .sparse .entries) (dense-leaf-count s f) (z .sl) (omega (arith, z .sc)) (omega (arith, z .sb)) (t .first) (t .extra))
 
   part-total : (i e : ℕ) → i ≤ e → total leaves-at (take e shapes) ≡ total leaves-at (take i shapes) + total leaves-at (take (e - i) (drop i shapes))
   part-total i e h =
@@ -92,7 +92,7 @@ module _ (s : Bytes) (f : Frame) (j : Judged s f) (some : 0 < f .leaves) where
       whole = omega arith
 
   -- the slots of the nodes from i to e
-  part-slots : (m i e : ℕ) → f .dense ≤ i → i ≤ e → part-clear m i e (nodes-of p) ≡ all-from (clear-at s f m) (leaves-to s f i) (leaves-to s f e - leaves-to s f i)
+  part-slots : (m i e : ℕ) → f .dense .nodes ≤ i → i ≤ e → part-clear m i e (nodes-of p) ≡ all-from (clear-at s f m) (leaves-to s f i) (leaves-to s f e - leaves-to s f i)
   part-slots m i e h l =
       let a = leaves-before s f j some i h in
       let b = leaves-before s f j some e (omega arith) in
@@ -104,7 +104,7 @@ module _ (s : Bytes) (f : Frame) (j : Judged s f) (some : 0 < f .leaves) where
       ∙ all-clear m w (p .sv) (0 + total leaves-at (take i shapes)) (take (e - i) (drop i shapes))
       ∙ ap₂ (all-from (clear-at s f m)) x y
 
-  levels-few : f .levels ≤ 62
+  levels-few : f .dense .levels ≤ 62
   levels-few = omega (arith, j .frame .levels)
 
   -- the leaves before a level are at most all
@@ -144,20 +144,20 @@ module _ (s : Bytes) (f : Frame) (j : Judged s f) (some : 0 < f .leaves) where
 
 -- no leaves, no slots
 pub no-leaves : (s : Bytes) (f : Frame) → Judged s f → f .leaves ≡ 0 → slots-pass s f ≡ true
-unfolding slots-right levels-of levels all total
+unfolding slots-valid levels-of levels all total
 no-leaves s f j z = slots-parts s f j ∙ go (nodes-of (frame-parts s f)) (bits-pass s f j .nodes)
   where
-    go : (ns : List Node) → nodes-right (f .levels) (f .dense) (f .leaves) ns ≡ true → slots-right 0 (levels-of ns) ≡ true
+    go : (ns : List Node) → nodes-valid (f .dense .levels) (f .dense .nodes) (f .leaves) ns ≡ true → slots-valid 0 (levels-of ns) ≡ true
     go [] h = refl
-    go (r ∷ ns) h = absurd (omega (arith, nodes-right-true (f .levels) (f .dense) (f .leaves) r ns h .some-leaf))
+    go (r ∷ ns) h = absurd (omega (arith, nodes-valid-true (f .dense .levels) (f .dense .nodes) (f .leaves) r ns h .some-leaf))
 
 -- slots without bits are clear
 pub no-bits : (s : Bytes) (f : Frame) → Judged s f → 0 < f .leaves → f .width ≡ 0 → slots-pass s f ≡ true
 no-bits s f j some z =
     number-16 s f j some
     ∙ ap₂ _&&_
-    (ap₂ _&&_ (from-pass _ 0 (f .dense) (λ i a b. pass (is-set (dp-body s f) i) 0 (dense-slot (dl-body s f) (dc-body s f) (dp-body s f) i)))
-    (from-pass _ 0 (f .entries) (λ i a b. pass (is-extra (sl-body s f) (sb-body s f) (f .entries) i) 0 (sparse-slot (sc-body s f) (dense-leaf-count s f) i))))
+    (ap₂ _&&_ (from-pass _ 0 (f .dense .nodes) (λ i a b. pass (is-set (dp-body s f) i) 0 (dense-slot (dl-body s f) (dc-body s f) (dp-body s f) i)))
+    (from-pass _ 0 (f .sparse .entries) (λ i a b. pass (is-extra (sl-body s f) (sb-body s f) (f .sparse .entries) i) 0 (sparse-slot (sc-body s f) (dense-leaf-count s f) i))))
     (ap₂ _&&_ (from-pass (clear-at s f 1) (level-slot s f 62) (level-slot s f 63 - level-slot s f 62) (λ i a b. none 1 i)) run)
   where
     none : (m v : ℕ) → clear-at s f m v ≡ true

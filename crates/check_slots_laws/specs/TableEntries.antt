@@ -10,7 +10,7 @@ use lib.Pow.{field, mod-mod-pow}
 use Rattle.spec.specs.Bytes.{Bytes, Bits, concat, iota, blocks, equal, ones, le32, from32}
 use Rattle.spec.specs.Image.{ranks, samples}
 use Rattle.spec.specs.Frame.{Parts, body}
-use Rattle.spec.specs.Check.{ranks-right}
+use Rattle.spec.specs.Check.{ranks-valid}
 use Rattle.bits_laws.specs.Bits.{rank}
 use Rattle.bits_laws.specs.RankLaws.{rank-le}
 use Rattle.bits_laws.specs.Bits.{part}
@@ -68,50 +68,50 @@ rank-entry w bs b h =
 module _ (s : Bytes) (f : Frame) (j : Judged s f) where
   -- the tables that entry numbers are read from
   record Tables : Type 0 where
-    rl : part s (f .rl) (4 * blocks 64 (256 * f .dense)) ≡ ranks 64 (bits (dl-body s f) (256 * f .dense))
-    rc : part s (f .rc) (4 * blocks 64 (256 * f .dense)) ≡ ranks 64 (bits (dc-body s f) (256 * f .dense))
-    rs : part s (f .rs) (4 * blocks 512 (f .entries)) ≡ ranks 512 (bits (sc-body s f) (f .entries))
+    rl : part s (f .rl) (4 * blocks 64 (256 * f .dense .nodes)) ≡ ranks 64 (bits (dl-body s f) (256 * f .dense .nodes))
+    rc : part s (f .rc) (4 * blocks 64 (256 * f .dense .nodes)) ≡ ranks 64 (bits (dc-body s f) (256 * f .dense .nodes))
+    rs : part s (f .rs) (4 * blocks 512 (f .sparse .entries)) ≡ ranks 512 (bits (sc-body s f) (f .sparse .entries))
 
   tables : Tables
-  unfolding ranks-right
+  unfolding ranks-valid
   tables =
       let bs : List Bytes = frame-bodies s f in
       let p : Parts = frame-parts s f in
-      let r : ranks-right (frame-parts s f) (frame-bodies s f) ≡ true = ap (λ (p : Parts). ranks-right p (frame-bodies s f)) (sym (j .frame .parts-are)) ∙ j .ranks in
+      let r : ranks-valid (frame-parts s f) (frame-bodies s f) ≡ true = ap (λ (p : Parts). ranks-valid p (frame-bodies s f)) (sym (j .frame .parts-are)) ∙ j .ranks in
       let q = every-true (equal (body bs 7) (ranks 64 (p .dl)) ∷ equal (body bs 8) (ranks 64 (p .dc)) ∷ equal (body bs 9) (ranks 64 (p .dp)) ∷ equal (body bs 10) (ranks 512 (p .sc)) ∷ equal (body bs 11) (samples (p .sb)) ∷ []) r in
       record { rl = equal-true (body bs 7) (ranks 64 (p .dl)) (q .0); rc = equal-true (body bs 8) (ranks 64 (p .dc)) (q .1 .0); rs = equal-true (body bs 10) (ranks 512 (p .sc)) (q .1 .1 .1 .0) }
 
   -- the entry for dense node m, which has four blocks of 64 bits
-  node-entry : (at : ℕ) (d : Bytes) → length d ≡ 32 * f .dense → part s at (4 * blocks 64 (256 * f .dense)) ≡ ranks 64 (bits d (256 * f .dense)) → (m : ℕ) → m < f .dense
+  node-entry : (at : ℕ) (d : Bytes) → length d ≡ 32 * f .dense .nodes → part s at (4 * blocks 64 (256 * f .dense .nodes)) ≡ ranks 64 (bits d (256 * f .dense .nodes)) → (m : ℕ) → m < f .dense .nodes
       → from32 (drop (at + 16 * m) s) ≡ rank d (256 * m) % 4294967296
   node-entry at d l t m h =
       let e : 4 * (4 * m) ≡ 16 * m = omega arith in
       let g : 64 * (4 * m) ≡ 256 * m = omega arith in
-      let o : ones (take (64 * (4 * m)) (bits d (256 * f .dense))) ≡ rank d (256 * m) = ones-bits d (256 * f .dense) (64 * (4 * m)) (omega arith) ∙ ap (rank d) g in
-      sym (from-part s at (4 * blocks 64 (256 * f .dense)) (16 * m) (omega arith))
+      let o : ones (take (64 * (4 * m)) (bits d (256 * f .dense .nodes))) ≡ rank d (256 * m) = ones-bits d (256 * f .dense .nodes) (64 * (4 * m)) (omega arith) ∙ ap (rank d) g in
+      sym (from-part s at (4 * blocks 64 (256 * f .dense .nodes)) (16 * m) (omega arith))
       ∙ ap₂ (λ (k : ℕ) (b : Bytes). from32 (drop k b)) (sym e) t
-      ∙ rank-entry 64 (bits d (256 * f .dense)) (4 * m) (omega (arith, length-bits d (256 * f .dense) (omega arith))) ∙ ap (λ (k : ℕ). k % 4294967296) o
+      ∙ rank-entry 64 (bits d (256 * f .dense .nodes)) (4 * m) (omega (arith, length-bits d (256 * f .dense .nodes) (omega arith))) ∙ ap (λ (k : ℕ). k % 4294967296) o
 
   -- the labels, and the continuing ones, before dense node m
-  pub label-entry : (m : ℕ) → m < f .dense → from32 (drop (f .rl + 16 * m) s) ≡ rank (dl-body s f) (256 * m) % 4294967296
+  pub label-entry : (m : ℕ) → m < f .dense .nodes → from32 (drop (f .rl + 16 * m) s) ≡ rank (dl-body s f) (256 * m) % 4294967296
   label-entry = node-entry (f .rl) (dl-body s f) (bodies-sized s f (j .frame) .dl) (tables .rl)
 
-  pub child-entry : (m : ℕ) → m < f .dense → from32 (drop (f .rc + 16 * m) s) ≡ rank (dc-body s f) (256 * m) % 4294967296
+  pub child-entry : (m : ℕ) → m < f .dense .nodes → from32 (drop (f .rc + 16 * m) s) ≡ rank (dc-body s f) (256 * m) % 4294967296
   child-entry = node-entry (f .rc) (dc-body s f) (bodies-sized s f (j .frame) .dc) (tables .rc)
 
   -- the continuing entries before block b of 512
-  pub entry-entry : (b : ℕ) → 512 * b < f .entries → from32 (drop (f .rs + 4 * b) s) ≡ rank (sc-body s f) (512 * b)
+  pub entry-entry : (b : ℕ) → 512 * b < f .sparse .entries → from32 (drop (f .rs + 4 * b) s) ≡ rank (sc-body s f) (512 * b)
   entry-entry b h =
       let z = bodies-sized s f (j .frame) .sc in
-      let o : ones (take (512 * b) (bits (sc-body s f) (f .entries))) ≡ rank (sc-body s f) (512 * b) = ones-bits (sc-body s f) (f .entries) (512 * b) (omega arith) in
+      let o : ones (take (512 * b) (bits (sc-body s f) (f .sparse .entries))) ≡ rank (sc-body s f) (512 * b) = ones-bits (sc-body s f) (f .sparse .entries) (512 * b) (omega arith) in
       let l = j .frame .entries in
-      sym (from-part s (f .rs) (4 * blocks 512 (f .entries)) (4 * b) (omega arith))
+      sym (from-part s (f .rs) (4 * blocks 512 (f .sparse .entries)) (4 * b) (omega arith))
       ∙ ap (λ (t : Bytes). from32 (drop (4 * b) t)) (tables .rs)
-      ∙ rank-entry 512 (bits (sc-body s f) (f .entries)) b (omega (arith, length-bits (sc-body s f) (f .entries) (omega arith))) ∙ omega (arith, o, rank-le (sc-body s f) (512 * b))
+      ∙ rank-entry 512 (bits (sc-body s f) (f .sparse .entries)) b (omega (arith, length-bits (sc-body s f) (f .sparse .entries) (omega arith))) ∙ omega (arith, o, rank-le (sc-body s f) (512 * b))
 
   -- the last block of 512 entries, and its entry in the table
-  pub last-block : (f .entries ≡ 0 → ⊥) → Inside s (f .rs + 4 * ((f .entries - 1) / 512)) 4 × (512 * ((f .entries - 1) / 512) < f .entries)
-  last-block h = within (f .entries) (f .rs) (positive (f .entries) h) (bodies-inside s f (j .frame) .rs)
+  pub last-block : (f .sparse .entries ≡ 0 → ⊥) → Inside s (f .rs + 4 * ((f .sparse .entries - 1) / 512)) 4 × (512 * ((f .sparse .entries - 1) / 512) < f .sparse .entries)
+  last-block h = within (f .sparse .entries) (f .rs) (positive (f .sparse .entries) h) (bodies-inside s f (j .frame) .rs)
     where
       positive : (n : ℕ) → (n ≡ 0 → ⊥) → 0 < n
       positive zero h = absurd (h refl)

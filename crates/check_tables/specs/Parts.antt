@@ -11,7 +11,7 @@ use borrow.Author.Tests.{ltb-true, ltb-false}
 use Rattle.spec.specs.Bytes.{Bytes, blocks, every, equal, unpack}
 use Rattle.spec.specs.Image.{ranks, samples}
 use Rattle.spec.specs.Frame.{Parts, parts}
-use Rattle.spec.specs.Check.{no-spare, spare-clear, ranks-right}
+use Rattle.spec.specs.Check.{no-spare, spare-clear, ranks-valid}
 use Rattle.bits_laws.specs.Bits.{rank, select}
 use Rattle.bits_laws.specs.ValueLaws.{Small}
 use Rattle.rank_tables_laws.specs.Entries.{entries}
@@ -93,17 +93,17 @@ sampled-is s at n table m h = ap (equal (part s table m)) (sym (samples-are n (p
 
 -- each body that is judged lies within the image
 pub record Within (s : Bytes) (f : Frame) : Type 0 where
-  pub dl : f .dl + blocks 8 (256 * f .dense) ≤ length s
-  pub dc : f .dc + blocks 8 (256 * f .dense) ≤ length s
-  pub dp : f .dp + blocks 8 (f .dense) ≤ length s
-  pub sc : f .sc + blocks 8 (f .entries) ≤ length s
-  pub sb : f .sb + blocks 8 (f .entries) ≤ length s
+  pub dl : f .dl + blocks 8 (256 * f .dense .nodes) ≤ length s
+  pub dc : f .dc + blocks 8 (256 * f .dense .nodes) ≤ length s
+  pub dp : f .dp + blocks 8 (f .dense .nodes) ≤ length s
+  pub sc : f .sc + blocks 8 (f .sparse .entries) ≤ length s
+  pub sb : f .sb + blocks 8 (f .sparse .entries) ≤ length s
   pub sv : f .sv + blocks 8 (f .leaves * f .width) ≤ length s
-  pub rl : f .rl + 4 * blocks 64 (256 * f .dense) ≤ length s
-  pub rc : f .rc + 4 * blocks 64 (256 * f .dense) ≤ length s
-  pub rp : f .rp + 4 * blocks 64 (f .dense) ≤ length s
-  pub rs : f .rs + 4 * blocks 512 (f .entries) ≤ length s
-  pub ts : f .ts + 4 * blocks 64 (f .sparse) ≤ length s
+  pub rl : f .rl + 4 * blocks 64 (256 * f .dense .nodes) ≤ length s
+  pub rc : f .rc + 4 * blocks 64 (256 * f .dense .nodes) ≤ length s
+  pub rp : f .rp + 4 * blocks 64 (f .dense .nodes) ≤ length s
+  pub rs : f .rs + 4 * blocks 512 (f .sparse .entries) ≤ length s
+  pub ts : f .ts + 4 * blocks 64 (f .sparse .nodes) ≤ length s
 
 -- a body before one that lies within
 earlier : (a n b m len : ℕ) → b ≡ a + n + 6 → b + m ≤ len → a + n ≤ len
@@ -116,21 +116,21 @@ whole-bytes d = omega arith
 -- A frame of an image tells so of each.
 pub frame-within : (s : Bytes) (f : Frame) → FrameOf s f → Within s f
 frame-within s f h =
-    let ts : f .ts + 4 * blocks 64 (f .sparse) ≤ length s = at-end (h .end) in
-    let rs = earlier (f .rs) (4 * blocks 512 (f .entries)) (f .ts) (4 * blocks 64 (f .sparse)) (length s) (h .ts) ts in
-    let rp = earlier (f .rp) (4 * blocks 64 (f .dense)) (f .rs) (4 * blocks 512 (f .entries)) (length s) (h .rs) rs in
-    let rc = earlier (f .rc) (4 * blocks 64 (256 * f .dense)) (f .rp) (4 * blocks 64 (f .dense)) (length s) (h .rp) rp in
-    let rl = earlier (f .rl) (4 * blocks 64 (256 * f .dense)) (f .rc) (4 * blocks 64 (256 * f .dense)) (length s) (h .rc) rc in
-    let sv = earlier (f .sv) (blocks 8 (f .leaves * f .width)) (f .rl) (4 * blocks 64 (256 * f .dense)) (length s) (h .rl) rl in
-    let sb = earlier (f .sb) (blocks 8 (f .entries)) (f .sv) (blocks 8 (f .leaves * f .width)) (length s) (h .sv) sv in
-    let sc = earlier (f .sc) (blocks 8 (f .entries)) (f .sb) (blocks 8 (f .entries)) (length s) (h .sb) sb in
-    let sl = earlier (f .sl) (f .entries) (f .sc) (blocks 8 (f .entries)) (length s) (h .sc) sc in
-    let dp = earlier (f .dp) (blocks 8 (f .dense)) (f .sl) (f .entries) (length s) (h .sl) sl in
-    let dc = earlier (f .dc) (32 * f .dense) (f .dp) (blocks 8 (f .dense)) (length s) (h .dp) dp in
-    let dl = earlier (f .dl) (32 * f .dense) (f .dc) (32 * f .dense) (length s) (h .dc) dc in
+    let ts : f .ts + 4 * blocks 64 (f .sparse .nodes) ≤ length s = at-end (h .end) in
+    let rs = earlier (f .rs) (4 * blocks 512 (f .sparse .entries)) (f .ts) (4 * blocks 64 (f .sparse .nodes)) (length s) (h .ts) ts in
+    let rp = earlier (f .rp) (4 * blocks 64 (f .dense .nodes)) (f .rs) (4 * blocks 512 (f .sparse .entries)) (length s) (h .rs) rs in
+    let rc = earlier (f .rc) (4 * blocks 64 (256 * f .dense .nodes)) (f .rp) (4 * blocks 64 (f .dense .nodes)) (length s) (h .rp) rp in
+    let rl = earlier (f .rl) (4 * blocks 64 (256 * f .dense .nodes)) (f .rc) (4 * blocks 64 (256 * f .dense .nodes)) (length s) (h .rc) rc in
+    let sv = earlier (f .sv) (blocks 8 (f .leaves * f .width)) (f .rl) (4 * blocks 64 (256 * f .dense .nodes)) (length s) (h .rl) rl in
+    let sb = earlier (f .sb) (blocks 8 (f .sparse .entries)) (f .sv) (blocks 8 (f .leaves * f .width)) (length s) (h .sv) sv in
+    let sc = earlier (f .sc) (blocks 8 (f .sparse .entries)) (f .sb) (blocks 8 (f .sparse .entries)) (length s) (h .sb) sb in
+    let sl = earlier (f .sl) (f .sparse .entries) (f .sc) (blocks 8 (f .sparse .entries)) (length s) (h .sc) sc in
+    let dp = earlier (f .dp) (blocks 8 (f .dense .nodes)) (f .sl) (f .sparse .entries) (length s) (h .sl) sl in
+    let dc = earlier (f .dc) (32 * f .dense .nodes) (f .dp) (blocks 8 (f .dense .nodes)) (length s) (h .dp) dp in
+    let dl = earlier (f .dl) (32 * f .dense .nodes) (f .dc) (32 * f .dense .nodes) (length s) (h .dc) dc in
     record {
-      dl = rw (whole-bytes (f .dense)) dl;
-      dc = rw (whole-bytes (f .dense)) dc;
+      dl = rw (whole-bytes (f .dense .nodes)) dl;
+      dc = rw (whole-bytes (f .dense .nodes)) dc;
       dp = dp;
       sc = sc;
       sb = sb;
@@ -158,14 +158,14 @@ module _ (s : Bytes) (f : Frame) (h : FrameOf s f) where
 
   -- number 13 by the frame
   pub spare-is : spare-clear (parts s (frame-bodies s f)) (frame-bodies s f)
-      ≡ ((no-spare (f .dense) (part s (f .dp) (blocks 8 (f .dense)))
-      && no-spare (f .entries) (part s (f .sc) (blocks 8 (f .entries))))
-      && no-spare (f .entries) (part s (f .sb) (blocks 8 (f .entries))))
+      ≡ ((no-spare (f .dense .nodes) (part s (f .dp) (blocks 8 (f .dense .nodes)))
+      && no-spare (f .sparse .entries) (part s (f .sc) (blocks 8 (f .sparse .entries))))
+      && no-spare (f .sparse .entries) (part s (f .sb) (blocks 8 (f .sparse .entries))))
       && no-spare (f .leaves * f .width) (part s (f .sv) (blocks 8 (f .leaves * f .width)))
   unfolding spare-clear every
   spare-is =
       ap (λ (p : Parts). spare-clear p (frame-bodies s f)) (h .parts-are)
-      ∙ four (no-spare (f .dense) (part s (f .dp) (blocks 8 (f .dense)))) (no-spare (f .entries) (part s (f .sc) (blocks 8 (f .entries)))) (no-spare (f .entries) (part s (f .sb) (blocks 8 (f .entries)))) (no-spare (f .leaves * f .width) (part s (f .sv) (blocks 8 (f .leaves * f .width))))
+      ∙ four (no-spare (f .dense .nodes) (part s (f .dp) (blocks 8 (f .dense .nodes)))) (no-spare (f .sparse .entries) (part s (f .sc) (blocks 8 (f .sparse .entries)))) (no-spare (f .sparse .entries) (part s (f .sb) (blocks 8 (f .sparse .entries)))) (no-spare (f .leaves * f .width) (part s (f .sv) (blocks 8 (f .leaves * f .width))))
 
   -- five tests in a row
   five : (a b c d e : Bool) → a && (b && (c && (d && (e && true)))) ≡ (((a && b) && c) && d) && e
@@ -173,19 +173,19 @@ module _ (s : Bytes) (f : Frame) (h : FrameOf s f) where
 
   -- ranks of a body of whole bytes
   whole-ranks : (at table : ℕ)
-      → equal (part s table (4 * blocks 64 (256 * f .dense))) (ranks 64 (take (256 * f .dense) (unpack (part s at (32 * f .dense))))) ≡ holds-ranks s at (256 * f .dense) table 64
-  whole-ranks at table = ap (λ (k : ℕ). equal (part s table (4 * blocks 64 (256 * f .dense))) (ranks 64 (take (256 * f .dense) (unpack (part s at k))))) (sym (whole-bytes (f .dense)))
+      → equal (part s table (4 * blocks 64 (256 * f .dense .nodes))) (ranks 64 (take (256 * f .dense .nodes) (unpack (part s at (32 * f .dense .nodes))))) ≡ holds-ranks s at (256 * f .dense .nodes) table 64
+  whole-ranks at table = ap (λ (k : ℕ). equal (part s table (4 * blocks 64 (256 * f .dense .nodes))) (ranks 64 (take (256 * f .dense .nodes) (unpack (part s at k))))) (sym (whole-bytes (f .dense .nodes)))
 
   -- number 15 by the frame
-  pub tables-are : ranks-right (parts s (frame-bodies s f)) (frame-bodies s f)
-      ≡ (((holds-ranks s (f .dl) (256 * f .dense) (f .rl) 64
-      && holds-ranks s (f .dc) (256 * f .dense) (f .rc) 64)
-      && holds-ranks s (f .dp) (f .dense) (f .rp) 64)
-      && holds-ranks s (f .sc) (f .entries) (f .rs) 512)
-      && holds-samples s (f .sb) (f .entries) (f .ts) (4 * blocks 64 (f .sparse))
-  unfolding ranks-right every
+  pub tables-are : ranks-valid (parts s (frame-bodies s f)) (frame-bodies s f)
+      ≡ (((holds-ranks s (f .dl) (256 * f .dense .nodes) (f .rl) 64
+      && holds-ranks s (f .dc) (256 * f .dense .nodes) (f .rc) 64)
+      && holds-ranks s (f .dp) (f .dense .nodes) (f .rp) 64)
+      && holds-ranks s (f .sc) (f .sparse .entries) (f .rs) 512)
+      && holds-samples s (f .sb) (f .sparse .entries) (f .ts) (4 * blocks 64 (f .sparse .nodes))
+  unfolding ranks-valid every
   tables-are =
-      ap (λ (p : Parts). ranks-right p (frame-bodies s f)) (h .parts-are)
-      ∙ ap₂ (λ (a b : Bool). a && (b && (holds-ranks s (f .dp) (f .dense) (f .rp) 64 && (holds-ranks s (f .sc) (f .entries) (f .rs) 512 && (holds-samples s (f .sb) (f .entries) (f .ts) (4 * blocks 64 (f .sparse)) && true)))))
+      ap (λ (p : Parts). ranks-valid p (frame-bodies s f)) (h .parts-are)
+      ∙ ap₂ (λ (a b : Bool). a && (b && (holds-ranks s (f .dp) (f .dense .nodes) (f .rp) 64 && (holds-ranks s (f .sc) (f .sparse .entries) (f .rs) 512 && (holds-samples s (f .sb) (f .sparse .entries) (f .ts) (4 * blocks 64 (f .sparse .nodes)) && true)))))
       (whole-ranks (f .dl) (f .rl)) (whole-ranks (f .dc) (f .rc))
-      ∙ five (holds-ranks s (f .dl) (256 * f .dense) (f .rl) 64) (holds-ranks s (f .dc) (256 * f .dense) (f .rc) 64) (holds-ranks s (f .dp) (f .dense) (f .rp) 64) (holds-ranks s (f .sc) (f .entries) (f .rs) 512) (holds-samples s (f .sb) (f .entries) (f .ts) (4 * blocks 64 (f .sparse)))
+      ∙ five (holds-ranks s (f .dl) (256 * f .dense .nodes) (f .rl) 64) (holds-ranks s (f .dc) (256 * f .dense .nodes) (f .rc) 64) (holds-ranks s (f .dp) (f .dense .nodes) (f .rp) 64) (holds-ranks s (f .sc) (f .sparse .entries) (f .rs) 512) (holds-samples s (f .sb) (f .sparse .entries) (f .ts) (4 * blocks 64 (f .sparse .nodes)))

@@ -26,8 +26,8 @@ pub fn spare_clear(image: &[u8], f: Frame) -> bool
     requires { ⌜ FrameOf (now image) f ⌝ }
     ensures { λ r. ⌜ r ≡ spare-clear (parts (now (image .entry)) (frame-bodies (now (image .entry)) f)) (frame-bodies (now (image .entry)) f) ⌝ }
 {
-    no_spare(image, f.dp, f.dense)
-        & no_spare(image, f.sc, f.entries)
-        & no_spare(image, f.sb, f.entries)
+    no_spare(image, f.dp, f.dense.nodes)
+        & no_spare(image, f.sc, f.sparse.entries)
+        & no_spare(image, f.sb, f.sparse.entries)
         & no_spare(image, f.sv, f.leaves * f.width)
 }

@@ -4,7 +4,7 @@ ghost use mathlib.Core.Bool.{true, false};
 ghost use Prim.Native.Nat.{_+_, _*_, _≤_, _<_};
 ghost use lib.ListN.{length};
 ghost use Rattle.bits_laws.specs.Bits.{rank};
-ghost use Rattle.check_trie_laws.specs.DenseNodes.{dense-right, dense-nodes-right};
+ghost use Rattle.check_trie_laws.specs.DenseNodes.{dense-valid, dense-nodes-valid};
 ghost use Rattle.check_trie_laws.specs.Positions.{bits};
 use bits::ones::bit_at;
 use bits::ones::ones_word;
@@ -21,8 +21,8 @@ fn node_ones(s: &[u8], i: usize) -> usize
 }
 
 // What is asked of a node with so many labels, of which so many continue.
-fn node_right(root: bool, exact: bool, labels: usize, children: usize) -> bool
-    ensures { λ r. ⌜ r ≡ dense-right root exact labels children ⌝ }
+fn node_valid(root: bool, exact: bool, labels: usize, children: usize) -> bool
+    ensures { λ r. ⌜ r ≡ dense-valid root exact labels children ⌝ }
 {
     if root {
         return (0 < labels) & !exact;
@@ -31,9 +31,9 @@ fn node_right(root: bool, exact: bool, labels: usize, children: usize) -> bool
 }
 
 // The n dense nodes, the first of which is the root.
-pub fn dense_right(dl: &[u8], dc: &[u8], dp: &[u8], n: usize) -> bool
+pub fn dense_valid(dl: &[u8], dc: &[u8], dp: &[u8], n: usize) -> bool
     requires { ⌜ (length (now dl) ≡ 32 * n) × (length (now dc) ≡ 32 * n) × (n ≤ 8 * length (now dp)) ⌝ }
-    ensures { λ r. ⌜ r ≡ dense-nodes-right true (bits (now (dl .entry)) (256 * n)) (bits (now (dc .entry)) (256 * n)) (bits (now (dp .entry)) n) ⌝ }
+    ensures { λ r. ⌜ r ≡ dense-nodes-valid true (bits (now (dl .entry)) (256 * n)) (bits (now (dc .entry)) (256 * n)) (bits (now (dp .entry)) n) ⌝ }
 {
     let mut i = 0usize;
     let mut root = true;
@@ -41,8 +41,8 @@ pub fn dense_right(dl: &[u8], dc: &[u8], dp: &[u8], n: usize) -> bool
         let labels = node_ones(dl, i);
         let children = node_ones(dc, i);
         let exact = bit_at(dp, i) == 1;
-        let right = node_right(root, exact, labels, children);
-        if !right {
+        let valid = node_valid(root, exact, labels, children);
+        if !valid {
             return false;
         }
         root = false;

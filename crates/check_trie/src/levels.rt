@@ -91,7 +91,7 @@ fn pick(first: bool, x: usize, y: usize) -> usize
 }
 
 // The ends of the levels rise to the node count in at most 64 levels, and the dense nodes are those on the dense levels.
-pub fn levels_right(
+pub fn levels_valid(
     dc: &[u8],
     sc: &[u8],
     sb: &[u8],

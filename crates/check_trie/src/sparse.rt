@@ -5,10 +5,10 @@ ghost use mathlib.Core.Bool.{false};
 ghost use Prim.Native.Nat.{_+_, _-_, _*_, _≤_, _<_};
 ghost use lib.ListN.{length};
 ghost use Rattle.spec.specs.Nodes.{zip-entries};
-ghost use Rattle.check_trie_laws.specs.BitTests.{sparse-right};
+ghost use Rattle.check_trie_laws.specs.BitTests.{sparse-valid};
 ghost use Rattle.check_trie_laws.specs.Positions.{bits, is-set};
-ghost use Rattle.check_trie_laws.specs.EntryPositions.{entry-right, entries-from};
-ghost use Rattle.check_trie_laws.specs.WordEntries.{run-right, end-right, next-bits};
+ghost use Rattle.check_trie_laws.specs.EntryPositions.{entry-valid, entries-from};
+ghost use Rattle.check_trie_laws.specs.WordEntries.{run-valid, end-valid, next-bits};
 use super::labels::ascents;
 use super::labels::full_labels;
 use bits::numbers::read_word;
@@ -16,9 +16,9 @@ use bits::numbers::read64;
 use bits::ones::bit_at;
 
 // What is asked of entry j, where the next one begins a node or not.
-fn entry_right(sl: &[u8], sc: &[u8], j: usize, root: bool, start: bool, begins: bool) -> bool
+fn entry_valid(sl: &[u8], sc: &[u8], j: usize, root: bool, start: bool, begins: bool) -> bool
     requires { ⌜ (j + 1 < length (now sl)) × (j < 8 * length (now sc)) ⌝ }
-    ensures { λ r. ⌜ r ≡ entry-right (now (sl .entry)) (now (sc .entry)) root start j begins ⌝ }
+    ensures { λ r. ⌜ r ≡ entry-valid (now (sl .entry)) (now (sc .entry)) root start j begins ⌝ }
 {
     let continues = bit_at(sc, j) == 1;
     if begins {
@@ -31,9 +31,9 @@ fn entry_right(sl: &[u8], sc: &[u8], j: usize, root: bool, start: bool, begins: 
 }
 
 // What is asked of the last entry, which is number j and not in the root.
-fn last_right(sc: &[u8], sb: &[u8], j: usize) -> bool
+fn last_valid(sc: &[u8], sb: &[u8], j: usize) -> bool
     requires { ⌜ (j < 8 * length (now sc)) × (j < 8 * length (now sb)) ⌝ }
-    ensures { λ r. ⌜ r ≡ end-right (now (sc .entry)) (now (sb .entry)) j ⌝ }
+    ensures { λ r. ⌜ r ≡ end-valid (now (sc .entry)) (now (sb .entry)) j ⌝ }
 {
     let start = bit_at(sb, j) == 1;
     let continues = bit_at(sc, j) == 1;
@@ -41,16 +41,16 @@ fn last_right(sc: &[u8], sb: &[u8], j: usize) -> bool
 }
 
 // The entries from one on and before another, one by one; none is in the root, and each has one behind it.
-fn run_right(sl: &[u8], sc: &[u8], sb: &[u8], from: usize, to: usize) -> bool
+fn run_valid(sl: &[u8], sc: &[u8], sb: &[u8], from: usize, to: usize) -> bool
     requires { ⌜ (from ≤ to) × (to < length (now sl)) × (to < 8 * length (now sc)) × (to < 8 * length (now sb)) ⌝ }
-    ensures { λ r. ⌜ r ≡ run-right (now (sl .entry)) (now (sc .entry)) (now (sb .entry)) from (to - from) ⌝ }
+    ensures { λ r. ⌜ r ≡ run-valid (now (sl .entry)) (now (sc .entry)) (now (sb .entry)) from (to - from) ⌝ }
 {
     let mut j = from;
     while j < to {
         let start = bit_at(sb, j) == 1;
         let begins = bit_at(sb, j + 1) == 1;
-        let right = entry_right(sl, sc, j, false, start, begins);
-        if !right {
+        let valid = entry_valid(sl, sc, j, false, start, begins);
+        if !valid {
             return false;
         }
         j = j + 1;
@@ -66,9 +66,9 @@ fn shift_in(x: u64, next: u64) -> u64
 }
 
 // The 64 entries of word q, none of which is in the root, and each of which has one behind it.
-fn word_right(sl: &[u8], sc: &[u8], sb: &[u8], q: usize) -> bool
+fn word_valid(sl: &[u8], sc: &[u8], sb: &[u8], q: usize) -> bool
     requires { ⌜ (64 * q + 64 < length (now sl)) × (64 * q + 64 < 8 * length (now sc)) × (64 * q + 64 < 8 * length (now sb)) ⌝ }
-    ensures { λ r. ⌜ r ≡ run-right (now (sl .entry)) (now (sc .entry)) (now (sb .entry)) (64 * q) 64 ⌝ }
+    ensures { λ r. ⌜ r ≡ run-valid (now (sl .entry)) (now (sc .entry)) (now (sb .entry)) (64 * q) 64 ⌝ }
 {
     let x = read64(sb, q * 8);
     let y = shift_in(x, read_word(sb, q + 1));
@@ -86,13 +86,13 @@ fn word_right(sl: &[u8], sc: &[u8], sb: &[u8], q: usize) -> bool
 }
 
 // The entries of the words from one on and before another.
-fn words_right(sl: &[u8], sc: &[u8], sb: &[u8], from: usize, to: usize) -> bool
+fn words_valid(sl: &[u8], sc: &[u8], sb: &[u8], from: usize, to: usize) -> bool
     requires { ⌜ (from ≤ to) × (64 * to < length (now sl)) × (64 * to < 8 * length (now sc)) × (64 * to < 8 * length (now sb)) ⌝ }
-    ensures { λ r. ⌜ r ≡ run-right (now (sl .entry)) (now (sc .entry)) (now (sb .entry)) (64 * from) (64 * (to - from)) ⌝ }
+    ensures { λ r. ⌜ r ≡ run-valid (now (sl .entry)) (now (sc .entry)) (now (sb .entry)) (64 * from) (64 * (to - from)) ⌝ }
 {
     let mut q = from;
     while q < to {
-        if !word_right(sl, sc, sb, q) {
+        if !word_valid(sl, sc, sb, q) {
             return false;
         }
         q = q + 1;
@@ -101,25 +101,25 @@ fn words_right(sl: &[u8], sc: &[u8], sb: &[u8], from: usize, to: usize) -> bool
 }
 
 // The entries from 1 on, where the last is number `last`.
-fn later_right(sl: &[u8], sc: &[u8], sb: &[u8], last: usize) -> bool
+fn later_valid(sl: &[u8], sc: &[u8], sb: &[u8], last: usize) -> bool
     requires { ⌜ (0 < last) × (last < length (now sl)) × (last < 8 * length (now sc)) × (last < 8 * length (now sb)) ⌝ }
     ensures { λ r. ⌜ r ≡ entries-from (now (sl .entry)) (now (sc .entry)) (now (sb .entry)) false (is-set (now (sb .entry)) 1) 1 (last - 1) ⌝ }
 {
     let words = last / 64;
-    let end = last_right(sc, sb, last);
+    let end = last_valid(sc, sb, last);
     if words == 0 {
-        return run_right(sl, sc, sb, 1, last) & end;
+        return run_valid(sl, sc, sb, 1, last) & end;
     }
-    let first = run_right(sl, sc, sb, 1, 64);
-    let middle = words_right(sl, sc, sb, 1, words);
-    let rest = run_right(sl, sc, sb, 64 * words, last);
+    let first = run_valid(sl, sc, sb, 1, 64);
+    let middle = words_valid(sl, sc, sb, 1, words);
+    let rest = run_valid(sl, sc, sb, 64 * words, last);
     first & middle & rest & end
 }
 
 // The n sparse entries, of which the first is in the root or not.
-pub fn sparse_right(sl: &[u8], sc: &[u8], sb: &[u8], n: usize, root: bool) -> bool
+pub fn sparse_valid(sl: &[u8], sc: &[u8], sb: &[u8], n: usize, root: bool) -> bool
     requires { ⌜ (length (now sl) ≡ n) × (n ≤ 8 * length (now sc)) × (n ≤ 8 * length (now sb)) ⌝ }
-    ensures { λ r. ⌜ r ≡ sparse-right root (zip-entries (now (sl .entry)) (bits (now (sc .entry)) n)) (bits (now (sb .entry)) n) ⌝ }
+    ensures { λ r. ⌜ r ≡ sparse-valid root (zip-entries (now (sl .entry)) (bits (now (sc .entry)) n)) (bits (now (sb .entry)) n) ⌝ }
 {
     if n == 0 {
         return true;
@@ -128,6 +128,6 @@ pub fn sparse_right(sl: &[u8], sc: &[u8], sb: &[u8], n: usize, root: bool) -> bo
         return (bit_at(sc, 0) == 1) | root;
     }
     let begins = bit_at(sb, 1) == 1;
-    let right = entry_right(sl, sc, 0, root, true, begins);
-    right & later_right(sl, sc, sb, n - 1)
+    let valid = entry_valid(sl, sc, 0, root, true, begins);
+    valid & later_valid(sl, sc, sb, n - 1)
 }

@@ -7,12 +7,12 @@ ghost use lib.Dec.{eqb};
 ghost use mathlib.Core.List.{[]};
 ghost use Rattle.bits_laws.specs.Bits.{rank};
 ghost use Rattle.check_trie_laws.specs.Positions.{is-set};
-ghost use Rattle.check_trie_laws.specs.BitTests.{counts-right, bits-right};
+ghost use Rattle.check_trie_laws.specs.BitTests.{counts-valid, bits-valid};
 ghost use Rattle.check_trie_laws.specs.BodyTests.{trie-parts};
 use super::cover::covered;
-use super::dense::dense_right;
-use super::levels::levels_right;
-use super::sparse::sparse_right;
+use super::dense::dense_valid;
+use super::levels::levels_valid;
+use super::sparse::sparse_valid;
 use bits::ones::bit_at;
 use bits::ones::rank_from;
 
@@ -36,7 +36,7 @@ fn first_set(s: &[u8], n: usize) -> bool
 }
 
 // The counts agree with the bits, and the levels are right.
-fn counts_right(
+fn counts_valid(
     dl: &[u8],
     dc: &[u8],
     dp: &[u8],
@@ -49,7 +49,7 @@ fn counts_right(
     sparse: usize,
 ) -> bool
     requires { ⌜ (length (now dl) ≡ 32 * n) × (length (now dc) ≡ 32 * n) × (n ≤ 8 * length (now dp)) × (entries ≤ 8 * length (now sc)) × (entries ≤ 8 * length (now sb)) × (rank (now sb) entries ≡ sparse) × (leaves < 4294967296) × (n < 4294967296) × (entries < 4294967296) ⌝ }
-    ensures { λ r. ⌜ r ≡ counts-right (trie-parts levels leaves n entries sparse (now (dl .entry)) (now (dc .entry)) (now (dp .entry)) [] (now (sc .entry)) (now (sb .entry))) ⌝ }
+    ensures { λ r. ⌜ r ≡ counts-valid (trie-parts levels leaves n entries sparse (now (dl .entry)) (now (dc .entry)) (now (dp .entry)) [] (now (sc .entry)) (now (sb .entry))) ⌝ }
 {
     let nodes = n + sparse;
     if nodes == 0 {
@@ -65,11 +65,11 @@ fn counts_right(
     if !sums {
         return false;
     }
-    levels_right(dc, sc, sb, levels, n, entries, sparse)
+    levels_valid(dc, sc, sb, levels, n, entries, sparse)
 }
 
 // The bits and labels are a builder's trie.
-pub fn trie_right(
+pub fn trie_valid(
     dl: &[u8],
     dc: &[u8],
     dp: &[u8],
@@ -83,15 +83,15 @@ pub fn trie_right(
     sparse: usize,
 ) -> bool
     requires { ⌜ (length (now dl) ≡ 32 * n) × (length (now dc) ≡ 32 * n) × (n ≤ 8 * length (now dp)) × (length (now sl) ≡ entries) × (entries ≤ 8 * length (now sc)) × (entries ≤ 8 * length (now sb)) × (leaves < 4294967296) × (n < 4294967296) × (entries < 4294967296) ⌝ }
-    ensures { λ r. ⌜ r ≡ bits-right (trie-parts levels leaves n entries sparse (now (dl .entry)) (now (dc .entry)) (now (dp .entry)) (now (sl .entry)) (now (sc .entry)) (now (sb .entry))) ⌝ }
+    ensures { λ r. ⌜ r ≡ bits-valid (trie-parts levels leaves n entries sparse (now (dl .entry)) (now (dc .entry)) (now (dp .entry)) (now (sl .entry)) (now (sc .entry)) (now (sb .entry))) ⌝ }
 {
     if ones_of(sb, entries) != sparse {
         return false;
     }
     let first = first_set(sb, entries);
     let within = covered(dc, dl, 4 * n);
-    let entries_right = sparse_right(sl, sc, sb, entries, n == 0);
-    let nodes_right = dense_right(dl, dc, dp, n);
-    let counts = counts_right(dl, dc, dp, sc, sb, levels, leaves, n, entries, sparse);
-    first & within & (entries_right & nodes_right & counts)
+    let entries_valid = sparse_valid(sl, sc, sb, entries, n == 0);
+    let nodes_valid = dense_valid(dl, dc, dp, n);
+    let counts = counts_valid(dl, dc, dp, sc, sb, levels, leaves, n, entries, sparse);
+    first & within & (entries_valid & nodes_valid & counts)
 }

@@ -11,12 +11,12 @@ use borrow.Author.Tests.{eqb-true, eqb-false, eq-eqb, ne-eqb, leb-true, leb-fals
 use Rattle.spec.specs.Bytes.{Bytes, Bits, all, every, count, ones}
 use Rattle.spec.specs.Frame.{Parts}
 use Rattle.spec.specs.Nodes.{Entry, entry, continues, Shape, dense-shapes, zip-entries, split, sparse-shape, extra-ends, sparse-nodes, nodes-of, slotted, total}
-use Rattle.spec.specs.Trie.{first-set, covered, nodes-right, builders-trie}
+use Rattle.spec.specs.Trie.{first-set, covered, nodes-valid, builders-trie}
 use Rattle.check_trie_laws.specs.Tests.{both, under, all-append}
 use Rattle.check_trie_laws.specs.LevelEnds.{before, rise, nodes-above, rise-ext, nodes-above-ext, end-tests}
-use Rattle.check_trie_laws.specs.Shapes.{ends-here, branches, leaves-at, inner-right, root-right, nodes-from, shapes-right, nodes-shapes}
-use Rattle.check_trie_laws.specs.SparseNodes.{entries-right, entries-shapes, length-split, place-of, branches-before, leaves-among, leaves-before}
-use Rattle.check_trie_laws.specs.DenseNodes.{dense-nodes-right, dense-shapes-right, length-dense, dense-before, dense-leaves}
+use Rattle.check_trie_laws.specs.Shapes.{ends-here, branches, leaves-at, inner-valid, root-valid, nodes-from, shapes-valid, nodes-shapes}
+use Rattle.check_trie_laws.specs.SparseNodes.{entries-valid, entries-shapes, length-split, place-of, branches-before, leaves-among, leaves-before}
+use Rattle.check_trie_laws.specs.DenseNodes.{dense-nodes-valid, dense-shapes-valid, length-dense, dense-before, dense-leaves}
 
 -- the lengths that number 12 gives the bits and labels
 pub record Sized (p : Parts) : Type 0 where
@@ -29,10 +29,10 @@ pub record Sized (p : Parts) : Type 0 where
   pub dense : p .dense ≤ 4
 
 -- the sparse entries, the first of which is in the root or not
-unfoldable pub sparse-right : Bool → List Entry → Bits → Bool
-unfolding entries-right
-sparse-right root [] bs = true
-sparse-right root (e ∷ es) bs = entries-right root true e es (drop 1 bs)
+unfoldable pub sparse-valid : Bool → List Entry → Bits → Bool
+unfolding entries-valid
+sparse-valid root [] bs = true
+sparse-valid root (e ∷ es) bs = entries-valid root true e es (drop 1 bs)
 
 -- the branches that continue before node i: D-HasChild bits before a dense node's own, and S-HasChild bits before a sparse node's first entry
 unfoldable pub branches-to : ℕ → Bits → Bits → Bits → ℕ → ℕ
@@ -41,9 +41,9 @@ branches-to n dc sc sb i = cond (leb i n) (ones (take (256 * i) dc)) (ones dc + 
 
 -- the counts agree: no leaves means no nodes; else the leaves are labels that do not continue and exact leaves, there is one, nodes are continuing branches plus one,
 -- and the ends of the levels rise to the node count in 64 levels, the dense nodes above
-unfoldable pub counts-right : Parts → Bool
+unfoldable pub counts-valid : Parts → Bool
 unfolding ones rise nodes-above branches-to
-counts-right p =
+counts-valid p =
     let n : ℕ = p .dense-count + p .sparse-count in
     let k : ℕ → ℕ = branches-to (p .dense-count) (p .dc) (p .sc) (p .sb) in
     cond (eqb n 0) (eqb (p .leaves) 0)
@@ -52,13 +52,13 @@ counts-right p =
     && (eqb n (ones (p .dc) + ones (p .sc) + 1) && (rise k n 63 1 && eqb (nodes-above k n (p .dense)) (p .dense-count))))
 
 -- number 14 by the bits
-unfoldable pub bits-right : Parts → Bool
-unfolding first-set ones covered sparse-right dense-nodes-right counts-right
-bits-right p =
+unfoldable pub bits-valid : Parts → Bool
+unfolding first-set ones covered sparse-valid dense-nodes-valid counts-valid
+bits-valid p =
     first-set (p .sb) && eqb (ones (p .sb)) (p .sparse-count) && covered (p .dc) (p .dl)
-    && (sparse-right (eqb (p .dense-count) 0) (zip-entries (p .sl) (p .sc)) (p .sb)
-    && dense-nodes-right true (p .dl) (p .dc) (p .dp)
-    && counts-right p)
+    && (sparse-valid (eqb (p .dense-count) 0) (zip-entries (p .sl) (p .sc)) (p .sb)
+    && dense-nodes-valid true (p .dl) (p .dc) (p .dp)
+    && counts-valid p)
 
 -- ---- the nodes
 
@@ -67,10 +67,10 @@ from-append : (hs gs : List Shape) → nodes-from true (hs ++ gs) ≡ nodes-from
 unfolding nodes-from all
 from-append [] gs = refl
 from-append (h ∷ hs) gs =
-    rw (ne-eqb (suc (length hs)) 0 (λ q. omega arith), all-append inner-right hs gs)
-    (sym (and-assoc (root-right h) (all inner-right hs) (all inner-right gs)) ∙ ap (λ (t : Bool). root-right h && all inner-right hs && t) (from-false gs))
+    rw (ne-eqb (suc (length hs)) 0 (λ q. omega arith), all-append inner-valid hs gs)
+    (sym (and-assoc (root-valid h) (all inner-valid hs) (all inner-valid gs)) ∙ ap (λ (t : Bool). root-valid h && all inner-valid hs && t) (from-false gs))
   where
-    from-false : (gs : List Shape) → all inner-right gs ≡ nodes-from false gs
+    from-false : (gs : List Shape) → all inner-valid gs ≡ nodes-from false gs
     from-false [] = refl
     from-false (g ∷ gs) = refl
 
@@ -117,8 +117,8 @@ sparsely (e ∷ es) (true ∷ bs) h f a = record {
   leaves-to = λ m. leaves-before m e es bs (omega arith) a;
 }
 
-pub sparse-from : (root : Bool) (es : List Entry) (bs : Bits) → sparse-right root es bs ≡ all extra-ends (split es bs) && nodes-from root (map sparse-shape (split es bs))
-unfolding sparse-right split all nodes-from
+pub sparse-from : (root : Bool) (es : List Entry) (bs : Bits) → sparse-valid root es bs ≡ all extra-ends (split es bs) && nodes-from root (map sparse-shape (split es bs))
+unfolding sparse-valid split all nodes-from
 sparse-from root [] bs = refl
 sparse-from root (e ∷ es) bs = entries-shapes root e es (drop 1 bs)
 
@@ -234,11 +234,11 @@ module _ (p : Parts) (z : Sized p) where
         (ap (λ (n : ℕ). eqb n (p .dense-count)) (ap (λ (n : ℕ). nodes-above (before branches (D ++ S)) n (p .dense)) long ∙ nodes-above-ext (before branches (D ++ S)) K N (λ e u. before-all e) (p .dense)))
 
     -- the tests of the nodes, in two parts
-    in-parts : shapes-right (p .dense) (p .dense-count) (p .leaves) (D ++ S) ≡ counts-right p && nodes-from true (D ++ S)
-    unfolding shapes-right counts-right nodes-from
+    in-parts : shapes-valid (p .dense) (p .dense-count) (p .leaves) (D ++ S) ≡ counts-valid p && nodes-from true (D ++ S)
+    unfolding shapes-valid counts-valid nodes-from
     in-parts = go (D ++ S) refl
       where
-        go : (hs : List Shape) → D ++ S ≡ hs → shapes-right (p .dense) (p .dense-count) (p .leaves) hs ≡ counts-right p && nodes-from true hs
+        go : (hs : List Shape) → D ++ S ≡ hs → shapes-valid (p .dense) (p .dense-count) (p .leaves) hs ≡ counts-valid p && nodes-from true hs
         go [] q = rw (eq-eqb N 0 (sym long ∙ ap length q)) (sym (and-true (eqb (p .leaves) 0)))
         go (h ∷ hs) q =
             let some : 0 < N = omega (arith, long, ap length q) in
@@ -249,22 +249,22 @@ module _ (p : Parts) (z : Sized p) where
             (ap₂ _&&_ (ap₂ (λ (a b : ℕ). eqb a (b + 1)) (ap length (sym q) ∙ long) (ap (total branches) (sym q) ∙ total-all))
             (ap (λ (gs : List Shape). end-tests branches gs (p .dense) (p .dense-count)) (sym q) ∙ ends-all some))))
 
-    dense-and-sparse : nodes-from true (D ++ S) ≡ dense-nodes-right true (p .dl) (p .dc) (p .dp) && nodes-from (eqb (p .dense-count) 0) S
+    dense-and-sparse : nodes-from true (D ++ S) ≡ dense-nodes-valid true (p .dl) (p .dc) (p .dp) && nodes-from (eqb (p .dense-count) 0) S
     dense-and-sparse =
-        from-append D S ∙ ap₂ _&&_ (dense-shapes-right true (p .dl) (p .dc) (p .dp) long-dl long-dc within) (ap (λ (n : ℕ). nodes-from (eqb n 0) S) long-D)
+        from-append D S ∙ ap₂ _&&_ (dense-shapes-valid true (p .dl) (p .dc) (p .dp) long-dl long-dc within) (ap (λ (n : ℕ). nodes-from (eqb n 0) S) long-D)
 
-    nodes-all : shapes-right (p .dense) (p .dense-count) (p .leaves) (D ++ S) ≡ counts-right p && (dense-nodes-right true (p .dl) (p .dc) (p .dp) && nodes-from (eqb (p .dense-count) 0) S)
-    nodes-all = in-parts ∙ ap (λ (t : Bool). counts-right p && t) dense-and-sparse
+    nodes-all : shapes-valid (p .dense) (p .dense-count) (p .leaves) (D ++ S) ≡ counts-valid p && (dense-nodes-valid true (p .dl) (p .dc) (p .dp) && nodes-from (eqb (p .dense-count) 0) S)
+    nodes-all = in-parts ∙ ap (λ (t : Bool). counts-valid p && t) dense-and-sparse
 
   -- Number 14 is judged by the bits as document 01 says it of the nodes.
-  pub builders-trie-is : builders-trie p ≡ bits-right p
-  unfolding builders-trie bits-right sparse-nodes nodes-of every
+  pub builders-trie-is : builders-trie p ≡ bits-valid p
+  unfolding builders-trie bits-valid sparse-nodes nodes-of every
   builders-trie-is =
       gather (first-set (p .sb)) (eqb (ones (p .sb)) (p .sparse-count)) (covered (p .dc) (p .dl)) (all extra-ends (split es (p .sb)))
-      (nodes-right (p .dense) (p .dense-count) (p .leaves) (slotted (p .width) (D ++ S) (p .sv)))
+      (nodes-valid (p .dense) (p .dense-count) (p .leaves) (slotted (p .width) (D ++ S) (p .sv)))
       ∙ under (first-set (p .sb) && eqb (ones (p .sb)) (p .sparse-count) && covered (p .dc) (p .dl))
-      (all extra-ends (split es (p .sb)) && nodes-right (p .dense) (p .dense-count) (p .leaves) (slotted (p .width) (D ++ S) (p .sv)))
-      (sparse-right (eqb (p .dense-count) 0) es (p .sb) && dense-nodes-right true (p .dl) (p .dc) (p .dp) && counts-right p) rest
+      (all extra-ends (split es (p .sb)) && nodes-valid (p .dense) (p .dense-count) (p .leaves) (slotted (p .width) (D ++ S) (p .sv)))
+      (sparse-valid (eqb (p .dense-count) 0) es (p .sb) && dense-nodes-valid true (p .dl) (p .dc) (p .dp) && counts-valid p) rest
     where
       gather : (a b c d e : Bool) → a && (b && (c && (d && (e && true)))) ≡ a && b && c && (d && e)
       gather true true true d e = ap (λ (t : Bool). d && t) (and-true e)
@@ -273,14 +273,14 @@ module _ (p : Parts) (z : Sized p) where
       gather false b c d e = refl
 
       rest : first-set (p .sb) && eqb (ones (p .sb)) (p .sparse-count) && covered (p .dc) (p .dl) ≡ true
-          → all extra-ends (split es (p .sb)) && nodes-right (p .dense) (p .dense-count) (p .leaves) (slotted (p .width) (D ++ S) (p .sv))
-          ≡ sparse-right (eqb (p .dense-count) 0) es (p .sb) && dense-nodes-right true (p .dl) (p .dc) (p .dp) && counts-right p
+          → all extra-ends (split es (p .sb)) && nodes-valid (p .dense) (p .dense-count) (p .leaves) (slotted (p .width) (D ++ S) (p .sv))
+          ≡ sparse-valid (eqb (p .dense-count) 0) es (p .sb) && dense-nodes-valid true (p .dl) (p .dc) (p .dp) && counts-valid p
       rest h =
           let a = both (first-set (p .sb) && eqb (ones (p .sb)) (p .sparse-count)) (covered (p .dc) (p .dl)) h in
           let b = both (first-set (p .sb)) (eqb (ones (p .sb)) (p .sparse-count)) (a .0) in
           ap (λ (t : Bool). all extra-ends (split es (p .sb)) && t) (nodes-shapes (p .width) (p .dense) (p .dense-count) (p .leaves) (D ++ S) (p .sv) (omega (arith, z .dense)))
-          ∙ under (all extra-ends (split es (p .sb))) (shapes-right (p .dense) (p .dense-count) (p .leaves) (D ++ S))
-          (counts-right p && (dense-nodes-right true (p .dl) (p .dc) (p .dp) && nodes-from (eqb (p .dense-count) 0) S))
+          ∙ under (all extra-ends (split es (p .sb))) (shapes-valid (p .dense) (p .dense-count) (p .leaves) (D ++ S))
+          (counts-valid p && (dense-nodes-valid true (p .dl) (p .dc) (p .dp) && nodes-from (eqb (p .dense-count) 0) S))
           (λ x. nodes-all (b .0) (eqb-true (ones (p .sb)) (p .sparse-count) (b .1)) (a .1) x)
-          ∙ shuffle (all extra-ends (split es (p .sb))) (counts-right p) (dense-nodes-right true (p .dl) (p .dc) (p .dp)) (nodes-from (eqb (p .dense-count) 0) S)
-          ∙ ap (λ (t : Bool). t && dense-nodes-right true (p .dl) (p .dc) (p .dp) && counts-right p) (sym (sparse-from (eqb (p .dense-count) 0) es (p .sb)))
+          ∙ shuffle (all extra-ends (split es (p .sb))) (counts-valid p) (dense-nodes-valid true (p .dl) (p .dc) (p .dp)) (nodes-from (eqb (p .dense-count) 0) S)
+          ∙ ap (λ (t : Bool). t && dense-nodes-valid true (p .dl) (p .dc) (p .dp) && counts-valid p) (sym (sparse-from (eqb (p .dense-count) 0) es (p .sb)))

@@ -12,8 +12,8 @@ use Rattle.spec.specs.Frame.{Parts}
 use Rattle.spec.specs.Nodes.{zip-entries}
 use Rattle.spec.specs.Trie.{first-set, covered}
 use Rattle.bits_laws.specs.Bits.{rank}
-use Rattle.check_trie_laws.specs.DenseNodes.{dense-nodes-right}
-use Rattle.check_trie_laws.specs.BitTests.{sparse-right, branches-to, counts-right, bits-right}
+use Rattle.check_trie_laws.specs.DenseNodes.{dense-nodes-valid}
+use Rattle.check_trie_laws.specs.BitTests.{sparse-valid, branches-to, counts-valid, bits-valid}
 use Rattle.check_trie_laws.specs.Climb.{climb}
 use Rattle.check_trie_laws.specs.NodeBranches.{node-branches, climb-bytes}
 use Rattle.check_trie_laws.specs.Positions.{bits, is-set, bits-from, ones-all}
@@ -61,8 +61,8 @@ module _ (levels leaves n entries sparse : ℕ) (dl dc dp sl sc sb : Bytes) (b :
   p = trie-parts levels leaves n entries sparse dl dc dp sl sc sb
 
   -- no node
-  pub counts-none : n + sparse ≡ 0 → counts-right p ≡ eqb leaves 0
-  unfolding counts-right
+  pub counts-none : n + sparse ≡ 0 → counts-valid p ≡ eqb leaves 0
+  unfolding counts-valid
   counts-none e = rw (eq-eqb (n + sparse) 0 e)
 
   -- the sums of the counts
@@ -72,16 +72,16 @@ module _ (levels leaves n entries sparse : ℕ) (dl dc dp sl sc sb : Bytes) (b :
       && ltb 0 leaves
       && eqb (n + sparse) (rank dc (256 * n) + rank sc entries + 1)
 
-  some-node : 1 ≤ n + sparse → counts-right p
+  some-node : 1 ≤ n + sparse → counts-valid p
       ≡ eqb (ones (p .dl) + ones (p .dp) + entries) (leaves + ones (p .dc) + ones (p .sc))
       && ltb 0 leaves
       && (eqb (n + sparse) (ones (p .dc) + ones (p .sc) + 1) && climb (branches-to n (p .dc) (p .sc) (p .sb)) (n + sparse) levels n)
-  unfolding counts-right
+  unfolding counts-valid
   some-node h = ap (λ (t : Bool). cond t (eqb leaves 0) (eqb (ones (p .dl) + ones (p .dp) + entries) (leaves + ones (p .dc) + ones (p .sc))
       && ltb 0 leaves
       && (eqb (n + sparse) (ones (p .dc) + ones (p .sc) + 1) && climb (branches-to n (p .dc) (p .sc) (p .sb)) (n + sparse) levels n))) (ne-eqb (n + sparse) 0 (λ e. omega arith))
 
-  by-ranks : 1 ≤ n + sparse → counts-right p ≡ sums && climb (node-branches n entries dc sc sb) (n + sparse) levels n
+  by-ranks : 1 ≤ n + sparse → counts-valid p ≡ sums && climb (node-branches n entries dc sc sb) (n + sparse) levels n
   by-ranks h =
       some-node h
       ∙ same-counts entries leaves (n + sparse) (ones (p .dl)) (rank dl (256 * n)) (ones (p .dp)) (rank dp n) (ones (p .dc)) (rank dc (256 * n)) (ones (p .sc)) (rank sc entries)
@@ -89,36 +89,36 @@ module _ (levels leaves n entries sparse : ℕ) (dl dc dp sl sc sb : Bytes) (b :
       (ones-all dl (256 * n)) (ones-all dp n) (ones-all dc (256 * n)) (ones-all sc entries) (climb-bytes n entries dc sc sb b (n + sparse) levels n h)
 
   -- the sums are wrong
-  pub counts-wrong : 1 ≤ n + sparse → sums ≡ false → counts-right p ≡ false
+  pub counts-wrong : 1 ≤ n + sparse → sums ≡ false → counts-valid p ≡ false
   counts-wrong h e = by-ranks h ∙ ap (λ (t : Bool). t && climb (node-branches n entries dc sc sb) (n + sparse) levels n) e
 
   -- they are right, and the levels are to be judged
-  pub counts-levels : 1 ≤ n + sparse → sums ≡ true → counts-right p ≡ climb (node-branches n entries dc sc sb) (n + sparse) levels n
+  pub counts-levels : 1 ≤ n + sparse → sums ≡ true → counts-valid p ≡ climb (node-branches n entries dc sc sb) (n + sparse) levels n
   counts-levels h e = by-ranks h ∙ ap (λ (t : Bool). t && climb (node-branches n entries dc sc sb) (n + sparse) levels n) e
 
   -- the S-LOUDS bits do not agree with the count
-  pub starts-wrong : (rank sb entries ≡ sparse → ⊥) → bits-right p ≡ false
-  unfolding bits-right
+  pub starts-wrong : (rank sb entries ≡ sparse → ⊥) → bits-valid p ≡ false
+  unfolding bits-valid
   starts-wrong h =
       rw (ones-all sb entries, ne-eqb (rank sb entries) sparse h)
-      (ap (λ (t : Bool). t && covered (bits dc (256 * n)) (bits dl (256 * n)) && (sparse-right (eqb n 0) (zip-entries sl (bits sc entries)) (bits sb entries) && dense-nodes-right true (bits dl (256 * n)) (bits dc (256 * n)) (bits dp n) && counts-right p))
+      (ap (λ (t : Bool). t && covered (bits dc (256 * n)) (bits dl (256 * n)) && (sparse-valid (eqb n 0) (zip-entries sl (bits sc entries)) (bits sb entries) && dense-nodes-valid true (bits dl (256 * n)) (bits dc (256 * n)) (bits dp n) && counts-valid p))
       (and-false (first-set (bits sb entries))))
 
   -- they do, and the other tests are to be judged
-  pub starts-right : rank sb entries ≡ sparse
-      → bits-right p
+  pub starts-valid : rank sb entries ≡ sparse
+      → bits-valid p
       ≡ (eqb entries 0 || is-set sb 0) && covered (bits dc (256 * n)) (bits dl (256 * n))
-      && (sparse-right (eqb n 0) (zip-entries sl (bits sc entries)) (bits sb entries) && dense-nodes-right true (bits dl (256 * n)) (bits dc (256 * n)) (bits dp n) && counts-right p)
-  unfolding bits-right
-  starts-right h =
+      && (sparse-valid (eqb n 0) (zip-entries sl (bits sc entries)) (bits sb entries) && dense-nodes-valid true (bits dl (256 * n)) (bits dc (256 * n)) (bits dp n) && counts-valid p)
+  unfolding bits-valid
+  starts-valid h =
       rw (ones-all sb entries, eq-eqb (rank sb entries) sparse h)
-      (ap (λ (t : Bool). t && covered (bits dc (256 * n)) (bits dl (256 * n)) && (sparse-right (eqb n 0) (zip-entries sl (bits sc entries)) (bits sb entries) && dense-nodes-right true (bits dl (256 * n)) (bits dc (256 * n)) (bits dp n) && counts-right p))
+      (ap (λ (t : Bool). t && covered (bits dc (256 * n)) (bits dl (256 * n)) && (sparse-valid (eqb n 0) (zip-entries sl (bits sc entries)) (bits sb entries) && dense-nodes-valid true (bits dl (256 * n)) (bits dc (256 * n)) (bits dp n) && counts-valid p))
       (and-true (first-set (bits sb entries)) ∙ first-bit sb entries b))
 
 -- the counts do not depend on the labels
 pub counts-labels : (levels leaves n entries sparse : ℕ) (dl dc dp sl sc sb : Bytes)
-    → counts-right (trie-parts levels leaves n entries sparse dl dc dp [] sc sb) ≡ counts-right (trie-parts levels leaves n entries sparse dl dc dp sl sc sb)
-unfolding counts-right
+    → counts-valid (trie-parts levels leaves n entries sparse dl dc dp [] sc sb) ≡ counts-valid (trie-parts levels leaves n entries sparse dl dc dp sl sc sb)
+unfolding counts-valid
 counts-labels levels leaves n entries sparse dl dc dp sl sc sb = refl
 
 -- the sums, as they were counted

@@ -12,7 +12,7 @@ use Rattle.spec.specs.Bytes.{Bits, all, count, ones}
 use Rattle.spec.specs.Nodes.{Entry, entry, entry-label, continues, Shape, shape, dense-entries, dense-shapes, total}
 use Rattle.spec.specs.Trie.{covered}
 use Rattle.check_trie_laws.specs.Tests.{both}
-use Rattle.check_trie_laws.specs.Shapes.{ends-here, rising, branches, leaves-at, root-right, inner-right, nodes-from}
+use Rattle.check_trie_laws.specs.Shapes.{ends-here, rising, branches, leaves-at, root-valid, inner-valid, nodes-from}
 
 -- ---- one node
 
@@ -74,30 +74,30 @@ entries-rise i (true ∷ dl) (c ∷ dc) = go (dense-entries (suc i) dl dc) (entr
 entries-rise i (false ∷ dl) (c ∷ dc) = entries-rise (suc i) dl dc
 
 -- what number 14 asks of a dense node with so many labels, of which so many continue: a label; the root is no exact leaf; a sole entry continues, except at the root
-abbrev pub dense-right : Bool → Bool → ℕ → ℕ → Bool
-dense-right root p labels kids = ltb 0 labels && cond root (not p) (p || not (eqb labels 1) || eqb kids 1)
+abbrev pub dense-valid : Bool → Bool → ℕ → ℕ → Bool
+dense-valid root p labels kids = ltb 0 labels && cond root (not p) (p || not (eqb labels 1) || eqb kids 1)
 
-one-right : (root p : Bool) (es : List Entry) → rising es ≡ true → cond root (root-right (shape p es)) (inner-right (shape p es)) ≡ dense-right root p (length es) (count continues es)
+one-valid : (root p : Bool) (es : List Entry) → rising es ≡ true → cond root (root-valid (shape p es)) (inner-valid (shape p es)) ≡ dense-valid root p (length es) (count continues es)
 unfolding count
-one-right true p [] r = refl
-one-right false true [] r = refl
-one-right false false [] r = refl
-one-right true p (e ∷ es) r = rw (r, lt-ltb 0 (suc (length es)) (omega arith)) (and-true (not p))
-one-right false true (e ∷ es) r = rw (r, lt-ltb 0 (suc (length es)) (omega arith))
-one-right false false (e ∷ []) r = rw r (alone (continues e))
+one-valid true p [] r = refl
+one-valid false true [] r = refl
+one-valid false false [] r = refl
+one-valid true p (e ∷ es) r = rw (r, lt-ltb 0 (suc (length es)) (omega arith)) (and-true (not p))
+one-valid false true (e ∷ es) r = rw (r, lt-ltb 0 (suc (length es)) (omega arith))
+one-valid false false (e ∷ []) r = rw r (alone (continues e))
   where
     alone : (c : Bool) → c ≡ eqb (cond c 1 0) 1
     alone true = refl
     alone false = refl
-one-right false false (e ∷ f ∷ es) r = rw (r, lt-ltb 0 (suc (suc (length es))) (omega arith), ne-eqb (suc (suc (length es))) 1 (λ q. omega arith))
+one-valid false false (e ∷ f ∷ es) r = rw (r, lt-ltb 0 (suc (suc (length es))) (omega arith), ne-eqb (suc (suc (length es))) 1 (λ q. omega arith))
 
 -- ---- all nodes
 
 -- the dense nodes by their counts, 256 bits each
-unfoldable pub dense-nodes-right : Bool → Bits → Bits → Bits → Bool
+unfoldable pub dense-nodes-valid : Bool → Bits → Bits → Bits → Bool
 unfolding ones
-dense-nodes-right root dl dc [] = true
-dense-nodes-right root dl dc (p ∷ ps) = dense-right root p (ones (take 256 dl)) (ones (take 256 dc)) && dense-nodes-right false (drop 256 dl) (drop 256 dc) ps
+dense-nodes-valid root dl dc [] = true
+dense-nodes-valid root dl dc (p ∷ ps) = dense-valid root p (ones (take 256 dl)) (ones (take 256 dc)) && dense-nodes-valid false (drop 256 dl) (drop 256 dc) ps
 
 -- a bitmap within another, in two parts
 pub covered-split : (k : ℕ) (dc dl : Bits) → length dl ≡ length dc → covered dc dl ≡ true → (covered (take k dc) (take k dl) ≡ true) × (covered (drop k dc) (drop k dl) ≡ true)
@@ -131,22 +131,22 @@ module _ (dl dc ps : Bits) (p : Bool) (a : length dl ≡ 256 * suc (length ps)) 
   behind = covered-split 256 dc dl (a ∙ sym b) w .1
 
   first-node : (root : Bool)
-      → cond root (root-right (shape p (dense-entries 0 (take 256 dl) (take 256 dc)))) (inner-right (shape p (dense-entries 0 (take 256 dl) (take 256 dc))))
-      ≡ dense-right root p (ones (take 256 dl)) (ones (take 256 dc))
+      → cond root (root-valid (shape p (dense-entries 0 (take 256 dl) (take 256 dc)))) (inner-valid (shape p (dense-entries 0 (take 256 dl) (take 256 dc))))
+      ≡ dense-valid root p (ones (take 256 dl)) (ones (take 256 dc))
   first-node root =
-      one-right root p (dense-entries 0 (take 256 dl) (take 256 dc)) (entries-rise 0 (take 256 dl) (take 256 dc))
-      ∙ ap₂ (dense-right root p) (entries-count 0 (take 256 dl) (take 256 dc) (wide-labels ∙ sym wide-children))
+      one-valid root p (dense-entries 0 (take 256 dl) (take 256 dc)) (entries-rise 0 (take 256 dl) (take 256 dc))
+      ∙ ap₂ (dense-valid root p) (entries-count 0 (take 256 dl) (take 256 dc) (wide-labels ∙ sym wide-children))
       (entries-continue 0 (take 256 dl) (take 256 dc) (wide-labels ∙ sym wide-children) here)
 
 -- the tests by counts are those of the nodes
-pub dense-shapes-right : (root : Bool) (dl dc dp : Bits) → length dl ≡ 256 * length dp → length dc ≡ 256 * length dp → covered dc dl ≡ true
-    → nodes-from root (dense-shapes dl dc dp) ≡ dense-nodes-right root dl dc dp
-unfolding nodes-from dense-shapes dense-nodes-right all
-dense-shapes-right root dl dc [] a b w = refl
-dense-shapes-right root dl dc (p ∷ ps) a b w = go root (first-node dl dc ps p a b w root)
-    (dense-shapes-right false (drop 256 dl) (drop 256 dc) ps (rest-labels dl dc ps p a b w) (rest-children dl dc ps p a b w) (behind dl dc ps p a b w))
+pub dense-shapes-valid : (root : Bool) (dl dc dp : Bits) → length dl ≡ 256 * length dp → length dc ≡ 256 * length dp → covered dc dl ≡ true
+    → nodes-from root (dense-shapes dl dc dp) ≡ dense-nodes-valid root dl dc dp
+unfolding nodes-from dense-shapes dense-nodes-valid all
+dense-shapes-valid root dl dc [] a b w = refl
+dense-shapes-valid root dl dc (p ∷ ps) a b w = go root (first-node dl dc ps p a b w root)
+    (dense-shapes-valid false (drop 256 dl) (drop 256 dc) ps (rest-labels dl dc ps p a b w) (rest-children dl dc ps p a b w) (behind dl dc ps p a b w))
   where
-    all-from : (hs : List Shape) → all inner-right hs ≡ nodes-from false hs
+    all-from : (hs : List Shape) → all inner-valid hs ≡ nodes-from false hs
     all-from [] = refl
     all-from (h ∷ hs) = refl
 
@@ -156,9 +156,9 @@ dense-shapes-right root dl dc (p ∷ ps) a b w = go root (first-node dl dc ps p 
     hs : List Shape
     hs = dense-shapes (drop 256 dl) (drop 256 dc) ps
 
-    go : (r : Bool) → cond r (root-right h) (inner-right h) ≡ dense-right r p (ones (take 256 dl)) (ones (take 256 dc))
-        → nodes-from false hs ≡ dense-nodes-right false (drop 256 dl) (drop 256 dc) ps
-        → nodes-from r (h ∷ hs) ≡ dense-right r p (ones (take 256 dl)) (ones (take 256 dc)) && dense-nodes-right false (drop 256 dl) (drop 256 dc) ps
+    go : (r : Bool) → cond r (root-valid h) (inner-valid h) ≡ dense-valid r p (ones (take 256 dl)) (ones (take 256 dc))
+        → nodes-from false hs ≡ dense-nodes-valid false (drop 256 dl) (drop 256 dc) ps
+        → nodes-from r (h ∷ hs) ≡ dense-valid r p (ones (take 256 dl)) (ones (take 256 dc)) && dense-nodes-valid false (drop 256 dl) (drop 256 dc) ps
     go true f g = ap₂ _&&_ f (all-from hs ∙ g)
     go false f g = ap₂ _&&_ f (all-from hs ∙ g)
 

@@ -10,8 +10,8 @@ use lib.Dec.{eqb, ltb}
 use Rattle.bits_laws.specs.Bits.{bit-at}
 use Rattle.spec.specs.Bytes.{Bytes, Bits}
 use Rattle.spec.specs.Nodes.{Entry, entry, zip-entries}
-use Rattle.check_trie_laws.specs.SparseNodes.{last-right, next-right, entries-right}
-use Rattle.check_trie_laws.specs.BitTests.{sparse-right, length-zip}
+use Rattle.check_trie_laws.specs.SparseNodes.{last-valid, next-correct, entries-valid}
+use Rattle.check_trie_laws.specs.BitTests.{sparse-valid, length-zip}
 use Rattle.check_trie_laws.specs.Positions.{bits, is-set, length-bits, bits-from}
 
 -- entry j
@@ -19,22 +19,22 @@ abbrev pub entry-at : Bytes → Bytes → ℕ → Entry
 entry-at sl sc j = entry (getD sl j 0) (is-set sc j)
 
 -- what is asked of entry j, where the next one begins a node or not
-abbrev pub entry-right : Bytes → Bytes → Bool → Bool → ℕ → Bool → Bool
-entry-right sl sc root start j begins = cond begins (last-right root start (entry-at sl sc j)) (next-right root start (entry-at sl sc j) (entry-at sl sc (suc j)))
+abbrev pub entry-valid : Bytes → Bytes → Bool → Bool → ℕ → Bool → Bool
+entry-valid sl sc root start j begins = cond begins (last-valid root start (entry-at sl sc j)) (next-correct root start (entry-at sl sc j) (entry-at sl sc (suc j)))
 
 -- the entries from j on, n of them behind it
 unfoldable pub entries-from : Bytes → Bytes → Bytes → Bool → Bool → ℕ → ℕ → Bool
-entries-from sl sc sb root start j zero = last-right root start (entry-at sl sc j)
-entries-from sl sc sb root start j (suc n) = entry-right sl sc root start j (is-set sb (suc j)) && entries-from sl sc sb false (is-set sb (suc j)) (suc j) n
+entries-from sl sc sb root start j zero = last-valid root start (entry-at sl sc j)
+entries-from sl sc sb root start j (suc n) = entry-valid sl sc root start j (is-set sb (suc j)) && entries-from sl sc sb false (is-set sb (suc j)) (suc j) n
 
 -- none behind it
-pub entries-last : (sl sc sb : Bytes) (root start : Bool) (j : ℕ) → entries-from sl sc sb root start j 0 ≡ last-right root start (entry-at sl sc j)
+pub entries-last : (sl sc sb : Bytes) (root start : Bool) (j : ℕ) → entries-from sl sc sb root start j 0 ≡ last-valid root start (entry-at sl sc j)
 unfolding entries-from
 entries-last sl sc sb root start j = refl
 
 -- one more behind it
 pub entries-more : (sl sc sb : Bytes) (root start : Bool) (j n : ℕ)
-    → entries-from sl sc sb root start j (suc n) ≡ entry-right sl sc root start j (is-set sb (suc j)) && entries-from sl sc sb false (is-set sb (suc j)) (suc j) n
+    → entries-from sl sc sb root start j (suc n) ≡ entry-valid sl sc root start j (is-set sb (suc j)) && entries-from sl sc sb false (is-set sb (suc j)) (suc j) n
 unfolding entries-from
 entries-more sl sc sb root start j n = refl
 
@@ -63,40 +63,40 @@ module _ (sl sc sb : Bytes) (n : ℕ) (a : length sl ≡ n) (b : n ≤ 8 * lengt
   zip-end = ap (λ (k : ℕ). drop k all-entries) (sym (length-zip sl (bits sc n) (a ∙ sym (length-bits sc n b)) ∙ length-bits sc n b)) ∙ drop-length all-entries
 
   from-is : (k j : ℕ) (root start : Bool) → suc (j + k) ≡ n
-      → entries-right root start (entry-at sl sc j) (drop (suc j) all-entries) (drop (suc j) (bits sb n)) ≡ entries-from sl sc sb root start j k
-  unfolding entries-right entries-from
+      → entries-valid root start (entry-at sl sc j) (drop (suc j) all-entries) (drop (suc j) (bits sb n)) ≡ entries-from sl sc sb root start j k
+  unfolding entries-valid entries-from
   from-is zero j root start h = let e : suc j ≡ n = omega arith in rw (e, zip-end)
   from-is (suc k) j root start h =
       rw (zip-from (suc j) (omega arith), bits-from sb n (suc j) c (omega arith))
       (go (is-set sb (suc j)) (from-is k (suc j) false (is-set sb (suc j)) (omega arith)))
     where
-      go : (t : Bool) → entries-right false t (entry-at sl sc (suc j)) (drop (suc (suc j)) all-entries) (drop (suc (suc j)) (bits sb n)) ≡ entries-from sl sc sb false t (suc j) k
-          → entries-right root start (entry-at sl sc j) (entry-at sl sc (suc j) ∷ drop (suc (suc j)) all-entries) (t ∷ drop (suc (suc j)) (bits sb n))
-          ≡ entry-right sl sc root start j t && entries-from sl sc sb false t (suc j) k
-      go true ih = ap (λ (u : Bool). last-right root start (entry-at sl sc j) && u) ih
-      go false ih = ap (λ (u : Bool). next-right root start (entry-at sl sc j) (entry-at sl sc (suc j)) && u) ih
+      go : (t : Bool) → entries-valid false t (entry-at sl sc (suc j)) (drop (suc (suc j)) all-entries) (drop (suc (suc j)) (bits sb n)) ≡ entries-from sl sc sb false t (suc j) k
+          → entries-valid root start (entry-at sl sc j) (entry-at sl sc (suc j) ∷ drop (suc (suc j)) all-entries) (t ∷ drop (suc (suc j)) (bits sb n))
+          ≡ entry-valid sl sc root start j t && entries-from sl sc sb false t (suc j) k
+      go true ih = ap (λ (u : Bool). last-valid root start (entry-at sl sc j) && u) ih
+      go false ih = ap (λ (u : Bool). next-correct root start (entry-at sl sc j) (entry-at sl sc (suc j)) && u) ih
 
   -- no entries
-  pub sparse-none : (root : Bool) → n ≡ 0 → sparse-right root all-entries (bits sb n) ≡ true
-  unfolding sparse-right
+  pub sparse-none : (root : Bool) → n ≡ 0 → sparse-valid root all-entries (bits sb n) ≡ true
+  unfolding sparse-valid
   sparse-none root e = go all-entries (length-zip sl (bits sc n) (a ∙ sym (length-bits sc n b)) ∙ length-bits sc n b ∙ e)
     where
-      go : (es : List Entry) → length es ≡ 0 → sparse-right root es (bits sb n) ≡ true
+      go : (es : List Entry) → length es ≡ 0 → sparse-valid root es (bits sb n) ≡ true
       go [] h = refl
       go (e ∷ es) h = absurd (omega arith)
 
   -- from the first one on
-  pub sparse-some : (root : Bool) → 0 < n → sparse-right root all-entries (bits sb n) ≡ entries-from sl sc sb root true 0 (n - 1 - 0)
-  unfolding sparse-right
-  sparse-some root h = ap (λ (es : List Entry). sparse-right root es (bits sb n)) (zip-from 0 h) ∙ from-is (n - 1 - 0) 0 root true (omega arith)
+  pub sparse-some : (root : Bool) → 0 < n → sparse-valid root all-entries (bits sb n) ≡ entries-from sl sc sb root true 0 (n - 1 - 0)
+  unfolding sparse-valid
+  sparse-some root h = ap (λ (es : List Entry). sparse-valid root es (bits sb n)) (zip-from 0 h) ∙ from-is (n - 1 - 0) 0 root true (omega arith)
 
 -- what is asked of an entry, case by case
 module _ (sl sc : Bytes) (j c : ℕ) (q : c ≡ bit-at sc j) (root start begins : Bool) where
-  pub entry-last : begins ≡ true → (not start || eqb c 1 || root) ≡ entry-right sl sc root start j begins
+  pub entry-last : begins ≡ true → (not start || eqb c 1 || root) ≡ entry-valid sl sc root start j begins
   entry-last e = rw (e, q)
 
-  pub entry-extra : begins ≡ false → start && eqb (getD sl j 0) 255 ≡ true → (not (eqb c 1) && not root) ≡ entry-right sl sc root start j begins
+  pub entry-extra : begins ≡ false → start && eqb (getD sl j 0) 255 ≡ true → (not (eqb c 1) && not root) ≡ entry-valid sl sc root start j begins
   entry-extra e f = rw (e, f, q)
 
-  pub entry-label : begins ≡ false → start && eqb (getD sl j 0) 255 ≡ false → ltb (getD sl j 0) (getD sl (j + 1) 0) ≡ entry-right sl sc root start j begins
+  pub entry-label : begins ≡ false → start && eqb (getD sl j 0) 255 ≡ false → ltb (getD sl j 0) (getD sl (j + 1) 0) ≡ entry-valid sl sc root start j begins
   entry-label e f = let g : j + 1 ≡ suc j = omega arith in rw (e, f, g)

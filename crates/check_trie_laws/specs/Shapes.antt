@@ -10,7 +10,7 @@ use lib.Dec.{leb, ltb, eqb}
 use borrow.Author.Tests.{eqb-true}
 use Rattle.spec.specs.Bytes.{Bits, all, concat, count, bit}
 use Rattle.spec.specs.Nodes.{Entry, entry, entry-label, continues, Shape, shape, Branch, to-node, to-leaf, Node, node, label-of, has-child, branches-of, is-exact, children, children-of, with-slots, past-slots, slotted, total, later, levels-of}
-use Rattle.spec.specs.Trie.{open-leaves, leaf-count, has-label, ascending, sole-continues, nodes-right}
+use Rattle.spec.specs.Trie.{open-leaves, leaf-count, has-label, ascending, sole-continues, nodes-valid}
 use Rattle.check_trie_laws.specs.Tests.{all-both, under, regroup-ten}
 use Rattle.check_trie_laws.specs.LevelEnds.{level-tests, end-tests, levels-are, before, rise, nodes-above, rise-ext, nodes-above-ext}
 
@@ -189,24 +189,24 @@ all-slotted p q f n (h ∷ hs) bs = ap (all p) (slotted-first n h hs bs) ∙ ap�
 -- ---- the tests of number 14
 
 -- what the root must be, and what every other node
-abbrev pub root-right : Shape → Bool
-root-right h = labelled h && not (exact h) && ordered h
+abbrev pub root-valid : Shape → Bool
+root-valid h = labelled h && not (exact h) && ordered h
 
-abbrev pub inner-right : Shape → Bool
-inner-right h = labelled h && ordered h && sole h
+abbrev pub inner-valid : Shape → Bool
+inner-valid h = labelled h && ordered h && sole h
 
 -- nodes of which the first may be the root
 unfoldable pub nodes-from : Bool → List Shape → Bool
 unfolding all
 nodes-from r [] = true
-nodes-from true (h ∷ hs) = root-right h && all inner-right hs
-nodes-from false (h ∷ hs) = inner-right h && all inner-right hs
+nodes-from true (h ∷ hs) = root-valid h && all inner-valid hs
+nodes-from false (h ∷ hs) = inner-valid h && all inner-valid hs
 
 -- the tests of shapes: the leaf count, some leaf, nodes are continuing branches plus one, the levels by their ends, each node
-unfoldable pub shapes-right : ℕ → ℕ → ℕ → List Shape → Bool
+unfoldable pub shapes-valid : ℕ → ℕ → ℕ → List Shape → Bool
 unfolding total all rise nodes-above nodes-from
-shapes-right dense n leaves [] = eqb leaves 0
-shapes-right dense n leaves (h ∷ hs) =
+shapes-valid dense n leaves [] = eqb leaves 0
+shapes-valid dense n leaves (h ∷ hs) =
     eqb (total leaves-at (h ∷ hs)) leaves
     && ltb 0 leaves
     && (eqb (length (h ∷ hs)) (total branches (h ∷ hs) + 1) && end-tests branches (h ∷ hs) dense n)
@@ -221,7 +221,7 @@ ends-slotted w dense n hs bs l =
     (ap (λ (m : ℕ). rise (before children-of (slotted w hs bs)) m 63 1) long ∙ rise-ext (before children-of (slotted w hs bs)) (before branches hs) (length hs) same-before 63 1 (omega arith))
     (ap (λ (m : ℕ). eqb m n) (ap (λ (m : ℕ). nodes-above (before children-of (slotted w hs bs)) m dense) long ∙ nodes-above-ext (before children-of (slotted w hs bs)) (before branches hs) (length hs) same-before dense))
 
-all-inner : (hs : List Shape) → all inner-right hs ≡ all labelled hs && all ordered hs && all sole hs
+all-inner : (hs : List Shape) → all inner-valid hs ≡ all labelled hs && all ordered hs && all sole hs
 all-inner hs = all-both (λ h. labelled h && ordered h) sole hs ∙ ap (λ (t : Bool). t && all sole hs) (all-both labelled ordered hs)
 
 module _ (w dense n leaves : ℕ) (h : Shape) (hs : List Shape) (bs : Bits) (d : dense ≤ 64) where
@@ -252,31 +252,31 @@ module _ (w dense n leaves : ℕ) (h : Shape) (hs : List Shape) (bs : Bits) (d :
       (ap (λ (z : List Node). end-tests children-of z dense n) (sym whole) ∙ ends-slotted w dense n (h ∷ hs) bs (omega arith))
 
   same-nodes : has-label root && not (is-exact root) && ascending (branches-of root) && (all has-label rest && all (λ n. ascending (branches-of n)) rest && all sole-continues rest)
-      ≡ root-right h && all inner-right hs
+      ≡ root-valid h && all inner-valid hs
   same-nodes =
       ap₂ _&&_ (ap₂ _&&_ (ap₂ _&&_ (node-label w h bs) (ap not (node-exact w h bs))) (node-ordered w h bs))
       (ap₂ _&&_ (ap₂ _&&_ (all-slotted has-label labelled node-label w hs (bits-past w h bs)) (all-slotted (λ n. ascending (branches-of n)) ordered node-ordered w hs (bits-past w h bs)))
       (all-slotted sole-continues sole node-sole w hs (bits-past w h bs)) ∙ sym (all-inner hs))
 
-  by-tests : nodes-right dense n leaves (root ∷ rest)
+  by-tests : nodes-valid dense n leaves (root ∷ rest)
       ≡ eqb (leaf-count (root ∷ rest)) leaves
       && ltb 0 leaves
       && (eqb (length (root ∷ rest)) (total children-of (root ∷ rest) + 1) && level-tests children-of (root ∷ rest) dense n)
       && (has-label root && not (is-exact root) && ascending (branches-of root) && (all has-label rest && all (λ n. ascending (branches-of n)) rest && all sole-continues rest))
-  unfolding nodes-right levels-of all
+  unfolding nodes-valid levels-of all
   by-tests =
       regroup-ten (eqb (leaf-count (root ∷ rest)) leaves) (ltb 0 leaves) (eqb (length (root ∷ rest)) (total children-of (root ∷ rest) + 1)) (later children-of 0 0 (root ∷ rest))
       (has-label root) (all has-label rest) (not (is-exact root)) (ascending (branches-of root)) (all (λ n. ascending (branches-of n)) rest) (all sole-continues rest)
       (eqb (length (concat (take dense (levels-of (root ∷ rest))))) n) (leb (length (levels-of (root ∷ rest))) 64)
 
-  some-nodes : nodes-right dense n leaves (slotted w (h ∷ hs) bs) ≡ shapes-right dense n leaves (h ∷ hs)
-  unfolding shapes-right nodes-from
+  some-nodes : nodes-valid dense n leaves (slotted w (h ∷ hs) bs) ≡ shapes-valid dense n leaves (h ∷ hs)
+  unfolding shapes-valid nodes-from
   some-nodes =
-      ap (nodes-right dense n leaves) whole ∙ by-tests
+      ap (nodes-valid dense n leaves) whole ∙ by-tests
       ∙ ap₂ _&&_ (ap₂ _&&_ (ap (λ (m : ℕ). eqb m leaves && ltb 0 leaves) same-leaves) same-levels) same-nodes
 
 -- document 01's tests of the nodes are those of their shapes
-pub nodes-shapes : (w dense n leaves : ℕ) (hs : List Shape) (bs : Bits) → dense ≤ 64 → nodes-right dense n leaves (slotted w hs bs) ≡ shapes-right dense n leaves hs
-unfolding nodes-right shapes-right slotted
+pub nodes-shapes : (w dense n leaves : ℕ) (hs : List Shape) (bs : Bits) → dense ≤ 64 → nodes-valid dense n leaves (slotted w hs bs) ≡ shapes-valid dense n leaves hs
+unfolding nodes-valid shapes-valid slotted
 nodes-shapes w dense n leaves [] bs d = refl
 nodes-shapes w dense n leaves (h ∷ hs) bs d = some-nodes w dense n leaves h hs bs d

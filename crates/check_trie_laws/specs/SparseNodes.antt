@@ -11,35 +11,35 @@ use lib.Dec.{ltb, eqb}
 use Rattle.spec.specs.Bytes.{Bits, all, count, bit, ones}
 use Rattle.spec.specs.Nodes.{Entry, entry, entry-label, continues, Shape, shape, Sparse, sparse, prepend, split-behind, sparse-shape, extra-ends, total}
 use Rattle.check_trie_laws.specs.Tests.{both, swap-middle}
-use Rattle.check_trie_laws.specs.Shapes.{ends-here, rising, branches, leaves-at, root-right, inner-right, nodes-from}
+use Rattle.check_trie_laws.specs.Shapes.{ends-here, rising, branches, leaves-at, root-valid, inner-valid, nodes-from}
 
 -- an entry behind which its node ends: a sole entry continues, except at the root
-abbrev pub last-right : Bool → Bool → Entry → Bool
-last-right root start e = not start || continues e || root
+abbrev pub last-valid : Bool → Bool → Entry → Bool
+last-valid root start e = not start || continues e || root
 
 -- two entries of one node: behind a first FF, which is the node's exact leaf, it does not continue and the node is not the root; else labels ascend
-abbrev pub next-right : Bool → Bool → Entry → Entry → Bool
-next-right root start e f = cond (start && eqb (entry-label e) 255) (not (continues e) && not root) (ltb (entry-label e) (entry-label f))
+abbrev pub next-correct : Bool → Bool → Entry → Entry → Bool
+next-correct root start e f = cond (start && eqb (entry-label e) 255) (not (continues e) && not root) (ltb (entry-label e) (entry-label f))
 
 -- the entries from e on, with the S-LOUDS bits behind it: whether e is in the root, and whether it is the first of its node
-unfoldable pub entries-right : Bool → Bool → Entry → List Entry → Bits → Bool
-entries-right root start e [] bs = last-right root start e
-entries-right root start e (f ∷ es) [] = last-right root start e
-entries-right root start e (f ∷ es) (true ∷ bs) = last-right root start e && entries-right false true f es bs
-entries-right root start e (f ∷ es) (false ∷ bs) = next-right root start e f && entries-right false false f es bs
+unfoldable pub entries-valid : Bool → Bool → Entry → List Entry → Bits → Bool
+entries-valid root start e [] bs = last-valid root start e
+entries-valid root start e (f ∷ es) [] = last-valid root start e
+entries-valid root start e (f ∷ es) (true ∷ bs) = last-valid root start e && entries-valid false true f es bs
+entries-valid root start e (f ∷ es) (false ∷ bs) = next-correct root start e f && entries-valid false false f es bs
 
 -- ---- node by node
 
 -- the first entry of a node, or a later one, and those behind it
-unfoldable node-right : Bool → Bool → Sparse → Bool
+unfoldable node-valid : Bool → Bool → Sparse → Bool
 unfolding rising
-node-right root start (sparse e []) = last-right root start e
-node-right root start (sparse e (f ∷ es)) = next-right root start e f && rising (f ∷ es)
+node-valid root start (sparse e []) = last-valid root start e
+node-valid root start (sparse e (f ∷ es)) = next-correct root start e f && rising (f ∷ es)
 
-unfoldable nodes-right : Bool → Bool → List Sparse → Bool
-unfolding all node-right
-nodes-right root start [] = true
-nodes-right root start (c ∷ cs) = node-right root start c && all (node-right false true) cs
+unfoldable nodes-valid : Bool → Bool → List Sparse → Bool
+unfolding all node-valid
+nodes-valid root start [] = true
+nodes-valid root start (c ∷ cs) = node-valid root start c && all (node-valid false true) cs
 
 -- the first node starts with the first entry
 pub record First (e : Entry) (cs : List Sparse) : Type 0 where
@@ -56,32 +56,32 @@ first-node e (f ∷ es) (false ∷ bs) =
     let n = first-node f es bs in
     record { behind = f ∷ n .behind; others = n .others; are = ap (prepend e) (n .are) }
 
-later-entry : (e f : Entry) (fs : List Entry) → node-right false false (sparse f fs) ≡ rising (f ∷ fs)
-unfolding node-right rising
+later-entry : (e f : Entry) (fs : List Entry) → node-valid false false (sparse f fs) ≡ rising (f ∷ fs)
+unfolding node-valid rising
 later-entry e f [] = refl
 later-entry e f (g ∷ fs) = refl
 
-entries-nodes : (root start : Bool) (e : Entry) (es : List Entry) (bs : Bits) → entries-right root start e es bs ≡ nodes-right root start (split-behind e es bs)
-unfolding entries-right nodes-right node-right split-behind prepend all
-entries-nodes root start e [] bs = sym (and-true (last-right root start e))
-entries-nodes root start e (f ∷ es) [] = sym (and-true (last-right root start e))
-entries-nodes root start e (f ∷ es) (true ∷ bs) = ap (λ (t : Bool). last-right root start e && t) (entries-nodes false true f es bs ∙ every-node (split-behind f es bs))
+entries-nodes : (root start : Bool) (e : Entry) (es : List Entry) (bs : Bits) → entries-valid root start e es bs ≡ nodes-valid root start (split-behind e es bs)
+unfolding entries-valid nodes-valid node-valid split-behind prepend all
+entries-nodes root start e [] bs = sym (and-true (last-valid root start e))
+entries-nodes root start e (f ∷ es) [] = sym (and-true (last-valid root start e))
+entries-nodes root start e (f ∷ es) (true ∷ bs) = ap (λ (t : Bool). last-valid root start e && t) (entries-nodes false true f es bs ∙ every-node (split-behind f es bs))
   where
-    every-node : (cs : List Sparse) → nodes-right false true cs ≡ all (node-right false true) cs
+    every-node : (cs : List Sparse) → nodes-valid false true cs ≡ all (node-valid false true) cs
     every-node [] = refl
     every-node (c ∷ cs) = refl
-entries-nodes root start e (f ∷ es) (false ∷ bs) = ap (λ (t : Bool). next-right root start e f && t) (entries-nodes false false f es bs) ∙ go (first-node f es bs)
+entries-nodes root start e (f ∷ es) (false ∷ bs) = ap (λ (t : Bool). next-correct root start e f && t) (entries-nodes false false f es bs) ∙ go (first-node f es bs)
   where
-    go : First f (split-behind f es bs) → next-right root start e f && nodes-right false false (split-behind f es bs) ≡ nodes-right root start (prepend e (split-behind f es bs))
+    go : First f (split-behind f es bs) → next-correct root start e f && nodes-valid false false (split-behind f es bs) ≡ nodes-valid root start (prepend e (split-behind f es bs))
     go n =
         rw (n .are)
-        (ap (λ (t : Bool). next-right root start e f && (t && all (node-right false true) (n .others))) (later-entry e f (n .behind))
-        ∙ sym (and-assoc (next-right root start e f) (rising (f ∷ n .behind)) (all (node-right false true) (n .others))))
+        (ap (λ (t : Bool). next-correct root start e f && (t && all (node-valid false true) (n .others))) (later-entry e f (n .behind))
+        ∙ sym (and-assoc (next-correct root start e f) (rising (f ∷ n .behind)) (all (node-valid false true) (n .others))))
 
 -- ---- a node and its shape
 
-node-shape : (root : Bool) (c : Sparse) → node-right root true c ≡ extra-ends c && cond root (root-right (sparse-shape c)) (inner-right (sparse-shape c))
-unfolding node-right extra-ends sparse-shape rising
+node-shape : (root : Bool) (c : Sparse) → node-valid root true c ≡ extra-ends c && cond root (root-valid (sparse-shape c)) (inner-valid (sparse-shape c))
+unfolding node-valid extra-ends sparse-shape rising
 node-shape true (sparse (entry x true) []) = refl
 node-shape true (sparse (entry x false) []) = refl
 node-shape false (sparse (entry x true) []) = refl
@@ -89,7 +89,7 @@ node-shape false (sparse (entry x false) []) = refl
 node-shape root (sparse (entry x c) (f ∷ es)) = go root c (eqb x 255)
   where
     go : (root c b : Bool) → cond b (not c && not root) (ltb x (entry-label f)) && rising (f ∷ es)
-        ≡ not (b && c) && cond root (root-right (cond b (shape true (f ∷ es)) (shape false (entry x c ∷ f ∷ es)))) (inner-right (cond b (shape true (f ∷ es)) (shape false (entry x c ∷ f ∷ es))))
+        ≡ not (b && c) && cond root (root-valid (cond b (shape true (f ∷ es)) (shape false (entry x c ∷ f ∷ es)))) (inner-valid (cond b (shape true (f ∷ es)) (shape false (entry x c ∷ f ∷ es))))
     go true true true = refl
     go true true false = refl
     go true false true = refl
@@ -99,21 +99,21 @@ node-shape root (sparse (entry x c) (f ∷ es)) = go root c (eqb x 255)
     go false false true = sym (and-true (rising (f ∷ es)))
     go false false false = sym (and-true (ltb x (entry-label f) && rising (f ∷ es)))
 
-all-shapes : (cs : List Sparse) → all (node-right false true) cs ≡ all extra-ends cs && all inner-right (map sparse-shape cs)
+all-shapes : (cs : List Sparse) → all (node-valid false true) cs ≡ all extra-ends cs && all inner-valid (map sparse-shape cs)
 unfolding all
 all-shapes [] = refl
-all-shapes (c ∷ cs) = ap₂ _&&_ (node-shape false c) (all-shapes cs) ∙ swap-middle (extra-ends c) (inner-right (sparse-shape c)) (all extra-ends cs) (all inner-right (map sparse-shape cs))
+all-shapes (c ∷ cs) = ap₂ _&&_ (node-shape false c) (all-shapes cs) ∙ swap-middle (extra-ends c) (inner-valid (sparse-shape c)) (all extra-ends cs) (all inner-valid (map sparse-shape cs))
 
 -- the tests entry by entry are those of the nodes
 pub entries-shapes : (root : Bool) (e : Entry) (es : List Entry) (bs : Bits)
-    → entries-right root true e es bs ≡ all extra-ends (split-behind e es bs) && nodes-from root (map sparse-shape (split-behind e es bs))
-unfolding nodes-right nodes-from all
+    → entries-valid root true e es bs ≡ all extra-ends (split-behind e es bs) && nodes-from root (map sparse-shape (split-behind e es bs))
+unfolding nodes-valid nodes-from all
 entries-shapes root e es bs = entries-nodes root true e es bs ∙ go root (split-behind e es bs)
   where
-    go : (root : Bool) (cs : List Sparse) → nodes-right root true cs ≡ all extra-ends cs && nodes-from root (map sparse-shape cs)
+    go : (root : Bool) (cs : List Sparse) → nodes-valid root true cs ≡ all extra-ends cs && nodes-from root (map sparse-shape cs)
     go root [] = refl
-    go true (c ∷ cs) = ap₂ _&&_ (node-shape true c) (all-shapes cs) ∙ swap-middle (extra-ends c) (root-right (sparse-shape c)) (all extra-ends cs) (all inner-right (map sparse-shape cs))
-    go false (c ∷ cs) = ap₂ _&&_ (node-shape false c) (all-shapes cs) ∙ swap-middle (extra-ends c) (inner-right (sparse-shape c)) (all extra-ends cs) (all inner-right (map sparse-shape cs))
+    go true (c ∷ cs) = ap₂ _&&_ (node-shape true c) (all-shapes cs) ∙ swap-middle (extra-ends c) (root-valid (sparse-shape c)) (all extra-ends cs) (all inner-valid (map sparse-shape cs))
+    go false (c ∷ cs) = ap₂ _&&_ (node-shape false c) (all-shapes cs) ∙ swap-middle (extra-ends c) (inner-valid (sparse-shape c)) (all extra-ends cs) (all inner-valid (map sparse-shape cs))
 
 -- ---- counts
 

@@ -8,42 +8,42 @@ use mathlib.Core.Option.{Option, none, some}
 use lib.ListN.{length, take, drop}
 use Rattle.spec.specs.Bytes.{Bytes, blocks, unpack}
 use Rattle.spec.specs.Frame.{marks, has-header, read-bodies, Parts, parts}
-use Rattle.spec.specs.Check.{header-right, judge-bodies, verdict}
+use Rattle.spec.specs.Check.{header-valid, judge-bodies, verdict}
 use Rattle.bits_laws.specs.Bits.{part, rank}
 use Rattle.image_types.specs.declared.Frame.{Frame}
 
 -- the bodies at a frame's offsets, of the lengths that its counts give
 abbrev pub frame-bodies : Bytes → Frame → List Bytes
 frame-bodies s f =
-    part s (f .dl) (32 * f .dense)
-    ∷ part s (f .dc) (32 * f .dense)
-    ∷ part s (f .dp) (blocks 8 (f .dense))
-    ∷ part s (f .sl) (f .entries)
-    ∷ part s (f .sc) (blocks 8 (f .entries))
-    ∷ part s (f .sb) (blocks 8 (f .entries))
+    part s (f .dl) (32 * f .dense .nodes)
+    ∷ part s (f .dc) (32 * f .dense .nodes)
+    ∷ part s (f .dp) (blocks 8 (f .dense .nodes))
+    ∷ part s (f .sl) (f .sparse .entries)
+    ∷ part s (f .sc) (blocks 8 (f .sparse .entries))
+    ∷ part s (f .sb) (blocks 8 (f .sparse .entries))
     ∷ part s (f .sv) (blocks 8 (f .leaves * f .width))
-    ∷ part s (f .rl) (4 * blocks 64 (256 * f .dense))
-    ∷ part s (f .rc) (4 * blocks 64 (256 * f .dense))
-    ∷ part s (f .rp) (4 * blocks 64 (f .dense))
-    ∷ part s (f .rs) (4 * blocks 512 (f .entries))
-    ∷ part s (f .ts) (4 * blocks 64 (f .sparse))
+    ∷ part s (f .rl) (4 * blocks 64 (256 * f .dense .nodes))
+    ∷ part s (f .rc) (4 * blocks 64 (256 * f .dense .nodes))
+    ∷ part s (f .rp) (4 * blocks 64 (f .dense .nodes))
+    ∷ part s (f .rs) (4 * blocks 512 (f .sparse .entries))
+    ∷ part s (f .ts) (4 * blocks 64 (f .sparse .nodes))
     ∷ []
 
 -- the settings, the counts and the bits and labels at a frame's offsets
 abbrev pub frame-parts : Bytes → Frame → Parts
 frame-parts s f = record {
-  dense = f .levels;
+  dense = f .dense .levels;
   width = f .width;
   leaves = f .leaves;
-  dense-count = f .dense;
-  entry-count = f .entries;
-  sparse-count = f .sparse;
-  dl = take (256 * f .dense) (unpack (part s (f .dl) (32 * f .dense)));
-  dc = take (256 * f .dense) (unpack (part s (f .dc) (32 * f .dense)));
-  dp = take (f .dense) (unpack (part s (f .dp) (blocks 8 (f .dense))));
-  sl = part s (f .sl) (f .entries);
-  sc = take (f .entries) (unpack (part s (f .sc) (blocks 8 (f .entries))));
-  sb = take (f .entries) (unpack (part s (f .sb) (blocks 8 (f .entries))));
+  dense-count = f .dense .nodes;
+  entry-count = f .sparse .entries;
+  sparse-count = f .sparse .nodes;
+  dl = take (256 * f .dense .nodes) (unpack (part s (f .dl) (32 * f .dense .nodes)));
+  dc = take (256 * f .dense .nodes) (unpack (part s (f .dc) (32 * f .dense .nodes)));
+  dp = take (f .dense .nodes) (unpack (part s (f .dp) (blocks 8 (f .dense .nodes))));
+  sl = part s (f .sl) (f .sparse .entries);
+  sc = take (f .sparse .entries) (unpack (part s (f .sc) (blocks 8 (f .sparse .entries))));
+  sb = take (f .sparse .entries) (unpack (part s (f .sb) (blocks 8 (f .sparse .entries))));
   sv = take (f .leaves * f .width) (unpack (part s (f .sv) (blocks 8 (f .leaves * f .width))));
 }
 
@@ -53,28 +53,28 @@ pub record FrameOf (s : Bytes) (f : Frame) : Type 0 where
   pub header : has-header s ≡ true
   pub bodies : read-bodies marks (drop 22 s) ≡ some (frame-bodies s f)
   pub parts-are : parts s (frame-bodies s f) ≡ frame-parts s f
-  pub right : header-right s (parts s (frame-bodies s f)) (frame-bodies s f) ≡ true
-  pub levels : f .levels ≤ 4
+  pub valid : header-valid s (parts s (frame-bodies s f)) (frame-bodies s f) ≡ true
+  pub levels : f .dense .levels ≤ 4
   pub width : f .width ≤ 16
   pub leaves : f .leaves ≤ 65535
-  pub dense : f .dense < 4294967296
-  pub entries : f .entries < 4294967296
-  pub sparse : f .sparse < 4294967296
+  pub dense : f .dense .nodes < 4294967296
+  pub entries : f .sparse .entries < 4294967296
+  pub sparse : f .sparse .nodes < 4294967296
   pub dl : f .dl ≡ 28
-  pub dc : f .dc ≡ f .dl + 32 * f .dense + 6
-  pub dp : f .dp ≡ f .dc + 32 * f .dense + 6
-  pub sl : f .sl ≡ f .dp + blocks 8 (f .dense) + 6
-  pub sc : f .sc ≡ f .sl + f .entries + 6
-  pub sb : f .sb ≡ f .sc + blocks 8 (f .entries) + 6
-  pub sv : f .sv ≡ f .sb + blocks 8 (f .entries) + 6
+  pub dc : f .dc ≡ f .dl + 32 * f .dense .nodes + 6
+  pub dp : f .dp ≡ f .dc + 32 * f .dense .nodes + 6
+  pub sl : f .sl ≡ f .dp + blocks 8 (f .dense .nodes) + 6
+  pub sc : f .sc ≡ f .sl + f .sparse .entries + 6
+  pub sb : f .sb ≡ f .sc + blocks 8 (f .sparse .entries) + 6
+  pub sv : f .sv ≡ f .sb + blocks 8 (f .sparse .entries) + 6
   pub rl : f .rl ≡ f .sv + blocks 8 (f .leaves * f .width) + 6
-  pub rc : f .rc ≡ f .rl + 4 * blocks 64 (256 * f .dense) + 6
-  pub rp : f .rp ≡ f .rc + 4 * blocks 64 (256 * f .dense) + 6
-  pub rs : f .rs ≡ f .rp + 4 * blocks 64 (f .dense) + 6
-  pub ts : f .ts ≡ f .rs + 4 * blocks 512 (f .entries) + 6
-  pub end : f .ts + 4 * blocks 64 (f .sparse) ≡ length s
-  pub children : f .children ≡ rank (drop (f .dc) s) (256 * f .dense)
-  pub items : f .items ≡ rank (drop (f .dl) s) (256 * f .dense) + rank (drop (f .dp) s) (f .dense)
+  pub rc : f .rc ≡ f .rl + 4 * blocks 64 (256 * f .dense .nodes) + 6
+  pub rp : f .rp ≡ f .rc + 4 * blocks 64 (256 * f .dense .nodes) + 6
+  pub rs : f .rs ≡ f .rp + 4 * blocks 64 (f .dense .nodes) + 6
+  pub ts : f .ts ≡ f .rs + 4 * blocks 512 (f .sparse .entries) + 6
+  pub end : f .ts + 4 * blocks 64 (f .sparse .nodes) ≡ length s
+  pub children : f .dense .children ≡ rank (drop (f .dc) s) (256 * f .dense .nodes)
+  pub items : f .dense .entries ≡ rank (drop (f .dl) s) (256 * f .dense .nodes) + rank (drop (f .dp) s) (f .dense .nodes)
 
 -- ---- the verdict by stages
 
@@ -102,6 +102,6 @@ bodies-judged s bs h e = go (has-header s) (read-bodies marks (drop 22 s)) h e
     go false o h e = absurd (true≢false (sym h))
 
 -- the header or a length wrong: 12
-pub header-wrong : (s : Bytes) (bs : List Bytes) → header-right s (parts s bs) bs ≡ false → judge-bodies s bs ≡ 12
+pub header-wrong : (s : Bytes) (bs : List Bytes) → header-valid s (parts s bs) bs ≡ false → judge-bodies s bs ≡ 12
 unfolding judge-bodies
 header-wrong s bs h = rw (h, judge-bodies)

@@ -17,14 +17,26 @@ pub struct Counts {
     pub sparse: usize,
 }
 
-// The settings, the counts, the offset of each record's body, and the totals of the dense nodes.
+// The dense nodes of an image: on how many levels they are, how many there are, and how many continuing branches and entries (branches and exact leaves) they have.
+pub struct Dense {
+    pub levels: usize,
+    pub nodes: usize,
+    pub children: usize,
+    pub entries: usize,
+}
+
+// The sparse nodes of an image, and their entries.
+pub struct Sparse {
+    pub nodes: usize,
+    pub entries: usize,
+}
+
+// The settings, the counts and the offset of each record's body.
 pub struct Frame {
-    pub levels: usize, // the dense levels
     pub width: usize, // a suffix slot's bits
     pub leaves: usize,
-    pub dense: usize, // the dense nodes
-    pub entries: usize, // the sparse entries
-    pub sparse: usize, // the sparse nodes
+    pub dense: Dense,
+    pub sparse: Sparse,
     pub dl: usize,
     pub dc: usize,
     pub dp: usize,
@@ -37,8 +49,6 @@ pub struct Frame {
     pub rp: usize,
     pub rs: usize,
     pub ts: usize,
-    pub children: usize, // the continuing branches of the dense nodes
-    pub items: usize, // their branches and exact leaves
 }
 
 // The cut key is the first len bytes of cut. The suffix bits are the low width bits of suffix, the first one lowest, as the suffix slots hold them.

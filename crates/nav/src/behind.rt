@@ -23,7 +23,7 @@ pub fn child_and_slot(image: &[u8], f: Frame, m: NodeNum, at: BitPos) -> Behind
     requires { ⌜ Accepted (now image) f × Within (now image) f (m .0) (at .0) ⌝ }
     ensures { λ r. ⌜ (r .child .0 ≡ child-at (now (image .entry)) f (m .0) (at .0)) × (r .slot .0 ≡ slot-at (now (image .entry)) f (m .0) (at .0)) ⌝ }
 {
-    if m.0 < f.dense {
+    if m.0 < f.dense.nodes {
         let labels = label_rank(image, f, at);
         let children = child_rank(image, f, at);
         let exacts = exact_rank(image, f, NodeNum(m.0 + 1));
@@ -34,7 +34,7 @@ pub fn child_and_slot(image: &[u8], f: Frame, m: NodeNum, at: BitPos) -> Behind
     }
     let children = entry_rank(image, f, at);
     Behind {
-        child: NodeNum(f.children + children + 1),
-        slot: ValuePos(f.items - f.children + (at.0 - children)),
+        child: NodeNum(f.dense.children + children + 1),
+        slot: ValuePos(f.dense.entries - f.dense.children + (at.0 - children)),
     }
 }

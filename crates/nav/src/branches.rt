@@ -26,10 +26,10 @@ pub fn child(image: &[u8], f: Frame, m: NodeNum, at: BitPos) -> NodeNum
     requires { ⌜ Accepted (now image) f × Within (now image) f (m .0) (at .0) ⌝ }
     ensures { λ r. ⌜ r .0 ≡ child-at (now (image .entry)) f (m .0) (at .0) ⌝ }
 {
-    if m.0 < f.dense {
+    if m.0 < f.dense.nodes {
         return NodeNum(child_rank(image, f, at) + 1);
     }
-    NodeNum(f.children + entry_rank(image, f, at) + 1)
+    NodeNum(f.dense.children + entry_rank(image, f, at) + 1)
 }
 
 // The slot of the leaf behind a branch: an exact leaf stands before its node's branches.
@@ -37,12 +37,12 @@ pub fn slot(image: &[u8], f: Frame, m: NodeNum, at: BitPos) -> ValuePos
     requires { ⌜ Accepted (now image) f × Within (now image) f (m .0) (at .0) ⌝ }
     ensures { λ r. ⌜ r .0 ≡ slot-at (now (image .entry)) f (m .0) (at .0) ⌝ }
 {
-    if m.0 < f.dense {
+    if m.0 < f.dense.nodes {
         let labels = label_rank(image, f, at);
         let children = child_rank(image, f, at);
         return ValuePos(labels - children + exact_rank(image, f, NodeNum(m.0 + 1)));
     }
-    ValuePos(f.items - f.children + (at.0 - entry_rank(image, f, at)))
+    ValuePos(f.dense.entries - f.dense.children + (at.0 - entry_rank(image, f, at)))
 }
 
 // The first of the labels from `from` to `to`, which ascend, that is not below y, or the end.
@@ -71,7 +71,7 @@ pub struct Found {
 
 // The branch of a dense node with the label y.
 fn find_dense(image: &[u8], f: Frame, m: NodeNum, y: usize) -> Found
-    requires { ⌜ Accepted (now image) f × (m .0 < f .dense) × (y < 256) ⌝ }
+    requires { ⌜ Accepted (now image) f × (m .0 < f .dense .nodes) × (y < 256) ⌝ }
     ensures { λ r. ⌜ Branch-at (now (image .entry)) f (m .0) (place (now (image .entry)) f (m .0) y) (r .at .0)
         × (r .kind ≡ bit (matches y (drop (place (now (image .entry)) f (m .0) y) (branches (now (image .entry)) f (m .0)))) + bit (goes-on y (drop (place (now (image .entry)) f (m .0) y) (branches (now (image .entry)) f (m .0))))) ⌝ }
 {
@@ -88,7 +88,7 @@ fn find_dense(image: &[u8], f: Frame, m: NodeNum, y: usize) -> Found
 
 // The branch of a sparse node with the label y.
 fn find_sparse(image: &[u8], f: Frame, m: NodeNum, y: usize) -> Found
-    requires { ⌜ Accepted (now image) f × (f .dense ≤ m .0) × (m .0 < f .dense + f .sparse) ⌝ }
+    requires { ⌜ Accepted (now image) f × (f .dense .nodes ≤ m .0) × (m .0 < f .dense .nodes + f .sparse .nodes) ⌝ }
     ensures { λ r. ⌜ Branch-at (now (image .entry)) f (m .0) (place (now (image .entry)) f (m .0) y) (r .at .0)
         × (r .kind ≡ bit (matches y (drop (place (now (image .entry)) f (m .0) y) (branches (now (image .entry)) f (m .0)))) + bit (goes-on y (drop (place (now (image .entry)) f (m .0) y) (branches (now (image .entry)) f (m .0))))) ⌝ }
 {
@@ -118,11 +118,11 @@ fn find_sparse(image: &[u8], f: Frame, m: NodeNum, y: usize) -> Found
 
 // The branch of a node with the label y.
 pub fn find(image: &[u8], f: Frame, m: NodeNum, y: usize) -> Found
-    requires { ⌜ Accepted (now image) f × (m .0 < f .dense + f .sparse) × (y < 256) ⌝ }
+    requires { ⌜ Accepted (now image) f × (m .0 < f .dense .nodes + f .sparse .nodes) × (y < 256) ⌝ }
     ensures { λ r. ⌜ Branch-at (now (image .entry)) f (m .0) (place (now (image .entry)) f (m .0) y) (r .at .0)
         × (r .kind ≡ bit (matches y (drop (place (now (image .entry)) f (m .0) y) (branches (now (image .entry)) f (m .0)))) + bit (goes-on y (drop (place (now (image .entry)) f (m .0) y) (branches (now (image .entry)) f (m .0))))) ⌝ }
 {
-    if m.0 < f.dense {
+    if m.0 < f.dense.nodes {
         return find_dense(image, f, m, y);
     }
     find_sparse(image, f, m, y)
@@ -137,7 +137,7 @@ pub struct NextBranch {
 
 // The first branch of a dense node whose label is not below y: the next one of its label map.
 fn next_dense(image: &[u8], f: Frame, m: NodeNum, y: usize) -> NextBranch
-    requires { ⌜ Accepted (now image) f × (m .0 < f .dense) × (y ≤ 256) ⌝ }
+    requires { ⌜ Accepted (now image) f × (m .0 < f .dense .nodes) × (y ≤ 256) ⌝ }
     ensures { λ r. ⌜ Next-branch (now (image .entry)) f (m .0) y (r .kind) (r .label) (r .at .0) ⌝ }
 {
     let first = 256 * m.0;
@@ -163,7 +163,7 @@ fn next_dense(image: &[u8], f: Frame, m: NodeNum, y: usize) -> NextBranch
 
 // The first branch of a sparse node whose label is not below y.
 fn next_sparse(image: &[u8], f: Frame, m: NodeNum, y: usize) -> NextBranch
-    requires { ⌜ Accepted (now image) f × (f .dense ≤ m .0) × (m .0 < f .dense + f .sparse) ⌝ }
+    requires { ⌜ Accepted (now image) f × (f .dense .nodes ≤ m .0) × (m .0 < f .dense .nodes + f .sparse .nodes) ⌝ }
     ensures { λ r. ⌜ Next-branch (now (image .entry)) f (m .0) y (r .kind) (r .label) (r .at .0) ⌝ }
 {
     let e = entries_of(image, f, m);
@@ -189,10 +189,10 @@ fn next_sparse(image: &[u8], f: Frame, m: NodeNum, y: usize) -> NextBranch
 
 // The first branch of a node whose label is not below y.
 pub fn next_branch(image: &[u8], f: Frame, m: NodeNum, y: usize) -> NextBranch
-    requires { ⌜ Accepted (now image) f × (m .0 < f .dense + f .sparse) × (y ≤ 256) ⌝ }
+    requires { ⌜ Accepted (now image) f × (m .0 < f .dense .nodes + f .sparse .nodes) × (y ≤ 256) ⌝ }
     ensures { λ r. ⌜ Next-branch (now (image .entry)) f (m .0) y (r .kind) (r .label) (r .at .0) ⌝ }
 {
-    if m.0 < f.dense {
+    if m.0 < f.dense.nodes {
         return next_dense(image, f, m, y);
     }
     next_sparse(image, f, m, y)

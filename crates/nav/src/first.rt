@@ -25,7 +25,7 @@ pub struct First {
 
 // The first branch of a sparse node.
 fn first_sparse(image: &[u8], f: Frame, m: NodeNum) -> First
-    requires { ⌜ Accepted (now image) f × (f .dense ≤ m .0) × (m .0 < f .dense + f .sparse) ⌝ }
+    requires { ⌜ Accepted (now image) f × (f .dense .nodes ≤ m .0) × (m .0 < f .dense .nodes + f .sparse .nodes) ⌝ }
     ensures { λ r. ⌜ (r .exact ≡ bit (is-exact (node-at (nodes (now (image .entry)) f) (m .0)))) × Next-branch (now (image .entry)) f (m .0) 0 (r .kind) (r .label) (r .at .0) ⌝ }
 {
     let e = entries_of(image, f, m);
@@ -53,10 +53,10 @@ fn first_sparse(image: &[u8], f: Frame, m: NodeNum) -> First
 
 // The first branch of a node.
 pub fn first_branch(image: &[u8], f: Frame, m: NodeNum) -> First
-    requires { ⌜ Accepted (now image) f × (m .0 < f .dense + f .sparse) ⌝ }
+    requires { ⌜ Accepted (now image) f × (m .0 < f .dense .nodes + f .sparse .nodes) ⌝ }
     ensures { λ r. ⌜ (r .exact ≡ bit (is-exact (node-at (nodes (now (image .entry)) f) (m .0)))) × Next-branch (now (image .entry)) f (m .0) 0 (r .kind) (r .label) (r .at .0) ⌝ }
 {
-    if m.0 < f.dense {
+    if m.0 < f.dense.nodes {
         let n = next_branch(image, f, m, 0);
         let at = n.at;
         return First {

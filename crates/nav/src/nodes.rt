@@ -28,7 +28,7 @@ pub struct Passed {
 
 // What stands before a dense node, or before the first sparse one.
 fn dense_before(image: &[u8], f: Frame, m: NodeNum) -> Passed
-    requires { ⌜ Accepted (now image) f × (m .0 ≤ f .dense) ⌝ }
+    requires { ⌜ Accepted (now image) f × (m .0 ≤ f .dense .nodes) ⌝ }
     ensures { λ r. ⌜ (r .children ≡ children-before (nodes (now (image .entry)) f) (m .0)) × (r .leaves ≡ leaves-before (nodes (now (image .entry)) f) (m .0)) ⌝ }
 {
     let at = BitPos(256 * m.0);
@@ -43,23 +43,23 @@ fn dense_before(image: &[u8], f: Frame, m: NodeNum) -> Passed
 
 // What stands before a sparse node, or behind the last one: the totals of the dense nodes, and the entries before its start.
 fn sparse_before(image: &[u8], f: Frame, m: NodeNum) -> Passed
-    requires { ⌜ Accepted (now image) f × (f .dense ≤ m .0) × (m .0 ≤ f .dense + f .sparse) ⌝ }
+    requires { ⌜ Accepted (now image) f × (f .dense .nodes ≤ m .0) × (m .0 ≤ f .dense .nodes + f .sparse .nodes) ⌝ }
     ensures { λ r. ⌜ (r .children ≡ children-before (nodes (now (image .entry)) f) (m .0)) × (r .leaves ≡ leaves-before (nodes (now (image .entry)) f) (m .0)) ⌝ }
 {
     let start = node_start(image, f, m);
     let children = entry_rank(image, f, start);
     Passed {
-        children: f.children + children,
-        leaves: f.items - f.children + (start.0 - children),
+        children: f.dense.children + children,
+        leaves: f.dense.entries - f.dense.children + (start.0 - children),
     }
 }
 
 // What stands before a node, or behind the last one.
 pub fn before(image: &[u8], f: Frame, m: NodeNum) -> Passed
-    requires { ⌜ Accepted (now image) f × (m .0 ≤ f .dense + f .sparse) ⌝ }
+    requires { ⌜ Accepted (now image) f × (m .0 ≤ f .dense .nodes + f .sparse .nodes) ⌝ }
     ensures { λ r. ⌜ (r .children ≡ children-before (nodes (now (image .entry)) f) (m .0)) × (r .leaves ≡ leaves-before (nodes (now (image .entry)) f) (m .0)) ⌝ }
 {
-    if m.0 <= f.dense {
+    if m.0 <= f.dense.nodes {
         return dense_before(image, f, m);
     }
     sparse_before(image, f, m)
@@ -74,10 +74,10 @@ pub struct Entries {
 
 // The entries of a sparse node. A first FF that is not alone marks an exact leaf; a sole FF is a label.
 pub fn entries_of(image: &[u8], f: Frame, m: NodeNum) -> Entries
-    requires { ⌜ Accepted (now image) f × (f .dense ≤ m .0) × (m .0 < f .dense + f .sparse) ⌝ }
+    requires { ⌜ Accepted (now image) f × (f .dense .nodes ≤ m .0) × (m .0 < f .dense .nodes + f .sparse .nodes) ⌝ }
     ensures { λ r. ⌜ (r .exact ≡ bit (is-exact (node-at (nodes (now (image .entry)) f) (m .0))))
-        × (r .first ≡ select (drop (f .sb) (now (image .entry))) (f .entries) (m .0 - f .dense) + bit (is-exact (node-at (nodes (now (image .entry)) f) (m .0))))
-        × (r .end ≡ r .first + length (branches (now (image .entry)) f (m .0))) × (r .end ≤ f .entries) ⌝ }
+        × (r .first ≡ select (drop (f .sb) (now (image .entry))) (f .sparse .entries) (m .0 - f .dense .nodes) + bit (is-exact (node-at (nodes (now (image .entry)) f) (m .0))))
+        × (r .end ≡ r .first + length (branches (now (image .entry)) f (m .0))) × (r .end ≤ f .sparse .entries) ⌝ }
 {
     let start = node_start(image, f, m);
     let end = next_start(image, f, start);
@@ -107,10 +107,10 @@ pub fn entries_of(image: &[u8], f: Frame, m: NodeNum) -> Entries
 
 // 1 if a node is an exact leaf, else 0.
 pub fn exact(image: &[u8], f: Frame, m: NodeNum) -> usize
-    requires { ⌜ Accepted (now image) f × (m .0 < f .dense + f .sparse) ⌝ }
+    requires { ⌜ Accepted (now image) f × (m .0 < f .dense .nodes + f .sparse .nodes) ⌝ }
     ensures { λ r. ⌜ r ≡ bit (is-exact (node-at (nodes (now (image .entry)) f) (m .0))) ⌝ }
 {
-    if m.0 < f.dense {
+    if m.0 < f.dense.nodes {
         let dp = f.dp;
         return bit_at(&image[dp..], m.0);
     }

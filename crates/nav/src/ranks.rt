@@ -41,42 +41,42 @@ fn rank_512(bits: &[u8], table: &[u8], n: usize, k: usize) -> usize
 
 // The labels before a bit of DL.
 pub fn label_rank(image: &[u8], f: Frame, at: BitPos) -> usize
-    requires { ⌜ Accepted (now image) f × (at .0 ≤ 256 * f .dense) ⌝ }
+    requires { ⌜ Accepted (now image) f × (at .0 ≤ 256 * f .dense .nodes) ⌝ }
     ensures { λ r. ⌜ r ≡ rank (drop (f .dl) (now (image .entry))) (at .0) ⌝ }
 {
     let dl = f.dl;
     let rl = f.rl;
-    rank_64(&image[dl..], &image[rl..], 256 * f.dense, at.0)
+    rank_64(&image[dl..], &image[rl..], 256 * f.dense.nodes, at.0)
 }
 
 // The continuing branches before a bit of DC.
 pub fn child_rank(image: &[u8], f: Frame, at: BitPos) -> usize
-    requires { ⌜ Accepted (now image) f × (at .0 ≤ 256 * f .dense) ⌝ }
+    requires { ⌜ Accepted (now image) f × (at .0 ≤ 256 * f .dense .nodes) ⌝ }
     ensures { λ r. ⌜ r ≡ rank (drop (f .dc) (now (image .entry))) (at .0) ⌝ }
 {
     let dc = f.dc;
     let rc = f.rc;
-    rank_64(&image[dc..], &image[rc..], 256 * f.dense, at.0)
+    rank_64(&image[dc..], &image[rc..], 256 * f.dense.nodes, at.0)
 }
 
 // The exact leaves among the dense nodes before node m.
 pub fn exact_rank(image: &[u8], f: Frame, m: NodeNum) -> usize
-    requires { ⌜ Accepted (now image) f × (m .0 ≤ f .dense) ⌝ }
+    requires { ⌜ Accepted (now image) f × (m .0 ≤ f .dense .nodes) ⌝ }
     ensures { λ r. ⌜ r ≡ rank (drop (f .dp) (now (image .entry))) (m .0) ⌝ }
 {
     let dp = f.dp;
     let rp = f.rp;
-    rank_64(&image[dp..], &image[rp..], f.dense, m.0)
+    rank_64(&image[dp..], &image[rp..], f.dense.nodes, m.0)
 }
 
 // The continuing entries before an entry of SC.
 pub fn entry_rank(image: &[u8], f: Frame, at: BitPos) -> usize
-    requires { ⌜ Accepted (now image) f × (at .0 ≤ f .entries) ⌝ }
+    requires { ⌜ Accepted (now image) f × (at .0 ≤ f .sparse .entries) ⌝ }
     ensures { λ r. ⌜ r ≡ rank (drop (f .sc) (now (image .entry))) (at .0) ⌝ }
 {
     let sc = f.sc;
     let rs = f.rs;
-    rank_512(&image[sc..], &image[rs..], f.entries, at.0)
+    rank_512(&image[sc..], &image[rs..], f.sparse.entries, at.0)
 }
 
 // The position of one number m, from 0, of the first n bits, by every 64th one's position, or n where there is no such one.
@@ -94,25 +94,25 @@ fn select_64(bits: &[u8], samples: &[u8], n: usize, total: usize, m: usize) -> u
 
 // Where sparse node m starts, or the end of the entries where there is no such one.
 pub fn node_start(image: &[u8], f: Frame, m: NodeNum) -> BitPos
-    requires { ⌜ Accepted (now image) f × (f .dense ≤ m .0) ⌝ }
-    ensures { λ r. ⌜ (r .0 ≡ select (drop (f .sb) (now (image .entry))) (f .entries) (m .0 - f .dense)) × (r .0 ≤ f .entries) ⌝ }
+    requires { ⌜ Accepted (now image) f × (f .dense .nodes ≤ m .0) ⌝ }
+    ensures { λ r. ⌜ (r .0 ≡ select (drop (f .sb) (now (image .entry))) (f .sparse .entries) (m .0 - f .dense .nodes)) × (r .0 ≤ f .sparse .entries) ⌝ }
 {
     let sb = f.sb;
     let ts = f.ts;
     BitPos(select_64(
         &image[sb..],
         &image[ts..],
-        f.entries,
-        f.sparse,
-        m.0 - f.dense,
+        f.sparse.entries,
+        f.sparse.nodes,
+        m.0 - f.dense.nodes,
     ))
 }
 
 // The first start of a sparse node behind an entry, or the end of the entries where there is no such one.
 pub fn next_start(image: &[u8], f: Frame, at: BitPos) -> BitPos
-    requires { ⌜ Accepted (now image) f × (at .0 < f .entries) ⌝ }
-    ensures { λ r. ⌜ (r .0 ≡ select (drop (f .sb) (now (image .entry))) (f .entries) (rank (drop (f .sb) (now (image .entry))) (at .0 + 1))) × (r .0 ≤ f .entries) ⌝ }
+    requires { ⌜ Accepted (now image) f × (at .0 < f .sparse .entries) ⌝ }
+    ensures { λ r. ⌜ (r .0 ≡ select (drop (f .sb) (now (image .entry))) (f .sparse .entries) (rank (drop (f .sb) (now (image .entry))) (at .0 + 1))) × (r .0 ≤ f .sparse .entries) ⌝ }
 {
     let sb = f.sb;
-    BitPos(next_one(&image[sb..], f.entries, at.0 + 1))
+    BitPos(next_one(&image[sb..], f.sparse.entries, at.0 + 1))
 }

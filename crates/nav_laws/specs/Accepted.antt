@@ -17,11 +17,11 @@ use Rattle.theory.specs.LevelTrie.{trie}
 
 -- the dense nodes of an image, by its frame's count
 abbrev pub dense-nodes : Bytes → Frame → List Node
-dense-nodes s f = take (f .dense) (read-nodes s)
+dense-nodes s f = take (f .dense .nodes) (read-nodes s)
 
 -- its sparse nodes
 abbrev pub sparse-nodes : Bytes → Frame → List Node
-sparse-nodes s f = drop (f .dense) (read-nodes s)
+sparse-nodes s f = drop (f .dense .nodes) (read-nodes s)
 
 -- all its nodes in level order
 abbrev pub nodes : Bytes → Frame → List Node
@@ -35,10 +35,10 @@ Body b s at = (at ≤ length s) × Starts b (drop at s)
 -- nodes are continuing branches plus one, and they are the trie of the leaf list ls.
 pub record Holds (s : Bytes) (f : Frame) (ds ss : List Node) (ls : List Leaf) : Type 0 where
   pub writable : Writable (f .width) (f .leaves) ds ss
-  pub dense-size : length ds ≡ f .dense
-  pub entry-size : length (concat (map sparse-labels ss)) ≡ f .entries
-  pub sparse-size : length ss ≡ f .sparse
-  pub node-total : 0 < f .dense + f .sparse → f .dense + f .sparse ≡ 1 + total children-of (ds ++ ss)
+  pub dense-size : length ds ≡ f .dense .nodes
+  pub entry-size : length (concat (map sparse-labels ss)) ≡ f .sparse .entries
+  pub sparse-size : length ss ≡ f .sparse .nodes
+  pub node-total : 0 < f .dense .nodes + f .sparse .nodes → f .dense .nodes + f .sparse .nodes ≡ 1 + total children-of (ds ++ ss)
   pub realizable : Realizable (f .width) ls
   pub well-sized : All-well-sized (f .width) ls
   pub trie-is : ds ++ ss ≡ concat (trie ls)
@@ -54,8 +54,8 @@ pub record Holds (s : Bytes) (f : Frame) (ds ss : List Node) (ls : List Leaf) : 
   pub RP : Body (ranks 64 (map is-exact ds)) s (f .rp)
   pub RS : Body (ranks 512 (concat (map sparse-has-child ss))) s (f .rs)
   pub TS : Body (samples (concat (map louds ss))) s (f .ts)
-  pub children : f .children ≡ rank (drop (f .dc) s) (256 * f .dense)
-  pub items : f .items ≡ rank (drop (f .dl) s) (256 * f .dense) + rank (drop (f .dp) s) (f .dense)
+  pub children : f .dense .children ≡ rank (drop (f .dc) s) (256 * f .dense .nodes)
+  pub items : f .dense .entries ≡ rank (drop (f .dl) s) (256 * f .dense .nodes) + rank (drop (f .dp) s) (f .dense .nodes)
 
 -- The image with this frame is accepted: it holds the nodes and the leaf list that are read from it.
 abbrev pub Accepted : Bytes → Frame → Type 0

@@ -18,7 +18,7 @@ use Rattle.nav_laws.specs.Slots.{node-at, leaves-before, slot-number}
 use Rattle.nav_laws.specs.Descent.{children-before, child-number, goes-on}
 use Rattle.nav_laws.specs.Stored.{Starts, bits-at, bits-rank}
 use Rattle.nav_laws.specs.LabelMaps.{Narrow, narrow, matches, labels-counted, children-counted, label-bit, child-bit}
-use Rattle.theory.specs.Words.{All}
+use Rattle.theory.specs.Terms.{All}
 use Rattle.theory.specs.LinkedLevels.{Labelled}
 use Rattle.theory.specs.NodeBits.{Byte-labels, dense-labels, dense-has-child}
 use Rattle.theory.specs.Bits.{Ascends-from}

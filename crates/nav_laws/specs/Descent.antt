@@ -13,7 +13,7 @@ use Rattle.spec.specs.Nodes.{Group, Branch, to-node, to-leaf, Node, node, slot,
 use Rattle.spec.specs.Trie.{open-leaves, leaf-count}
 use Rattle.nav_laws.specs.Counting.{labels-below, counts, count-append, counts-at, branches-none, branches-counted, exact-none, exact-counted}
 use Rattle.nav_laws.specs.Slots.{node-at, leaves-before, slot-number, slot-of, slot-is}
-use Rattle.theory.specs.Words.{All}
+use Rattle.theory.specs.Terms.{All}
 use Rattle.theory.specs.LinkedLevels.{first-width, Linked, Labelled, Ascends, levels-back}
 use Rattle.theory.specs.Levels.{leaf-count-append, leaves-in}
 use Rattle.theory.specs.Numbering.{leaves-before as before, leaves-before-groups}

@@ -18,7 +18,7 @@ use Rattle.image_types.specs.FrameOf.{FrameOf, frame-bodies, frame-parts}
 use Rattle.nav_laws.specs.NumberBounds.{node-total}
 use Rattle.nav_laws.specs.Accepted.{Body, Holds, Accepted, dense-nodes, sparse-nodes}
 use Rattle.theory.specs.LeafLists.{Realizable, All-well-sized}
-use Rattle.theory.specs.Words.{Is-bytes}
+use Rattle.theory.specs.Terms.{Is-bytes}
 use Rattle.theory.specs.ReadBack.{read-back}
 use Rattle.theory.specs.ImageParts.{Writable, node-image-bodies, parts-of-nodes, parts-back, nodes-back, image-holds}
 use Rattle.theory.specs.NodeBits.{node-image, layout, bodies, bodies-of, dense-labels, dense-has-child, sparse-labels, sparse-has-child, louds, slots, bodies-bits}
@@ -59,13 +59,13 @@ module _ (s : Bytes) (f : Frame) (fr : FrameOf s f) (st : Settings) (ls : List L
   leaves-same : f .leaves ≡ length ls
   leaves-same = ap (λ (p : Parts). p .leaves) parts-same
 
-  dense-same : f .dense ≡ length ds
+  dense-same : f .dense .nodes ≡ length ds
   dense-same = ap (λ (p : Parts). p .dense-count) parts-same
 
-  entries-same : f .entries ≡ length (concat (map sparse-labels ss))
+  entries-same : f .sparse .entries ≡ length (concat (map sparse-labels ss))
   entries-same = ap (λ (p : Parts). p .entry-count) parts-same
 
-  sparse-same : f .sparse ≡ length ss
+  sparse-same : f .sparse .nodes ≡ length ss
   sparse-same = ap (λ (p : Parts). p .sparse-count) parts-same
 
   nodes-same : read-nodes s ≡ ds ++ ss
@@ -100,18 +100,18 @@ module _ (s : Bytes) (f : Frame) (fr : FrameOf s f) (st : Settings) (ls : List L
     realizable = rw width-same good;
     well-sized = rw width-same ok;
     trie-is = whole;
-    DL = body-at s _ (f .dl) (32 * f .dense) (starts .0) (body 0);
-    DC = body-at s _ (f .dc) (32 * f .dense) (starts .1) (body 1);
-    DP = body-at s _ (f .dp) (blocks 8 (f .dense)) (starts .2) (body 2);
-    SL = body-at s _ (f .sl) (f .entries) (starts .3) (body 3);
-    SC = body-at s _ (f .sc) (blocks 8 (f .entries)) (starts .4) (body 4);
-    SB = body-at s _ (f .sb) (blocks 8 (f .entries)) (starts .5) (body 5);
+    DL = body-at s _ (f .dl) (32 * f .dense .nodes) (starts .0) (body 0);
+    DC = body-at s _ (f .dc) (32 * f .dense .nodes) (starts .1) (body 1);
+    DP = body-at s _ (f .dp) (blocks 8 (f .dense .nodes)) (starts .2) (body 2);
+    SL = body-at s _ (f .sl) (f .sparse .entries) (starts .3) (body 3);
+    SC = body-at s _ (f .sc) (blocks 8 (f .sparse .entries)) (starts .4) (body 4);
+    SB = body-at s _ (f .sb) (blocks 8 (f .sparse .entries)) (starts .5) (body 5);
     SV = body-at s _ (f .sv) (blocks 8 (f .leaves * f .width)) (starts .6) (body 6);
-    RL = body-at s _ (f .rl) (4 * blocks 64 (256 * f .dense)) (starts .7) (body 7);
-    RC = body-at s _ (f .rc) (4 * blocks 64 (256 * f .dense)) (starts .8) (body 8);
-    RP = body-at s _ (f .rp) (4 * blocks 64 (f .dense)) (starts .9) (body 9);
-    RS = body-at s _ (f .rs) (4 * blocks 512 (f .entries)) (starts .10) (body 10);
-    TS = body-at s _ (f .ts) (4 * blocks 64 (f .sparse)) (starts .11) (body 11);
+    RL = body-at s _ (f .rl) (4 * blocks 64 (256 * f .dense .nodes)) (starts .7) (body 7);
+    RC = body-at s _ (f .rc) (4 * blocks 64 (256 * f .dense .nodes)) (starts .8) (body 8);
+    RP = body-at s _ (f .rp) (4 * blocks 64 (f .dense .nodes)) (starts .9) (body 9);
+    RS = body-at s _ (f .rs) (4 * blocks 512 (f .sparse .entries)) (starts .10) (body 10);
+    TS = body-at s _ (f .ts) (4 * blocks 64 (f .sparse .nodes)) (starts .11) (body 11);
     children = fr .children;
     items = fr .items;
   }

@@ -13,7 +13,7 @@ use Rattle.spec.specs.Image.{has}
 use Rattle.spec.specs.Nodes.{Branch, to-node, to-leaf, node, label-of, has-child, children}
 use Rattle.nav_laws.specs.Counting.{labels-below}
 use Rattle.nav_laws.specs.Descent.{goes-on, ends-at}
-use Rattle.theory.specs.Words.{Is-bytes}
+use Rattle.theory.specs.Terms.{Is-bytes}
 use Rattle.theory.specs.Bits.{Ascends-from, has-here, has-skip, has-none}
 use Rattle.theory.specs.LinkedLevels.{Ascends, Labelled}
 use Rattle.theory.specs.NodeBits.{Byte-labels, dense-labels, dense-has-child}

@@ -26,7 +26,7 @@ pub record Next-branch (s : Bytes) (f : Frame) (m y kind label p : ℕ) : Type 0
   pub there : (kind ≡ 0 → ⊥) → (label ≡ first-label (drop (place s f m y) (branches s f m))) × (label < 256) × Branch-at s f m (place s f m y) p
 
 module _ (s : Bytes) (f : Frame) (a : Accepted s f) where
-  module _ (m y p : ℕ) (h : m < f .dense) (l : y ≤ 256) (is : p ≡ select (drop (f .dl) s) (256 * m + 256) (rank (drop (f .dl) s) (256 * m + y))) where
+  module _ (m y p : ℕ) (h : m < f .dense .nodes) (l : y ≤ 256) (is : p ≡ select (drop (f .dl) s) (256 * m + 256) (rank (drop (f .dl) s) (256 * m + y))) where
     inside : m < length (dense-nodes s f)
     inside = omega (arith, a .dense-size)
 
@@ -73,14 +73,14 @@ module _ (s : Bytes) (f : Frame) (a : Accepted s f) where
             }
         go false t = absurd (omega (arith, none-there (ltb-false (place s f m y) (length (branches s f m)) t)))
 
-  module _ (m y p first : ℕ) (h : f .dense ≤ m) (l : m < f .dense + f .sparse) (starts : first ≡ select (drop (f .sb) s) (f .entries) (m - f .dense) + bit (is-exact (node-at (nodes s f) m)))
+  module _ (m y p first : ℕ) (h : f .dense .nodes ≤ m) (l : m < f .dense .nodes + f .sparse .nodes) (starts : first ≡ select (drop (f .sb) s) (f .sparse .entries) (m - f .dense .nodes) + bit (is-exact (node-at (nodes s f) m)))
       (stands : p ≡ first + place s f m y) where
     -- no entry is left of the node's
     pub sparse-none : first + length (branches s f m) ≤ p → Next-branch s f m y 0 0 p
     sparse-none k = record { kind-is = kind-end (branches s f m) (place s f m y) (omega arith); there = λ n. absurd (n refl) }
 
     -- the next one is a branch
-    pub sparse-some : p < first + length (branches s f m) → p ≤ f .entries → (c x : ℕ) → c ≡ bit-at (drop (f .sc) s) p → x ≡ getD s (f .sl + p) 0 → x < 256 → Next-branch s f m y (1 + c) x p
+    pub sparse-some : p < first + length (branches s f m) → p ≤ f .sparse .entries → (c x : ℕ) → c ≡ bit-at (drop (f .sc) s) p → x ≡ getD s (f .sl + p) 0 → x < 256 → Next-branch s f m y (1 + c) x p
     sparse-some k r c x e v u =
         let q : place s f m y < length (branches s f m) = omega arith in
         let b = child-sparse s f a m h l first starts (place s f m y) q in

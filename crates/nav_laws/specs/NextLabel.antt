@@ -16,7 +16,7 @@ use Rattle.nav_laws.specs.Descent.{goes-on, fit-rising}
 use Rattle.nav_laws.specs.Stored.{Starts}
 use Rattle.nav_laws.specs.DensePositions.{label-rank}
 use Rattle.nav_laws.specs.SparsePositions.{label-low, label-high, fit-node, small-node}
-use Rattle.theory.specs.Words.{All, Is-bytes}
+use Rattle.theory.specs.Terms.{All, Is-bytes}
 use Rattle.theory.specs.LinkedLevels.{Ascends, Labelled}
 use Rattle.theory.specs.NodeBits.{dense-labels, dense-has-child, Byte-labels}
 

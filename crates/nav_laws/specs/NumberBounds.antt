@@ -15,11 +15,11 @@ use Rattle.nav_laws.specs.Counting.{labels-below, counts}
 use Rattle.nav_laws.specs.Slots.{node-at, leaves-before, slot-number, slot-of}
 use Rattle.nav_laws.specs.Descent.{children-before, child-number, goes-on, ends-at, Stop, miss, at-exact, at-open, descend, leaves-below, between-same, value, level-counted, kids-append, kids-take}
 use Rattle.theory.specs.LeafLists.{Realizable, All-well-sized}
-use Rattle.theory.specs.Words.{All, Bound}
+use Rattle.theory.specs.Terms.{All, Bound}
 use Rattle.theory.specs.LevelTrie.{trie}
 use Rattle.theory.specs.NodeBits.{Slots-width}
 use Rattle.theory.specs.Levels.{leaves-in, leaf-count-root}
-use Rattle.theory.specs.TrieTests.{realizable-trie, Empty-or-right, empty-list, right-trie}
+use Rattle.theory.specs.TrieTests.{realizable-trie, Empty-or-valid, empty-list, valid-trie}
 use Rattle.theory.specs.LinkedLevels.{first-width, levels-back, Linked}
 
 linked-size : (ls : List (List Node)) → Linked ls → length (concat ls) ≡ first-width ls + total children-of (concat ls)
@@ -32,9 +32,9 @@ pub node-total : (n : ℕ) (ls : List Leaf) (ns : List Node) → Realizable n ls
 unfolding trie concat
 node-total n ls ns g o e h = go (realizable-trie n ls g o) e
   where
-    go : {ls : List Leaf} → Empty-or-right ls → ns ≡ concat (trie ls) → length ns ≡ 1 + total children-of ns
+    go : {ls : List Leaf} → Empty-or-valid ls → ns ≡ concat (trie ls) → length ns ≡ 1 + total children-of ns
     go empty-list e = absurd (omega (arith, ap length e))
-    go (right-trie {ls = ls} t) e =
+    go (valid-trie {ls = ls} t) e =
         let z : first-width (trie ls) ≡ 1 = sym (levels-back (trie ls) (t .linked) .wide) ∙ ap length (t .root) in
         rw e (omega (arith, linked-size (trie ls) (t .linked)))
 
@@ -43,9 +43,9 @@ pub leaf-total : (n : ℕ) (ls : List Leaf) (ns : List Node) → Realizable n ls
 unfolding trie concat leaf-count
 leaf-total n ls ns g o e = go (realizable-trie n ls g o) e
   where
-    go : {ls : List Leaf} → Empty-or-right ls → ns ≡ concat (trie ls) → leaf-count ns ≡ length ls
+    go : {ls : List Leaf} → Empty-or-valid ls → ns ≡ concat (trie ls) → leaf-count ns ≡ length ls
     go empty-list e = rw e
-    go (right-trie {ls = ls} t) e = rw e (sym (leaf-count-root (trie ls) ls (t .linked) (t .root)))
+    go (valid-trie {ls = ls} t) e = rw e (sym (leaf-count-root (trie ls) ls (t .linked) (t .root)))
 
 module _ (ns : List Node) where
   kids-more : (lo d : ℕ) → total children-of (take lo ns) ≤ total children-of (take (lo + d) ns)

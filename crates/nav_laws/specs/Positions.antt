@@ -36,19 +36,19 @@ place s f m y = labels-below y (branches s f m)
 -- the node behind the branch at position p of node m
 unfoldable pub child-at : Bytes → Frame → ℕ → ℕ → ℕ
 unfolding rank total
-child-at s f m p = cond (ltb m (f .dense)) (1 + rank (drop (f .dc) s) p) (1 + (total children-of (dense-nodes s f) + rank (drop (f .sc) s) p))
+child-at s f m p = cond (ltb m (f .dense .nodes)) (1 + rank (drop (f .dc) s) p) (1 + (total children-of (dense-nodes s f) + rank (drop (f .sc) s) p))
 
 -- the slot of the leaf behind the branch at position p of node m
 unfoldable pub slot-at : Bytes → Frame → ℕ → ℕ → ℕ
 unfolding rank leaf-count
 slot-at s f m p =
-    cond (ltb m (f .dense)) ((rank (drop (f .dl) s) p - rank (drop (f .dc) s) p) + rank (drop (f .dp) s) (m + 1))
+    cond (ltb m (f .dense .nodes)) ((rank (drop (f .dl) s) p - rank (drop (f .dc) s) p) + rank (drop (f .dp) s) (m + 1))
     (leaf-count (dense-nodes s f) + (p - rank (drop (f .sc) s) p))
 
 -- the position is within the bits of the node's kind
 pub record Within (s : Bytes) (f : Frame) (m p : ℕ) : Type 0 where
-  pub dense : m < f .dense → (p ≤ 256 * f .dense) × (rank (drop (f .dc) s) p ≤ rank (drop (f .dl) s) p)
-  pub sparse : f .dense ≤ m → p ≤ f .entries
+  pub dense : m < f .dense .nodes → (p ≤ 256 * f .dense .nodes) × (rank (drop (f .dc) s) p ≤ rank (drop (f .dl) s) p)
+  pub sparse : f .dense .nodes ≤ m → p ≤ f .sparse .entries
 
 -- position p of node m is that of its branch i
 pub record Branch-at (s : Bytes) (f : Frame) (m i p : ℕ) : Type 0 where
@@ -64,20 +64,20 @@ module _ (s : Bytes) (f : Frame) (a : Accepted s f) where
   S = sparse-nodes s f
 
   -- all dense nodes come first
-  dense-first : take (f .dense) (nodes s f) ≡ dense-nodes s f
+  dense-first : take (f .dense .nodes) (nodes s f) ≡ dense-nodes s f
   dense-first = ap (λ (z : ℕ). take z (nodes s f)) (sym (a .dense-size)) ∙ take-append-seam (dense-nodes s f) (sparse-nodes s f)
 
   -- the continuing branches of the dense nodes, and their leaves
-  pub dense-kids : total children-of (dense-nodes s f) ≡ children-before (nodes s f) (f .dense)
+  pub dense-kids : total children-of (dense-nodes s f) ≡ children-before (nodes s f) (f .dense .nodes)
   unfolding children-before
   dense-kids = ap (total children-of) (sym dense-first)
 
-  pub dense-leaves : leaf-count (dense-nodes s f) ≡ leaves-before (nodes s f) (f .dense)
+  pub dense-leaves : leaf-count (dense-nodes s f) ≡ leaves-before (nodes s f) (f .dense .nodes)
   unfolding leaves-before
   dense-leaves = ap leaf-count (sym dense-first)
 
   -- what stands before a dense node
-  pub before-dense : (m : ℕ) → m ≤ f .dense
+  pub before-dense : (m : ℕ) → m ≤ f .dense .nodes
       → (children-before (nodes s f) m ≡ rank (drop (f .dc) s) (256 * m))
       × (leaves-before (nodes s f) m ≡ (rank (drop (f .dl) s) (256 * m) - rank (drop (f .dc) s) (256 * m)) + rank (drop (f .dp) s) m)
       × (rank (drop (f .dc) s) (256 * m) ≤ rank (drop (f .dl) s) (256 * m))
@@ -88,10 +88,10 @@ module _ (s : Bytes) (f : Frame) (a : Accepted s f) where
       (k, l .0, l .1)
 
   -- the frame's totals are what stands before the first sparse node
-  pub dense-totals : (f .children ≡ children-before (nodes s f) (f .dense)) × (f .items ≡ leaves-before (nodes s f) (f .dense) + f .children)
-  dense-totals = let d = before-dense (f .dense) (omega arith) in (omega (arith, a .children, d .0), omega (arith, a .items, a .children, d .1, d .2))
+  pub dense-totals : (f .dense .children ≡ children-before (nodes s f) (f .dense .nodes)) × (f .dense .entries ≡ leaves-before (nodes s f) (f .dense .nodes) + f .dense .children)
+  dense-totals = let d = before-dense (f .dense .nodes) (omega arith) in (omega (arith, a .children, d .0), omega (arith, a .items, a .children, d .1, d .2))
 
-  module _ (m y : ℕ) (h : m < f .dense) where
+  module _ (m y : ℕ) (h : m < f .dense .nodes) where
     inside : m < length (dense-nodes s f)
     inside = omega (arith, a .dense-size)
 
@@ -114,8 +114,8 @@ module _ (s : Bytes) (f : Frame) (a : Accepted s f) where
         let n = dense-child-number (dense-nodes s f) (sparse-nodes s f) (drop (f .dl) s) (drop (f .dc) s) (drop (f .dp) s) (a .DL .1) (a .DC .1) (a .DP .1) (a .writable .dense-labelled) (a .writable .dense-bytes) m y inside l in
         let v = dense-slot-number (dense-nodes s f) (sparse-nodes s f) (drop (f .dl) s) (drop (f .dc) s) (drop (f .dp) s) (a .DL .1) (a .DC .1) (a .DP .1) (a .writable .dense-labelled) (a .writable .dense-bytes) m y inside l in
         record {
-          child-is = rw (lt-ltb m (f .dense) h) (sym n);
-          slot-is = rw (lt-ltb m (f .dense) h) (sym (v .0));
+          child-is = rw (lt-ltb m (f .dense .nodes) h) (sym n);
+          slot-is = rw (lt-ltb m (f .dense .nodes) h) (sym (v .0));
           within = record { dense = λ q. (omega arith, v .1); sparse = λ q. absurd (omega arith) };
         }
 
@@ -123,61 +123,61 @@ module _ (s : Bytes) (f : Frame) (a : Accepted s f) where
 
   -- where sparse node m starts
   abbrev start : ℕ → ℕ
-  start m = select (drop (f .sb) s) (f .entries) (m - f .dense)
+  start m = select (drop (f .sb) s) (f .sparse .entries) (m - f .dense .nodes)
 
-  node-again : (m : ℕ) → f .dense ≤ m → length (dense-nodes s f) + (m - f .dense) ≡ m
+  node-again : (m : ℕ) → f .dense .nodes ≤ m → length (dense-nodes s f) + (m - f .dense .nodes) ≡ m
   node-again m h = omega (arith, a .dense-size)
 
   -- what stands before a sparse node
-  pub before-sparse : (m : ℕ) → f .dense ≤ m → m ≤ f .dense + f .sparse
-      → (children-before (nodes s f) m ≡ children-before (nodes s f) (f .dense) + rank (drop (f .sc) s) (select (drop (f .sb) s) (f .entries) (m - f .dense)))
-      × (leaves-before (nodes s f) m ≡ leaves-before (nodes s f) (f .dense)
-      + (select (drop (f .sb) s) (f .entries) (m - f .dense) - rank (drop (f .sc) s) (select (drop (f .sb) s) (f .entries) (m - f .dense))))
+  pub before-sparse : (m : ℕ) → f .dense .nodes ≤ m → m ≤ f .dense .nodes + f .sparse .nodes
+      → (children-before (nodes s f) m ≡ children-before (nodes s f) (f .dense .nodes) + rank (drop (f .sc) s) (select (drop (f .sb) s) (f .sparse .entries) (m - f .dense .nodes)))
+      × (leaves-before (nodes s f) m ≡ leaves-before (nodes s f) (f .dense .nodes)
+      + (select (drop (f .sb) s) (f .sparse .entries) (m - f .dense .nodes) - rank (drop (f .sc) s) (select (drop (f .sb) s) (f .sparse .entries) (m - f .dense .nodes))))
   before-sparse m h l =
       let e = node-again m h in
       let n = a .entry-size in
-      let j : m - f .dense ≤ length (sparse-nodes s f) = omega (arith, a .sparse-size) in
+      let j : m - f .dense .nodes ≤ length (sparse-nodes s f) = omega (arith, a .sparse-size) in
       let t = a .SL .1 in
-      let k = sparse.sparse-children-before (dense-nodes s f) (sparse-nodes s f) (drop (f .sl) s) (drop (f .sc) s) (drop (f .sb) s) (t .0) (t .1) (a .SC .1) (a .SB .1) (a .writable .sparse-labelled) (a .writable .sparse-bytes) (m - f .dense) j in
-      let v = sparse.sparse-leaves-before (dense-nodes s f) (sparse-nodes s f) (drop (f .sl) s) (drop (f .sc) s) (drop (f .sb) s) (t .0) (t .1) (a .SC .1) (a .SB .1) (a .writable .sparse-labelled) (a .writable .sparse-bytes) (m - f .dense) j in (
-        (rw (e, n) at k) ∙ ap (λ (z : ℕ). z + rank (drop (f .sc) s) (select (drop (f .sb) s) (f .entries) (m - f .dense))) dense-kids,
-        (rw (e, n) at v) ∙ ap (λ (z : ℕ). z + (select (drop (f .sb) s) (f .entries) (m - f .dense) - rank (drop (f .sc) s) (select (drop (f .sb) s) (f .entries) (m - f .dense)))) dense-leaves,
+      let k = sparse.sparse-children-before (dense-nodes s f) (sparse-nodes s f) (drop (f .sl) s) (drop (f .sc) s) (drop (f .sb) s) (t .0) (t .1) (a .SC .1) (a .SB .1) (a .writable .sparse-labelled) (a .writable .sparse-bytes) (m - f .dense .nodes) j in
+      let v = sparse.sparse-leaves-before (dense-nodes s f) (sparse-nodes s f) (drop (f .sl) s) (drop (f .sc) s) (drop (f .sb) s) (t .0) (t .1) (a .SC .1) (a .SB .1) (a .writable .sparse-labelled) (a .writable .sparse-bytes) (m - f .dense .nodes) j in (
+        (rw (e, n) at k) ∙ ap (λ (z : ℕ). z + rank (drop (f .sc) s) (select (drop (f .sb) s) (f .sparse .entries) (m - f .dense .nodes))) dense-kids,
+        (rw (e, n) at v) ∙ ap (λ (z : ℕ). z + (select (drop (f .sb) s) (f .sparse .entries) (m - f .dense .nodes) - rank (drop (f .sc) s) (select (drop (f .sb) s) (f .sparse .entries) (m - f .dense .nodes)))) dense-leaves,
       )
 
-  module _ (m : ℕ) (h : f .dense ≤ m) (l : m < f .dense + f .sparse) where
-    within-nodes : m - f .dense < length (sparse-nodes s f)
+  module _ (m : ℕ) (h : f .dense .nodes ≤ m) (l : m < f .dense .nodes + f .sparse .nodes) where
+    within-nodes : m - f .dense .nodes < length (sparse-nodes s f)
     within-nodes = omega (arith, a .sparse-size)
 
-    the-node : node-at (sparse-nodes s f) (m - f .dense) ≡ node-at (nodes s f) m
-    the-node = sym (ap (λ (z : ℕ). node-at (nodes s f) z) (sym (node-again m h)) ∙ getD-append-add (dense-nodes s f) (sparse-nodes s f) (m - f .dense) (node none []))
+    the-node : node-at (sparse-nodes s f) (m - f .dense .nodes) ≡ node-at (nodes s f) m
+    the-node = sym (ap (λ (z : ℕ). node-at (nodes s f) z) (sym (node-again m h)) ∙ getD-append-add (dense-nodes s f) (sparse-nodes s f) (m - f .dense .nodes) (node none []))
 
-    next-index : m - f .dense + 1 ≡ m + 1 - f .dense
+    next-index : m - f .dense .nodes + 1 ≡ m + 1 - f .dense .nodes
     next-index = omega arith
 
     -- A sparse node ends where the next one starts.
-    pub end-sparse : select (drop (f .sb) s) (f .entries) (m + 1 - f .dense) ≡ select (drop (f .sb) s) (f .entries) (m - f .dense) + bit (is-exact (node-at (nodes s f) m)) + length (branches s f m)
+    pub end-sparse : select (drop (f .sb) s) (f .sparse .entries) (m + 1 - f .dense .nodes) ≡ select (drop (f .sb) s) (f .sparse .entries) (m - f .dense .nodes) + bit (is-exact (node-at (nodes s f) m)) + length (branches s f m)
     end-sparse =
         let n = a .entry-size in
         let t = a .SL .1 in
-        rw (the-node, n, next-index) at (sparse.sparse-end (dense-nodes s f) (sparse-nodes s f) (drop (f .sl) s) (drop (f .sc) s) (drop (f .sb) s) (t .0) (t .1) (a .SC .1) (a .SB .1) (a .writable .sparse-labelled) (a .writable .sparse-bytes) (m - f .dense) within-nodes)
+        rw (the-node, n, next-index) at (sparse.sparse-end (dense-nodes s f) (sparse-nodes s f) (drop (f .sl) s) (drop (f .sc) s) (drop (f .sb) s) (t .0) (t .1) (a .SC .1) (a .SB .1) (a .writable .sparse-labelled) (a .writable .sparse-bytes) (m - f .dense .nodes) within-nodes)
 
     -- It is an exact leaf exactly if it starts with an FF that is not alone.
     pub exact-sparse : is-exact (node-at (nodes s f) m)
-        ≡ leb (select (drop (f .sb) s) (f .entries) (m - f .dense) + 2) (select (drop (f .sb) s) (f .entries) (m + 1 - f .dense)) && eqb (getD s (f .sl + select (drop (f .sb) s) (f .entries) (m - f .dense)) 0) 255
+        ≡ leb (select (drop (f .sb) s) (f .sparse .entries) (m - f .dense .nodes) + 2) (select (drop (f .sb) s) (f .sparse .entries) (m + 1 - f .dense .nodes)) && eqb (getD s (f .sl + select (drop (f .sb) s) (f .sparse .entries) (m - f .dense .nodes)) 0) 255
     exact-sparse =
         let n = a .entry-size in
         let t = a .SL .1 in
-        let e = rw (the-node, n, next-index) at (sparse.sparse-exact (dense-nodes s f) (sparse-nodes s f) (drop (f .sl) s) (drop (f .sc) s) (drop (f .sb) s) (t .0) (t .1) (a .SC .1) (a .SB .1) (a .writable .sparse-labelled) (a .writable .sparse-bytes) (m - f .dense) within-nodes) in
-        e ∙ ap (λ (z : ℕ). leb (select (drop (f .sb) s) (f .entries) (m - f .dense) + 2) (select (drop (f .sb) s) (f .entries) (m + 1 - f .dense)) && eqb z 255) (getD-drop (f .sl) s (select (drop (f .sb) s) (f .entries) (m - f .dense)) 0)
+        let e = rw (the-node, n, next-index) at (sparse.sparse-exact (dense-nodes s f) (sparse-nodes s f) (drop (f .sl) s) (drop (f .sc) s) (drop (f .sb) s) (t .0) (t .1) (a .SC .1) (a .SB .1) (a .writable .sparse-labelled) (a .writable .sparse-bytes) (m - f .dense .nodes) within-nodes) in
+        e ∙ ap (λ (z : ℕ). leb (select (drop (f .sb) s) (f .sparse .entries) (m - f .dense .nodes) + 2) (select (drop (f .sb) s) (f .sparse .entries) (m + 1 - f .dense .nodes)) && eqb z 255) (getD-drop (f .sl) s (select (drop (f .sb) s) (f .sparse .entries) (m - f .dense .nodes)) 0)
 
-    module _ (first : ℕ) (starts : first ≡ select (drop (f .sb) s) (f .entries) (m - f .dense) + bit (is-exact (node-at (nodes s f) m))) where
+    module _ (first : ℕ) (starts : first ≡ select (drop (f .sb) s) (f .sparse .entries) (m - f .dense .nodes) + bit (is-exact (node-at (nodes s f) m))) where
       -- the label of branch i
       pub label-sparse : (i : ℕ) → i < length (branches s f m) → getD (drop (f .sl) s) (first + i) 0 ≡ getD (map label-of (branches s f m)) i 0
       label-sparse i k =
           let n = a .entry-size in
           let t = a .SL .1 in
           rw starts (rw (the-node, n) at (sparse.sparse-label (dense-nodes s f) (sparse-nodes s f) (drop (f .sl) s) (drop (f .sc) s) (drop (f .sb) s) (t .0) (t .1) (a .SC .1) (a .SB .1) (a .writable .sparse-labelled) (a .writable .sparse-bytes)
-          (m - f .dense) within-nodes i (rw (← the-node) at k)))
+          (m - f .dense .nodes) within-nodes i (rw (← the-node) at k)))
 
       -- whether it continues
       pub child-sparse : (i : ℕ) → i < length (branches s f m) → bit-at (drop (f .sc) s) (first + i) ≡ bit (getD (map has-child (branches s f m)) i false)
@@ -185,27 +185,27 @@ module _ (s : Bytes) (f : Frame) (a : Accepted s f) where
           let n = a .entry-size in
           let t = a .SL .1 in
           rw starts (rw (the-node, n) at (sparse.sparse-child (dense-nodes s f) (sparse-nodes s f) (drop (f .sl) s) (drop (f .sc) s) (drop (f .sb) s) (t .0) (t .1) (a .SC .1) (a .SB .1) (a .writable .sparse-labelled) (a .writable .sparse-bytes)
-          (m - f .dense) within-nodes i (rw (← the-node) at k)))
+          (m - f .dense .nodes) within-nodes i (rw (← the-node) at k)))
 
       -- Branch i of a sparse node stands i entries behind its first.
-      pub branch-sparse : (i : ℕ) → i ≤ length (branches s f m) → first + i ≤ f .entries → Branch-at s f m i (first + i)
+      pub branch-sparse : (i : ℕ) → i ≤ length (branches s f m) → first + i ≤ f .sparse .entries → Branch-at s f m i (first + i)
       unfolding child-at slot-at
       branch-sparse i k r =
           let n = a .entry-size in
           let t = a .SL .1 in
           let e = node-again m h in
           let c = rw (e, the-node, n) at (sparse.sparse-child-number (dense-nodes s f) (sparse-nodes s f) (drop (f .sl) s) (drop (f .sc) s) (drop (f .sb) s) (t .0) (t .1) (a .SC .1) (a .SB .1) (a .writable .sparse-labelled) (a .writable .sparse-bytes)
-          (m - f .dense) within-nodes i (rw (← the-node) at k)) in
+          (m - f .dense .nodes) within-nodes i (rw (← the-node) at k)) in
           let v = rw (e, the-node, n) at (sparse.sparse-slot-number (dense-nodes s f) (sparse-nodes s f) (drop (f .sl) s) (drop (f .sc) s) (drop (f .sb) s) (t .0) (t .1) (a .SC .1) (a .SB .1) (a .writable .sparse-labelled) (a .writable .sparse-bytes)
-          (m - f .dense) within-nodes i (rw (← the-node) at k)) in
+          (m - f .dense .nodes) within-nodes i (rw (← the-node) at k)) in
           record {
-            child-is = rw (le-ltb m (f .dense) h) (rw (← starts) at (sym c));
-            slot-is = rw (le-ltb m (f .dense) h) (rw (← starts) at (sym v));
+            child-is = rw (le-ltb m (f .dense .nodes) h) (rw (← starts) at (sym c));
+            slot-is = rw (le-ltb m (f .dense .nodes) h) (rw (← starts) at (sym v));
             within = record { dense = λ q. absurd (omega arith); sparse = λ q. r };
           }
 
       rising : Ascends (branches s f m)
-      rising = rw the-node at (go (node-at (sparse-nodes s f) (m - f .dense)) (sparse.fit-node (sparse-nodes s f) (m - f .dense) (a .writable .sparse-labelled) within-nodes))
+      rising = rw the-node at (go (node-at (sparse-nodes s f) (m - f .dense .nodes)) (sparse.fit-node (sparse-nodes s f) (m - f .dense .nodes) (a .writable .sparse-labelled) within-nodes))
         where
           go : (n : Node) → Labelled n → Ascends (branches-of n)
           go (node o es) q = fit-rising o es q
@@ -267,35 +267,35 @@ module _ (s : Bytes) (f : Frame) (a : Accepted s f) where
           ap₂ _+_ (sym (ap bit t)) u
 
     -- The entries of a sparse node that starts at p and ends at e, an exact leaf or not.
-    pub entries-right : (p e : ℕ) (b : Bool) → p ≡ select (drop (f .sb) s) (f .entries) (m - f .dense) → e ≡ select (drop (f .sb) s) (f .entries) (m + 1 - f .dense) → is-exact (node-at (nodes s f) m) ≡ b
-        → (bit b ≡ bit (is-exact (node-at (nodes s f) m))) × (p + bit b ≡ select (drop (f .sb) s) (f .entries) (m - f .dense) + bit (is-exact (node-at (nodes s f) m)))
+    pub entries-valid : (p e : ℕ) (b : Bool) → p ≡ select (drop (f .sb) s) (f .sparse .entries) (m - f .dense .nodes) → e ≡ select (drop (f .sb) s) (f .sparse .entries) (m + 1 - f .dense .nodes) → is-exact (node-at (nodes s f) m) ≡ b
+        → (bit b ≡ bit (is-exact (node-at (nodes s f) m))) × (p + bit b ≡ select (drop (f .sb) s) (f .sparse .entries) (m - f .dense .nodes) + bit (is-exact (node-at (nodes s f) m)))
         × (e ≡ p + bit b + length (branches s f m))
-    entries-right p e b u v x = let y = ap bit x in (sym y, omega arith, omega (arith, end-sparse))
+    entries-valid p e b u v x = let y = ap bit x in (sym y, omega arith, omega (arith, end-sparse))
 
     -- one entry alone is no mark
-    pub sole-plain : (p e : ℕ) → p ≡ select (drop (f .sb) s) (f .entries) (m - f .dense) → e ≡ select (drop (f .sb) s) (f .entries) (m + 1 - f .dense) → e < p + 2 → is-exact (node-at (nodes s f) m) ≡ false
+    pub sole-plain : (p e : ℕ) → p ≡ select (drop (f .sb) s) (f .sparse .entries) (m - f .dense .nodes) → e ≡ select (drop (f .sb) s) (f .sparse .entries) (m + 1 - f .dense .nodes) → e < p + 2 → is-exact (node-at (nodes s f) m) ≡ false
     sole-plain p e u v h = exact-sparse ∙ rw (← u, ← v, lt-leb (p + 2) e h)
 
     -- nor is a first label that is no FF
-    pub other-plain : (p : ℕ) → p ≡ select (drop (f .sb) s) (f .entries) (m - f .dense) → (getD s (f .sl + p) 0 ≡ 255 → ⊥) → is-exact (node-at (nodes s f) m) ≡ false
-    other-plain p u h = exact-sparse ∙ rw (← u, ne-eqb (getD s (f .sl + p) 0) 255 h) (and-no (leb (p + 2) (select (drop (f .sb) s) (f .entries) (m + 1 - f .dense))))
+    pub other-plain : (p : ℕ) → p ≡ select (drop (f .sb) s) (f .sparse .entries) (m - f .dense .nodes) → (getD s (f .sl + p) 0 ≡ 255 → ⊥) → is-exact (node-at (nodes s f) m) ≡ false
+    other-plain p u h = exact-sparse ∙ rw (← u, ne-eqb (getD s (f .sl + p) 0) 255 h) (and-no (leb (p + 2) (select (drop (f .sb) s) (f .sparse .entries) (m + 1 - f .dense .nodes))))
       where
         and-no : (b : Bool) → b && false ≡ false
         and-no true = refl
         and-no false = refl
 
     -- a first FF of several is
-    pub first-exact : (p e : ℕ) → p ≡ select (drop (f .sb) s) (f .entries) (m - f .dense) → e ≡ select (drop (f .sb) s) (f .entries) (m + 1 - f .dense) → p + 2 ≤ e → getD s (f .sl + p) 0 ≡ 255
+    pub first-exact : (p e : ℕ) → p ≡ select (drop (f .sb) s) (f .sparse .entries) (m - f .dense .nodes) → e ≡ select (drop (f .sb) s) (f .sparse .entries) (m + 1 - f .dense .nodes) → p + 2 ≤ e → getD s (f .sl + p) 0 ≡ 255
         → is-exact (node-at (nodes s f) m) ≡ true
     first-exact p e u v h l = exact-sparse ∙ rw (← u, ← v, le-leb (p + 2) e h, l)
 
   -- S-Labels lie within the image
-  pub labels-room : f .sl + f .entries ≤ length s
+  pub labels-room : f .sl + f .sparse .entries ≤ length s
   labels-room =
       let t = a .SL in
       let l = ap length (t .1 .1) ∙ length-append (concat (map sparse-labels (sparse-nodes s f))) (t .1 .0) in
       omega (arith, t .0, length-drop (f .sl) s, a .entry-size)
 
   -- few branches continue
-  pub few-children : (m : ℕ) → m ≤ f .dense → children-before (nodes s f) m ≤ 67108864
+  pub few-children : (m : ℕ) → m ≤ f .dense .nodes → children-before (nodes s f) m ≤ 67108864
   few-children m h = omega (arith, before-dense m h .0, rank-le (drop (f .dc) s) (256 * m), a .dense-size, a .writable .few-dense)

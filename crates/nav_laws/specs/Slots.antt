@@ -10,7 +10,7 @@ use lib.Seq.{take-at, drop-at}
 use Rattle.spec.specs.Bytes.{Bits, bit, concat}
 use Rattle.spec.specs.Nodes.{Branch, to-node, to-leaf, Node, node, slot, branches-of, is-exact, exact-slot}
 use Rattle.spec.specs.Trie.{open-leaves, leaf-count}
-use Rattle.theory.specs.Words.{All}
+use Rattle.theory.specs.Terms.{All}
 use Rattle.theory.specs.NodeBits.{slots, Branch-width, Slots-width, Exact-width, length-sv}
 
 -- node number m, from 0; where there is none, one without anything

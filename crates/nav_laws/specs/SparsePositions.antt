@@ -20,7 +20,7 @@ use Rattle.nav_laws.specs.Descent.{children-before, child-number, goes-o
 use Rattle.nav_laws.specs.Stored.{Starts, bits-at, bits-rank}
 use Rattle.nav_laws.specs.LabelMaps.{matches}
 use Rattle.nav_laws.specs.DensePositions.{ones-append, branches-split, taken-split, take-map}
-use Rattle.theory.specs.Words.{All}
+use Rattle.theory.specs.Terms.{All}
 use Rattle.theory.specs.NodeBits.{sparse-labels, sparse-has-child, louds, Byte-labels}
 use Rattle.theory.specs.LinkedLevels.{Labelled, Below-label, Ascends}
 use Rattle.theory.specs.Levels.{leaf-count-append}

@@ -21,7 +21,7 @@ Ranked w n s rt = (n ≤ 8 * length s) × ((b : ℕ) → w * b < n → Rank-entr
 
 module _ (s : Bytes) (f : Frame) (a : Accepted s f) where
   -- D-Labels
-  pub labels-ranked : Ranked 64 (256 * f .dense) (drop (f .dl) s) (drop (f .rl) s)
+  pub labels-ranked : Ranked 64 (256 * f .dense .nodes) (drop (f .dl) s) (drop (f .rl) s)
   labels-ranked =
       let bs : Bits = concat (map dense-labels (dense-nodes s f)) in
       let l = length-dl (dense-nodes s f) in
@@ -33,7 +33,7 @@ module _ (s : Bytes) (f : Frame) (a : Accepted s f) where
       )
 
   -- D-HasChild
-  pub children-ranked : Ranked 64 (256 * f .dense) (drop (f .dc) s) (drop (f .rc) s)
+  pub children-ranked : Ranked 64 (256 * f .dense .nodes) (drop (f .dc) s) (drop (f .rc) s)
   children-ranked =
       let bs : Bits = concat (map dense-has-child (dense-nodes s f)) in
       let l = length-dc (dense-nodes s f) in
@@ -45,7 +45,7 @@ module _ (s : Bytes) (f : Frame) (a : Accepted s f) where
       )
 
   -- D-IsPrefixKey
-  pub exacts-ranked : Ranked 64 (f .dense) (drop (f .dp) s) (drop (f .rp) s)
+  pub exacts-ranked : Ranked 64 (f .dense .nodes) (drop (f .dp) s) (drop (f .rp) s)
   exacts-ranked =
       let bs : Bits = map is-exact (dense-nodes s f) in
       let l = length-map (dense-nodes s f) is-exact in
@@ -57,7 +57,7 @@ module _ (s : Bytes) (f : Frame) (a : Accepted s f) where
       )
 
   -- S-HasChild
-  pub entries-ranked : Ranked 512 (f .entries) (drop (f .sc) s) (drop (f .rs) s)
+  pub entries-ranked : Ranked 512 (f .sparse .entries) (drop (f .sc) s) (drop (f .rs) s)
   entries-ranked =
       let bs : Bits = concat (map sparse-has-child (sparse-nodes s f)) in
       let l = length-sc (sparse-nodes s f) (a .writable .sparse-labelled) in
@@ -69,11 +69,11 @@ module _ (s : Bytes) (f : Frame) (a : Accepted s f) where
       )
 
   -- S-LOUDS: as many ones as sparse nodes, and the samples
-  pub starts-sampled : (f .entries ≤ 8 * length (drop (f .sb) s)) × (rank (drop (f .sb) s) (f .entries) ≡ f .sparse) × ((t : ℕ) → 64 * t < f .sparse → Sample (drop (f .sb) s) (drop (f .ts) s) (f .entries) t)
+  pub starts-sampled : (f .sparse .entries ≤ 8 * length (drop (f .sb) s)) × (rank (drop (f .sb) s) (f .sparse .entries) ≡ f .sparse .nodes) × ((t : ℕ) → 64 * t < f .sparse .nodes → Sample (drop (f .sb) s) (drop (f .ts) s) (f .sparse .entries) t)
   starts-sampled =
       let bs : Bits = concat (map louds (sparse-nodes s f)) in
-      let l : length (concat (map louds (sparse-nodes s f))) ≡ f .entries = length-sb (sparse-nodes s f) (a .writable .sparse-labelled) ∙ a .entry-size in
-      let n : ones (concat (map louds (sparse-nodes s f))) ≡ f .sparse = louds-ones (sparse-nodes s f) (a .writable .sparse-labelled) .0 ∙ a .sparse-size in
+      let l : length (concat (map louds (sparse-nodes s f))) ≡ f .sparse .entries = length-sb (sparse-nodes s f) (a .writable .sparse-labelled) ∙ a .entry-size in
+      let n : ones (concat (map louds (sparse-nodes s f))) ≡ f .sparse .nodes = louds-ones (sparse-nodes s f) (a .writable .sparse-labelled) .0 ∙ a .sparse-size in
       let d = a .entry-size in
       let w = a .writable .few-entries in
       let h = a .SB .1 in (
@@ -83,8 +83,8 @@ module _ (s : Bytes) (f : Frame) (a : Accepted s f) where
       )
 
   -- a sparse node starts before the end of the entries, and as many starts stand up to and with its own as before the next node
-  pub start-found : (m p : ℕ) → f .dense ≤ m → m < f .dense + f .sparse → p ≡ select (drop (f .sb) s) (f .entries) (m - f .dense)
-      → (p < f .entries) × (rank (drop (f .sb) s) (p + 1) ≡ m + 1 - f .dense)
+  pub start-found : (m p : ℕ) → f .dense .nodes ≤ m → m < f .dense .nodes + f .sparse .nodes → p ≡ select (drop (f .sb) s) (f .sparse .entries) (m - f .dense .nodes)
+      → (p < f .sparse .entries) × (rank (drop (f .sb) s) (p + 1) ≡ m + 1 - f .dense .nodes)
   start-found m p l h e =
-      let r = select-found (drop (f .sb) s) (f .entries) (m - f .dense) (omega (arith, starts-sampled .1)) in
+      let r = select-found (drop (f .sb) s) (f .sparse .entries) (m - f .dense .nodes) (omega (arith, starts-sampled .1)) in
       (omega (arith, r .0), ap (λ (n : ℕ). rank (drop (f .sb) s) (n + 1)) e ∙ r .1 ∙ omega arith)

@@ -15,52 +15,52 @@ use Rattle.spec.specs.Bytes.{Bytes, Bits, ascii, letter, bit, low-bits}
 use Rattle.spec.specs.Leaves.{Leaf}
 use Rattle.spec.specs.Nodes.{read-leaves}
 use Rattle.spec.specs.Check.{verdict}
-use Rattle.spec.specs.Print.{figures, decimal, hex-figure, hex, suffix-text, line, lines, listing, print}
+use Rattle.spec.specs.Print.{digits, decimal, hex-digit, hex, suffix-text, line, lines, listing, print}
 
 -- ---- numbers in decimal figures
 
 -- the last figure to write
-figures-one : (fuel n : ℕ) (done : Bytes) → n < 10 → figures (suc fuel) n done ≡ (letter "0" + n) ∷ done
-unfolding figures
+figures-one : (fuel n : ℕ) (done : Bytes) → n < 10 → digits (suc fuel) n done ≡ (letter "0" + n) ∷ done
+unfolding digits
 figures-one fuel n done h = go (ltb n 10) (lt-ltb n 10 h)
   where
-    go : (b : Bool) → b ≡ true → _≡_ {A = Bytes} (elim b [ true ↦ (letter "0" + n) ∷ done | false ↦ figures fuel (n / 10) ((letter "0" + n % 10) ∷ done) ]) ((letter "0" + n) ∷ done)
+    go : (b : Bool) → b ≡ true → _≡_ {A = Bytes} (elim b [ true ↦ (letter "0" + n) ∷ done | false ↦ digits fuel (n / 10) ((letter "0" + n % 10) ∷ done) ]) ((letter "0" + n) ∷ done)
     go true e = refl
     go false e = absurd (true≢false (sym e))
 
 -- a figure with more in front of it
-figures-more : (fuel n : ℕ) (done : Bytes) → 10 ≤ n → figures (suc fuel) n done ≡ figures fuel (n / 10) ((letter "0" + n % 10) ∷ done)
-unfolding figures
+figures-more : (fuel n : ℕ) (done : Bytes) → 10 ≤ n → digits (suc fuel) n done ≡ digits fuel (n / 10) ((letter "0" + n % 10) ∷ done)
+unfolding digits
 figures-more fuel n done h = go (ltb n 10) (le-ltb n 10 h)
   where
-    go : (b : Bool) → b ≡ false → _≡_ {A = Bytes} (elim b [ true ↦ (letter "0" + n) ∷ done | false ↦ figures fuel (n / 10) ((letter "0" + n % 10) ∷ done) ]) (figures fuel (n / 10) ((letter "0" + n % 10) ∷ done))
+    go : (b : Bool) → b ≡ false → _≡_ {A = Bytes} (elim b [ true ↦ (letter "0" + n) ∷ done | false ↦ digits fuel (n / 10) ((letter "0" + n % 10) ∷ done) ]) (digits fuel (n / 10) ((letter "0" + n % 10) ∷ done))
     go true e = absurd (true≢false e)
     go false e = refl
 
 -- the figures stand in front of what is done
-figures-front : (fuel n : ℕ) (done : Bytes) → figures fuel n done ≡ figures fuel n [] ++ done
-unfolding figures
+figures-front : (fuel n : ℕ) (done : Bytes) → digits fuel n done ≡ digits fuel n [] ++ done
+unfolding digits
 figures-front zero n done = refl
 figures-front (suc fuel) n done = go (ltb n 10) refl (figures-front fuel (n / 10))
   where
-    go : (b : Bool) → ltb n 10 ≡ b → ((d : Bytes) → figures fuel (n / 10) d ≡ figures fuel (n / 10) [] ++ d) → figures (suc fuel) n done ≡ figures (suc fuel) n [] ++ done
+    go : (b : Bool) → ltb n 10 ≡ b → ((d : Bytes) → digits fuel (n / 10) d ≡ digits fuel (n / 10) [] ++ d) → digits (suc fuel) n done ≡ digits (suc fuel) n [] ++ done
     go true e ih =
         let l : n < 10 = ltb-true n 10 e in
         figures-one fuel n done l ∙ ap (λ (z : Bytes). z ++ done) (sym (figures-one fuel n [] l))
     go false e ih =
         let l = ltb-false n 10 e in
         let x : Bytes = (letter "0" + n % 10) ∷ [] in
-        figures-more fuel n done l ∙ ih (x ++ done) ∙ sym (append-assoc (figures fuel (n / 10) []) x done)
+        figures-more fuel n done l ∙ ih (x ++ done) ∙ sym (append-assoc (digits fuel (n / 10) []) x done)
         ∙ ap (λ (z : Bytes). z ++ done) (sym (figures-more fuel n [] l ∙ ih x))
 
 -- any fuel above the number gives the same figures
-figures-fuel : (f g n : ℕ) (done : Bytes) → n < f → n < g → figures f n done ≡ figures g n done
+figures-fuel : (f g n : ℕ) (done : Bytes) → n < f → n < g → digits f n done ≡ digits g n done
 figures-fuel zero g n done h k = absurd (omega arith)
 figures-fuel (suc f) zero n done h k = absurd (omega arith)
 figures-fuel (suc f) (suc g) n done h k = go (ltb n 10) refl (figures-fuel f g (n / 10) ((letter "0" + n % 10) ∷ done))
   where
-    go : (b : Bool) → ltb n 10 ≡ b → (n / 10 < f → n / 10 < g → figures f (n / 10) ((letter "0" + n % 10) ∷ done) ≡ figures g (n / 10) ((letter "0" + n % 10) ∷ done))
-        → figures (suc f) n done ≡ figures (suc g) n done
+    go : (b : Bool) → ltb n 10 ≡ b → (n / 10 < f → n / 10 < g → digits f (n / 10) ((letter "0" + n % 10) ∷ done) ≡ digits g (n / 10) ((letter "0" + n % 10) ∷ done))
+        → digits (suc f) n done ≡ digits (suc g) n done
     go true e ih =
         let l : n < 10 = ltb-true n 10 e in
         figures-one f n done l ∙ sym (figures-one g n done l)
@@ -112,7 +112,7 @@ hex-none = refl
 hex-append : (xs ys : Bytes) → hex (xs ++ ys) ≡ hex xs ++ hex ys
 unfolding hex
 hex-append [] ys = refl
-hex-append (x ∷ xs) ys = ap (λ (z : Bytes). hex-figure (x / 16) ∷ hex-figure (x % 16) ∷ z) (hex-append xs ys)
+hex-append (x ∷ xs) ys = ap (λ (z : Bytes). hex-digit (x / 16) ∷ hex-digit (x % 16) ∷ z) (hex-append xs ys)
 
 -- one byte more
 pub hex-more : (k : Bytes) (i : ℕ) → i < length k → hex (take (suc i) k) ≡ hex (take i k) ++ hex (getD k i 0 ∷ [])
@@ -129,20 +129,20 @@ pub length-hex-take : (k : Bytes) (i : ℕ) → i ≤ length k → length (hex (
 length-hex-take k i h = length-hex (take i k) ∙ ap (λ (n : ℕ). 2 * n) (length-take-le i k h)
 
 -- the figures of one byte
-pub hex-byte : (x : ℕ) → hex (x ∷ []) ≡ hex-figure (x / 16) ∷ hex-figure (x % 16) ∷ []
+pub hex-byte : (x : ℕ) → hex (x ∷ []) ≡ hex-digit (x / 16) ∷ hex-digit (x % 16) ∷ []
 unfolding hex
 hex-byte x = refl
 
 -- a figure is a decimal one, or a capital letter
-pub hex-figure-is : (x : ℕ) → hex-figure x ≡ cond (ltb x 10) (letter "0" + x) (letter "A" + (x - 10))
-unfolding hex-figure
-hex-figure-is x = refl
+pub hex-digit-is : (x : ℕ) → hex-digit x ≡ cond (ltb x 10) (letter "0" + x) (letter "A" + (x - 10))
+unfolding hex-digit
+hex-digit-is x = refl
 
 -- ---- suffix bits
 
 -- a bit as a figure
-abbrev pub bit-figure : Bool → ℕ
-bit-figure c = letter "0" + bit c
+abbrev pub bit-digit : Bool → ℕ
+bit-digit c = letter "0" + bit c
 
 -- the suffix bits of an exact leaf, or of none
 pub suffix-none : (e : Bool) (n x : ℕ) → (e ≡ true) ⊎ (n ≡ 0) → suffix-text e (low-bits n x) ≡ letter "-" ∷ []
@@ -153,16 +153,16 @@ suffix-none false (suc n) x (inl h) = absurd (true≢false (sym h))
 suffix-none false (suc n) x (inr h) = absurd (omega arith)
 
 -- the suffix bits of an open leaf
-pub suffix-open : (e : Bool) (n x : ℕ) → e ≡ false → (n ≡ 0 → ⊥) → suffix-text e (low-bits n x) ≡ map bit-figure (low-bits n x)
+pub suffix-open : (e : Bool) (n x : ℕ) → e ≡ false → (n ≡ 0 → ⊥) → suffix-text e (low-bits n x) ≡ map bit-digit (low-bits n x)
 unfolding suffix-text low-bits
 suffix-open true n x h k = absurd (true≢false h)
 suffix-open false zero x h k = absurd (k refl)
 suffix-open false (suc n) x h k = refl
 
 -- no bits, no figures
-pub bit-figures-none : (x : ℕ) → map bit-figure (low-bits 0 x) ≡ []
+pub bit-digits-none : (x : ℕ) → map bit-digit (low-bits 0 x) ≡ []
 unfolding low-bits
-bit-figures-none x = refl
+bit-digits-none x = refl
 
 -- one bit more
 low-bits-more : (k x : ℕ) → low-bits (suc k) x ≡ low-bits k x ++ eqb (x / 2 ^ k % 2) 1 ∷ []
@@ -173,18 +173,18 @@ low-bits-more (suc k) x =
     ap (λ (z : Bits). eqb (x % 2) 1 ∷ z) (low-bits-more k (x / 2) ∙ ap (λ (n : ℕ). low-bits k (x / 2) ++ eqb (n % 2) 1 ∷ []) (shr-shr x 1 k ∙ ap (λ (z : ℕ). x / 2 ^ z) w))
 
 -- a bit of a number, as a figure
-figure-mod : (x : ℕ) → bit-figure (eqb (x % 2) 1) ≡ letter "0" + x % 2
-figure-mod x = go (eqb (x % 2) 1) refl
+digit-mod : (x : ℕ) → bit-digit (eqb (x % 2) 1) ≡ letter "0" + x % 2
+digit-mod x = go (eqb (x % 2) 1) refl
   where
-    go : (b : Bool) → eqb (x % 2) 1 ≡ b → bit-figure b ≡ letter "0" + x % 2
+    go : (b : Bool) → eqb (x % 2) 1 ≡ b → bit-digit b ≡ letter "0" + x % 2
     go true e = omega (arith, eqb-true (x % 2) 1 e)
     go false e = let n = eqb-false (x % 2) 1 e in omega arith
 
 -- one figure more
-pub bit-figures-more : (k x : ℕ) → map bit-figure (low-bits (suc k) x) ≡ map bit-figure (low-bits k x) ++ (letter "0" + x / 2 ^ k % 2) ∷ []
-bit-figures-more k x =
-    ap (map bit-figure) (low-bits-more k x) ∙ map-append bit-figure (low-bits k x) (eqb (x / 2 ^ k % 2) 1 ∷ [])
-    ∙ ap (λ (n : ℕ). map bit-figure (low-bits k x) ++ n ∷ []) (figure-mod (x / 2 ^ k))
+pub bit-digits-more : (k x : ℕ) → map bit-digit (low-bits (suc k) x) ≡ map bit-digit (low-bits k x) ++ (letter "0" + x / 2 ^ k % 2) ∷ []
+bit-digits-more k x =
+    ap (map bit-digit) (low-bits-more k x) ∙ map-append bit-digit (low-bits k x) (eqb (x / 2 ^ k % 2) 1 ∷ [])
+    ∙ ap (λ (n : ℕ). map bit-digit (low-bits k x) ++ n ∷ []) (digit-mod (x / 2 ^ k))
 
 -- as many bits as asked for
 pub length-low-bits : (k x : ℕ) → length (low-bits k x) ≡ k
@@ -198,15 +198,15 @@ length-map f [] = refl
 length-map f (b ∷ s) = ap suc (length-map f s)
 
 -- a figure a bit
-pub length-bit-figures : (k x : ℕ) → length (map bit-figure (low-bits k x)) ≡ k
-length-bit-figures k x = length-map bit-figure (low-bits k x) ∙ length-low-bits k x
+pub length-bit-digits : (k x : ℕ) → length (map bit-digit (low-bits k x)) ≡ k
+length-bit-digits k x = length-map bit-digit (low-bits k x) ∙ length-low-bits k x
 
 -- the text of at most 16 suffix bits
 length-suffix : (e : Bool) (s : Bits) → length s ≤ 16 → length (suffix-text e s) ≤ 16
 unfolding suffix-text
 length-suffix true s h = omega arith
 length-suffix false [] h = omega arith
-length-suffix false (b ∷ s) h = omega (arith, length-map bit-figure s)
+length-suffix false (b ∷ s) h = omega (arith, length-map bit-digit s)
 
 -- ---- lines
 

@@ -6,23 +6,23 @@ ghost use Rattle.spec.specs.Bytes.{letter, low-bits};
 ghost use Rattle.spec.specs.Print.{decimal, suffix-text, line};
 ghost use Rattle.image_types.specs.Value.{leaf-of, Sized};
 ghost use Rattle.print_laws.specs.Writing.{Written};
-ghost use Rattle.print_laws.specs.Texts.{bit-figure, kind-letter, cut-text, slot-text, longest-line, head-text, refused-text, too-long-text};
-use super::figures::figure;
-use super::figures::write_byte;
-use super::figures::write_decimal;
-use super::figures::write_hex;
-use super::figures::write_text;
+ghost use Rattle.print_laws.specs.Texts.{bit-digit, kind-letter, cut-text, slot-text, longest-line, head-text, refused-text, too-long-text};
+use super::digits::digit;
+use super::digits::write_byte;
+use super::digits::write_decimal;
+use super::digits::write_hex;
+use super::digits::write_text;
 use image_types::Leaf;
 
 // Bits as figures: the low width bits of suffix, the lowest first.
 fn write_bits(out: &mut [u8], at: usize, suffix: usize, width: usize) -> usize
     requires { ⌜ (width ≤ 16) × (at + width ≤ length (now out)) ⌝ }
-    ensures { λ r. ⌜ Written (now (out .entry)) at (map bit-figure (low-bits width suffix)) (now (out .exit)) r ⌝ }
+    ensures { λ r. ⌜ Written (now (out .entry)) at (map bit-digit (low-bits width suffix)) (now (out .exit)) r ⌝ }
 {
     let mut next = at;
     let mut i = 0usize;
     while i < width {
-        next = write_byte(out, next, figure((suffix >> i) % 2));
+        next = write_byte(out, next, digit((suffix >> i) % 2));
         i = i + 1;
     }
     next

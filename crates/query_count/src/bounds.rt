@@ -33,7 +33,7 @@ pub struct Bound {
 
 // A bound at the node that its key leads to; where the key ends there, with the node's exact leaf.
 fn arrive(image: &[u8], f: Frame, key: &[u8], m: NodeNum, sum: usize, depth: usize) -> Bound
-    requires { ⌜ Accepted (now image) f × (m .0 < f .dense + f .sparse) × (length (now key) ≤ 64) × (depth ≤ length (now key)) × (descend (nodes (now image) f) 0 (now key) ≡ descend (nodes (now image) f) (m .0) (drop depth (now key))) ⌝ }
+    requires { ⌜ Accepted (now image) f × (m .0 < f .dense .nodes + f .sparse .nodes) × (length (now key) ≤ 64) × (depth ≤ length (now key)) × (descend (nodes (now image) f) 0 (now key) ≡ descend (nodes (now image) f) (m .0) (drop depth (now key))) ⌝ }
     ensures { λ r. ⌜ Followed (now (image .entry)) f (now (key .entry)) (r .node) (r .depth) (r .stop .kind) (r .stop .slot .0) (r .stop .depth) × (r .node ≡ m .0) × (r .sum ≡ sum) × (r .depth ≡ depth) ⌝ }
 {
     let mut kind = 0usize;
@@ -94,7 +94,7 @@ pub fn follow(image: &[u8], f: Frame, key: &[u8]) -> Bound
     requires { ⌜ Accepted (now image) f × (length (now key) ≤ 64) ⌝ }
     ensures { λ r. ⌜ (r .sum ≡ slots-below (nodes (now (image .entry)) f) 64 0 (now (key .entry))) × Stopped (now (image .entry)) f (now (key .entry)) (r .stop .kind) (r .stop .slot .0) (r .stop .depth) × (r .sum ≤ 4194240) ⌝ }
 {
-    if f.dense + f.sparse == 0 {
+    if f.dense.nodes + f.sparse.nodes == 0 {
         return NO_BOUND;
     }
     let mut b = arrive(image, f, key, NodeNum(0), 0, 0);

@@ -26,13 +26,13 @@ pub const AT_ROOT: LevelSum = LevelSum {
 // The leaves before a node on its level, and before the first node behind it on each of the levels left: the same task one level lower each time, at most 64 times.
 // Once all nodes lie before it, each level has all leaves.
 fn sum_levels(image: &[u8], f: Frame, levels: usize, node: NodeNum) -> usize
-    requires { ⌜ Accepted (now image) f × (levels ≤ 64) × (node .0 ≤ f .dense + f .sparse) ⌝ }
+    requires { ⌜ Accepted (now image) f × (levels ≤ 64) × (node .0 ≤ f .dense .nodes + f .sparse .nodes) ⌝ }
     ensures { λ r. ⌜ (r ≡ slots-below (nodes (now (image .entry)) f) levels (node .0) []) × (r ≤ levels * 65535) ⌝ }
 {
     if levels == 0 {
         return 0;
     }
-    if node.0 == f.dense + f.sparse {
+    if node.0 == f.dense.nodes + f.sparse.nodes {
         return levels * f.leaves;
     }
     let first = before(image, f, node);
@@ -42,7 +42,7 @@ fn sum_levels(image: &[u8], f: Frame, levels: usize, node: NodeNum) -> usize
 
 // The sum over all levels for a bound whose key has ended.
 pub fn sum_below(image: &[u8], f: Frame, from: LevelSum) -> usize
-    requires { ⌜ Accepted (now image) f × (from .node ≤ f .dense + f .sparse) × (from .depth ≤ 64) × (from .sum ≤ from .depth * 65535 + 1) ⌝ }
+    requires { ⌜ Accepted (now image) f × (from .node ≤ f .dense .nodes + f .sparse .nodes) × (from .depth ≤ 64) × (from .sum ≤ from .depth * 65535 + 1) ⌝ }
     ensures { λ r. ⌜ (r ≡ from .sum + slots-below (nodes (now (image .entry)) f) (64 - from .depth) (from .node) []) × (r ≤ from .sum + (64 - from .depth) * 65535) ⌝ }
 {
     from.sum + sum_levels(image, f, 64 - from.depth, NodeNum(from.node))

@@ -12,7 +12,7 @@ use Rattle.spec.specs.Bytes.{Bytes, Bits, bit}
 use Rattle.spec.specs.Leaves.{Leaf}
 use Rattle.spec.specs.Nodes.{read-leaves}
 use Rattle.spec.specs.Questions.{point, range, counted, begins-with, stem-end}
-use Rattle.theory.specs.Words.{Is-bytes, Bound}
+use Rattle.theory.specs.Terms.{Is-bytes, Bound}
 use Rattle.image_types.specs.declared.Frame.{Frame}
 use Rattle.nav_laws.specs.Slots.{slot-of}
 use Rattle.nav_laws.specs.Descent.{descend, leaves-below, value}

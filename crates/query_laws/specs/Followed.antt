@@ -26,16 +26,16 @@ pub record Stopped (s : Bytes) (f : Frame) (key : Bytes) (kind slot depth : ℕ)
 
 -- A bound at a node, some bytes of its key passed: the rest of the key leads on from the node, or, all passed, the key has led to a stop.
 pub record Followed (s : Bytes) (f : Frame) (key : Bytes) (node depth kind slot at : ℕ) : Type 0 where
-  pub some : 0 < f .dense + f .sparse
+  pub some : 0 < f .dense .nodes + f .sparse .nodes
   pub short : length key ≤ 64
   pub within : depth ≤ length key
-  pub node-in : node ≤ f .dense + f .sparse
-  pub on : depth < length key → (node < f .dense + f .sparse) × (descend (nodes s f) 0 key ≡ descend (nodes s f) node (drop depth key))
+  pub node-in : node ≤ f .dense .nodes + f .sparse .nodes
+  pub on : depth < length key → (node < f .dense .nodes + f .sparse .nodes) × (descend (nodes s f) 0 key ≡ descend (nodes s f) node (drop depth key))
   pub off : length key ≤ depth → Stopped s f key kind slot at
 
 module _ (s : Bytes) (f : Frame) (a : Accepted s f) (key : Bytes) where
   -- an image without nodes leads nowhere
-  pub stopped-nowhere : f .dense + f .sparse ≡ 0 → Stopped s f key 0 0 0
+  pub stopped-nowhere : f .dense .nodes + f .sparse .nodes ≡ 0 → Stopped s f key 0 0 0
   stopped-nowhere z = record {
     leads = descend-nowhere (nodes s f) key (length-append (dense-nodes s f) (sparse-nodes s f) ∙ omega (arith, a .dense-size, a .sparse-size));
     kind-in = omega arith;
@@ -44,13 +44,13 @@ module _ (s : Bytes) (f : Frame) (a : Accepted s f) (key : Bytes) where
   }
 
   -- and its keys have no sum
-  pub sum-nowhere : length key ≤ 64 → f .dense + f .sparse ≡ 0 → slots-below (nodes s f) 64 0 key ≡ 0
+  pub sum-nowhere : length key ≤ 64 → f .dense .nodes + f .sparse .nodes ≡ 0 → slots-below (nodes s f) 64 0 key ≡ 0
   sum-nowhere h z =
       let e : length (nodes s f) ≡ 0 = length-append (dense-nodes s f) (sparse-nodes s f) ∙ omega (arith, a .dense-size, a .sparse-size) in
       omega (arith, below-sums (nodes s f) 64 0 0 key (omega arith) h, below-nowhere (nodes s f) 64 key e, between-nowhere (nodes s f) 64 0 e)
 
   -- a bound at the node that its key leads to; at the key's end the node may be an exact leaf
-  pub arrived : (m depth kind : ℕ) → m < f .dense + f .sparse → length key ≤ 64 → depth ≤ length key → descend (nodes s f) 0 key ≡ descend (nodes s f) m (drop depth key)
+  pub arrived : (m depth kind : ℕ) → m < f .dense .nodes + f .sparse .nodes → length key ≤ 64 → depth ≤ length key → descend (nodes s f) 0 key ≡ descend (nodes s f) m (drop depth key)
       → (depth ≡ length key → kind ≡ bit (is-exact (node-at (nodes s f) m))) → Followed s f key m depth kind 0 depth
   arrived m depth kind h t l e x = record { some = omega arith; short = t; within = l; node-in = omega arith; on = λ q. (h, e); off = λ q. ended (omega arith) (drop-of-length-le key {i = depth} q) }
     where
@@ -65,11 +65,11 @@ module _ (s : Bytes) (f : Frame) (a : Accepted s f) (key : Bytes) where
   module _ (m d kind : ℕ) (h : d < length key)
       (is : kind ≡ bit (matches (getD key d 0) (drop (place s f m (getD key d 0)) (branches s f m))) + bit (goes-on (getD key d 0) (drop (place s f m (getD key d 0)) (branches s f m)))) where
     -- a branch that continues: the next byte leads to the node behind it
-    pub byte-on : kind ≡ 2 → 0 < f .dense + f .sparse → descend (nodes s f) 0 key ≡ descend (nodes s f) m (drop d key)
-        → (child-number (nodes s f) m (place s f m (getD key d 0)) < f .dense + f .sparse) × (descend (nodes s f) 0 key ≡ descend (nodes s f) (child-number (nodes s f) m (place s f m (getD key d 0))) (drop (d + 1) key))
+    pub byte-on : kind ≡ 2 → 0 < f .dense .nodes + f .sparse .nodes → descend (nodes s f) 0 key ≡ descend (nodes s f) m (drop d key)
+        → (child-number (nodes s f) m (place s f m (getD key d 0)) < f .dense .nodes + f .sparse .nodes) × (descend (nodes s f) 0 key ≡ descend (nodes s f) (child-number (nodes s f) m (place s f m (getD key d 0))) (drop (d + 1) key))
     byte-on k n e =
         let t = length-append (dense-nodes s f) (sparse-nodes s f) in
-        let z : length (nodes s f) ≡ f .dense + f .sparse = omega (arith, a .dense-size, a .sparse-size) in
+        let z : length (nodes s f) ≡ f .dense .nodes + f .sparse .nodes = omega (arith, a .dense-size, a .sparse-size) in
         let g = goes-there (nodes s f) m (getD key d 0) (drop (d + 1) key) kind is (λ q. omega arith) (λ q. omega arith) in
         let x = child-in (nodes s f) m (place s f m (getD key d 0)) (getD key d 0) (z ∙ a .node-total n) g in
         (omega arith, e ∙ ap (descend (nodes s f) m) (key-next key d h) ∙ descend-on (nodes s f) m (getD key d 0) (drop (d + 1) key) kind is (λ q. omega arith) (λ q. omega arith))
@@ -81,7 +81,7 @@ module _ (s : Bytes) (f : Frame) (a : Accepted s f) (key : Bytes) where
     stop-off (suc (suc k)) e l = absurd (omega arith)
 
     -- and the first node behind the branches before it
-    pub byte-off : (kind ≡ 2 → ⊥) → length key ≤ 64 → 0 < f .dense + f .sparse → descend (nodes s f) 0 key ≡ descend (nodes s f) m (drop d key)
+    pub byte-off : (kind ≡ 2 → ⊥) → length key ≤ 64 → 0 < f .dense .nodes + f .sparse .nodes → descend (nodes s f) 0 key ≡ descend (nodes s f) m (drop d key)
         → Followed s f key (child-number (nodes s f) m (place s f m (getD key d 0))) (length key) (2 * kind) (slot-number (nodes s f) m (place s f m (getD key d 0))) (d + 1)
     byte-off k t n e =
         let u = bit-le (matches (getD key d 0) (drop (place s f m (getD key d 0)) (branches s f m))) in

@@ -15,7 +15,7 @@ use Rattle.spec.specs.Nodes.{Group, Branch, to-node, to-leaf, Node, node, label
 use Rattle.nav_laws.specs.Counting.{labels-below, counts, counts-low, counts-same, open-same, prefixed-low, branches-none, branches-high, count-append, exact-none, exact-counted}
 use Rattle.nav_laws.specs.Slots.{node-at, slot-number, slot-of, slot-is}
 use Rattle.nav_laws.specs.Descent.{child-number, goes-on, ends-at, Stands, stands-next, group-at, kids-at, fit-at, fit-rising, node-is, children-upto}
-use Rattle.theory.specs.Words.{All}
+use Rattle.theory.specs.Terms.{All}
 use Rattle.theory.specs.LinkedLevels.{Below-label, Ascends, Linked, levels-back, first-width}
 use Rattle.theory.specs.LevelTrie.{Node-group, plain-node, exact-node}
 use Rattle.theory.specs.Levels.{exact-leaf-count}
@@ -465,13 +465,13 @@ head-full x g rest path turn (plain-node p) = refl
 head-full x g rest path turn (exact-node p) = refl
 
 -- there is a leaf behind each branch, so the turn is taken there
-turn-right : (path : Bytes) (fs : List Branch) (hs : List Group) (turn : Option Leaf) → children fs ≤ length hs → All Node-group hs
+turn-valid : (path : Bytes) (fs : List Branch) (hs : List Group) (turn : Option Leaf) → children fs ≤ length hs → All Node-group hs
     → or-else (behind-each path (head-of (branch-leaves fs hs))) turn ≡ turn-at fs (behind-each path (head-of (branch-leaves fs hs))) turn
 unfolding turn-at branch-leaves children
-turn-right path [] hs turn c e = refl
-turn-right path (to-leaf x s ∷ fs) hs turn c e = refl
-turn-right path (to-node x ∷ fs) [] turn c e = absurd (omega arith)
-turn-right path (to-node x ∷ fs) (g ∷ hs) turn c e = head-full x g (branch-leaves fs hs) path turn (e .0)
+turn-valid path [] hs turn c e = refl
+turn-valid path (to-leaf x s ∷ fs) hs turn c e = refl
+turn-valid path (to-node x ∷ fs) [] turn c e = absurd (omega arith)
+turn-valid path (to-node x ∷ fs) (g ∷ hs) turn c e = head-full x g (branch-leaves fs hs) path turn (e .0)
 
 -- The first leaf of a node's group that the key has not passed.
 pub next-in : (q : Bits → Bytes → Bool) (w : ℕ) (all : List Node) → All (Slots-width w) all → (ls : List (List Node)) (l : ℕ) (pre : List Node) (m : ℕ) (path k : Bytes) (turn : Option Leaf) → length ls ≤ l → Linked ls → Stands all pre ls → m < first-width ls
@@ -517,7 +517,7 @@ next-in q w all wide (ns ∷ ls) l pre m path k turn f n s h =
             ∙ ap₂ or-else (exact-passed q o y k) (b ∙ ap (or-else (next-at false q y k (drop i es) (drop (children (take i es)) (drop (total children-of (take m ns)) (groups ls))))) hd) in
             let tn = the-node all pre ns ls n s m o es rest d in
             let up = ap (λ (z : Option Leaf). or-else (behind-each path z) turn) (sym hd)
-            ∙ turn-right path (drop j es) (drop (children (take j es)) (drop (total children-of (take m ns)) (groups ls))) turn
+            ∙ turn-valid path (drop j es) (drop (children (take j es)) (drop (total children-of (take m ns)) (groups ls))) turn
             (omega (arith, children-split j es, length-drop (children (take j es)) (drop (total children-of (take m ns)) (groups ls)))) (each-drop (children (take j es)) (drop (total children-of (take m ns)) (groups ls)) (heads all pre ns ls n s m o es rest d))
             ∙ ap (λ (z : Option Leaf). turn-at (drop j es) (behind-each path z) turn) hd in
             let at = at-branch q y k path (branch-first (first-leaf all (l - 1)) (drop j es) (child-number all (length pre + m) j)) turn

@@ -19,11 +19,11 @@ use Rattle.nav_laws.specs.Descent.{children-before, child-number, goes-on, ends
 use Rattle.query_laws.specs.Bounds.{high-passed, low-reached, highest-counts, lowest-counts}
 use Rattle.query_laws.specs.Ordered.{passed, reached, counted-is, range-counted, point-range}
 use Rattle.theory.specs.LeafLists.{Realizable, All-well-sized}
-use Rattle.theory.specs.Words.{All, Bound}
+use Rattle.theory.specs.Terms.{All, Bound}
 use Rattle.theory.specs.LevelTrie.{trie}
 use Rattle.theory.specs.NodeBits.{Slots-width}
 use Rattle.theory.specs.Levels.{leaves-in, leaf-count-root}
-use Rattle.theory.specs.TrieTests.{realizable-trie, Empty-or-right, empty-list, right-trie}
+use Rattle.theory.specs.TrieTests.{realizable-trie, Empty-or-valid, empty-list, valid-trie}
 use Rattle.theory.specs.LinkedLevels.{first-width, levels-back, Linked}
 
 -- ---- an image without nodes
@@ -52,9 +52,9 @@ pub trie-counted : (n w : ℕ) (ls : List Leaf) (ns : List Node) → Realizable 
 unfolding count trie concat total leaves-in
 trie-counted n w ls ns g o e wide ends q k = go (realizable-trie n ls g o) e
   where
-    go : {ls : List Leaf} → Empty-or-right ls → ns ≡ concat (trie ls) → count (counts ends q k) ls ≡ leaves-below ns 64 0 0 k + value ends q w ns (descend ns 0 k)
+    go : {ls : List Leaf} → Empty-or-valid ls → ns ≡ concat (trie ls) → count (counts ends q k) ls ≡ leaves-below ns 64 0 0 k + value ends q w ns (descend ns 0 k)
     go empty-list e = rw e (none-counted ends q w 64 k)
-    go (right-trie {ls = ls} t) e =
+    go (valid-trie {ls = ls} t) e =
         let z : first-width (trie ls) ≡ 1 = sym (levels-back (trie ls) (t .linked) .wide) ∙ ap length (t .root) in
         let r = level-counted ends q w ns wide (trie ls) 64 [] 0 k (t .shallow) (t .linked) (e, root z) (omega arith) in
         sym (ap (λ (z : ℕ). z + count (counts ends q k) ls) zero-leaves ∙ omega arith) ∙ (rw (t .root) at r)

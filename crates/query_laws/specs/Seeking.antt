@@ -205,7 +205,7 @@ module _ (s : Bytes) (f : Frame) (a : Accepted s f) (start : Bytes) where
   next-nodes = next-trie (f .width) (f .width) (read-leaves s) (nodes s f) (a .realizable) (a .well-sized) (a .trie-is) (a .writable .wide) start
 
   -- an image without nodes has no leaf
-  pub led-nowhere : f .dense + f .sparse ≡ 0 → low-each (next-leaf (read-leaves s) start) ≡ none
+  pub led-nowhere : f .dense .nodes + f .sparse .nodes ≡ 0 → low-each (next-leaf (read-leaves s) start) ≡ none
   led-nowhere h =
       let empty : nodes s f ≡ [] = nil-of (nodes s f) (omega (arith, length-append (dense-nodes s f) (sparse-nodes s f), a .dense-size, a .sparse-size)) in
       ap low-each (next-nodes ∙ ap (λ (ns : List Node). next-from (high-passed (length start)) (f .width) ns 64 0 [] start none) empty ∙ sym (none-left (high-passed (length start)) (f .width) start))

@@ -19,10 +19,10 @@ use Rattle.query_laws.specs.Ordered.{next-leaf, found-leaf}
 use Rattle.nav_laws.specs.NextLabel.{first-kind, first-label}
 use Rattle.query_laws.specs.Next.{or-else, next-of, behind-each, behind-twice, branch-first, exact-first, first-leaf, turn-at, next-from, next-in}
 use Rattle.theory.specs.LeafLists.{Realizable, All-well-sized}
-use Rattle.theory.specs.Words.{All}
+use Rattle.theory.specs.Terms.{All}
 use Rattle.theory.specs.LevelTrie.{trie}
 use Rattle.theory.specs.NodeBits.{Slots-width}
-use Rattle.theory.specs.TrieTests.{realizable-trie, Empty-or-right, empty-list, right-trie}
+use Rattle.theory.specs.TrieTests.{realizable-trie, Empty-or-valid, empty-list, valid-trie}
 use Rattle.theory.specs.LinkedLevels.{first-width, levels-back}
 
 -- ---- the lowest key of the leaf that is found
@@ -70,9 +70,9 @@ pub next-trie : (n w : ℕ) (ls : List Leaf) (ns : List Node) → Realizable n l
 unfolding trie concat total next-of
 next-trie n w ls ns g o e wide k = next-leaf-of ls k ∙ go (realizable-trie n ls g o) e
   where
-    go : {ls : List Leaf} → Empty-or-right ls → ns ≡ concat (trie ls) → next-of (counts false (high-passed (length k)) k) ls ≡ next-from (high-passed (length k)) w ns 64 0 [] k none
+    go : {ls : List Leaf} → Empty-or-valid ls → ns ≡ concat (trie ls) → next-of (counts false (high-passed (length k)) k) ls ≡ next-from (high-passed (length k)) w ns 64 0 [] k none
     go empty-list e = rw e (none-left (high-passed (length k)) w k)
-    go (right-trie {ls = ls} t) e =
+    go (valid-trie {ls = ls} t) e =
         let z : first-width (trie ls) ≡ 1 = sym (levels-back (trie ls) (t .linked) .wide) ∙ ap length (t .root) in
         let r = next-in (high-passed (length k)) w ns wide (trie ls) 64 [] 0 [] k none (t .shallow) (t .linked) (e, root z) (omega arith) in
         sym (behind-nothing (next-of (counts false (high-passed (length k)) k) ls)) ∙ (rw (t .root) at r)

@@ -20,7 +20,7 @@ use Rattle.bits_laws.specs.Bits.{bit-at}
 use Rattle.nav_laws.specs.Slots.{slot-of}
 use Rattle.nav_laws.specs.Stored.{Starts, bits-at, bits-room}
 use Rattle.query_laws.specs.Bounds.{high-rest, low-rest, high-passed, low-reached}
-use Rattle.theory.specs.Words.{All}
+use Rattle.theory.specs.Terms.{All}
 use Rattle.theory.specs.NodeBits.{Slots-width, slots, length-sv}
 
 -- ---- filled bytes

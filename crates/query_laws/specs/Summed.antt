@@ -32,7 +32,7 @@ passed-there s f key = value false (high-passed (length key)) (f .width) (nodes 
 
 -- the first bytes of a key lead to a node, with the sum of the slot numbers on the levels above it
 pub record Leading (s : Bytes) (f : Frame) (key : Bytes) (node depth sum : ℕ) : Type 0 where
-  pub node-in : node < f .dense + f .sparse
+  pub node-in : node < f .dense .nodes + f .sparse .nodes
   pub depth-in : depth ≤ length key
   pub small : sum ≤ depth * 65535
   pub leads : descend (nodes s f) 0 key ≡ descend (nodes s f) node (drop depth key)
@@ -40,14 +40,14 @@ pub record Leading (s : Bytes) (f : Frame) (key : Bytes) (node depth sum : ℕ) 
 
 -- where a key has led: the first node of a level that does not lie before its bound, and the sum on the levels above it
 pub record Summed (s : Bytes) (f : Frame) (key : Bytes) (node depth sum : ℕ) : Type 0 where
-  pub node-in : node ≤ f .dense + f .sparse
+  pub node-in : node ≤ f .dense .nodes + f .sparse .nodes
   pub depth-in : depth ≤ length key
   pub small : sum ≤ depth * 65535 + 1
   pub sums : slots-below (nodes s f) 64 0 key + passed-there s f key ≡ sum + slots-below (nodes s f) (64 - depth) node []
 
 module _ (s : Bytes) (f : Frame) (a : Accepted s f) (key : Bytes) where
   -- no byte leads to the root
-  pub leading-root : 0 < f .dense + f .sparse → Leading s f key 0 0 0
+  pub leading-root : 0 < f .dense .nodes + f .sparse .nodes → Leading s f key 0 0 0
   leading-root h = record { node-in = h; depth-in = omega arith; small = omega arith; leads = refl; sums = omega (arith, refl {a = slots-below (nodes s f) 64 0 key}) }
 
   module _ (m d sum : ℕ) (o : Leading s f key m d sum) where
@@ -121,22 +121,22 @@ module _ (s : Bytes) (f : Frame) (a : Accepted s f) (key : Bytes) where
 -- ---- the levels below
 
 module _ (s : Bytes) (f : Frame) (a : Accepted s f) where
-  node-count : length (nodes s f) ≡ f .dense + f .sparse
+  node-count : length (nodes s f) ≡ f .dense .nodes + f .sparse .nodes
   node-count = omega (arith, length-append (dense-nodes s f) (sparse-nodes s f), a .dense-size, a .sparse-size)
 
   node-few : length (nodes s f) ≤ 1 + total children-of (nodes s f)
-  node-few = rw node-count (go (f .dense + f .sparse) (a .node-total))
+  node-few = rw node-count (go (f .dense .nodes + f .sparse .nodes) (a .node-total))
     where
       go : (n : ℕ) → (0 < n → n ≡ 1 + total children-of (nodes s f)) → n ≤ 1 + total children-of (nodes s f)
       go zero h = omega arith
       go (suc n) h = omega (arith, h (omega arith))
 
   -- behind the last node: all leaves, on each level left
-  pub rest-full : (node l : ℕ) → node ≡ f .dense + f .sparse → slots-below (nodes s f) l node [] ≡ l * f .leaves
+  pub rest-full : (node l : ℕ) → node ≡ f .dense .nodes + f .sparse .nodes → slots-below (nodes s f) l node [] ≡ l * f .leaves
   rest-full node l h = slots-full (nodes s f) l node (omega (arith, node-count)) node-few ∙ ap (λ (n : ℕ). l * n) (a .writable .leaf-total)
 
   -- the first node of the next level is one of the nodes, or behind the last
-  pub rest-node : (node : ℕ) → 0 < f .dense + f .sparse → 1 + children-before (nodes s f) node ≤ f .dense + f .sparse
+  pub rest-node : (node : ℕ) → 0 < f .dense .nodes + f .sparse .nodes → 1 + children-before (nodes s f) node ≤ f .dense .nodes + f .sparse .nodes
   rest-node node h = omega (arith, a .node-total h, children-all (nodes s f) node)
 
   -- no more leaves than there are

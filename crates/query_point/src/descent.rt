@@ -36,7 +36,7 @@ pub fn descend(image: &[u8], f: Frame, key: &[u8]) -> Stop
 {
     let mut m = 0usize;
     let mut d = 0usize;
-    if f.dense + f.sparse == 0 {
+    if f.dense.nodes + f.sparse.nodes == 0 {
         return NOWHERE;
     }
     while d < key.len() {

@@ -29,7 +29,7 @@ use Rattle.theory.specs.LevelTrie.{trie}
 use Rattle.theory.specs.Lists.{count-bound}
 use Rattle.theory.specs.Order.{equal-true}
 use Rattle.query_laws.specs.Seeking.{copied}
-use Rattle.theory.specs.TrieTests.{Empty-or-right, empty-list, right-trie, realizable-trie}
+use Rattle.theory.specs.TrieTests.{Empty-or-valid, empty-list, valid-trie, realizable-trie}
 
 -- a slot has as many bits as the settings say
 pub slot-width : (s : Bytes) (f : Frame) → Accepted s f → (v : ℕ) → v < f .leaves → length (slot-of (f .width) (nodes s f) v) ≡ f .width
@@ -78,9 +78,9 @@ module _ (s : Bytes) (f : Frame) (a : Accepted s f) (start : Bytes) where
   unfolding passed
   few-passed = omega (arith, count-bound (λ l. below (highest l) start) (read-leaves s), leaves-few, a .writable .few)
     where
-      go : {ls : List Leaf} → Empty-or-right ls → length ls ≤ leaf-count (concat (trie ls))
+      go : {ls : List Leaf} → Empty-or-valid ls → length ls ≤ leaf-count (concat (trie ls))
       go empty-list = omega arith
-      go (right-trie {ls = ls} t) = omega (arith, leaf-count-root (trie ls) ls (t .linked) (t .root))
+      go (valid-trie {ls = ls} t) = omega (arith, leaf-count-root (trie ls) ls (t .linked) (t .root))
 
       leaves-few : length (read-leaves s) ≤ f .leaves
       leaves-few = omega (arith, go (realizable-trie (f .width) (read-leaves s) (a .realizable) (a .well-sized)), ap leaf-count (a .trie-is), a .writable .leaf-total)

@@ -18,7 +18,7 @@ use query_point::descent::Stop;
 // The first leaf at or below node m, to which the first `depth` bytes of the key lead: the exact leaf that the node is, or else the first behind its first branch;
 // the labels on the way to it go to the key from `depth` on.
 pub fn first_at(image: &[u8], f: Frame, m: NodeNum, key: &mut [u8], depth: usize) -> Stop
-    requires { ⌜ Accepted (now image) f × (m .0 < f .dense + f .sparse) × (length (now key) ≡ 64) × (depth ≤ 64) ⌝ }
+    requires { ⌜ Accepted (now image) f × (m .0 < f .dense .nodes + f .sparse .nodes) × (length (now key) ≡ 64) × (depth ≤ 64) ⌝ }
     ensures { λ r. ⌜ (low-each (behind-each (take depth (now (key .entry))) (first-leaf (nodes (now (image .entry)) f) (64 - depth) (m .0))) ≡ low-of (f .width) (nodes (now (image .entry)) f) (r .kind) (r .slot .0) (take (r .depth) (now (key .exit))))
         × (length (now (key .exit)) ≡ 64) × (r .depth ≤ 64) × (r .kind ≤ 2) × (r .kind ≡ 2 → r .slot .0 < f .leaves) ⌝ }
 {
@@ -59,7 +59,7 @@ pub fn first_behind(
     key: &mut [u8],
     depth: usize,
 ) -> Stop
-    requires { ⌜ Accepted (now image) f × (m .0 < f .dense + f .sparse) × (y ≤ 256) × (length (now key) ≡ 64) × (depth < 64) ⌝ }
+    requires { ⌜ Accepted (now image) f × (m .0 < f .dense .nodes + f .sparse .nodes) × (y ≤ 256) × (length (now key) ≡ 64) × (depth < 64) ⌝ }
     ensures { λ r. ⌜ (low-each (behind-label (nodes (now (image .entry)) f) (m .0) y depth (take depth (now (key .entry)))) ≡ low-of (f .width) (nodes (now (image .entry)) f) (r .kind) (r .slot .0) (take (r .depth) (now (key .exit))))
         × (length (now (key .exit)) ≡ 64) × (r .depth ≤ 64) × (r .kind ≤ 2) × (r .kind ≡ 2 → r .slot .0 < f .leaves) ⌝ }
 {

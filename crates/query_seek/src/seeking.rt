@@ -81,11 +81,11 @@ fn at_leaf(image: &[u8], f: Frame, start: &[u8], slot: ValuePos, bound: LevelSum
 
 // Along the key from the root; the node from which it goes on with each byte passed goes to the path.
 fn along(image: &[u8], f: Frame, start: &[u8], path: &mut [usize; 64]) -> Led
-    requires { ⌜ Accepted (now image) f × (0 < f .dense + f .sparse) × (length (now start) ≤ 64) × (length (now path) ≡ 64) ⌝ }
+    requires { ⌜ Accepted (now image) f × (0 < f .dense .nodes + f .sparse .nodes) × (length (now start) ≤ 64) × (length (now path) ≡ 64) ⌝ }
     ensures { λ r. ⌜ (next-from (high-passed (length (now (start .entry)))) (f .width) (nodes (now (image .entry)) f) 64 0 [] (now (start .entry)) none
         ≡ led-leaf (f .width) (nodes (now (image .entry)) f) (now (start .entry)) (r .kind) (r .bound .node) (r .slot .0) (r .bound .depth) (turns (nodes (now (image .entry)) f) (now (start .entry)) (now (path .exit)) (r .bound .depth)))
-        × (r .kind ≤ 2) × (r .kind ≡ 1 → r .bound .node < f .dense + f .sparse) × (r .kind ≡ 2 → r .slot .0 < f .leaves) × Summed (now (image .entry)) f (now (start .entry)) (r .bound .node) (r .bound .depth) (r .bound .sum)
-        × (length (now (path .exit)) ≡ 64) × Nodes-below (f .dense + f .sparse) (now (path .exit)) (r .bound .depth) ⌝ }
+        × (r .kind ≤ 2) × (r .kind ≡ 1 → r .bound .node < f .dense .nodes + f .sparse .nodes) × (r .kind ≡ 2 → r .slot .0 < f .leaves) × Summed (now (image .entry)) f (now (start .entry)) (r .bound .node) (r .bound .depth) (r .bound .sum)
+        × (length (now (path .exit)) ≡ 64) × Nodes-below (f .dense .nodes + f .sparse .nodes) (now (path .exit)) (r .bound .depth) ⌝ }
 {
     let mut bound = AT_ROOT;
     while bound.depth < start.len() {
@@ -120,9 +120,9 @@ fn along(image: &[u8], f: Frame, start: &[u8], path: &mut [usize; 64]) -> Led
 
 // The last turn on the first `passed` levels of the key's way: from the lowest level upwards, the first node with a label above the key's byte.
 fn last_turn(image: &[u8], f: Frame, start: &[u8], path: &[usize; 64], passed: usize) -> Turn
-    requires { ⌜ Accepted (now image) f × (passed ≤ length (now start)) × (passed ≤ 64) × Nodes-below (f .dense + f .sparse) (now path) passed ⌝ }
+    requires { ⌜ Accepted (now image) f × (passed ≤ length (now start)) × (passed ≤ 64) × Nodes-below (f .dense .nodes + f .sparse .nodes) (now path) passed ⌝ }
     ensures { λ r. ⌜ (turns (nodes (now (image .entry)) f) (now (start .entry)) (now (path .entry)) passed ≡ turn-leaf (nodes (now (image .entry)) f) (now (start .entry)) (r .some) (r .node) (r .label) (r .depth))
-        × (r .some ≤ 1) × (r .some ≡ 1 → (r .node < f .dense + f .sparse) × (r .label ≤ 256) × (r .depth < passed)) ⌝ }
+        × (r .some ≤ 1) × (r .some ≡ 1 → (r .node < f .dense .nodes + f .sparse .nodes) × (r .label ≤ 256) × (r .depth < passed)) ⌝ }
 {
     let mut d = passed;
     while d > 0 {
@@ -156,7 +156,7 @@ pub fn next_leaf(image: &[u8], f: Frame, start: &[u8], key: &mut [u8]) -> Next
         × (0 < r .stop .kind → Summed (now (image .entry)) f (now (start .entry)) (r .bound .node) (r .bound .depth) (r .bound .sum)) ⌝ }
 {
     copy(start, key);
-    if f.dense + f.sparse == 0 {
+    if f.dense.nodes + f.sparse.nodes == 0 {
         return Next {
             stop: NOWHERE,
             bound: AT_ROOT,

@@ -10,7 +10,7 @@ use bits::numbers::read32;
 
 // Whether entry b, for each b below n, is the ones before the block b of so many words of the body, as 32 bits hold it.
 // The last block is never counted, so every word that is counted is whole.
-pub fn ranks_right(body: &[u8], table: &[u8], n: usize, words: usize) -> bool
+pub fn ranks_valid(body: &[u8], table: &[u8], n: usize, words: usize) -> bool
     requires { ⌜ Ranked (now body) (now table) n words ⌝ }
     ensures { λ r. ⌜ r ≡ equal (now (table .entry)) (entries (λ b. rank (now (body .entry)) (64 * words * b)) n) ⌝ }
 {

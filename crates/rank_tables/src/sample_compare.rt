@@ -26,7 +26,7 @@ fn ones_among(s: &[u8], q: usize, n: usize) -> usize
 
 // Whether entry t is there and is the position of one number 64 t, from 0, which word q holds among the first n bits, with so many ones before the word.
 // The entry is tested at its own place: it lies in the word, is set, and has just 64 t ones before it.
-fn sample_right(s: &[u8], n: usize, q: usize, before: usize, table: &[u8], t: usize) -> bool
+fn sample_valid(s: &[u8], n: usize, q: usize, before: usize, table: &[u8], t: usize) -> bool
     requires { ⌜ Held (now s) n q before t ⌝ }
     ensures { λ r. ⌜ r ≡ sampled (now (s .entry)) n (now (table .entry)) t ⌝ }
 {
@@ -52,7 +52,7 @@ fn sample_right(s: &[u8], n: usize, q: usize, before: usize, table: &[u8], t: us
 
 // Whether the table is that of the positions of one number 64 t, from 0, among the first n bits, for each begun 64 ones.
 // A word has at most 64 ones, so at most one of these stands in it.
-pub fn samples_right(s: &[u8], n: usize, table: &[u8]) -> bool
+pub fn samples_valid(s: &[u8], n: usize, table: &[u8]) -> bool
     requires { ⌜ (n ≤ 8 * length (now s)) × (n < 4294967296) ⌝ }
     ensures { λ r. ⌜ r ≡ equal (now (table .entry)) (entries (λ t. select (now (s .entry)) n (64 * t)) (blocks 64 (rank (now (s .entry)) n))) ⌝ }
 {
@@ -65,7 +65,7 @@ pub fn samples_right(s: &[u8], n: usize, table: &[u8]) -> bool
         q = word + 1;
         ones = before + ones_among(s, word, n);
         if 64 * t < ones {
-            if !sample_right(s, n, word, before, table, t) {
+            if !sample_valid(s, n, word, before, table, t) {
                 return false;
             }
             t = t + 1;

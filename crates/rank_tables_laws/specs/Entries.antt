@@ -164,9 +164,9 @@ length-entries f n = length-rows f 0 n
 
 module _ (f : ℕ → ℕ) (n : ℕ) (t : Bytes) where
   -- every entry of a table has its number
-  pub table-right : Small t → length t ≡ 4 * n → ((i : ℕ) → i < n → entry t i ≡ f i % 4294967296) → equal t (entries f n) ≡ true
+  pub table-valid : Small t → length t ≡ 4 * n → ((i : ℕ) → i < n → entry t i ≡ f i % 4294967296) → equal t (entries f n) ≡ true
   unfolding entries
-  table-right h l r = rows-true f n 0 t h l (λ i m. let z : 0 + i ≡ i = omega arith in rw z (r i m))
+  table-valid h l r = rows-true f n 0 t h l (λ i m. let z : 0 + i ≡ i = omega arith in rw z (r i m))
 
   -- a table with more or fewer entries
   pub table-sized : (length t ≡ 4 * n → ⊥) → equal t (entries f n) ≡ false

@@ -16,7 +16,7 @@ use Rattle.bits_laws.specs.Bits.{bit-at, rank, select}
 use Rattle.bits_laws.specs.ValueLaws.{Small}
 use Rattle.bits_laws.specs.RankLaws.{rank-next, rank-up, rank-slow}
 use Rattle.bits_laws.specs.SelectLaws.{select-is, select-here}
-use Rattle.rank_tables_laws.specs.Entries.{entries, entries-same, entry, table-right, table-sized, table-wrong}
+use Rattle.rank_tables_laws.specs.Entries.{entries, entries-same, entry, table-valid, table-sized, table-wrong}
 use Rattle.rank_tables_laws.specs.Ranks.{length-first, rank-first}
 
 -- ---- positions of ones
@@ -134,9 +134,9 @@ module _ (s : Bytes) (n : ℕ) (table : Bytes) (small : Small table) (short : n 
       go true p true q e = absurd (true≢false e)
 
   -- the samples are those of the table, where each of them is and there are no others
-  pub samples-right : (k : ℕ) → k ≡ blocks 64 (rank s n) → ((t : ℕ) → t < k → sampled s n table t ≡ true)
+  pub samples-valid : (k : ℕ) → k ≡ blocks 64 (rank s n) → ((t : ℕ) → t < k → sampled s n table t ≡ true)
       → eqb (4 * k) (length table) ≡ equal table (entries (λ t. select s n (64 * t)) (blocks 64 (rank s n)))
-  samples-right k e h = go (eqb (4 * k) (length table)) refl
+  samples-valid k e h = go (eqb (4 * k) (length table)) refl
     where
       each : (a b : Bool) → a && b ≡ true → b ≡ true
       each true b q = q
@@ -145,7 +145,7 @@ module _ (s : Bytes) (n : ℕ) (table : Bytes) (small : Small table) (short : n 
       go : (a : Bool) → eqb (4 * k) (length table) ≡ a → a ≡ equal table (entries (λ t. select s n (64 * t)) (blocks 64 (rank s n)))
       go true q =
           let l = eqb-true (4 * k) (length table) q in
-          sym (table-right (λ t. select s n (64 * t)) (blocks 64 (rank s n)) table small (omega arith)
+          sym (table-valid (λ t. select s n (64 * t)) (blocks 64 (rank s n)) table small (omega arith)
           (λ t m. eqb-true (entry table t) (select s n (64 * t)) (each (leb (4 * t + 4) (length table)) (eqb (entry table t) (select s n (64 * t))) (h t (omega arith))) ∙ sym (fits t)))
       go false q =
           let l = eqb-false (4 * k) (length table) q in

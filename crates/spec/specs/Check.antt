@@ -32,9 +32,9 @@ sized (n ∷ ns) [] = false
 sized (n ∷ ns) (b ∷ bs) = eqb (length b) n && sized ns bs
 
 -- 12 does not apply: version 1, settings in range, a zero byte, at most 65,535 leaves, body lengths as the counts give
-unfoldable pub header-right : Bytes → Parts → List Bytes → Bool
+unfoldable pub header-valid : Bytes → Parts → List Bytes → Bool
 unfolding every sizes sized
-header-right s p bs = every (
+header-valid s p bs = every (
     eqb (getD s 2 0) 1
     ∷ leb (p .dense) 4
     ∷ leb (p .width) 16
@@ -63,9 +63,9 @@ spare-clear p bs = every (
 -- ---- 15
 
 -- 15 does not apply: RL, RC, RP and RS are the ranks of DL, DC, DP and SC, and TS the samples of SB
-unfoldable pub ranks-right : Parts → List Bytes → Bool
+unfoldable pub ranks-valid : Parts → List Bytes → Bool
 unfolding every equal ranks samples
-ranks-right p bs = every (
+ranks-valid p bs = every (
     equal (body bs 7) (ranks 64 (p .dl))
     ∷ equal (body bs 8) (ranks 64 (p .dc))
     ∷ equal (body bs 9) (ranks 64 (p .dp))
@@ -83,24 +83,24 @@ clear-behind (suc m) s = clear-behind m (drop 8 s)
 
 -- A node on level d has a key of d bytes, and its branches lead to keys of d + 1:
 -- an exact leaf's slot is zero, and no suffix bit is set past a key's 64th byte.
-unfoldable pub slot-right : ℕ → Node → Bool
+unfoldable pub slot-valid : ℕ → Node → Bool
 unfolding clear-behind all
-slot-right d n = clear-behind 0 (exact-slot n) && all (λ e. clear-behind (63 - d) (slot e)) (branches-of n)
+slot-valid d n = clear-behind 0 (exact-slot n) && all (λ e. clear-behind (63 - d) (slot e)) (branches-of n)
 
 -- 16 does not apply to the levels from level d on
-unfoldable pub slots-right : ℕ → List (List Node) → Bool
-unfolding slot-right all
-slots-right d [] = true
-slots-right d (ns ∷ ls) = all (slot-right d) ns && slots-right (suc d) ls
+unfoldable pub slots-valid : ℕ → List (List Node) → Bool
+unfolding slot-valid all
+slots-valid d [] = true
+slots-valid d (ns ∷ ls) = all (slot-valid d) ns && slots-valid (suc d) ls
 
 -- ---- the check
 
 -- the first of 12 to 16 that applies to a header and bodies, or 0
 unfoldable pub judge-bodies : Bytes → List Bytes → ℕ
-unfolding from32 unpack parts header-right spare-clear builders-trie ranks-right slots-right levels-of nodes-of
+unfolding from32 unpack parts header-valid spare-clear builders-trie ranks-valid slots-valid levels-of nodes-of
 judge-bodies s bs =
     let p : Parts = parts s bs in
-    elim (header-right s p bs) [
+    elim (header-valid s p bs) [
       | false ↦ 12
       | true ↦
           elim (spare-clear p bs) [
@@ -109,10 +109,10 @@ judge-bodies s bs =
                 elim (builders-trie p) [
                   | false ↦ 14
                   | true ↦
-                      elim (ranks-right p bs) [
+                      elim (ranks-valid p bs) [
                         | false ↦ 15
                         | true ↦
-                            elim (slots-right 0 (levels-of (nodes-of p))) [ false ↦ 16 | true ↦ 0 ]
+                            elim (slots-valid 0 (levels-of (nodes-of p))) [ false ↦ 16 | true ↦ 0 ]
                       ]
                 ]
           ]

@@ -10,24 +10,24 @@ use Rattle.spec.specs.Nodes.{read-leaves}
 use Rattle.spec.specs.Check.{verdict}
 
 -- the decimal figures of a number, those of `done` behind them; `fuel` is above the number
-unfoldable pub figures : ℕ → ℕ → Bytes → Bytes
-figures zero n done = done
-figures (suc fuel) n done = elim (ltb n 10) [ true ↦ (letter "0" + n) ∷ done | false ↦ figures fuel (n / 10) ((letter "0" + n % 10) ∷ done) ]
+unfoldable pub digits : ℕ → ℕ → Bytes → Bytes
+digits zero n done = done
+digits (suc fuel) n done = elim (ltb n 10) [ true ↦ (letter "0" + n) ∷ done | false ↦ digits fuel (n / 10) ((letter "0" + n % 10) ∷ done) ]
 
 -- a number in decimal figures
 unfoldable pub decimal : ℕ → Bytes
-unfolding figures
-decimal n = figures (suc n) n []
+unfolding digits
+decimal n = digits (suc n) n []
 
 -- a capital hexadecimal figure
-unfoldable pub hex-figure : ℕ → ℕ
-hex-figure x = cond (ltb x 10) (letter "0" + x) (letter "A" + (x - 10))
+unfoldable pub hex-digit : ℕ → ℕ
+hex-digit x = cond (ltb x 10) (letter "0" + x) (letter "A" + (x - 10))
 
 -- a key in capital hexadecimal
 unfoldable pub hex : Bytes → Bytes
-unfolding hex-figure
+unfolding hex-digit
 hex [] = []
-hex (x ∷ k) = hex-figure (x / 16) ∷ hex-figure (x % 16) ∷ hex k
+hex (x ∷ k) = hex-digit (x / 16) ∷ hex-digit (x % 16) ∷ hex k
 
 -- the suffix bits, the first one first; "-" for an exact leaf or n 0
 unfoldable pub suffix-text : Bool → Bits → Bytes

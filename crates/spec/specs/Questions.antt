@@ -73,23 +73,23 @@ pub record Reply : Type 0 where
   pub key : Bytes
 
 -- a reply without a key
-unfoldable pub told : ℕ → ℕ → Reply
-told letter number = record { letter = letter; number = number; key = [] }
+unfoldable pub keyless : ℕ → ℕ → Reply
+keyless letter number = record { letter = letter; number = number; key = [] }
 
 -- a seek's reply; none: FFFFFFFF, length 0
 unfoldable pub sought : Sought → Reply
-unfolding told
-sought none = told (letter "S") 0xFFFFFFFF
+unfolding keyless
+sought none = keyless (letter "S") 0xFFFFFFFF
 sought (found i k) = record { letter = letter "S"; number = i; key = k }
 
 -- the reply to a question, with the question's second letter
 unfoldable pub reply : List Leaf → Question → Reply
-unfolding told sought point seek begins-with range counted
-reply ls (QP k) = told (letter "P") (point ls k)
+unfolding keyless sought point seek begins-with range counted
+reply ls (QP k) = keyless (letter "P") (point ls k)
 reply ls (QS start) = sought (seek ls start)
-reply ls (QB stem) = told (letter "B") (begins-with ls stem)
-reply ls (QR lo hi) = told (letter "R") (range ls lo hi)
-reply ls (QC lo hi) = told (letter "C") (counted ls lo hi)
+reply ls (QB stem) = keyless (letter "B") (begins-with ls stem)
+reply ls (QR lo hi) = keyless (letter "R") (range ls lo hi)
+reply ls (QC lo hi) = keyless (letter "C") (counted ls lo hi)
 
 -- a reply's bytes: "AN", the letter, a 32-bit number, a length byte, a key
 unfoldable pub reply-bytes : Reply → Bytes

@@ -53,10 +53,10 @@ sole-continues (node none (e ∷ f ∷ es)) = true
 -- What a builder's trie has, of its nodes in level order: the leaf count; no leaves means no nodes; nodes are continuing branches plus one,
 -- and each branch leads to a later node; each node has a label; the root is no exact leaf; labels ascend; a sole entry continues, except at
 -- the root; dense nodes are exactly those on the dense levels; no node is on level 64.
-unfoldable pub nodes-right : ℕ → ℕ → ℕ → List Node → Bool
+unfoldable pub nodes-valid : ℕ → ℕ → ℕ → List Node → Bool
 unfolding children leaf-count total later levels-of concat every all ascending sole-continues has-label
-nodes-right dense dense-count leaves [] = eqb leaves 0
-nodes-right dense dense-count leaves (r ∷ ns) = every (
+nodes-valid dense dense-count leaves [] = eqb leaves 0
+nodes-valid dense dense-count leaves (r ∷ ns) = every (
     eqb (leaf-count (r ∷ ns)) leaves
     ∷ ltb 0 leaves
     ∷ eqb (length (r ∷ ns)) (total children-of (r ∷ ns) + 1)
@@ -71,11 +71,11 @@ nodes-right dense dense-count leaves (r ∷ ns) = every (
 
 -- 14 does not apply: the S-LOUDS bits agree with the count and set the first; DC lies within DL; the extra FF does not continue; and what holds of the nodes
 unfoldable pub builders-trie : Parts → Bool
-unfolding every first-set ones covered all extra-ends sparse-nodes nodes-right nodes-of
+unfolding every first-set ones covered all extra-ends sparse-nodes nodes-valid nodes-of
 builders-trie p = every (
     first-set (p .sb)
     ∷ eqb (ones (p .sb)) (p .sparse-count)
     ∷ covered (p .dc) (p .dl)
     ∷ all extra-ends (sparse-nodes p)
-    ∷ nodes-right (p .dense) (p .dense-count) (p .leaves) (nodes-of p)
+    ∷ nodes-valid (p .dense) (p .dense-count) (p .leaves) (nodes-of p)
     ∷ [])

@@ -15,14 +15,14 @@ use Rattle.spec.specs.Leaves.{Leaf}
 use Rattle.spec.specs.Image.{Settings, image, ranks, samples, header}
 use Rattle.spec.specs.Frame.{parts, has-header, read-bodies, marks, body, Parts}
 use Rattle.spec.specs.Nodes.{levels-of, nodes-of, Node, slotted, dense-shapes, sparse-shape, sparse-nodes, extra-ends, Sparse, zip-entries, entry-label, continues, is-exact}
-use Rattle.spec.specs.Trie.{builders-trie, first-set, covered, nodes-right, leaf-count}
-use Rattle.spec.specs.Check.{header-right, spare-clear, ranks-right, slots-right, judge-bodies, verdict, sized, no-spare, sizes}
+use Rattle.spec.specs.Trie.{builders-trie, first-set, covered, nodes-valid, leaf-count}
+use Rattle.spec.specs.Check.{header-valid, spare-clear, ranks-valid, slots-valid, judge-bodies, verdict, sized, no-spare, sizes}
 use Rattle.theory.specs.Lists.{bytes-drop, and-both, first-members, Passed, every-true, all-append}
 use Rattle.theory.specs.Order.{equal-true}
-use Rattle.theory.specs.Words.{All, Is-bytes}
+use Rattle.theory.specs.Terms.{All, Is-bytes}
 use Rattle.theory.specs.Frame.{header-from-fields, write-records, bytes-bodies, Paired, read-bodies-some}
 use Rattle.theory.specs.Bits.{length-unpack, pack-unpack}
-use Rattle.theory.specs.TrieTests.{nodes-right-leaves}
+use Rattle.theory.specs.TrieTests.{nodes-valid-leaves}
 use Rattle.theory.specs.NodeBits.{past-nodes, slotted-append, Slots-width, slots-width, slots, slot-bits, bodies, bodies-of, sparse-labels, sparse-has-child, louds, Byte-labels, bodies-bits, length-slotted, layout}
 use Rattle.theory.specs.LiteralImage.{Buildable, image-of-trie}
 use Rattle.theory.specs.DenseBits.{dense-bits, dense-byte-labels}
@@ -33,18 +33,18 @@ use Rattle.theory.specs.AcceptedTrie.{Trie-of-list, trie-of-list}
 
 -- 12 to 16 do not apply
 record Tests-passed (s : Bytes) (bs : List Bytes) : Type 0 where
-  t12 : header-right s (parts s bs) bs ≡ true
+  t12 : header-valid s (parts s bs) bs ≡ true
   t13 : spare-clear (parts s bs) bs ≡ true
   t14 : builders-trie (parts s bs) ≡ true
-  t15 : ranks-right (parts s bs) bs ≡ true
-  t16 : slots-right 0 (levels-of (nodes-of (parts s bs))) ≡ true
+  t15 : ranks-valid (parts s bs) bs ≡ true
+  t16 : slots-valid 0 (levels-of (nodes-of (parts s bs))) ≡ true
 
 tests-passed : (s : Bytes) (bs : List Bytes) → judge-bodies s bs ≡ 0 → Tests-passed s bs
 unfolding judge-bodies
-tests-passed s bs h = go (header-right s (parts s bs) bs) refl (spare-clear (parts s bs) bs) refl (builders-trie (parts s bs)) refl (ranks-right (parts s bs) bs) refl (slots-right 0 (levels-of (nodes-of (parts s bs)))) refl h
+tests-passed s bs h = go (header-valid s (parts s bs) bs) refl (spare-clear (parts s bs) bs) refl (builders-trie (parts s bs)) refl (ranks-valid (parts s bs) bs) refl (slots-valid 0 (levels-of (nodes-of (parts s bs)))) refl h
   where
-    go : (a : Bool) → header-right s (parts s bs) bs ≡ a → (b : Bool) → spare-clear (parts s bs) bs ≡ b → (c : Bool) → builders-trie (parts s bs) ≡ c
-        → (d : Bool) → ranks-right (parts s bs) bs ≡ d → (e : Bool) → slots-right 0 (levels-of (nodes-of (parts s bs))) ≡ e
+    go : (a : Bool) → header-valid s (parts s bs) bs ≡ a → (b : Bool) → spare-clear (parts s bs) bs ≡ b → (c : Bool) → builders-trie (parts s bs) ≡ c
+        → (d : Bool) → ranks-valid (parts s bs) bs ≡ d → (e : Bool) → slots-valid 0 (levels-of (nodes-of (parts s bs))) ≡ e
         → _≡_ {A = ℕ} (elim a [ false ↦ 12 | true ↦ elim b [ false ↦ 13 | true ↦ elim c [ false ↦ 14 | true ↦ elim d [ false ↦ 15 | true ↦ elim e [ false ↦ 16 | true ↦ 0 ] ] ] ] ]) 0 → Tests-passed s bs
     go false p b q c r d u e v h = absurd (omega arith)
     go true p false q c r d u e v h = absurd (omega arith)
@@ -123,9 +123,9 @@ record Bits-read (p : Parts) (bs : List Bytes) : Type 0 where
   SB-is : pack (p .sb) ≡ body bs 5
   SV-is : pack (p .sv) ≡ body bs 6
 
-header-tests : (s : Bytes) (p : Parts) (bs : List Bytes) → header-right s p bs ≡ true
+header-tests : (s : Bytes) (p : Parts) (bs : List Bytes) → header-valid s p bs ≡ true
     → Passed (eqb (getD s 2 0) 1 ∷ leb (p .dense) 4 ∷ leb (p .width) 16 ∷ eqb (getD s 5 0) 0 ∷ leb (p .leaves) 65535 ∷ sized (sizes p) bs ∷ [])
-unfolding header-right
+unfolding header-valid
 header-tests s p bs h = every-true (eqb (getD s 2 0) 1 ∷ leb (p .dense) 4 ∷ leb (p .width) 16 ∷ eqb (getD s 5 0) 0 ∷ leb (p .leaves) 65535 ∷ sized (sizes p) bs ∷ []) h
 
 spare-tests : (p : Parts) (bs : List Bytes) → spare-clear p bs ≡ true
@@ -187,9 +187,9 @@ unfolding nodes-of dense-part sparse-part
 nodes-split p = slotted-append (p .width) (dense-shapes (p .dl) (p .dc) (p .dp)) (map sparse-shape (sparse-nodes p)) (p .sv)
 
 trie-tests : (p : Parts) → builders-trie p ≡ true
-    → Passed (first-set (p .sb) ∷ eqb (ones (p .sb)) (p .sparse-count) ∷ covered (p .dc) (p .dl) ∷ all extra-ends (sparse-nodes p) ∷ nodes-right (p .dense) (p .dense-count) (p .leaves) (nodes-of p) ∷ [])
+    → Passed (first-set (p .sb) ∷ eqb (ones (p .sb)) (p .sparse-count) ∷ covered (p .dc) (p .dl) ∷ all extra-ends (sparse-nodes p) ∷ nodes-valid (p .dense) (p .dense-count) (p .leaves) (nodes-of p) ∷ [])
 unfolding builders-trie
-trie-tests p h = every-true (first-set (p .sb) ∷ eqb (ones (p .sb)) (p .sparse-count) ∷ covered (p .dc) (p .dl) ∷ all extra-ends (sparse-nodes p) ∷ nodes-right (p .dense) (p .dense-count) (p .leaves) (nodes-of p) ∷ []) h
+trie-tests p h = every-true (first-set (p .sb) ∷ eqb (ones (p .sb)) (p .sparse-count) ∷ covered (p .dc) (p .dl) ∷ all extra-ends (sparse-nodes p) ∷ nodes-valid (p .dense) (p .dense-count) (p .leaves) (nodes-of p) ∷ []) h
 
 nodes-slots-width : (p : Parts) → length (p .sv) ≡ leaf-count (nodes-of p) * p .width → All (Slots-width (p .width)) (nodes-of p)
 unfolding nodes-of
@@ -208,7 +208,7 @@ record Nodes-read (p : Parts) : Type 0 where
   sparse-size : length S ≡ p .sparse-count
   tree : Trie-of-list (p .dense) (p .width) (p .leaves) D S
 
-nodes-read : (p : Parts) (bs : List Bytes) → Bits-read p bs → builders-trie p ≡ true → slots-right 0 (levels-of (nodes-of p)) ≡ true → Nodes-read p
+nodes-read : (p : Parts) (bs : List Bytes) → Bits-read p bs → builders-trie p ≡ true → slots-valid 0 (levels-of (nodes-of p)) ≡ true → Nodes-read p
 unfolding dense-part sparse-part sparse-nodes
 nodes-read p bs u h c =
     let t = trie-tests p h in
@@ -223,8 +223,8 @@ nodes-read p bs u h c =
     let labels : concat (map sparse-labels S) ≡ p .sl = sparse .labels ∙ ap (map entry-label) (k .0) ∙ z .0 in
     let children : concat (map sparse-has-child S) ≡ p .sc = sparse .children ∙ ap (map continues) (k .0) ∙ z .1 in
     let louds : concat (map louds S) ≡ p .sb = sparse .louds ∙ k .1 in
-    let b : nodes-right (p .dense) (p .dense-count) (p .leaves) (nodes-of p) ≡ true = t .1 .1 .1 .1 .0 in
-    let whole : length (p .sv) ≡ leaf-count (nodes-of p) * p .width = u .sv-size ∙ ap (λ (k : ℕ). k * p .width) (sym (nodes-right-leaves (p .dense) (p .dense-count) (p .leaves) (nodes-of p) b)) in
+    let b : nodes-valid (p .dense) (p .dense-count) (p .leaves) (nodes-of p) ≡ true = t .1 .1 .1 .1 .0 in
+    let whole : length (p .sv) ≡ leaf-count (nodes-of p) * p .width = u .sv-size ∙ ap (λ (k : ℕ). k * p .width) (sym (nodes-valid-leaves (p .dense) (p .dense-count) (p .leaves) (nodes-of p) b)) in
     let wide : All (Slots-width (p .width)) (nodes-of p) = nodes-slots-width p whole in
     let slot-all : concat (map slots (D ++ S)) ≡ p .sv = ap (λ (z : List Node). concat (map slots z)) (sym split) ∙ nodes-slots p whole in
     let size : length D ≡ p .dense-count = sym (length-map D is-exact) ∙ ap length (dense .prefix-keys) ∙ u .dp-size in
@@ -247,9 +247,9 @@ pub record Image-of-leaves (b : Bytes) : Type 0 where
   pub fits : Buildable settings leaves
   pub image-is : b ≡ image settings leaves
 
-ranks-tests : (p : Parts) (bs : List Bytes) → ranks-right p bs ≡ true
+ranks-tests : (p : Parts) (bs : List Bytes) → ranks-valid p bs ≡ true
     → Passed (equal (body bs 7) (ranks 64 (p .dl)) ∷ equal (body bs 8) (ranks 64 (p .dc)) ∷ equal (body bs 9) (ranks 64 (p .dp)) ∷ equal (body bs 10) (ranks 512 (p .sc)) ∷ equal (body bs 11) (samples (p .sb)) ∷ [])
-unfolding ranks-right
+unfolding ranks-valid
 ranks-tests p bs h = every-true (equal (body bs 7) (ranks 64 (p .dl)) ∷ equal (body bs 8) (ranks 64 (p .dc)) ∷ equal (body bs 9) (ranks 64 (p .dp)) ∷ equal (body bs 10) (ranks 512 (p .sc)) ∷ equal (body bs 11) (samples (p .sb)) ∷ []) h
 
 has-header-tests : (s : Bytes) → has-header s ≡ true → Passed (leb 22 (length s) ∷ eqb (getD s 0 0) 72 ∷ eqb (getD s 1 0) 68 ∷ [])
@@ -257,7 +257,7 @@ unfolding has-header
 has-header-tests s h = every-true (leb 22 (length s) ∷ eqb (getD s 0 0) 72 ∷ eqb (getD s 1 0) 68 ∷ []) h
 
 -- The twelve bodies are the bits' packed, the labels, and the ranks and samples of the bits.
-records-are : (p : Parts) (bs : List Bytes) → Bits-read p bs → ranks-right p bs ≡ true → layout (bodies-of (p .dl) (p .dc) (p .dp) (p .sl) (p .sc) (p .sb) (p .sv)) ≡ twelve-bodies bs
+records-are : (p : Parts) (bs : List Bytes) → Bits-read p bs → ranks-valid p bs ≡ true → layout (bodies-of (p .dl) (p .dc) (p .dp) (p .sl) (p .sc) (p .sb) (p .sv)) ≡ twelve-bodies bs
 unfolding twelve-bodies
 records-are p bs u h =
     let r = ranks-tests p bs h in
@@ -279,7 +279,7 @@ records-are p bs u h =
 abbrev settings-of : Parts → Settings
 settings-of p = record { dense = p .dense; width = p .width }
 
-header-of : (s : Bytes) (bs : List Bytes) → Is-bytes s → has-header s ≡ true → header-right s (parts s bs) bs ≡ true
+header-of : (s : Bytes) (bs : List Bytes) → Is-bytes s → has-header s ≡ true → header-valid s (parts s bs) bs ≡ true
     → take 22 s ≡ header (settings-of (parts s bs)) (parts s bs .leaves) (parts s bs .dense-count) (parts s bs .entry-count) (parts s bs .sparse-count)
 unfolding parts
 header-of s bs w h t =

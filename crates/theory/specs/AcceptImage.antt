@@ -14,9 +14,9 @@ use Rattle.spec.specs.Leaves.{Leaf}
 use Rattle.spec.specs.Image.{ranks, Settings, samples, image}
 use Rattle.spec.specs.Frame.{has-header, read-bodies, marks, parts, Parts}
 use Rattle.spec.specs.Nodes.{levels-of, nodes-of, Node, is-exact, extra-ends, sparse-nodes, total}
-use Rattle.spec.specs.Trie.{builders-trie, nodes-right, first-set, covered}
-use Rattle.spec.specs.Check.{verdict, judge-bodies, header-right, spare-clear, ranks-right, slots-right, sized, no-spare, sizes}
-use Rattle.theory.specs.Words.{All}
+use Rattle.spec.specs.Trie.{builders-trie, nodes-valid, first-set, covered}
+use Rattle.spec.specs.Check.{verdict, judge-bodies, header-valid, spare-clear, ranks-valid, slots-valid, sized, no-spare, sizes}
+use Rattle.theory.specs.Terms.{All}
 use Rattle.theory.specs.Order.{equal-self}
 use Rattle.theory.specs.Lists.{true-every, concat-split}
 use Rattle.theory.specs.Frame.{drop-header, write-records}
@@ -24,12 +24,12 @@ use Rattle.theory.specs.Bits.{length-pack, unpack-pack, length-ranks, le
 use Rattle.theory.specs.LevelTrie.{Node-group, trie, trie-dense, trie-sparse}
 use Rattle.theory.specs.LinkedLevels.{levels-back}
 use Rattle.theory.specs.Levels.{levels-of-concat, node-group-leaf}
-use Rattle.theory.specs.TrieTests.{Trie-right, root-nodes-right, root-first-width, nodes-right-none, realizable-trie, Empty-or-right, empty-list, right-trie}
+use Rattle.theory.specs.TrieTests.{Trie-valid, root-nodes-valid, root-first-width, nodes-valid-none, realizable-trie, Empty-or-valid, empty-list, valid-trie}
 use Rattle.theory.specs.NodeBits.{layout, bodies, bodies-bits, bodies-of, dense-labels, dense-has-child, sparse-labels, sparse-has-child, louds, slots, node-image}
 use Rattle.theory.specs.LiteralImage.{Buildable, image-of-trie}
 use Rattle.theory.specs.DenseBits.{length-dl, length-dc, dense-covered}
 use Rattle.theory.specs.SparseBits.{length-sc, length-sb, louds-ones, sparse-shapes-back}
-use Rattle.theory.specs.ImageParts.{Writable, parts-of-nodes, sv-size, node-image-header, node-image-is, sparse-nodes-back, nodes-back, parts-back, node-image-bodies, trie-leaf-count, trie-writable, trie-levels-right, empty-image, no-nodes-writable}
+use Rattle.theory.specs.ImageParts.{Writable, parts-of-nodes, sv-size, node-image-header, node-image-is, sparse-nodes-back, nodes-back, parts-back, node-image-bodies, trie-leaf-count, trie-writable, trie-levels-valid, empty-image, no-nodes-writable}
 
 -- ---- the tests, on what an image holds
 
@@ -42,10 +42,10 @@ verdict-of-bodies s bs h f = go (has-header s) h (read-bodies marks (drop 22 s))
     go true p none q = let z : _≡_ {A = ℕ} 0 1 = cc in absurd (omega arith)
     go true p (some cs) q = let e : cs ≡ bs = cc in ap (judge-bodies s) e
 
-tests-accept : (s : Bytes) (bs : List Bytes) → header-right s (parts s bs) bs ≡ true → spare-clear (parts s bs) bs ≡ true → builders-trie (parts s bs) ≡ true → ranks-right (parts s bs) bs ≡ true
-    → slots-right 0 (levels-of (nodes-of (parts s bs))) ≡ true → judge-bodies s bs ≡ 0
+tests-accept : (s : Bytes) (bs : List Bytes) → header-valid s (parts s bs) bs ≡ true → spare-clear (parts s bs) bs ≡ true → builders-trie (parts s bs) ≡ true → ranks-valid (parts s bs) bs ≡ true
+    → slots-valid 0 (levels-of (nodes-of (parts s bs))) ≡ true → judge-bodies s bs ≡ 0
 unfolding judge-bodies
-tests-accept s bs a b c d e = go (header-right s (parts s bs) bs) a (spare-clear (parts s bs) bs) b (builders-trie (parts s bs)) c (ranks-right (parts s bs) bs) d (slots-right 0 (levels-of (nodes-of (parts s bs)))) e
+tests-accept s bs a b c d e = go (header-valid s (parts s bs) bs) a (spare-clear (parts s bs) bs) b (builders-trie (parts s bs)) c (ranks-valid (parts s bs) bs) d (slots-valid 0 (levels-of (nodes-of (parts s bs)))) e
   where
     go : (a : Bool) → a ≡ true → (b : Bool) → b ≡ true → (c : Bool) → c ≡ true → (d : Bool) → d ≡ true → (e : Bool) → e ≡ true
         → _≡_ {A = ℕ} (elim a [ false ↦ 12 | true ↦ elim b [ false ↦ 13 | true ↦ elim c [ false ↦ 14 | true ↦ elim d [ false ↦ 15 | true ↦ elim e [ false ↦ 16 | true ↦ 0 ] ] ] ] ]) 0
@@ -57,8 +57,8 @@ tests-accept s bs a b c d e = go (header-right s (parts s bs) bs) a (spare-clear
     go true p true q true r true u true v = refl
 
 -- Bytes that pass every test are accepted.
-tests-verdict : (s : Bytes) (bs : List Bytes) → has-header s ≡ true → read-bodies marks (drop 22 s) ≡ some bs → header-right s (parts s bs) bs ≡ true → spare-clear (parts s bs) bs ≡ true
-    → builders-trie (parts s bs) ≡ true → ranks-right (parts s bs) bs ≡ true → slots-right 0 (levels-of (nodes-of (parts s bs))) ≡ true → verdict s ≡ 0
+tests-verdict : (s : Bytes) (bs : List Bytes) → has-header s ≡ true → read-bodies marks (drop 22 s) ≡ some bs → header-valid s (parts s bs) bs ≡ true → spare-clear (parts s bs) bs ≡ true
+    → builders-trie (parts s bs) ≡ true → ranks-valid (parts s bs) bs ≡ true → slots-valid 0 (levels-of (nodes-of (parts s bs))) ≡ true → verdict s ≡ 0
 tests-verdict s bs h f a b c d e = verdict-of-bodies s bs h f ∙ tests-accept s bs a b c d e
 
 -- bodies of these lengths
@@ -142,9 +142,9 @@ node-image-has-header st count ds ss w =
     let l : 22 ≤ length s = rw (node-image-is st count ds ss) (drop-header st count (length ds) (length (concat (map sparse-labels ss))) (length ss) (write-records marks (layout (bodies ds ss))) .5) in
     true-every (leb 22 (length s) ∷ eqb (getD s 0 0) 72 ∷ eqb (getD s 1 0) 68 ∷ []) (le-leb 22 (length s) l, (eq-eqb (getD s 0 0) 72 (h .mark-one), (eq-eqb (getD s 1 0) 68 (h .mark-two), tt)))
 
-node-image-header-right : (st : Settings) (count : ℕ) (ds ss : List Node) → Writable (st .width) count ds ss → st .dense ≤ 4 → header-right (node-image st count ds ss) (parts-of-nodes st count ds ss) (layout (bodies ds ss)) ≡ true
-unfolding header-right
-node-image-header-right st count ds ss w d =
+node-image-header-valid : (st : Settings) (count : ℕ) (ds ss : List Node) → Writable (st .width) count ds ss → st .dense ≤ 4 → header-valid (node-image st count ds ss) (parts-of-nodes st count ds ss) (layout (bodies ds ss)) ≡ true
+unfolding header-valid
+node-image-header-valid st count ds ss w d =
     let h = node-image-header st count ds ss w in
     let s : Bytes = node-image st count ds ss in
     true-every (eqb (getD s 2 0) 1 ∷ leb (st .dense) 4 ∷ leb (st .width) 16 ∷ eqb (getD s 5 0) 0 ∷ leb count 65535 ∷ sized (sizes (parts-of-nodes st count ds ss)) (layout (bodies ds ss)) ∷ [])
@@ -162,57 +162,57 @@ node-image-spare-clear st count ds ss w =
       ),
     ))
 
-node-image-builders-trie : (st : Settings) (count : ℕ) (ds ss : List Node) → Writable (st .width) count ds ss → nodes-right (st .dense) (length ds) count (ds ++ ss) ≡ true → builders-trie (parts-of-nodes st count ds ss) ≡ true
+node-image-builders-trie : (st : Settings) (count : ℕ) (ds ss : List Node) → Writable (st .width) count ds ss → nodes-valid (st .dense) (length ds) count (ds ++ ss) ≡ true → builders-trie (parts-of-nodes st count ds ss) ≡ true
 unfolding builders-trie
 node-image-builders-trie st count ds ss w b =
     let o = louds-ones ss (w .sparse-labelled) in
     let p : Parts = parts-of-nodes st count ds ss in
-    true-every (first-set (p .sb) ∷ eqb (ones (p .sb)) (p .sparse-count) ∷ covered (p .dc) (p .dl) ∷ all extra-ends (sparse-nodes p) ∷ nodes-right (p .dense) (p .dense-count) (p .leaves) (nodes-of p) ∷ [])
-    (o .1, (eq-eqb (ones (p .sb)) (length ss) (o .0), (dense-covered ds, (ap (all extra-ends) (sparse-nodes-back st count ds ss w) ∙ sparse-shapes-back ss (w .sparse-labelled) (w .sparse-bytes) .1, (ap (nodes-right (st .dense) (length ds) count) (nodes-back st count ds ss w) ∙ b, tt)))))
+    true-every (first-set (p .sb) ∷ eqb (ones (p .sb)) (p .sparse-count) ∷ covered (p .dc) (p .dl) ∷ all extra-ends (sparse-nodes p) ∷ nodes-valid (p .dense) (p .dense-count) (p .leaves) (nodes-of p) ∷ [])
+    (o .1, (eq-eqb (ones (p .sb)) (length ss) (o .0), (dense-covered ds, (ap (all extra-ends) (sparse-nodes-back st count ds ss w) ∙ sparse-shapes-back ss (w .sparse-labelled) (w .sparse-bytes) .1, (ap (nodes-valid (st .dense) (length ds) count) (nodes-back st count ds ss w) ∙ b, tt)))))
 
-node-image-ranks-right : (st : Settings) (count : ℕ) (ds ss : List Node) → ranks-right (parts-of-nodes st count ds ss) (layout (bodies ds ss)) ≡ true
-unfolding ranks-right
-node-image-ranks-right st count ds ss =
+node-image-ranks-valid : (st : Settings) (count : ℕ) (ds ss : List Node) → ranks-valid (parts-of-nodes st count ds ss) (layout (bodies ds ss)) ≡ true
+unfolding ranks-valid
+node-image-ranks-valid st count ds ss =
     let p : Parts = parts-of-nodes st count ds ss in
     rw (bodies-bits ds ss) (true-every
     (equal (ranks 64 (p .dl)) (ranks 64 (p .dl)) ∷ equal (ranks 64 (p .dc)) (ranks 64 (p .dc)) ∷ equal (ranks 64 (p .dp)) (ranks 64 (p .dp)) ∷ equal (ranks 512 (p .sc)) (ranks 512 (p .sc)) ∷ equal (samples (p .sb)) (samples (p .sb)) ∷ [])
     (equal-self (ranks 64 (p .dl)), (equal-self (ranks 64 (p .dc)), (equal-self (ranks 64 (p .dp)), (equal-self (ranks 512 (p .sc)), (equal-self (samples (p .sb)), tt))))))
 
 -- The image of nodes that pass the tests of a builder's trie and of its slots is accepted.
-pub node-image-accepted : (st : Settings) (count : ℕ) (ds ss : List Node) → Writable (st .width) count ds ss → st .dense ≤ 4 → nodes-right (st .dense) (length ds) count (ds ++ ss) ≡ true
-    → slots-right 0 (levels-of (ds ++ ss)) ≡ true → verdict (node-image st count ds ss) ≡ 0
+pub node-image-accepted : (st : Settings) (count : ℕ) (ds ss : List Node) → Writable (st .width) count ds ss → st .dense ≤ 4 → nodes-valid (st .dense) (length ds) count (ds ++ ss) ≡ true
+    → slots-valid 0 (levels-of (ds ++ ss)) ≡ true → verdict (node-image st count ds ss) ≡ 0
 node-image-accepted st count ds ss w d b c =
     let s : Bytes = node-image st count ds ss in
     let bs : List Bytes = layout (bodies ds ss) in
     let p : parts s bs ≡ parts-of-nodes st count ds ss = parts-back st count ds ss w in
     tests-verdict s bs (node-image-has-header st count ds ss w) (node-image-bodies st count ds ss w)
-    (rw p (node-image-header-right st count ds ss w d)) (rw p (node-image-spare-clear st count ds ss w)) (rw p (node-image-builders-trie st count ds ss w b)) (rw p (node-image-ranks-right st count ds ss)) (rw (p, nodes-back st count ds ss w) c)
+    (rw p (node-image-header-valid st count ds ss w d)) (rw p (node-image-spare-clear st count ds ss w)) (rw p (node-image-builders-trie st count ds ss w b)) (rw p (node-image-ranks-valid st count ds ss)) (rw (p, nodes-back st count ds ss w) c)
 
 -- The image of a buildable leaf list that is not empty is accepted.
-module _ (st : Settings) (ls : List Leaf) (v : Buildable st ls) (t : Trie-right ls) where
+module _ (st : Settings) (ls : List Leaf) (v : Buildable st ls) (t : Trie-valid ls) where
   some-leaf : 0 < length ls
   some-leaf = let h : All Node-group (ls ∷ []) = rw (t .root) at (levels-back (trie ls) (t .linked) .node-groups) in node-group-leaf (h .0)
 
   list-accepted : verdict (image st ls) ≡ 0
   list-accepted =
-      let b : nodes-right (st .dense) (length (trie-dense (st .dense) ls)) (length ls) (concat (trie ls)) ≡ true
-      = root-nodes-right (st .dense) (length ls) (st .width) (trie ls) ls (t .linked) (root-first-width t) (t .shallow) (t .root) (v .well-sized) (t .soles) (trie-leaf-count st ls v t) some-leaf in
+      let b : nodes-valid (st .dense) (length (trie-dense (st .dense) ls)) (length ls) (concat (trie ls)) ≡ true
+      = root-nodes-valid (st .dense) (length ls) (st .width) (trie ls) ls (t .linked) (root-first-width t) (t .shallow) (t .root) (v .well-sized) (t .soles) (trie-leaf-count st ls v t) some-leaf in
       let c : levels-of (concat (trie ls)) ≡ trie ls = levels-of-concat (trie ls) (t .linked) (root-first-width t) (t .shallow) in
       let whole = concat-split (st .dense) (trie ls) in
       ap verdict (image-of-trie st ls v)
-      ∙ node-image-accepted st (length ls) (trie-dense (st .dense) ls) (trie-sparse (st .dense) ls) (trie-writable st ls v t) (v .dense-range) (rw whole b) (rw (whole, c) (trie-levels-right st ls v t .right))
+      ∙ node-image-accepted st (length ls) (trie-dense (st .dense) ls) (trie-sparse (st .dense) ls) (trie-writable st ls v t) (v .dense-range) (rw whole b) (rw (whole, c) (trie-levels-valid st ls v t .valid))
 
-empty-slots : slots-right 0 (levels-of []) ≡ true
-unfolding slots-right levels-of total
+empty-slots : slots-valid 0 (levels-of []) ≡ true
+unfolding slots-valid levels-of total
 empty-slots = refl
 
 empty-accepted : (st : Settings) → Buildable st [] → verdict (image st []) ≡ 0
-empty-accepted st v = ap verdict (empty-image st v) ∙ node-image-accepted st 0 [] [] (no-nodes-writable st (v .width-range)) (v .dense-range) (nodes-right-none (st .dense) 0 0) empty-slots
+empty-accepted st v = ap verdict (empty-image st v) ∙ node-image-accepted st 0 [] [] (no-nodes-writable st (v .width-range)) (v .dense-range) (nodes-valid-none (st .dense) 0 0) empty-slots
 
 -- The check accepts the image of every buildable leaf list.
 pub image-accepted : (st : Settings) (ls : List Leaf) → Buildable st ls → verdict (image st ls) ≡ 0
 image-accepted st ls v = go (realizable-trie (st .width) ls (v .realizable) (v .well-sized)) v
   where
-    go : {ls : List Leaf} → Empty-or-right ls → Buildable st ls → verdict (image st ls) ≡ 0
+    go : {ls : List Leaf} → Empty-or-valid ls → Buildable st ls → verdict (image st ls) ≡ 0
     go empty-list v = empty-accepted st v
-    go (right-trie {ls = ls} t) v = list-accepted st ls v t
+    go (valid-trie {ls = ls} t) v = list-accepted st ls v t

@@ -14,13 +14,13 @@ use Rattle.spec.specs.Bytes.{Bytes, any, bit, concat, le32, from32, ascii}
 use Rattle.spec.specs.Keys.{below}
 use Rattle.spec.specs.Leaves.{Leaf, possible, lowest, highest}
 use Rattle.spec.specs.Nodes.{read-leaves}
-use Rattle.spec.specs.Questions.{Sought, point, range, begins-with, counted, meets, greater, seek, seek-from, found, Question, QP, QS, QB, QR, QC, Reply, told, sought, reply, reply-bytes, replies, read-reply, reply-at, Parsed-questions, refused, taken, parse-questions, questions-of}
+use Rattle.spec.specs.Questions.{Sought, point, range, begins-with, counted, meets, greater, seek, seek-from, found, Question, QP, QS, QB, QR, QC, Reply, keyless, sought, reply, reply-bytes, replies, read-reply, reply-at, Parsed-questions, refused, taken, parse-questions, questions-of}
 use Rattle.spec.specs.Answer.{Outcome, refuse, success, write}
 use Rattle.spec.specs.Check.{verdict}
 use Rattle.spec.specs.Ask.{ask}
 use Rattle.spec.specs.Walk.{Stand, done, stand-at, open-walk, next-place, next}
 use Rattle.spec.specs.Print.{decimal, listing, print}
-use Rattle.theory.specs.Words.{Is-bytes, Bound, Proper, All, Walk-right, Taken}
+use Rattle.theory.specs.Terms.{Is-bytes, Bound, Proper, All, Walk-correct, Taken}
 use Rattle.theory.specs.Lists.{count-bound, bytes-append, bytes-le32}
 use Rattle.theory.specs.LeafLists.{All-well-sized}
 use Rattle.theory.specs.SeekLaws.{sought-possible}
@@ -51,7 +51,7 @@ bit-small true = omega arith
 bit-small false = omega arith
 
 seek-place : (i : ℕ) (ls : List Leaf) (start : Bytes) → i + length ls < 4294967295 → sought (seek-from i ls start) .number < 4294967296
-unfolding seek-from sought told
+unfolding seek-from sought keyless
 seek-place i [] start h = omega arith
 seek-place i (l ∷ ls) start h = go (below (highest l) start) (seek-place (suc i) ls start (omega arith))
   where
@@ -61,7 +61,7 @@ seek-place i (l ∷ ls) start h = go (below (highest l) start) (seek-place (suc 
 
 -- the number of a reply over at most 65,535 leaves
 number-small : (ls : List Leaf) → length ls ≤ 65535 → (q : Question) → reply ls q .number < 4294967296
-unfolding reply told point range begins-with counted seek
+unfolding reply keyless point range begins-with counted seek
 number-small ls h (QP k) = bit-small (any (λ l. possible l k) ls)
 number-small ls h (QS start) = seek-place 0 ls start (omega arith)
 number-small ls h (QB stem) = bit-small (any (meets stem (take 64 (stem ++ (255 ∷ [])))) ls)
@@ -91,7 +91,7 @@ no-key : Bound []
 no-key = record { fits = omega arith; bytes = tt }
 
 bytes-reply-to : (n : ℕ) (ls : List Leaf) → All-well-sized n ls → (q : Question) → Proper q → Is-bytes (reply-bytes (reply ls q))
-unfolding reply told sought seek
+unfolding reply keyless sought seek
 bytes-reply-to n ls o (QP k) p = bytes-reply (reply ls (QP k)) (omega arith) no-key
 bytes-reply-to n ls o (QB stem) p = bytes-reply (reply ls (QB stem)) (omega arith) no-key
 bytes-reply-to n ls o (QR lo hi) p = bytes-reply (reply ls (QR lo hi)) (omega arith) no-key
@@ -175,8 +175,8 @@ module _ (b : Bytes) (ls : List Leaf) (v : verdict b ≡ 0) (e : read-leaves b �
   stands place h = walk-is b place 0 ls v e ∙ ap {B = Stand} (λ (t : Bool). elim t [ true ↦ Walk.refused 17 | false ↦ stand-at ls place ]) (le-ltb (length ls) place h)
 
   -- the walk over an accepted image
-  pub walk-right : Walk-right b ls
-  walk-right =
+  pub walk-correct : Walk-correct b ls
+  walk-correct =
       let n : length (read-leaves b) ≡ length ls = ap length e in
       let done-at : open-walk b (length ls) ≡ done = stands (length ls) (omega arith) ∙ stand-done ls in
       record {
@@ -196,5 +196,5 @@ print-is b t v e f =
     ap₂ {C = Bytes} (λ (t : Bool) (v : ℕ). elim t [ true ↦ ascii "too long" ++ (10 ∷ []) | false ↦ elim (eqb v 0) [ false ↦ ascii "refused " ++ decimal v ++ (10 ∷ []) | true ↦ listing (read-leaves b) ] ]) e f
 
 -- over an accepted image of at most 65,536 bytes
-pub print-right : (b : Bytes) (ls : List Leaf) → verdict b ≡ 0 → read-leaves b ≡ ls → length b ≤ 65536 → print b ≡ listing ls
-print-right b ls v e h = print-is b false 0 (le-ltb 65536 (length b) h) v ∙ ap listing e
+pub print-correct : (b : Bytes) (ls : List Leaf) → verdict b ≡ 0 → read-leaves b ≡ ls → length b ≤ 65536 → print b ≡ listing ls
+print-correct b ls v e h = print-is b false 0 (le-ltb 65536 (length b) h) v ∙ ap listing e

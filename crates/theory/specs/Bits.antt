@@ -14,7 +14,7 @@ use borrow.Author.Tests.{eqb-true, eqb-false, ne-eqb, eq-eqb}
 use Rattle.spec.specs.Bytes.{bit, low-first, low-bits, Bits, clear, packed, Bytes, unpack, blocks, pack, any, iota, concat, le32, ones}
 use Rattle.spec.specs.Image.{has, positions, ranks, samples}
 use Rattle.spec.specs.Check.{no-spare}
-use Rattle.theory.specs.Words.{Is-bytes}
+use Rattle.theory.specs.Terms.{Is-bytes}
 use Rattle.theory.specs.Lists.{length-iota}
 
 -- ---- bits of a number

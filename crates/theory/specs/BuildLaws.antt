@@ -15,7 +15,7 @@ use Rattle.spec.specs.Leaves.{leaves}
 use Rattle.spec.specs.Image.{Settings, image}
 use Rattle.spec.specs.Answer.{Outcome, refuse, write, written}
 use Rattle.spec.specs.Build.{in-range, trie-entries, build-keys, build}
-use Rattle.theory.specs.Words.{Ascending, Is-bytes, Keys, Key-list}
+use Rattle.theory.specs.Terms.{Ascending, Is-bytes, Keys, Key-list}
 use Rattle.theory.specs.KeyLeaves.{leaves-realizable, leaves-well-sized, leaves-length}
 use Rattle.theory.specs.EntryBound.{entry-count-literal, built-entries}
 use Rattle.theory.specs.KeyFiles.{keys-exactly}

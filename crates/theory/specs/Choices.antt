@@ -9,7 +9,7 @@ use lib.Dec.{leb}
 use borrow.Author.Tests.{le-leb}
 use Rattle.spec.specs.Bytes.{Bytes, Bits, begins, equal, same-bits}
 use Rattle.spec.specs.Leaves.{Leaf, leaves, bits-behind, possible, lowest}
-use Rattle.theory.specs.Words.{Ascending, Keys, Key, All}
+use Rattle.theory.specs.Terms.{Ascending, Keys, Key, All}
 use Rattle.theory.specs.Order.{begins-append, equal-true, equal-self, prefix-append}
 use Rattle.theory.specs.LeafLists.{Possible-key, Possible-keys, done, also, Realizable, possible-keys-leaves, possible-keys-ascend, All-well-sized}
 use Rattle.theory.specs.KeyLeaves.{leaves-realizable, leaves-well-sized, leaves-possible-keys, leaves-length}

@@ -1,5 +1,5 @@
 -- The buyer's demands 1, 2 and 3, on bytes, in the words of the sheet and of document 01 ("Words of demand 3").
--- A reader needs this file, Words and crate `spec`. DemandsMet proves them; the contracts of the public calls equate each call with its definition here.
+-- A reader needs this file, Terms and crate `spec`. DemandsMet proves them; the contracts of the public calls equate each call with its definition here.
 use Prim.Native.Nat.{ℕ, _+_, _<_, _≤_}
 use mathlib.Core.Path.{_≡_}
 use mathlib.Core.Bool.{true, false}
@@ -20,7 +20,7 @@ use Rattle.spec.specs.Check.{accepted, check}
 use Rattle.spec.specs.Ask.{ask}
 use Rattle.spec.specs.Walk.{open-walk, next}
 use Rattle.spec.specs.Print.{listing, print}
-use Rattle.theory.specs.Words.{In, Is-bytes, Key-list, Question-file, Taken, Walk-right, From, Judged-alike}
+use Rattle.theory.specs.Terms.{In, Is-bytes, Key-list, Question-file, Taken, Walk-correct, From, Judged-alike}
 use Rattle.spec.specs.Check as Check
 use Rattle.spec.specs.Keys as Keys
 use Rattle.spec.specs.Questions as Questions
@@ -152,13 +152,13 @@ pub record Demand-2 : Type 0 where
   pub each-reply : (st : Settings) (list b : Bytes) → Builds-with st list b → (file out : Bytes) → Taken b file out
       → (i : ℕ) (q : Question) → question-at file i ≡ some q → reply-at i (ask b file out .final) ≡ reply (leaves (st .width) (keys-of list)) q
   -- a walk gives them leaf by leaf, and the leaf printer prints them.
-  pub walk : (st : Settings) (list b : Bytes) → Builds-with st list b → Walk-right b (leaves (st .width) (keys-of list))
+  pub walk : (st : Settings) (list b : Bytes) → Builds-with st list b → Walk-correct b (leaves (st .width) (keys-of list))
   pub print : (st : Settings) (list b : Bytes) → Builds-with st list b → length b ≤ 65536 → print b ≡ listing (leaves (st .width) (keys-of list))
 
 -- ---- demand 3
 
 -- of an accepted image, a question file that is taken, and the reply buffer's final bytes
-pub record Replies-right (b file final : Bytes) : Type 0 where
+pub record Replies-correct (b file final : Bytes) : Type 0 where
   -- "a key or range is denied exactly when none of the lists that build the image holds it"
   pub key : (i : ℕ) (k : Bytes) → question-at file i ≡ some (QP k) → (reply-at i final .number ≡ 0) ↔ No-list-holds b k
   -- "or has a key in it";
@@ -184,7 +184,7 @@ pub record Demand-3 : Type 0 where
   pub taken-exactly : (b : Bytes) → Accepted b → (file : Bytes) → Is-bytes file → (out : Bytes)
       → Taken b file out ↔ ((qs : List Question) × Question-file file qs × (length (replies (read-leaves b) qs) ≤ length out))
   -- "For every accepted image and every question of every question file that is taken"
-  pub right : (b : Bytes) → Is-bytes b → Accepted b → (file : Bytes) → Is-bytes file → (out : Bytes) → Taken b file out → Replies-right b file (ask b file out .final)
+  pub valid : (b : Bytes) → Is-bytes b → Accepted b → (file : Bytes) → Is-bytes file → (out : Bytes) → Taken b file out → Replies-correct b file (ask b file out .final)
   -- "Two lists with the same settings build one image exactly when their prefixes, kinds and suffix bits agree."
   pub one-image : (st : Settings) (list other b c : Bytes) → Builds-with st list b → Builds-with st other c
       → (b ≡ c) ↔ Agree (leaves (st .width) (keys-of list)) (leaves (st .width) (keys-of other))

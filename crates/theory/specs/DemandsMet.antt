@@ -13,24 +13,24 @@ use Rattle.spec.specs.Leaves.{Leaf, leaves}
 use Rattle.spec.specs.Image.{Settings, image}
 use Rattle.spec.specs.Frame.{read-settings}
 use Rattle.spec.specs.Nodes.{read-leaves}
-use Rattle.spec.specs.Questions.{point, range, begins-with, counted, seek, Sought, found, stem-end, Question, QP, QS, QB, QR, QC, Reply, told, sought, reply, replies, reply-at, questions-of, question-at}
+use Rattle.spec.specs.Questions.{point, range, begins-with, counted, seek, Sought, found, stem-end, Question, QP, QS, QB, QR, QC, Reply, keyless, sought, reply, replies, reply-at, questions-of, question-at}
 use Rattle.spec.specs.Answer.{success, Outcome}
 use Rattle.spec.specs.Build.{in-range, build}
 use Rattle.spec.specs.Check.{verdict}
 use Rattle.spec.specs.Ask.{ask}
-use Rattle.theory.specs.Words.{Is-bytes, In, Bound, Key-list, Proper}
+use Rattle.theory.specs.Terms.{Is-bytes, In, Bound, Key-list, Proper}
 use Rattle.theory.specs.Lists.{all-at}
 use Rattle.theory.specs.LeafLists.{leaf-equal}
 use Rattle.theory.specs.Choices.{Has-leaves, has-leaves-exactly, has-leaves-length}
-use Rattle.theory.specs.RangeLaws.{Count-right, point-denied, range-denied, begins-denied, count-right}
-use Rattle.theory.specs.SeekLaws.{Seek-right, seek-none, seek-found}
+use Rattle.theory.specs.RangeLaws.{Count-correct, point-denied, range-denied, begins-denied, count-correct}
+use Rattle.theory.specs.SeekLaws.{Seek-correct, seek-none, seek-found}
 use Rattle.theory.specs.ReadBack.{read-back, settings-back}
 use Rattle.theory.specs.KeyFiles.{keys-exactly, bytes-write-keys}
 use Rattle.theory.specs.QuestionFiles.{questions-exactly}
-use Rattle.theory.specs.Demands.{Builds-with, Builds, Count, Next-key, None, Agree, Demand-1, Demand-2, Replies-right, Demand-3, Demands}
+use Rattle.theory.specs.Demands.{Builds-with, Builds, Count, Next-key, None, Agree, Demand-1, Demand-2, Replies-correct, Demand-3, Demands}
 use Rattle.theory.specs.OutcomeLaws.{final-is, write-fits, success-written, success-answer}
 use Rattle.theory.specs.BuildLaws.{built-from, built-fits, keys-of-list, in-range-exactly, build-writes, build-writes-image}
-use Rattle.theory.specs.AskLaws.{bytes-replies, reply-written, Answered, ask-answers, ask-takes, walk-right, print-right}
+use Rattle.theory.specs.AskLaws.{bytes-replies, reply-written, Answered, ask-answers, ask-takes, walk-correct, print-correct}
 use Rattle.theory.specs.ImageBytes.{image-bytes}
 use Rattle.theory.specs.RefusalNumbers.{check-accepts, check-refuses}
 use Rattle.theory.specs.RefusalLaws.{build-refuses, never-six, ask-refuses, ask-writes-replies, walk-refuses, next-refuses, judged-alike, build-kept, ask-kept}
@@ -97,7 +97,7 @@ reply-is b file out ls a e h i q f =
 
 -- a seek's reply is none exactly when the seek found none; places are below 65,535
 none-is : (s : Sought) → ((j : ℕ) (r : Bytes) → s ≡ found j r → j < 65535) → None (sought s) ↔ (s ≡ Questions.none)
-unfolding sought told
+unfolding sought keyless
 none-is Questions.none h = (λ z. refl, λ z. (refl, refl))
 none-is (found j r) h = (
   λ z. absurd (omega (arith, h j r refl, z .0)),
@@ -107,19 +107,19 @@ none-is (found j r) h = (
 -- ---- the reply to each question
 
 reply-point : (ls : List Leaf) (k : Bytes) → reply ls (QP k) .number ≡ point ls k
-unfolding reply told
+unfolding reply keyless
 reply-point ls k = refl
 
 reply-range : (ls : List Leaf) (lo hi : Bytes) → reply ls (QR lo hi) .number ≡ range ls lo hi
-unfolding reply told
+unfolding reply keyless
 reply-range ls lo hi = refl
 
 reply-stem : (ls : List Leaf) (stem : Bytes) → reply ls (QB stem) .number ≡ begins-with ls stem
-unfolding reply told
+unfolding reply keyless
 reply-stem ls stem = refl
 
 reply-count : (ls : List Leaf) (lo hi : Bytes) → reply ls (QC lo hi) .number ≡ counted ls lo hi
-unfolding reply told
+unfolding reply keyless
 reply-count ls lo hi = refl
 
 reply-seek : (ls : List Leaf) (start : Bytes) → reply ls (QS start) ≡ sought (seek ls start)
@@ -175,8 +175,8 @@ demand-2 = record {
       ask-answers b file out (list-accepted st list b w) t .writes ∙ ap (λ (z : List Leaf). success (replies z (questions-of file)) out) (list-read st list b w);
   each-reply = λ st list b w file out t i q e.
       reply-is b file out (leaves (st .width) (keys-of list)) (ask-answers b file out (list-accepted st list b w) t) (list-read st list b w) (list-fits st list b w .few) i q e;
-  walk = λ st list b w. walk-right b (leaves (st .width) (keys-of list)) (list-accepted st list b w) (list-read st list b w);
-  print = λ st list b w h. print-right b (leaves (st .width) (keys-of list)) (list-accepted st list b w) (list-read st list b w) h;
+  walk = λ st list b w. walk-correct b (leaves (st .width) (keys-of list)) (list-accepted st list b w) (list-read st list b w);
+  print = λ st list b w h. print-correct b (leaves (st .width) (keys-of list)) (list-accepted st list b w) (list-read st list b w) h;
 }
 
 -- ---- demand 3
@@ -213,14 +213,14 @@ module _ (b : Bytes) (o : Accept.Image-of-leaves b) where
   some-list P w = let x = keys-build (w .0) (w .1) in (write-keys (w .0), x .0, subst P (sym (x .1)) (w .2))
 
   -- a count and a seek over the leaves, of the lists that build the image
-  count-lists : (lo hi : Bytes) (c : ℕ) → Count-right (o .settings .width) (o .leaves) lo hi c → Count b lo hi c
+  count-lists : (lo hi : Bytes) (c : ℕ) → Count-correct (o .settings .width) (o .leaves) lo hi c → Count b lo hi c
   count-lists lo hi c w = record {
     reached = some-list (λ ks. count (within lo hi) ks ≡ c) (w .reached);
     most = every (λ ks. count (within lo hi) ks ≤ c) .0 (w .most);
     near = every (λ ks. c ≤ count (within lo hi) ks + 2) .0 (w .near);
   }
 
-  found-lists : (start : Bytes) (place : ℕ) (key : Bytes) → Seek-right (o .settings .width) (o .leaves) start place key → Next-key b start place key
+  found-lists : (start : Bytes) (place : ℕ) (key : Bytes) → Seek-correct (o .settings .width) (o .leaves) start place key → Next-key b start place key
   found-lists start place key w = record {
     after = w .after;
     held = some-list (λ ks. In key ks) (w .held);
@@ -229,13 +229,13 @@ module _ (b : Bytes) (o : Accept.Image-of-leaves b) where
   }
 
   -- a place is below 65,535
-  found-place : (start : Bytes) (place : ℕ) (key : Bytes) → Seek-right (o .settings .width) (o .leaves) start place key → place < 65535
+  found-place : (start : Bytes) (place : ℕ) (key : Bytes) → Seek-correct (o .settings .width) (o .leaves) start place key → place < 65535
   found-place start place key w =
       let h = w .held in
       omega (arith, w .placed (h .0) (h .1) (h .2) .0, has-leaves-length (h .0) (o .leaves) (h .1), o .fits .few)
 
   -- a seek from a start that is not none
-  found-at : (start : Bytes) → Bound start → (j : ℕ) (r : Bytes) → seek (o .leaves) start ≡ found j r → Seek-right (o .settings .width) (o .leaves) start j r
+  found-at : (start : Bytes) → Bound start → (j : ℕ) (r : Bytes) → seek (o .leaves) start ≡ found j r → Seek-correct (o .settings .width) (o .leaves) start j r
   found-at start p j r h = seek-found (o .leaves) start (o .fits .realizable) (o .fits .well-sized) p j r h
 
   -- a seek that is not none
@@ -261,8 +261,8 @@ module _ (b : Bytes) (o : Accept.Image-of-leaves b) where
     sought-on : (i : ℕ) (start : Bytes) → question-at file i ≡ some (QS start) → reply-at i (ask b file out .final) ≡ sought (seek (o .leaves) start)
     sought-on i start e = reply-on i (QS start) e ∙ reply-seek (o .leaves) start
 
-    replies-right : Replies-right b file (ask b file out .final)
-    replies-right = record {
+    replies-valid : Replies-correct b file (ask b file out .final)
+    replies-valid = record {
       key = λ i k e.
           rw (number-on i (QP k) e ∙ reply-point (o .leaves) k) (Iff·trans (point-denied (o .leaves) k (o .fits .realizable) (o .fits .well-sized) (proper i (QP k) e)) (every (λ ks. In k ks → ⊥)));
       range = λ i lo hi e.
@@ -274,7 +274,7 @@ module _ (b : Bytes) (o : Accept.Image-of-leaves b) where
           (Iff·trans (begins-denied (o .leaves) stem (o .fits .realizable) (o .fits .well-sized) (proper i (QB stem) e)) (every (λ ks. (k : Bytes) → In k ks → within stem (stem-end stem) k ≡ false)));
       count = λ i lo hi e.
           let p = proper i (QC lo hi) e in
-          rw (number-on i (QC lo hi) e ∙ reply-count (o .leaves) lo hi) (count-lists lo hi (counted (o .leaves) lo hi) (count-right (o .leaves) lo hi (o .fits .realizable) (o .fits .well-sized) (p .lower) (p .order)));
+          rw (number-on i (QC lo hi) e ∙ reply-count (o .leaves) lo hi) (count-lists lo hi (counted (o .leaves) lo hi) (count-correct (o .leaves) lo hi (o .fits .realizable) (o .fits .well-sized) (p .lower) (p .order)));
       none = λ i start e.
           let p = proper i (QS start) e in
           rw (sought-on i start e)
@@ -300,9 +300,9 @@ demand-3 = record {
         λ t. let a = ask-answers b file out v t in (questions-of file, questions-exactly file (questions-of file) s .0 (a .questions-are), a .room),
         λ f. ask-takes b file out v (f .0) (questions-exactly file (f .0) s .1 (f .1)) (f .2),
       );
-  right = λ b s c file sf out t.
+  valid = λ b s c file sf out t.
       let v = check-accepts b .0 c in
-      replies-right b (Accept.accepted-is-image b s v) file out sf (ask-answers b file out v t);
+      replies-valid b (Accept.accepted-is-image b s v) file out sf (ask-answers b file out v t);
   one-image = λ st list other b c w x. (
     λ e. let same : leaves (st .width) (keys-of list) ≡ leaves (st .width) (keys-of other) = sym (list-read st list b w) ∙ ap read-leaves e ∙ list-read st other c x in
         subst (λ (ms : List Leaf). Agree (leaves (st .width) (keys-of list)) ms) same (agree-self (leaves (st .width) (keys-of list))),

@@ -15,7 +15,7 @@ use Rattle.spec.specs.Bytes.{Bits, filter, iota, concat}
 use Rattle.spec.specs.Image.{positions, has}
 use Rattle.spec.specs.Nodes.{entry-label, dense-entries, continues, node, with-slots, Node, is-exact, slotted, dense-shapes, past-slots, label-of, Branch, has-child, to-node, to-leaf, entry, branches-of, shape}
 use Rattle.spec.specs.Trie.{covered}
-use Rattle.theory.specs.Words.{Is-bytes, All}
+use Rattle.theory.specs.Terms.{Is-bytes, All}
 use Rattle.theory.specs.Lists.{and-both, nil-of, length-iota}
 use Rattle.theory.specs.Bits.{has-positions, Ascends-from, has-here, has-skip, has-none}
 use Rattle.theory.specs.LinkedLevels.{Ascends, Labelled}

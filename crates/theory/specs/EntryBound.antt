@@ -11,7 +11,7 @@ use Rattle.spec.specs.Bytes.{Bytes, Bits, concat}
 use Rattle.spec.specs.Leaves.{Leaf, leaves}
 use Rattle.spec.specs.Image.{nodes}
 use Rattle.spec.specs.Nodes.{Group, Branch, Node, node, label-of, is-exact}
-use Rattle.theory.specs.Words.{Keys}
+use Rattle.theory.specs.Terms.{Keys}
 use Rattle.theory.specs.Lists.{concat-append}
 use Rattle.theory.specs.LeafLists.{Realizable}
 use Rattle.theory.specs.KeyLeaves.{leaves-well-sized, leaves-length}

@@ -15,7 +15,7 @@ use Rattle.spec.specs.Bytes.{Bytes, le32, from32, iota}
 use Rattle.spec.specs.Image.{marked, Settings, header}
 use Rattle.spec.specs.Frame.{body, is-record, read-bodies}
 use Rattle.theory.specs.Lists.{bytes-drop, every-true, true-every, first-members}
-use Rattle.theory.specs.Words.{Is-bytes, All}
+use Rattle.theory.specs.Terms.{Is-bytes, All}
 
 -- ---- 32-bit numbers
 

@@ -9,7 +9,7 @@ use Rattle.spec.specs.Leaves.{Leaf}
 use Rattle.spec.specs.Image.{Settings, image, header, marked, ranks, samples, positions}
 use Rattle.spec.specs.Frame.{marks}
 use Rattle.spec.specs.Nodes.{Node, label-of, branches-of, is-exact}
-use Rattle.theory.specs.Words.{All, Is-bytes}
+use Rattle.theory.specs.Terms.{All, Is-bytes}
 use Rattle.theory.specs.Lists.{bytes-append, bytes-le32}
 use Rattle.theory.specs.NodeBits.{Byte-labels, sparse-labels, layout, bodies, bodies-bits, dense-labels, dense-has-child, sparse-has-child, louds, slots}
 use Rattle.theory.specs.Frame.{write-records}

@@ -14,15 +14,15 @@ use Rattle.spec.specs.Image.{Settings, header, Bodies, image}
 use Rattle.spec.specs.Frame.{Parts, parts, marks, read-bodies}
 use Rattle.spec.specs.Nodes.{Node, is-exact, sparse-nodes, nodes-of, Shape, slotted, sparse-shape, total, children-of}
 use Rattle.spec.specs.Trie.{leaf-count}
-use Rattle.theory.specs.Words.{All}
+use Rattle.theory.specs.Terms.{All}
 use Rattle.theory.specs.Lists.{concat-split, all-split}
 use Rattle.theory.specs.Frame.{Header-fields, write-records, header-back, Short-bodies, drop-header, read-bodies-write}
 use Rattle.theory.specs.Bits.{unpack-at, length-pack, length-ranks, length-samples}
 use Rattle.theory.specs.LevelTrie.{trie, trie-dense, trie-sparse}
 use Rattle.theory.specs.LinkedLevels.{Labelled}
 use Rattle.theory.specs.Levels.{leaf-count-root, nodes-bound, linked-labelled, linked-count, sparse-labels-count, leaf-count-append, total-append}
-use Rattle.theory.specs.TrieTests.{Trie-right, root-first-width, realizable-trie, Empty-or-right, empty-list, right-trie}
-use Rattle.theory.specs.LevelSlots.{Levels-right, levels-right, realizable-leaf-right}
+use Rattle.theory.specs.TrieTests.{Trie-valid, root-first-width, realizable-trie, Empty-or-valid, empty-list, valid-trie}
+use Rattle.theory.specs.LevelSlots.{Levels-valid, levels-valid, realizable-leaf-valid}
 use Rattle.theory.specs.NodeBits.{sparse-labels, dense-labels, dense-has-child, sparse-has-child, louds, slots, Byte-labels, Slots-width, layout, bodies-of, node-image, bodies, bodies-bits, length-sv, shape-of, slotted-back}
 use Rattle.theory.specs.LiteralImage.{Buildable, image-of-trie}
 use Rattle.theory.specs.DenseBits.{length-dl, length-dc, dense-shapes-back}
@@ -169,10 +169,10 @@ node-image-bodies st count ds ss w =
 
 -- ---- the nodes of a buildable leaf list
 
-module _ (st : Settings) (ls : List Leaf) (v : Buildable st ls) (t : Trie-right ls) where
+module _ (st : Settings) (ls : List Leaf) (v : Buildable st ls) (t : Trie-valid ls) where
   -- The labels and slots of the trie's levels are right.
-  pub trie-levels-right : Levels-right (st .width) 0 (trie ls)
-  trie-levels-right = levels-right (st .width) 0 (trie ls) (t .linked) (rw (t .root) (realizable-leaf-right (st .width) ls ls (v .well-sized) (v .realizable .shortest), tt))
+  pub trie-levels-valid : Levels-valid (st .width) 0 (trie ls)
+  trie-levels-valid = levels-valid (st .width) 0 (trie ls) (t .linked) (rw (t .root) (realizable-leaf-valid (st .width) ls ls (v .well-sized) (v .realizable .shortest), tt))
 
   -- The trie's nodes have as many leaves as the list.
   pub trie-leaf-count : leaf-count (concat (trie ls)) ≡ length ls
@@ -188,7 +188,7 @@ module _ (st : Settings) (ls : List Leaf) (v : Buildable st ls) (t : Trie-right 
       let ss : List Node = trie-sparse (st .dense) ls in
       let whole : ds ++ ss ≡ concat (trie ls) = concat-split (st .dense) (trie ls) in
       let f : All Labelled (ds ++ ss) = rw whole (linked-labelled (trie ls) (t .linked)) in
-      let s : All Byte-labels (ds ++ ss) = rw whole (trie-levels-right .bytes) in
+      let s : All Byte-labels (ds ++ ss) = rw whole (trie-levels-valid .bytes) in
       let c : leaf-count (ds ++ ss) ≡ length ls = ap leaf-count whole ∙ trie-leaf-count in
       let n : length (ds ++ ss) ≤ 4194240 = rw whole all-nodes in
       let k : total children-of (ds ++ ss) + 1 ≤ 4194241 = let e = linked-count (trie ls) (t .linked) in rw whole (omega (arith, (root-first-width t), all-nodes)) in
@@ -197,7 +197,7 @@ module _ (st : Settings) (ls : List Leaf) (v : Buildable st ls) (t : Trie-right 
         sparse-labelled = all-split Labelled ds ss f .1;
         dense-bytes = all-split Byte-labels ds ss s .0;
         sparse-bytes = all-split Byte-labels ds ss s .1;
-        wide = rw whole (trie-levels-right .wide);
+        wide = rw whole (trie-levels-valid .wide);
         leaf-total = c;
         width-range = v .width-range;
         few = v .few;
@@ -247,9 +247,9 @@ pub record Image-holds (st : Settings) (ls : List Leaf) : Type 0 where
 pub image-holds : (st : Settings) (ls : List Leaf) → Buildable st ls → Image-holds st ls
 image-holds st ls v = go (realizable-trie (st .width) ls (v .realizable) (v .well-sized)) v
   where
-    go : {ls : List Leaf} → Empty-or-right ls → Buildable st ls → Image-holds st ls
+    go : {ls : List Leaf} → Empty-or-valid ls → Buildable st ls → Image-holds st ls
     go empty-list v = record { dense-nodes = []; sparse-nodes = []; image-is = empty-image st v; writable = no-nodes-writable st (v .width-range); whole = sym (ap concat empty-trie ∙ empty-concat) }
-    go (right-trie {ls = ls} t) v = record {
+    go (valid-trie {ls = ls} t) v = record {
       dense-nodes = trie-dense (st .dense) ls;
       sparse-nodes = trie-sparse (st .dense) ls;
       image-is = image-of-trie st ls v;

@@ -15,7 +15,7 @@ use borrow.Author.Tests.{lt-ltb, le-ltb, le-leb, lt-leb, eq-eqb, ne-eqb, eqb-tru
 use Rattle.spec.specs.Bytes.{Bytes, Bits, bit, begins, high-first, bits-of, padded, fill, filled, clear, same-bits, blocks, equal}
 use Rattle.spec.specs.Keys.{below}
 use Rattle.spec.specs.Leaves.{Leaf, trimmed, bits-behind, possible, lowest, highest}
-use Rattle.theory.specs.Words.{Is-bytes, Key}
+use Rattle.theory.specs.Terms.{Is-bytes, Key}
 use Rattle.theory.specs.Lists.{bytes-append, bytes-take, le-or-lt, bytes-drop, and-both}
 use Rattle.theory.specs.Order.{below-irrefl, equal-order, prefix-append, below-append, below-nil, outside-prefix, equal-true}
 use Rattle.theory.specs.LeafLists.{Clear-past, Well-sized}

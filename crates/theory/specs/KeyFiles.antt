@@ -11,7 +11,7 @@ use lib.Dec.{ltb, eqb}
 use borrow.Author.Tests.{ltb-false, eqb-true, eqb-false, lt-ltb, le-ltb, ne-eqb, not-false}
 use Rattle.spec.specs.Bytes.{Bytes}
 use Rattle.spec.specs.Keys.{below, Parsed-keys, refused, keys, with-key, parse-records, parse-keys, write-keys}
-use Rattle.theory.specs.Words.{Below-all, Ascending, Is-bytes, Key, Keys, Key-list}
+use Rattle.theory.specs.Terms.{Below-all, Ascending, Is-bytes, Key, Keys, Key-list}
 use Rattle.theory.specs.Lists.{or-both-false, bytes-drop, bytes-take, bytes-append, and-both}
 use Rattle.theory.specs.Order.{below-trans}
 

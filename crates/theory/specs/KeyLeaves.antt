@@ -13,7 +13,7 @@ use Rattle.spec.specs.Bytes.{Bytes, any, maximum, equal, begins, shared, Bits, 
 use Rattle.spec.specs.Keys.{below}
 use Rattle.spec.specs.Leaves.{Leaf, others, leaf, leaves, bits-behind, possible, lowest, highest}
 use Rattle.spec.specs.Questions.{none}
-use Rattle.theory.specs.Words.{All, Below-all, Ascending, Key, Keys, In, here, there, Is-bytes}
+use Rattle.theory.specs.Terms.{All, Below-all, Ascending, Key, Keys, In, here, there, Is-bytes}
 use Rattle.theory.specs.Lists.{any-none, all-in, maximum-below, maximum-bound, in-filter, bytes-take}
 use Rattle.theory.specs.Order.{shared-le, below-unequal, equal-comm, shared-lt, shared-comm}
 use Rattle.theory.specs.LeafLists.{Before, inner, less, step, Possible-key, Possible-keys, done, also, Before-all, Ordered, Shortest, Realizable, All-alike, line, all-alike, alike-maximum, alike-any, Clear-past, Well-sized, All-well-sized}

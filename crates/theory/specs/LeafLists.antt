@@ -11,7 +11,7 @@ use borrow.Author.Tests.{lt-ltb}
 use Rattle.spec.specs.Bytes.{Bytes, any, filter, maximum, equal, begins, shared, Bits, clear}
 use Rattle.spec.specs.Keys.{below}
 use Rattle.spec.specs.Leaves.{Leaf, others, leaf, leaves, bits-behind}
-use Rattle.theory.specs.Words.{Ascending, All, Below-all, Key}
+use Rattle.theory.specs.Terms.{Ascending, All, Below-all, Key}
 use Rattle.theory.specs.Lists.{eqb-self, gt-eqb, lt-eqb}
 use Rattle.theory.specs.Order.{equal-self, prefix-append}
 

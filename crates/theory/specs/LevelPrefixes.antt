@@ -13,7 +13,7 @@ use borrow.Author.Tests.{ne-eqb, lt-ltb}
 use Rattle.spec.specs.Bytes.{Bytes, dedup, equal, filter, begins, Bits, any, concat}
 use Rattle.spec.specs.Image.{on-level, above, branches, is-leaf, leaf-at, is-node}
 use Rattle.spec.specs.Nodes.{Group, prefix, to-node, to-leaf, node}
-use Rattle.theory.specs.Words.{All}
+use Rattle.theory.specs.Terms.{All}
 use Rattle.theory.specs.LeafLists.{Ordered}
 use Rattle.theory.specs.Lists.{map-ext, eqb-self, lt-eqb, concat-append, all-append, all-weaken}
 use Rattle.theory.specs.LevelTrie.{Subtree, subtree, Nonempty-cuts, no-cuts, nonempty-cut, Node-group, plain-node, exact-node, Leaf-group, open-leaf, subtrees, insert-cut, exact-of, branch-of, node-group-branch, Leaf-or-node-groups, Trie-group, node-of, leaf-or-node-groups, Inner-group, child-groups, child-group, Subtrees, all-child-group}

@@ -13,7 +13,7 @@ use borrow.Author.Tests.{eqb-true}
 use Rattle.spec.specs.Bytes.{Bytes, Bits, concat}
 use Rattle.spec.specs.Leaves.{Leaf}
 use Rattle.spec.specs.Nodes.{Group, Branch, to-node, to-leaf, Node, node, prefix, exact-leaf, branch-leaves, children, level-groups, groups}
-use Rattle.theory.specs.Words.{All}
+use Rattle.theory.specs.Terms.{All}
 use Rattle.theory.specs.LeafLists.{Ordered}
 use Rattle.theory.specs.Lists.{all-append, all-weaken}
 

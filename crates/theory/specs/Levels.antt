@@ -14,7 +14,7 @@ use borrow.Author.Tests.{eqb-true, lt-leb, ltb-true, le-leb, lt-ltb}
 use Rattle.spec.specs.Bytes.{all, concat, Bits, bit}
 use Rattle.spec.specs.Nodes.{children, total, later, Branch, label-of, Node, branches-of, node, to-node, to-leaf, children-of, levels, levels-of, Group, branch-leaves, prefix, exact-leaf, is-exact, level-groups, groups}
 use Rattle.spec.specs.Trie.{ascending, has-label, sole-continues, open-leaves, leaf-count}
-use Rattle.theory.specs.Words.{All}
+use Rattle.theory.specs.Terms.{All}
 use Rattle.theory.specs.Lists.{and-both, all-drop, all-take, all-append}
 use Rattle.theory.specs.LevelTrie.{Sole-continues, Node-group, plain-node, exact-node}
 use Rattle.theory.specs.LinkedLevels.{Ascends, Labelled, Linked, first-width, levels-back}

@@ -11,7 +11,7 @@ use borrow.Author.Tests.{ne-eqb, eq-eqb}
 use Rattle.spec.specs.Bytes.{concat, Bytes, Bits}
 use Rattle.spec.specs.Leaves.{Leaf}
 use Rattle.spec.specs.Nodes.{Branch, label-of, Node, node, Group, to-leaf, to-node, prefix, children, branch-leaves, exact-leaf, level-groups, total, children-of, groups}
-use Rattle.theory.specs.Words.{All}
+use Rattle.theory.specs.Terms.{All}
 use Rattle.theory.specs.Lists.{all-drop}
 use Rattle.theory.specs.LevelTrie.{Subtree, subtree, insert, subtrees, insert-cut, Node-group, plain-node, exact-node, branch-of, child-group, node-group-branch, Nonempty-cuts, nonempty-cut, no-cuts, exact-of, node-of, child-groups, trie-levels, trie}
 

@@ -12,7 +12,7 @@ use lib.ListN.{length, take, drop, getElem?, getD}
 use lib.Dec.{leb, eqb}
 use borrow.Author.Tests.{eq-eqb, ne-eqb, leb-true, leb-false}
 use Rattle.spec.specs.Bytes.{le32, Bytes, any, filter, maximum, count, concat, every, iota}
-use Rattle.theory.specs.Words.{Is-bytes, In, here, there, All}
+use Rattle.theory.specs.Terms.{Is-bytes, In, here, there, All}
 
 -- ---- Boolean and number tests
 
@@ -292,9 +292,9 @@ in-left h here = here
 in-left h (there i) = there (in-left h i)
 
 -- A member of the second of two lists is one of both.
-pub in-right : {A : Type 0} {m : A} (g h : List A) → In m h → In m (g ++ h)
-in-right [] h i = i
-in-right (l ∷ g) h i = there (in-right g h i)
+pub in-valid : {A : Type 0} {m : A} (g h : List A) → In m h → In m (g ++ h)
+in-valid [] h i = i
+in-valid (l ∷ g) h i = there (in-valid g h i)
 
 -- A member of two lists together is one of either.
 pub in-split : {A : Type 0} {m : A} (a b : List A) → In m (a ++ b) → In m a ⊎ In m b

@@ -12,7 +12,7 @@ use borrow.Author.Tests.{not-true, eqb-true, eqb-false}
 use Rattle.spec.specs.Bytes.{Bytes, any, filter, maximum, equal, begins, shared}
 use Rattle.spec.specs.Keys.{below}
 use Rattle.spec.specs.Leaves.{Leaf, others, leaf, leaves, bits-behind}
-use Rattle.theory.specs.Words.{All, In, here, there, Below-all, Ascending}
+use Rattle.theory.specs.Terms.{All, In, here, there, Below-all, Ascending}
 use Rattle.theory.specs.Lists.{all-in, in-any, filter-in, in-filter, any-false, maximum-bound, maximum-below}
 use Rattle.theory.specs.Order.{below-cons, below-asym, below-lt-le, below-nil, below-unequal, equal-self, equal-comm, shared-comm, shared-le, shared-eq, shared-ne, above-short, begins-shared, shared-begins}
 
@@ -61,14 +61,14 @@ far-left (x ∷ a) (y ∷ b) (z ∷ c) h k =
     (below-cons x y a b h)
 
 -- and the last no more with the first
-far-right : (a b c : Bytes) → below a b ≡ true → below b c ≡ true → shared c a ≤ shared c b
+far-valid : (a b c : Bytes) → below a b ≡ true → below b c ≡ true → shared c a ≤ shared c b
 unfolding shared
-far-right a b [] h k = absurd (true≢false (sym k ∙ below-nil b))
-far-right [] b (z ∷ c) h k = omega arith
-far-right (x ∷ a) [] (z ∷ c) h k = absurd (true≢false (sym h ∙ below-nil (x ∷ a)))
-far-right (x ∷ a) (y ∷ b) (z ∷ c) h k =
+far-valid a b [] h k = absurd (true≢false (sym k ∙ below-nil b))
+far-valid [] b (z ∷ c) h k = omega arith
+far-valid (x ∷ a) [] (z ∷ c) h k = absurd (true≢false (sym h ∙ below-nil (x ∷ a)))
+far-valid (x ∷ a) (y ∷ b) (z ∷ c) h k =
     ⊎-elim (λ u. ⊎-elim (λ v. omega (arith, shared-ne z x c a (λ e. omega arith))) (λ v. omega (arith, shared-ne z x c a (λ e. omega arith))) (below-cons y z b c k))
-    (λ u. ⊎-elim (λ v. omega (arith, shared-ne z x c a (λ e. omega arith))) (λ v. omega (arith, shared-eq z x c a (omega arith), shared-eq z y c b (omega arith), far-right a b c (u .1) (v .1))) (below-cons y z b c k))
+    (λ u. ⊎-elim (λ v. omega (arith, shared-ne z x c a (λ e. omega arith))) (λ v. omega (arith, shared-eq z x c a (omega arith), shared-eq z y c b (omega arith), far-valid a b c (u .1) (v .1))) (below-cons y z b c k))
     (below-cons x y a b h)
 
 -- ---- the keys behind
@@ -152,7 +152,7 @@ step : (ks : List Bytes) (k m : Bytes) (ms : List Bytes) (p : ℕ) → 0 < lengt
 step ks k m ms p z w = record {
   some = z;
   into = λ o i. w .into o (there i);
-  seen = λ o i. ⊎-elim (λ j. kin o j) (λ s. inr (below-lt-le o k m (s .0) (below-asym k m (w .asc .0 .0)), omega (arith, far-right o k m (s .0) (w .asc .0 .0), shared-comm k m))) (w .seen o i);
+  seen = λ o i. ⊎-elim (λ j. kin o j) (λ s. inr (below-lt-le o k m (s .0) (below-asym k m (w .asc .0 .0)), omega (arith, far-valid o k m (s .0) (w .asc .0 .0), shared-comm k m))) (w .seen o i);
   wit = inr (k, w .into k here, w .asc .0 .0, shared-comm m k);
   short = omega (arith, above-short k m (w .asc .0 .0), shared-comm k m);
   asc = w .asc .1;

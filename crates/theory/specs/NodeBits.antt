@@ -14,7 +14,7 @@ use Rattle.spec.specs.Image.{has, Bodies, ranks, samples, Settings, header}
 use Rattle.spec.specs.Frame.{marks}
 use Rattle.spec.specs.Nodes.{Node, label-of, branches-of, has-child, is-exact, exact-slot, slot, Branch, Entry, to-node, entry, to-leaf, Shape, node, shape, with-slots, entry-label, continues, slotted, past-slots}
 use Rattle.spec.specs.Trie.{open-leaves, leaf-count}
-use Rattle.theory.specs.Words.{All, Is-bytes}
+use Rattle.theory.specs.Terms.{All, Is-bytes}
 use Rattle.theory.specs.Lists.{nil-of}
 use Rattle.theory.specs.Frame.{write-records}
 

@@ -21,7 +21,7 @@ use Rattle.theory.specs.LevelTrie.{Subtree, Subtrees, subtree, Leaf-grou
 use Rattle.theory.specs.LinkedLevels.{Linked, levels-back}
 use Rattle.theory.specs.TrieGroups.{Depth-at-most, realizable-trie-group, has-leaf}
 use Rattle.theory.specs.Levels.{leaves-in, exact-leaf-count, branch-leaves-count}
-use Rattle.theory.specs.TrieTests.{trie-right}
+use Rattle.theory.specs.TrieTests.{trie-valid}
 use Rattle.theory.specs.PrefixNodes.{cons, behind, branches-behind, is-node-behind}
 use Rattle.theory.specs.LevelPrefixes.{Groups-behind, prefixes-below, on-level-leaf, branch-prefixes, leaf-group-no-node, on-level-root, node-group-is-node, root-branches}
 
@@ -174,4 +174,4 @@ leaves-before-groups (ns ∷ ls) h k =
 -- All leaves are at or below the root.
 pub leaves-before-root : {n : ℕ} (l : Leaf) (ls : List Leaf) → Realizable n (l ∷ ls) → All-well-sized n (l ∷ ls) → leaves-before (trie (l ∷ ls)) 1 ≡ length (l ∷ ls)
 unfolding leaves-in
-leaves-before-root l ls g o = let b = trie-right l ls g o in leaves-before-groups (trie (l ∷ ls)) (b .linked) 1 ∙ ap (λ (z : List Group). leaves-in (take 1 z)) (b .root) ∙ add-zero (length (l ∷ ls))
+leaves-before-root l ls g o = let b = trie-valid l ls g o in leaves-before-groups (trie (l ∷ ls)) (b .linked) 1 ∙ ap (λ (z : List Group). leaves-in (take 1 z)) (b .root) ∙ add-zero (length (l ∷ ls))

@@ -12,7 +12,7 @@ use borrow.Author.Tests.{ltb-false, eqb-true, eqb-false, le-ltb, ne-eqb}
 use Rattle.spec.specs.Bytes.{Bytes, concat}
 use Rattle.spec.specs.Keys.{below}
 use Rattle.spec.specs.Questions.{Question, QP, QS, QB, QR, QC, Front, bad, got, read-key, one-key, two-keys, read-keys, read-question, Parsed-questions, refused, taken, with-question, parse-from, parse-questions}
-use Rattle.theory.specs.Words.{All, Is-bytes, Bound, file-bytes, question-bytes, Question-file, Range, key-bytes, Proper}
+use Rattle.theory.specs.Terms.{All, Is-bytes, Bound, file-bytes, question-bytes, Question-file, Range, key-bytes, Proper}
 use Rattle.theory.specs.Lists.{bytes-drop, bytes-take}
 
 -- ---- a key

@@ -13,7 +13,7 @@ use Rattle.spec.specs.Bytes.{Bytes, any, count, filled, blocks, bit, equal, beg
 use Rattle.spec.specs.Keys.{below, within}
 use Rattle.spec.specs.Leaves.{Leaf, possible, lowest, highest, trimmed, bits-behind}
 use Rattle.spec.specs.Questions.{counted, meets, greater, stem-end, point, range, begins-with}
-use Rattle.theory.specs.Words.{Is-bytes, In, here, there, Key, Keys, Bound}
+use Rattle.theory.specs.Terms.{Is-bytes, In, here, there, Key, Keys, Bound}
 use Rattle.theory.specs.Lists.{all-in, any-in, in-any, any-count, count-any, and-both}
 use Rattle.theory.specs.Order.{below-asym, below-irrefl, below-le-lt, below-lt-le, below-append, below-nil}
 use Rattle.theory.specs.LeafLists.{before-below, Possible-key, Possible-keys, done, also, Ordered, Before-all, Realizable, Well-sized, All-well-sized}
@@ -362,14 +362,14 @@ begins-denied ls stem g o q = range-denied ls stem (stem-end stem) g o q (stem-o
 -- ---- counts
 
 -- A count is the number of keys that some list that has the leaves has in the range, and no such list has more, or over two fewer.
-pub record Count-right (n : ℕ) (ls : List Leaf) (lo hi : Bytes) (c : ℕ) : Type 0 where
+pub record Count-correct (n : ℕ) (ls : List Leaf) (lo hi : Bytes) (c : ℕ) : Type 0 where
   pub reached : (ks : List Bytes) × Has-leaves n ks ls × (count (within lo hi) ks ≡ c)
   pub most : (ks : List Bytes) → Has-leaves n ks ls → count (within lo hi) ks ≤ c
   pub near : (ks : List Bytes) → Has-leaves n ks ls → c ≤ count (within lo hi) ks + 2
 
 -- The reply to a count question is such a number.
-pub count-right : {n : ℕ} (ls : List Leaf) (lo hi : Bytes) → Realizable n ls → All-well-sized n ls → Bound lo → below hi lo ≡ false → Count-right n ls lo hi (counted ls lo hi)
-count-right {n} ls lo hi g o q r = record { reached = some; most = top; near = λ ks b. count-near lo hi (g .ordered) (has-leaves-possible ks ls b) }
+pub count-correct : {n : ℕ} (ls : List Leaf) (lo hi : Bytes) → Realizable n ls → All-well-sized n ls → Bound lo → below hi lo ≡ false → Count-correct n ls lo hi (counted ls lo hi)
+count-correct {n} ls lo hi g o q r = record { reached = some; most = top; near = λ ks b. count-near lo hi (g .ordered) (has-leaves-possible ks ls b) }
   where
     top : (ks : List Bytes) → Has-leaves n ks ls → count (within lo hi) ks ≤ counted ls lo hi
     top ks b = count-most lo hi o (b .keys) (has-leaves-possible ks ls b)

@@ -13,7 +13,7 @@ use Rattle.spec.specs.Nodes.{read-nodes, nodes-of, Node, leaves-of, levels-of, 
 use Rattle.theory.specs.LevelTrie.{trie}
 use Rattle.theory.specs.TrieGroups.{trie-leaves, well-sized-depth}
 use Rattle.theory.specs.Levels.{levels-of-concat}
-use Rattle.theory.specs.TrieTests.{Empty-or-right, empty-list, right-trie, root-first-width, realizable-trie}
+use Rattle.theory.specs.TrieTests.{Empty-or-valid, empty-list, valid-trie, root-first-width, realizable-trie}
 use Rattle.theory.specs.NodeBits.{node-image, layout, bodies}
 use Rattle.theory.specs.LiteralImage.{Buildable}
 use Rattle.theory.specs.ImageParts.{Writable, node-image-bodies, parts-back, nodes-back, image-holds}
@@ -29,10 +29,10 @@ node-image-nodes st count ds ss w =
     read-nodes-bodies (node-image st count ds ss) (layout (bodies ds ss)) (node-image-bodies st count ds ss w) ∙ ap nodes-of (parts-back st count ds ss w) ∙ nodes-back st count ds ss w
 
 -- A trie's levels are cut again from its nodes.
-levels-of-trie : {ls : List Leaf} → Empty-or-right ls → leaves-of (levels-of (concat (trie ls))) ≡ leaves-of (trie ls)
+levels-of-trie : {ls : List Leaf} → Empty-or-valid ls → leaves-of (levels-of (concat (trie ls))) ≡ leaves-of (trie ls)
 unfolding leaves-of levels-of total trie concat groups
 levels-of-trie empty-list = refl
-levels-of-trie (right-trie {ls = ls} t) =
+levels-of-trie (valid-trie {ls = ls} t) =
     ap leaves-of (levels-of-concat (trie ls) (t .linked) (root-first-width t) (t .shallow))
 
 -- An image of a buildable leaf list gives back its leaves: cut keys, kinds and suffixes.

@@ -20,7 +20,7 @@ use Rattle.spec.specs.Build.{in-range, trie-entries, build-keys, build}
 use Rattle.spec.specs.Check.{verdict, accepted, check}
 use Rattle.spec.specs.Ask.{ask}
 use Rattle.spec.specs.Walk.{stand-at, open-walk, next}
-use Rattle.theory.specs.Words.{Is-bytes, From, Judged-alike}
+use Rattle.theory.specs.Terms.{Is-bytes, From, Judged-alike}
 use Rattle.theory.specs.KeyFiles.{keys-exactly}
 use Rattle.theory.specs.Demands.{Build-refusal, Ask-refusal, Walk-refusal, setting-refused, record-refused, image-too-long, image-refused, question-refused, replies-too-long, refused-image, place-refused, Kept}
 use Rattle.theory.specs.OutcomeLaws.{no-written, refuse-answer, write-answer, success-written, refuse-kept, write-kept}

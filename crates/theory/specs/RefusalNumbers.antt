@@ -15,8 +15,8 @@ use Rattle.spec.specs.Frame.{marks, has-header, read-bodies, parts}
 use Rattle.spec.specs.Nodes.{levels-of, nodes-of}
 use Rattle.spec.specs.Trie.{builders-trie}
 use Rattle.spec.specs.Questions.{Question, QP, QS, QB, QR, QC, Front, bad, got, read-key, one-key, two-keys, read-keys, read-question, Parsed-questions, taken, with-question, parse-from, parse-questions}
-use Rattle.spec.specs.Check.{header-right, spare-clear, ranks-right, slots-right, judge-bodies, verdict, accepted, checked, check}
-use Rattle.theory.specs.Words.{From}
+use Rattle.spec.specs.Check.{header-valid, spare-clear, ranks-valid, slots-valid, judge-bodies, verdict, accepted, checked, check}
+use Rattle.theory.specs.Terms.{From}
 use Rattle.spec.specs.Check as Check
 use Rattle.spec.specs.Questions as Questions
 
@@ -134,11 +134,11 @@ Verdict-number v = (v ≡ 0) ⊎ From 11 16 v
 judge-number : (s : Bytes) (bs : List Bytes) → Verdict-number (judge-bodies s bs)
 unfolding judge-bodies
 judge-number s bs =
-    by-test Verdict-number (header-right s (parts s bs) bs) _ _
+    by-test Verdict-number (header-valid s (parts s bs) bs) _ _
     (by-test Verdict-number (spare-clear (parts s bs) bs) _ _
     (by-test Verdict-number (builders-trie (parts s bs)) _ _
-    (by-test Verdict-number (ranks-right (parts s bs) bs) _ _
-    (by-test Verdict-number (slots-right 0 (levels-of (nodes-of (parts s bs)))) _ _ (inl refl) (inr (omega arith)))
+    (by-test Verdict-number (ranks-valid (parts s bs) bs) _ _
+    (by-test Verdict-number (slots-valid 0 (levels-of (nodes-of (parts s bs)))) _ _ (inl refl) (inr (omega arith)))
     (inr (omega arith))) (inr (omega arith))) (inr (omega arith))) (inr (omega arith))
 
 verdict-number : (b : Bytes) → Verdict-number (verdict b)

@@ -11,7 +11,7 @@ use Rattle.spec.specs.Bytes.{Bytes, any, bit}
 use Rattle.spec.specs.Keys.{below}
 use Rattle.spec.specs.Leaves.{Leaf, lowest, highest, possible}
 use Rattle.spec.specs.Questions.{seek-from, greater, Sought, none, found, point, meets, seek}
-use Rattle.theory.specs.Words.{In, here, there, Key, Keys, Bound}
+use Rattle.theory.specs.Terms.{In, here, there, Key, Keys, Bound}
 use Rattle.theory.specs.Lists.{none-in, in-cons, all-in}
 use Rattle.theory.specs.Order.{below-asym, below-irrefl, below-le-lt}
 use Rattle.theory.specs.LeafLists.{Possible-key, Possible-keys, done, also, Ordered, Well-sized, All-well-sized, Realizable, possible-key-below}
@@ -137,14 +137,14 @@ module _ (start : Bytes) (q : Bound start) where
           (λ i′. absurd (true≢false (sym (all-in (λ o. below r o ≡ true) (possible-key-below l r (possible-split l r (o .0 .slot) t) (w .0) ps) i′) ∙ below-irrefl r))) (in-cons m)
 
 -- A seek's key and place: the smallest key at or after the start that any list that has the leaves holds, with its place, from 0, in every such list that holds it.
-pub record Seek-right (n : ℕ) (ls : List Leaf) (start : Bytes) (place : ℕ) (key : Bytes) : Type 0 where
+pub record Seek-correct (n : ℕ) (ls : List Leaf) (start : Bytes) (place : ℕ) (key : Bytes) : Type 0 where
   pub after : below key start ≡ false
   pub held : Some-holds n ls key
   pub smallest : (ks : List Bytes) → Has-leaves n ks ls → (k : Bytes) → In k ks → below k start ≡ false → below k key ≡ false
   pub placed : (ks : List Bytes) → Has-leaves n ks ls → In key ks → (place < length ks) × (getD ks place [] ≡ key)
 
 -- The reply to a seek question that is not none.
-pub seek-found : {n : ℕ} (ls : List Leaf) (start : Bytes) → Realizable n ls → All-well-sized n ls → Bound start → (j : ℕ) (r : Bytes) → seek ls start ≡ found j r → Seek-right n ls start j r
+pub seek-found : {n : ℕ} (ls : List Leaf) (start : Bytes) → Realizable n ls → All-well-sized n ls → Bound start → (j : ℕ) (r : Bytes) → seek ls start ≡ found j r → Seek-correct n ls start j r
 unfolding seek point
 seek-found {n} ls start g o q j r h = record { after = after; held = held; smallest = λ ks b. says ks b .1; placed = placed }
   where

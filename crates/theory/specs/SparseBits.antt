@@ -12,7 +12,7 @@ use borrow.Author.Tests.{eqb-true, not-true, ne-eqb}
 use Rattle.spec.specs.Bytes.{Bits, concat, all, Bytes, ones}
 use Rattle.spec.specs.Nodes.{Sparse, Entry, sparse, Node, entry-label, continues, node, with-slots, extra-ends, slotted, sparse-shape, past-slots, shape, zip-entries, prepend, split-behind, split, is-exact, label-of, branches-of, entry, Branch, to-node, to-leaf, has-child}
 use Rattle.spec.specs.Trie.{first-set}
-use Rattle.theory.specs.Words.{Is-bytes, All}
+use Rattle.theory.specs.Terms.{Is-bytes, All}
 use Rattle.theory.specs.Lists.{and-both}
 use Rattle.theory.specs.Frame.{bytes-split}
 use Rattle.theory.specs.LinkedLevels.{Labelled}

@@ -14,7 +14,7 @@ use Rattle.spec.specs.Bytes.{Bytes, shared, begins, equal, Bits, filter, any, m
 use Rattle.spec.specs.Leaves.{Leaf, others}
 use Rattle.spec.specs.Nodes.{Group, prefix, node, leaves-of, groups}
 use Rattle.theory.specs.Order.{equal-self}
-use Rattle.theory.specs.Words.{In, here, there, All}
+use Rattle.theory.specs.Terms.{In, here, there, All}
 use Rattle.theory.specs.LeafLists.{Ordered, Before, inner, less, step, Before-all, Shortest, Realizable, All-well-sized}
 use Rattle.theory.specs.Lists.{none-in, eqb-self, map-in, in-split, nil-of, all-split}
 use Rattle.theory.specs.LevelTrie.{Subtree, subtree, insert, Nonempty-cuts, subtrees, insert-cut, no-cuts, nonempty-cut, Leaf-group, open-leaf, Node-group, exact-node, plain-node, Sole-continues, node-of, exact-of, branch-of, Trie-group, Subtrees, Inner-group, trie, groups-trie-levels}
@@ -214,9 +214,9 @@ depth-left : (f : ℕ) (x : ℕ) (a b : Group) → Depth-at-most (suc f) (map (p
 depth-left f x [] b w = tt
 depth-left f x (l ∷ a) b w = (omega (arith, w .0), depth-left f x a b (w .1))
 
-depth-right : (f : ℕ) (x : ℕ) (a b : Group) → Depth-at-most f (map (prefix x) a ++ b) → Depth-at-most f b
-depth-right f x [] b w = w
-depth-right f x (l ∷ a) b w = depth-right f x a b (w .1)
+depth-valid : (f : ℕ) (x : ℕ) (a b : Group) → Depth-at-most f (map (prefix x) a ++ b) → Depth-at-most f b
+depth-valid f x [] b w = w
+depth-valid f x (l ∷ a) b w = depth-valid f x a b (w .1)
 
 first-nonempty-cuts : (e : Bool) (c : Bytes) (s : Bits) (ls : Group) → Before-all (record { cut = c; exact = e; suffix = s }) ls → Nonempty-cuts ls
 first-nonempty-cuts e c s [] f = no-cuts
@@ -282,7 +282,7 @@ branches-trie-group f G ih splits-nil w r q = tt
 branches-trie-group f G ih (splits-cons {x = x} {u = u} {rest = rest} {bs = bs} o a v c) w r q = (
   ⊎-elim (λ s. inl s) (λ ws. inr (node-group a o ws, (sole-continues-node a o ws, ih u a o ws (depth-left f x u rest q))))
       (leaf-or-witnesses G x u o (behind-or-other G x rest a v r) u (λ m i. i) (all-split (Witness G) (map (prefix x) u) rest w .0)),
-  branches-trie-group f G ih c (all-split (Witness G) (map (prefix x) u) rest w .1) (inside-or-low-rest G x u rest v r) (depth-right (suc f) x u rest q),
+  branches-trie-group f G ih c (all-split (Witness G) (map (prefix x) u) rest w .1) (inside-or-low-rest G x u rest v r) (depth-valid (suc f) x u rest q),
 )
 
 no-depth : {g : Group} → Node-group g → Depth-at-most 0 g → ⊥

@@ -1,4 +1,4 @@
--- The trie of a realizable leaf list passes the tests of a builder's trie, and the tests say of nodes what `Nodes-right` lists.
+-- The trie of a realizable leaf list passes the tests of a builder's trie, and the tests say of nodes what `Nodes-valid` lists.
 -- Used by acceptance in both directions, by counts and by reading back.
 use Prim.Native.Nat.{ℕ, suc, zero, _≤_, _<_, _+_}
 use mathlib.Core.Path.{_≡_, refl, ap, _∙_, sym}
@@ -13,8 +13,8 @@ use borrow.Author.Tests.{eqb-true, ltb-true, not-true, leb-true, eq-eqb, lt-ltb,
 use Rattle.spec.specs.Bytes.{Bytes, Bits, concat, all, every}
 use Rattle.spec.specs.Leaves.{Leaf}
 use Rattle.spec.specs.Nodes.{Group, label-of, node, Branch, children, children-of, total, groups, Node, later, is-exact, branches-of, levels-of, exact-leaf, branch-leaves, level-groups}
-use Rattle.spec.specs.Trie.{leaf-count, has-label, ascending, sole-continues, nodes-right}
-use Rattle.theory.specs.Words.{All}
+use Rattle.spec.specs.Trie.{leaf-count, has-label, ascending, sole-continues, nodes-valid}
+use Rattle.theory.specs.Terms.{All}
 use Rattle.theory.specs.LeafLists.{Ordered, Realizable, All-well-sized}
 use Rattle.theory.specs.Lists.{all-weaken, all-map, every-true, true-every, all-concat}
 use Rattle.theory.specs.LevelTrie.{branch-of, subtree, Subtree, Node-group, node-of, exact-of, subtrees, insert-cut, plain-node, nonempty-cut, exact-node, Leaf-group, child-group, open-leaf, node-group-branch, Leaf-or-node-groups, Trie-group, child-groups, leaf-or-node-groups, Inner-group, all-child-groups, Subtrees, trie-levels, Sole-continues, trie, groups-trie-levels}
@@ -111,21 +111,21 @@ trie-levels-short (suc f) (g ∷ gs) = omega (arith, trie-levels-short f (concat
 -- ---- the trie of a realizable leaf list
 
 -- the levels of a leaf list that is not empty: linked, not too deep, below one root, and each sole entry below the root continues
-pub record Trie-right (ls : List Leaf) : Type 0 where
+pub record Trie-valid (ls : List Leaf) : Type 0 where
   pub linked : Linked (trie ls)
   pub shallow : length (trie ls) ≤ 64
   pub root : groups (trie ls) ≡ ls ∷ []
   pub soles : All (All Sole-continues) (drop 1 (trie ls))
 
 -- a leaf list that is empty, or whose trie is right
-pub data Empty-or-right : List Leaf → Type 0 where
-  empty-list : Empty-or-right []
-  right-trie : {ls : List Leaf} → Trie-right ls → Empty-or-right ls
+pub data Empty-or-valid : List Leaf → Type 0 where
+  empty-list : Empty-or-valid []
+  valid-trie : {ls : List Leaf} → Trie-valid ls → Empty-or-valid ls
 
 -- The trie of a realizable leaf list that is not empty is right.
-pub trie-right : {n : ℕ} (l : Leaf) (ls : List Leaf) → Realizable n (l ∷ ls) → All-well-sized n (l ∷ ls) → Trie-right (l ∷ ls)
+pub trie-valid : {n : ℕ} (l : Leaf) (ls : List Leaf) → Realizable n (l ∷ ls) → All-well-sized n (l ∷ ls) → Trie-valid (l ∷ ls)
 unfolding trie trie-levels
-trie-right {n} l ls g o =
+trie-valid {n} l ls g o =
     let G : Group = l ∷ ls in
     let N : Trie-group 64 G = realizable-trie-group 63 G has-leaf g (well-sized-depth n G o) in
     record {
@@ -136,18 +136,18 @@ trie-right {n} l ls g o =
     }
 
 -- A realizable leaf list, each leaf as an accepted image has it, is empty or its trie is right.
-pub realizable-trie : (n : ℕ) (ls : List Leaf) → Realizable n ls → All-well-sized n ls → Empty-or-right ls
+pub realizable-trie : (n : ℕ) (ls : List Leaf) → Realizable n ls → All-well-sized n ls → Empty-or-valid ls
 realizable-trie n [] g o = empty-list
-realizable-trie n (l ∷ ls) g o = right-trie (trie-right l ls g o)
+realizable-trie n (l ∷ ls) g o = valid-trie (trie-valid l ls g o)
 
 -- A trie that is right has one root.
-pub root-first-width : {ls : List Leaf} → Trie-right ls → first-width (trie ls) ≡ 1
+pub root-first-width : {ls : List Leaf} → Trie-valid ls → first-width (trie ls) ≡ 1
 root-first-width {ls} t = sym (levels-back (trie ls) (t .linked) .wide) ∙ ap length (t .root)
 
 -- ---- the tests of nodes in level order
 
 -- what a builder's trie has, of its nodes in level order, root first
-pub record Nodes-right (dense dense-count count : ℕ) (r : Node) (ns : List Node) : Type 0 where
+pub record Nodes-valid (dense dense-count count : ℕ) (r : Node) (ns : List Node) : Type 0 where
   pub leaf-total : leaf-count (r ∷ ns) ≡ count
   pub some-leaf : 0 < count
   pub node-total : length (r ∷ ns) ≡ total children-of (r ∷ ns) + 1
@@ -174,15 +174,15 @@ node-tests dense dense-count leaves r ns =
     ∷ leb (length (levels-of (r ∷ ns))) 64
     ∷ []
 
-nodes-right-is : (dense dense-count leaves : ℕ) (r : Node) (ns : List Node) → nodes-right dense dense-count leaves (r ∷ ns) ≡ every (node-tests dense dense-count leaves r ns)
-unfolding nodes-right node-tests
-nodes-right-is dense dense-count leaves r ns = refl
+nodes-valid-is : (dense dense-count leaves : ℕ) (r : Node) (ns : List Node) → nodes-valid dense dense-count leaves (r ∷ ns) ≡ every (node-tests dense dense-count leaves r ns)
+unfolding nodes-valid node-tests
+nodes-valid-is dense dense-count leaves r ns = refl
 
 -- Nodes that pass the tests have what a builder's trie has.
-pub nodes-right-true : (dense dense-count count : ℕ) (r : Node) (ns : List Node) → nodes-right dense dense-count count (r ∷ ns) ≡ true → Nodes-right dense dense-count count r ns
+pub nodes-valid-true : (dense dense-count count : ℕ) (r : Node) (ns : List Node) → nodes-valid dense dense-count count (r ∷ ns) ≡ true → Nodes-valid dense dense-count count r ns
 unfolding node-tests
-nodes-right-true dense dense-count count r ns h =
-    let p = every-true (node-tests dense dense-count count r ns) (sym (nodes-right-is dense dense-count count r ns) ∙ h) in
+nodes-valid-true dense dense-count count r ns h =
+    let p = every-true (node-tests dense dense-count count r ns) (sym (nodes-valid-is dense dense-count count r ns) ∙ h) in
     record {
       leaf-total = eqb-true (leaf-count (r ∷ ns)) count (p .0);
       some-leaf = ltb-true 0 count (p .1 .0);
@@ -197,10 +197,10 @@ nodes-right-true dense dense-count count r ns h =
     }
 
 -- Nodes that have what a builder's trie has pass the tests.
-pub true-nodes-right : (dense dense-count count : ℕ) (r : Node) (ns : List Node) → Nodes-right dense dense-count count r ns → nodes-right dense dense-count count (r ∷ ns) ≡ true
+pub true-nodes-valid : (dense dense-count count : ℕ) (r : Node) (ns : List Node) → Nodes-valid dense dense-count count r ns → nodes-valid dense dense-count count (r ∷ ns) ≡ true
 unfolding node-tests
-true-nodes-right dense dense-count count r ns b =
-    nodes-right-is dense dense-count count r ns ∙ true-every (node-tests dense dense-count count r ns) (
+true-nodes-valid dense dense-count count r ns b =
+    nodes-valid-is dense dense-count count r ns ∙ true-every (node-tests dense dense-count count r ns) (
       eq-eqb (leaf-count (r ∷ ns)) count (b .leaf-total),
       (
         lt-ltb 0 count (b .some-leaf),
@@ -218,20 +218,20 @@ true-nodes-right dense dense-count count r ns b =
     )
 
 -- No nodes pass the tests where there are no leaves.
-pub nodes-right-none : (dense dense-count count : ℕ) → nodes-right dense dense-count count [] ≡ eqb count 0
-unfolding nodes-right
-nodes-right-none dense dense-count count = refl
+pub nodes-valid-none : (dense dense-count count : ℕ) → nodes-valid dense dense-count count [] ≡ eqb count 0
+unfolding nodes-valid
+nodes-valid-none dense dense-count count = refl
 
 -- The levels of nodes that pass the tests are linked.
-pub nodes-right-levels : {dense dense-count count : ℕ} (r : Node) (ns : List Node) → Nodes-right dense dense-count count r ns → Are-levels 1 (r ∷ ns) (levels-of (r ∷ ns))
+pub nodes-valid-levels : {dense dense-count count : ℕ} (r : Node) (ns : List Node) → Nodes-valid dense dense-count count r ns → Are-levels 1 (r ∷ ns) (levels-of (r ∷ ns))
 unfolding levels-of
-nodes-right-levels r ns b = nodes-levels 65 0 0 1 (r ∷ ns) (b .leads-later) refl (omega (arith, b .node-total)) (omega (arith, b .shallow)) (all-labelled (r ∷ ns) (b .labelled) (b .ascending))
+nodes-valid-levels r ns b = nodes-levels 65 0 0 1 (r ∷ ns) (b .leads-later) refl (omega (arith, b .node-total)) (omega (arith, b .shallow)) (all-labelled (r ∷ ns) (b .labelled) (b .ascending))
 
 -- Nodes that pass the tests have as many leaves as the header says.
-pub nodes-right-leaves : (dense dense-count count : ℕ) (ns : List Node) → nodes-right dense dense-count count ns ≡ true → leaf-count ns ≡ count
+pub nodes-valid-leaves : (dense dense-count count : ℕ) (ns : List Node) → nodes-valid dense dense-count count ns ≡ true → leaf-count ns ≡ count
 unfolding leaf-count
-nodes-right-leaves dense dense-count count [] h = sym (eqb-true count 0 (sym (nodes-right-none dense dense-count count) ∙ h))
-nodes-right-leaves dense dense-count count (r ∷ ns) h = nodes-right-true dense dense-count count r ns h .leaf-total
+nodes-valid-leaves dense dense-count count [] h = sym (eqb-true count 0 (sym (nodes-valid-none dense dense-count count) ∙ h))
+nodes-valid-leaves dense dense-count count (r ∷ ns) h = nodes-valid-true dense dense-count count r ns h .leaf-total
 
 -- ---- levels below one root pass them
 
@@ -246,17 +246,17 @@ unfolding groups level-groups
 root-group o es rest g e = cc
 
 -- Linked levels below one root pass the tests of a builder's trie.
-pub root-nodes-right : (dense count n : ℕ) (L : List (List Node)) (g : Group) → Linked L → first-width L ≡ 1 → length L ≤ 64 → groups L ≡ g ∷ [] → All-well-sized n g → All (All Sole-continues) (drop 1 L) → leaf-count (concat L) ≡ count → 0 < count
-    → nodes-right dense (length (concat (take dense L))) count (concat L) ≡ true
+pub root-nodes-valid : (dense count n : ℕ) (L : List (List Node)) (g : Group) → Linked L → first-width L ≡ 1 → length L ≤ 64 → groups L ≡ g ∷ [] → All-well-sized n g → All (All Sole-continues) (drop 1 L) → leaf-count (concat L) ≡ count → 0 < count
+    → nodes-valid dense (length (concat (take dense L))) count (concat L) ≡ true
 unfolding concat
-root-nodes-right dense count n [] g k w h e o r c z = absurd (omega arith)
-root-nodes-right dense count n ([] ∷ rest) g k w h e o r c z = absurd (omega arith)
-root-nodes-right dense count n ((q ∷ p ∷ ns) ∷ rest) g k w h e o r c z = absurd (omega arith)
-root-nodes-right dense count n ((node b es ∷ []) ∷ rest) g k w h e o r c z =
+root-nodes-valid dense count n [] g k w h e o r c z = absurd (omega arith)
+root-nodes-valid dense count n ([] ∷ rest) g k w h e o r c z = absurd (omega arith)
+root-nodes-valid dense count n ((q ∷ p ∷ ns) ∷ rest) g k w h e o r c z = absurd (omega arith)
+root-nodes-valid dense count n ((node b es ∷ []) ∷ rest) g k w h e o r c z =
     let L : List (List Node) = (node b es ∷ []) ∷ rest in
     let v : levels-of (concat L) ≡ L = levels-of-concat L k w h in
     let f = labelled-tests (concat L) (linked-labelled L k) in
-    true-nodes-right dense (length (concat (take dense L))) count (node b es) (concat rest) (record {
+    true-nodes-valid dense (length (concat (take dense L))) count (node b es) (concat rest) (record {
       leaf-total = c;
       some-leaf = z;
       node-total = omega (arith, linked-count L k);

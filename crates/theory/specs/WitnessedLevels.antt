@@ -11,8 +11,8 @@ use borrow.Author.Tests.{ne-eqb}
 use Rattle.spec.specs.Bytes.{Bytes, Bits, equal, begins, shared}
 use Rattle.spec.specs.Leaves.{Leaf}
 use Rattle.spec.specs.Nodes.{Group, prefix, Branch, branch-leaves, to-leaf, to-node, exact-leaf, children, label-of, node, Node, total, children-of, level-groups, groups}
-use Rattle.theory.specs.Lists.{eqb-self, in-map, all-append, in-left, in-right, all-weaken, all-drop}
-use Rattle.theory.specs.Words.{All, In, there, here}
+use Rattle.theory.specs.Lists.{eqb-self, in-map, all-append, in-left, in-valid, all-weaken, all-drop}
+use Rattle.theory.specs.Terms.{All, In, there, here}
 use Rattle.theory.specs.LeafLists.{Before-all, less, step, Ordered, inner}
 use Rattle.theory.specs.LevelTrie.{Nonempty-cuts, no-cuts, nonempty-cut, Node-group, plain-node, exact-node, Sole-continues}
 use Rattle.theory.specs.LinkedLevels.{Below-label, Ascends, Labelled, nonempty-cuts-branches, Linked, levels-back}
@@ -111,7 +111,7 @@ witnesses-branches G (to-leaf x s ∷ es) gs u q w = (
 witnesses-branches G (to-node x ∷ es) [] u q w = tt
 witnesses-branches G (to-node x ∷ es) (g ∷ gs) u q w =
     all-append (Witness G) (map (prefix x) g) (branch-leaves es gs) (witnesses-prefix x g G (λ m i. u m (in-left (branch-leaves es gs) i)) g (w .0))
-    (witnesses-branches G es gs (λ m i. u m (in-right (map (prefix x) g) (branch-leaves es gs) i)) q (w .1))
+    (witnesses-branches G es gs (λ m i. u m (in-valid (map (prefix x) g) (branch-leaves es gs) i)) q (w .1))
 
 elsewhere-exact : (x : ℕ) (t : Bits) (g : Group) → Elsewhere x (record { cut = []; exact = true; suffix = t } ∷ g)
 unfolding equal shared
@@ -147,7 +147,7 @@ behind-rest : (y : ℕ) (e : Branch) (es : List Branch) (gs : List Group) → ch
 unfolding branch-leaves children
 behind-rest y (to-leaf x s) es gs k f h = let b = f gs k h in record { tail = b .tail; kind = b .kind; slot = b .slot; mem = there (b .mem) }
 behind-rest y (to-node x) es [] k f h = absurd (omega arith)
-behind-rest y (to-node x) es (g ∷ gs) k f h = let b = f gs (omega arith) (h .1) in record { tail = b .tail; kind = b .kind; slot = b .slot; mem = in-right (map (prefix x) g) (branch-leaves es gs) (b .mem) }
+behind-rest y (to-node x) es (g ∷ gs) k f h = let b = f gs (omega arith) (h .1) in record { tail = b .tail; kind = b .kind; slot = b .slot; mem = in-valid (map (prefix x) g) (branch-leaves es gs) (b .mem) }
 
 witness-exact : (t : Bits) (y : ℕ) (g : Group) → Leaf-behind y g → Witness (record { cut = []; exact = true; suffix = t } ∷ g) (record { cut = []; exact = true; suffix = t })
 unfolding equal begins

@@ -13,7 +13,7 @@ use Rattle.spec.specs.Leaves.{Leaf, others}
 use Rattle.spec.specs.Nodes.{Group}
 use Rattle.theory.specs.Order.{equal-self}
 use Rattle.theory.specs.LeafLists.{Before, less, step, inner, Before-all, Ordered, cut-key, Shortest, Realizable}
-use Rattle.theory.specs.Words.{In, here, there, All}
+use Rattle.theory.specs.Terms.{In, here, there, All}
 use Rattle.theory.specs.Lists.{in-any, none-in, any-in, lt-eqb, eqb-self, gt-eqb, in-filter, maximum-bound, maximum-below, filter-in, maximum-at, map-in, in-map}
 
 -- another leaf that shows why this one is cut where it is: an exact leaf begins it, an open leaf parts from it at its last byte

@@ -13,7 +13,7 @@ use Rattle.spec.specs.Leaves.{Leaf}
 use Rattle.spec.specs.Nodes.{read-leaves}
 use Rattle.spec.specs.Answer.{Outcome, written, refuse, success}
 use Rattle.spec.specs.Walk.{Stand, refused, leaf, done, stand-at, open-walk}
-use Rattle.theory.specs.AskLaws.{walk-right}
+use Rattle.theory.specs.AskLaws.{walk-correct}
 use Rattle.image_types.specs.declared.Leaf.{Leaf as Value}
 use Rattle.image_types.specs.Value.{leaf-of, Sized}
 use Rattle.bits_laws.specs.Bits.{placed}
@@ -110,7 +110,7 @@ module _ (s : Bytes) (place : ℕ) (out : Bytes) where
   unfolding written-by stand-at success
   writes-records v h n buffer w =
       ap₂ {C = Outcome} (λ (k : ℕ) (z : Bytes). record { answer = written k; final = z }) (w .0) (w .1 ∙ ap (λ (k : ℕ). bs ++ drop k out) (w .0))
-      ∙ sym (by-answer (stand-at (read-leaves s) place) (walk-right s (read-leaves s) v refl .stands place h) ∙ by-leaf (getElem? (read-leaves s) place) refl)
+      ∙ sym (by-answer (stand-at (read-leaves s) place) (walk-correct s (read-leaves s) v refl .stands place h) ∙ by-leaf (getElem? (read-leaves s) place) refl)
     where
       bs : Bytes
       bs = records-from (read-leaves s) place (length out / 68)

@@ -14,7 +14,7 @@ use Rattle.spec.specs.Check.{verdict}
 use Rattle.spec.specs.Leaves.{Leaf}
 use Rattle.spec.specs.Nodes.{read-leaves}
 use Rattle.spec.specs.Walk.{Stand, refused, leaf, done, stand-at, open-walk, next-place, next}
-use Rattle.theory.specs.AskLaws.{walk-is, walk-right}
+use Rattle.theory.specs.AskLaws.{walk-is, walk-correct}
 
 -- an image that the check refuses
 pub check-refuses : (s : Bytes) (place n : ℕ) → verdict s ≡ n → 1 ≤ n → open-walk s place ≡ refused n
@@ -25,16 +25,16 @@ check-refuses s place n v h =
 module _ (s : Bytes) (v : verdict s ≡ 0) where
   -- 17: a place past done
   pub place-refused : (place : ℕ) → length (read-leaves s) < place → open-walk s place ≡ refused 17
-  place-refused = walk-right s (read-leaves s) v refl .beyond
+  place-refused = walk-correct s (read-leaves s) v refl .beyond
 
   -- a leaf's place
   pub at-leaf : (place : ℕ) (l : Leaf) → place ≤ length (read-leaves s) → getElem? (read-leaves s) place ≡ some l → open-walk s place ≡ leaf l
   unfolding stand-at
-  at-leaf place l h e = walk-right s (read-leaves s) v refl .stands place h ∙ ap {B = Stand} (λ (o : Option Leaf). elim o [ none ↦ done | some l ↦ leaf l ]) e
+  at-leaf place l h e = walk-correct s (read-leaves s) v refl .stands place h ∙ ap {B = Stand} (λ (o : Option Leaf). elim o [ none ↦ done | some l ↦ leaf l ]) e
 
   -- behind the last leaf
   pub at-done : (place : ℕ) → place ≡ length (read-leaves s) → open-walk s place ≡ done
-  at-done place e = ap (open-walk s) e ∙ walk-right s (read-leaves s) v refl .ends .0
+  at-done place e = ap (open-walk s) e ∙ walk-correct s (read-leaves s) v refl .ends .0
 
 -- the place behind a leaf
 pub next-leaf : (s : Bytes) (place : ℕ) → place < length (read-leaves s) → next-place s place ≡ place + 1
@@ -66,7 +66,7 @@ next-refused s place n e = by-check (verdict s) refl
   where
     by-place : verdict s ≡ 0 → (t : Bool) → ltb (length (read-leaves s)) place ≡ t → open-walk s place ≡ next s place
     by-place v true f = next-at s place place (next-stays s place (omega (arith, ltb-true (length (read-leaves s)) place f)))
-    by-place v false f = absurd (not-refused (read-leaves s) place n (sym (walk-right s (read-leaves s) v refl .stands place (ltb-false (length (read-leaves s)) place f)) ∙ e))
+    by-place v false f = absurd (not-refused (read-leaves s) place n (sym (walk-correct s (read-leaves s) v refl .stands place (ltb-false (length (read-leaves s)) place f)) ∙ e))
 
     by-check : (k : ℕ) → verdict s ≡ k → open-walk s place ≡ next s place
     by-check zero v = by-place v (ltb (length (read-leaves s)) place) refl

@@ -8,8 +8,10 @@ ghost use Rattle.walk_cursor.specs.Stands.{Stands};
 ghost use Rattle.walk.specs.Walks.{stand-of, Walks, Moved};
 use check_image::Accepted;
 use check_image::accept;
+use image_types::Dense;
 use image_types::Frame;
 use image_types::Leaf;
+use image_types::Sparse;
 use image_types::ValuePos;
 use walk_cursor::Cursor;
 use walk_cursor::first;
@@ -52,12 +54,18 @@ fn refused(number: u32, place: usize) -> State
         number,
         place,
         frame: Frame {
-            levels: 0,
             width: 0,
             leaves: 0,
-            dense: 0,
-            entries: 0,
-            sparse: 0,
+            dense: Dense {
+                levels: 0,
+                nodes: 0,
+                children: 0,
+                entries: 0,
+            },
+            sparse: Sparse {
+                nodes: 0,
+                entries: 0,
+            },
             dl: 0,
             dc: 0,
             dp: 0,
@@ -70,8 +78,6 @@ fn refused(number: u32, place: usize) -> State
             rp: 0,
             rs: 0,
             ts: 0,
-            children: 0,
-            items: 0,
         },
         cursor: Cursor {
             nodes: [0usize; 64],

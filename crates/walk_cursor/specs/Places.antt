@@ -56,7 +56,7 @@ module _ (s : Bytes) (f : Frame) (a : Accepted s f) where
     the-root : Root (nodes s f) (read-leaves s)
     the-root = trie-root (f .width) (read-leaves s) (nodes s f) (a .realizable) (a .well-sized) (a .trie-is) (omega (arith, leaf-total s f a))
 
-    pub root-in : 0 < f .dense + f .sparse
+    pub root-in : 0 < f .dense .nodes + f .sparse .nodes
     root-in = node-in s f a 64 0 (the-root .on)
 
     -- the root's first branch, and all leaves behind it

@@ -24,7 +24,7 @@ use Rattle.walk_laws.specs.Paths.{onward, standing, On-levels, rest-up, rest-no
 use Rattle.walk_cursor.specs.Ends.{Branch-with, Ends}
 
 -- a node on its level is one of the image's nodes
-pub node-in : (s : Bytes) (f : Frame) → Accepted s f → (l m : ℕ) → On-level (nodes s f) l m → m < f .dense + f .sparse
+pub node-in : (s : Bytes) (f : Frame) → Accepted s f → (l m : ℕ) → On-level (nodes s f) l m → m < f .dense .nodes + f .sparse .nodes
 node-in s f a l m on = omega (arith, level-node (nodes s f) l m on, length-append (dense-nodes s f) (sparse-nodes s f), a .dense-size, a .sparse-size)
 
 -- The first branch from a label on is the one with its own label.

@@ -17,11 +17,11 @@ use Rattle.nav_laws.specs.Slots.{node-at, slot-number, slot-of, slot-is}
 use Rattle.nav_laws.specs.Descent.{child-number, Stands, stands-next, group-at, kids-at, fit-at, node-is}
 use Rattle.nav_laws.specs.NextLabel.{first-kind, first-label}
 use Rattle.query_laws.specs.Next.{low-none, below-low, below-high, children-split, the-node, child-is}
-use Rattle.theory.specs.Words.{All}
+use Rattle.theory.specs.Terms.{All}
 use Rattle.theory.specs.LeafLists.{Realizable, All-well-sized}
 use Rattle.theory.specs.LinkedLevels.{Below-label, Ascends, Labelled, Linked, levels-back, first-width}
 use Rattle.theory.specs.LevelTrie.{trie}
-use Rattle.theory.specs.TrieTests.{realizable-trie, Empty-or-right, empty-list, right-trie, root-first-width}
+use Rattle.theory.specs.TrieTests.{realizable-trie, Empty-or-valid, empty-list, valid-trie, root-first-width}
 use Rattle.theory.specs.NodeBits.{Slots-width}
 
 -- ---- definitions
@@ -290,9 +290,9 @@ pub trie-root : (n : ℕ) (ls : List Leaf) (ns : List Node) → Realizable n ls 
 unfolding total
 trie-root n ls ns g o e h = go (realizable-trie n ls g o) o e h
   where
-    go : {ls : List Leaf} → Empty-or-right ls → All-well-sized n ls → ns ≡ concat (trie ls) → 0 < length ls → Root ns ls
+    go : {ls : List Leaf} → Empty-or-valid ls → All-well-sized n ls → ns ≡ concat (trie ls) → 0 < length ls → Root ns ls
     go empty-list o e h = absurd (omega arith)
-    go (right-trie {ls = ls} t) o e h =
+    go (valid-trie {ls = ls} t) o e h =
         let w = root-first-width t in
         let b = below-group (trie ls) 64 ns [] 0 (t .shallow) (t .linked) (e, omega arith) (omega arith) in
         record {

@@ -17,7 +17,7 @@ use Rattle.nav_laws.specs.Descent.{child-number}
 use Rattle.nav_laws.specs.NextLabel.{first-kind, first-label}
 use Rattle.query_laws.specs.Next.{behind}
 use Rattle.walk_laws.specs.Below.{own-slot, below, from-label, On-level, below-step, from-none, from-leaf, from-node}
-use Rattle.theory.specs.Words.{All}
+use Rattle.theory.specs.Terms.{All}
 use Rattle.theory.specs.Lists.{map-ext}
 use Rattle.theory.specs.LinkedLevels.{Ascends}
 use Rattle.theory.specs.NodeBits.{Slots-width}

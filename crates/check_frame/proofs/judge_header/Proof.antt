@@ -35,8 +35,8 @@ read32-requires-3 c κs = search needs
 read32-requires-4 : tie.Need-read32-requires-4
 read32-requires-4 c κs = search needs
 
-settings-right-requires : tie.Need-settings-right-requires
-settings-right-requires c κs = search needs
+settings-valid-requires : tie.Need-settings-valid-requires
+settings-valid-requires c κs = search needs
 
 front-sized-requires : tie.Need-front-sized-requires
 front-sized-requires c κs = search needs
@@ -101,7 +101,7 @@ count-ones-requires c κs =
     let p = c .before .before .before .before .before .before .before .before .before .before .before .before .before .before .pre in
     dense-within (a .image .now) (w₁ .result) (w₂ .result) (n₁ .result) (n₂ .result) (n₃ .result) (n₄ .result) (a .e0) (a .e1) (a .e2) (a .e3) (a .e4) (a .e5) (a .e6) (a .e7) (a .e8) (a .e9) (a .e10)
     (w₁ .ensures .0) (w₂ .ensures .0) (n₁ .ensures .0) (n₂ .ensures .0) (n₃ .ensures .0) (n₄ .ensures .0) (n₂ .ensures .1) (n₃ .ensures .1) (n₄ .ensures .1) (p .header) (p .found) (p .long)
-    (four-tests _ _ _ _ _ _ _ _ true (c .before .before .before .before .settings-right .ensures) (c .before .before .before .front-sized .ensures) (c .before .before .middle-sized .ensures) (c .before .back-sized .ensures) (c .if1 .taken)) .1
+    (four-tests _ _ _ _ _ _ _ _ true (c .before .before .before .before .settings-valid .ensures) (c .before .before .before .front-sized .ensures) (c .before .before .middle-sized .ensures) (c .before .back-sized .ensures) (c .if1 .taken)) .1
 
 mul-count-ones-2 : tie.Need-mul-count-ones-2
 mul-count-ones-2 c = search needs
@@ -118,7 +118,7 @@ count-ones-requires-2 c κs =
     let p = c .before .before .before .before .before .before .before .before .before .before .before .before .before .before .before .pre in
     dense-within (a .image .now) (w₁ .result) (w₂ .result) (n₁ .result) (n₂ .result) (n₃ .result) (n₄ .result) (a .e0) (a .e1) (a .e2) (a .e3) (a .e4) (a .e5) (a .e6) (a .e7) (a .e8) (a .e9) (a .e10)
     (w₁ .ensures .0) (w₂ .ensures .0) (n₁ .ensures .0) (n₂ .ensures .0) (n₃ .ensures .0) (n₄ .ensures .0) (n₂ .ensures .1) (n₃ .ensures .1) (n₄ .ensures .1) (p .header) (p .found) (p .long)
-    (four-tests _ _ _ _ _ _ _ _ true (c .before .before .before .before .before .settings-right .ensures) (c .before .before .before .before .front-sized .ensures) (c .before .before .before .middle-sized .ensures) (c .before .before .back-sized .ensures) (c .before .if1 .taken)) .0
+    (four-tests _ _ _ _ _ _ _ _ true (c .before .before .before .before .before .settings-valid .ensures) (c .before .before .before .before .front-sized .ensures) (c .before .before .before .middle-sized .ensures) (c .before .before .back-sized .ensures) (c .before .if1 .taken)) .0
 
 add-count-ones-2 : tie.Need-add-count-ones-2
 add-count-ones-2 c = let d = c .before .before .before .before .before .before .before .before .before .before .before .before .before .before .before .before in omega (arith, d .pre .within1, d .good .0 .1)
@@ -135,7 +135,7 @@ count-ones-requires-3 c κs =
     let p = c .before .before .before .before .before .before .before .before .before .before .before .before .before .before .before .before .pre in
     dense-within (a .image .now) (w₁ .result) (w₂ .result) (n₁ .result) (n₂ .result) (n₃ .result) (n₄ .result) (a .e0) (a .e1) (a .e2) (a .e3) (a .e4) (a .e5) (a .e6) (a .e7) (a .e8) (a .e9) (a .e10)
     (w₁ .ensures .0) (w₂ .ensures .0) (n₁ .ensures .0) (n₂ .ensures .0) (n₃ .ensures .0) (n₄ .ensures .0) (n₂ .ensures .1) (n₃ .ensures .1) (n₄ .ensures .1) (p .header) (p .found) (p .long)
-    (four-tests _ _ _ _ _ _ _ _ true (c .before .before .before .before .before .before .settings-right .ensures) (c .before .before .before .before .before .front-sized .ensures) (c .before .before .before .before .middle-sized .ensures) (c .before .before .before .back-sized .ensures) (c .before .before .if1 .taken)) .2
+    (four-tests _ _ _ _ _ _ _ _ true (c .before .before .before .before .before .before .settings-valid .ensures) (c .before .before .before .before .before .front-sized .ensures) (c .before .before .before .before .middle-sized .ensures) (c .before .before .before .back-sized .ensures) (c .before .before .if1 .taken)) .2
 
 add-t50 : tie.Need-add-t50
 add-t50 c =
@@ -157,7 +157,7 @@ returns c =
     frame-found (a .image .now) (w₁ .result) (w₂ .result) (n₁ .result) (n₂ .result) (n₃ .result) (n₄ .result) (a .e0) (a .e1) (a .e2) (a .e3) (a .e4) (a .e5) (a .e6) (a .e7) (a .e8) (a .e9) (a .e10)
     (w₁ .ensures .0) (w₂ .ensures .0) (n₁ .ensures .0) (n₂ .ensures .0) (n₃ .ensures .0) (n₄ .ensures .0) (n₂ .ensures .1) (n₃ .ensures .1) (n₄ .ensures .1) (p .header) (p .found) (p .long)
     _ _ (c .before .before .count-ones .ensures) items
-    (four-tests _ _ _ _ _ _ _ _ true (c .before .before .before .before .before .before .before .settings-right .ensures) (c .before .before .before .before .before .before .front-sized .ensures) (c .before .before .before .before .before .middle-sized .ensures) (c .before .before .before .before .back-sized .ensures) (c .before .before .before .if1 .taken))
+    (four-tests _ _ _ _ _ _ _ _ true (c .before .before .before .before .before .before .before .settings-valid .ensures) (c .before .before .before .before .before .before .front-sized .ensures) (c .before .before .before .before .before .middle-sized .ensures) (c .before .before .before .before .back-sized .ensures) (c .before .before .before .if1 .taken))
 
 returns-2 : tie.Need-returns-2
 returns-2 c =
@@ -172,7 +172,7 @@ returns-2 c =
       inr refl,
       frame-wrong (a .image .now) (w₁ .result) (w₂ .result) (n₁ .result) (n₂ .result) (n₃ .result) (n₄ .result) (a .e0) (a .e1) (a .e2) (a .e3) (a .e4) (a .e5) (a .e6) (a .e7) (a .e8) (a .e9) (a .e10)
           (w₁ .ensures .0) (w₂ .ensures .0) (n₁ .ensures .0) (n₂ .ensures .0) (n₃ .ensures .0) (n₄ .ensures .0) (n₂ .ensures .1) (n₃ .ensures .1) (n₄ .ensures .1) (p .header) (p .found) (p .long)
-          (four-tests _ _ _ _ _ _ _ _ false (c .before .before .before .before .settings-right .ensures) (c .before .before .before .front-sized .ensures) (c .before .before .middle-sized .ensures) (c .before .back-sized .ensures) (c .if1 .left)),
+          (four-tests _ _ _ _ _ _ _ _ false (c .before .before .before .before .settings-valid .ensures) (c .before .before .before .front-sized .ensures) (c .before .before .middle-sized .ensures) (c .before .back-sized .ensures) (c .if1 .left)),
     )
 
 pub judge-header-spec : {M : Type 1} → statement M
@@ -187,7 +187,7 @@ judge-header-spec =
     read32-requires-2
     read32-requires-3
     read32-requires-4
-    settings-right-requires
+    settings-valid-requires
     front-sized-requires
     mul-middle-sized
     middle-sized-requires

@@ -8,7 +8,7 @@ use Rattle.spec.specs.Bytes.{Bytes}
 use Rattle.spec.specs.Frame.{Parts, parts}
 use Rattle.spec.specs.Nodes.{levels-of, nodes-of}
 use Rattle.spec.specs.Trie.{builders-trie}
-use Rattle.spec.specs.Check.{spare-clear, ranks-right, slots-right}
+use Rattle.spec.specs.Check.{spare-clear, ranks-valid, slots-valid}
 use Rattle.image_types.specs.FrameOf.{FrameOf, frame-bodies, frame-parts}
 use Rattle.image_types.specs.declared.Frame.{Frame}
 use Rattle.check_slots_laws.specs.Judged.{slots-pass}
@@ -22,12 +22,12 @@ module _ (s : Bytes) (f : Frame) (o : FrameOf s f) (r b : Bool) where
   spare-of e h = sym (e ∙ ap (λ (p : Parts). spare-clear p (frame-bodies s f)) (o .parts-are)) ∙ h
 
   -- the same of ranks and samples
-  ranks-of : r ≡ ranks-right (parts s (frame-bodies s f)) (frame-bodies s f) → r ≡ b → ranks-right (frame-parts s f) (frame-bodies s f) ≡ b
-  ranks-of e h = sym (e ∙ ap (λ (p : Parts). ranks-right p (frame-bodies s f)) (o .parts-are)) ∙ h
+  ranks-of : r ≡ ranks-valid (parts s (frame-bodies s f)) (frame-bodies s f) → r ≡ b → ranks-valid (frame-parts s f) (frame-bodies s f) ≡ b
+  ranks-of e h = sym (e ∙ ap (λ (p : Parts). ranks-valid p (frame-bodies s f)) (o .parts-are)) ∙ h
 
   -- the same of slots
-  slots-of : r ≡ slots-pass s f → r ≡ b → slots-right 0 (levels-of (nodes-of (frame-parts s f))) ≡ b
-  slots-of e h = sym (e ∙ ap (λ (p : Parts). slots-right 0 (levels-of (nodes-of p))) (o .parts-are)) ∙ h
+  slots-of : r ≡ slots-pass s f → r ≡ b → slots-valid 0 (levels-of (nodes-of (frame-parts s f))) ≡ b
+  slots-of e h = sym (e ∙ ap (λ (p : Parts). slots-valid 0 (levels-of (nodes-of p))) (o .parts-are)) ∙ h
 
 read-frame-requires : tie.Need-read-frame-requires
 read-frame-requires c κs = search needs
@@ -52,8 +52,8 @@ returns c =
     let o : FrameOf (c .before .before .before .before .before .before .before .args .image .now) (g .0 .0) = rw (g .1) at (c .before .before .before .before .before .read-frame .ensures) in
     (stage-13 s (g .0 .0) o (spare-of s (g .0 .0) o _ _ (c .before .spare-clear .ensures) (not-true _ (c .if1 .taken))), omega arith)
 
-nodes-right-requires : tie.Need-nodes-right-requires
-nodes-right-requires c κs =
+nodes-valid-requires : tie.Need-nodes-valid-requires
+nodes-valid-requires c κs =
     let s = c .before .before .before .before .before .before .before .args .image .now in
     let g = c .before .before .before .f .given in
     let o : FrameOf (c .before .before .before .before .before .before .before .args .image .now) (g .0 .0) = rw (g .1) at (c .before .before .before .before .before .read-frame .ensures) in
@@ -64,10 +64,10 @@ returns-2 c =
     let s = c .before .before .before .before .before .before .before .before .before .args .image .now in
     let g = c .before .before .before .before .before .f .given in
     let o : FrameOf (c .before .before .before .before .before .before .before .before .before .args .image .now) (g .0 .0) = rw (g .1) at (c .before .before .before .before .before .before .before .read-frame .ensures) in
-    (stage-14 s (g .0 .0) o (spare-of s (g .0 .0) o _ _ (c .before .before .before .spare-clear .ensures) (not-false _ (c .before .before .if1 .left))) (sym (c .before .nodes-right .ensures) ∙ not-true _ (c .if2 .taken)), omega arith)
+    (stage-14 s (g .0 .0) o (spare-of s (g .0 .0) o _ _ (c .before .before .before .spare-clear .ensures) (not-false _ (c .before .before .if1 .left))) (sym (c .before .nodes-valid .ensures) ∙ not-true _ (c .if2 .taken)), omega arith)
 
-tables-right-requires : tie.Need-tables-right-requires
-tables-right-requires c κs =
+tables-valid-requires : tie.Need-tables-valid-requires
+tables-valid-requires c κs =
     let s = c .before .before .before .before .before .before .before .before .before .args .image .now in
     let g = c .before .before .before .before .before .f .given in
     let o : FrameOf (c .before .before .before .before .before .before .before .before .before .args .image .now) (g .0 .0) = rw (g .1) at (c .before .before .before .before .before .before .before .read-frame .ensures) in
@@ -78,17 +78,17 @@ returns-3 c =
     let s = c .before .before .before .before .before .before .before .before .before .before .before .args .image .now in
     let g = c .before .before .before .before .before .before .before .f .given in
     let o : FrameOf (c .before .before .before .before .before .before .before .before .before .before .before .args .image .now) (g .0 .0) = rw (g .1) at (c .before .before .before .before .before .before .before .before .before .read-frame .ensures) in
-    (stage-15 s (g .0 .0) o (spare-of s (g .0 .0) o _ _ (c .before .before .before .before .before .spare-clear .ensures) (not-false _ (c .before .before .before .before .if1 .left))) (sym (c .before .before .before .nodes-right .ensures) ∙ not-false _ (c .before .before .if2 .left)) (ranks-of s (g .0 .0) o _ _ (c .before .tables-right .ensures) (not-true _ (c .if3 .taken))), omega arith)
+    (stage-15 s (g .0 .0) o (spare-of s (g .0 .0) o _ _ (c .before .before .before .before .before .spare-clear .ensures) (not-false _ (c .before .before .before .before .if1 .left))) (sym (c .before .before .before .nodes-valid .ensures) ∙ not-false _ (c .before .before .if2 .left)) (ranks-of s (g .0 .0) o _ _ (c .before .tables-valid .ensures) (not-true _ (c .if3 .taken))), omega arith)
 
-slots-right-requires : tie.Need-slots-right-requires
-slots-right-requires c κs =
+slots-valid-requires : tie.Need-slots-valid-requires
+slots-valid-requires c κs =
     let s = c .before .before .before .before .before .before .before .before .before .before .before .args .image .now in
     let g = c .before .before .before .before .before .before .before .f .given in
     let o : FrameOf (c .before .before .before .before .before .before .before .before .before .before .before .args .image .now) (g .0 .0) = rw (g .1) at (c .before .before .before .before .before .before .before .before .before .read-frame .ensures) in
     record {
       frame = o;
-      trie = ap builders-trie (o .parts-are) ∙ (sym (c .before .before .before .nodes-right .ensures) ∙ not-false _ (c .before .before .if2 .left));
-      ranks = sym (c .before .tables-right .ensures) ∙ not-false _ (c .if3 .left);
+      trie = ap builders-trie (o .parts-are) ∙ (sym (c .before .before .before .nodes-valid .ensures) ∙ not-false _ (c .before .before .if2 .left));
+      ranks = sym (c .before .tables-valid .ensures) ∙ not-false _ (c .if3 .left);
     }
 
 returns-4 : tie.Need-returns-4
@@ -96,7 +96,7 @@ returns-4 c =
     let s = c .before .before .before .before .before .before .before .before .before .before .before .before .before .args .image .now in
     let g = c .before .before .before .before .before .before .before .before .before .f .given in
     let o : FrameOf (c .before .before .before .before .before .before .before .before .before .before .before .before .before .args .image .now) (g .0 .0) = rw (g .1) at (c .before .before .before .before .before .before .before .before .before .before .before .read-frame .ensures) in
-    (stage-16 s (g .0 .0) o (spare-of s (g .0 .0) o _ _ (c .before .before .before .before .before .before .before .spare-clear .ensures) (not-false _ (c .before .before .before .before .before .before .if1 .left))) (sym (c .before .before .before .before .before .nodes-right .ensures) ∙ not-false _ (c .before .before .before .before .if2 .left)) (ranks-of s (g .0 .0) o _ _ (c .before .before .before .tables-right .ensures) (not-false _ (c .before .before .if3 .left))) (slots-of s (g .0 .0) o _ _ (c .before .slots-right .ensures) (not-true _ (c .if4 .taken))), omega arith)
+    (stage-16 s (g .0 .0) o (spare-of s (g .0 .0) o _ _ (c .before .before .before .before .before .before .before .spare-clear .ensures) (not-false _ (c .before .before .before .before .before .before .if1 .left))) (sym (c .before .before .before .before .before .nodes-valid .ensures) ∙ not-false _ (c .before .before .before .before .if2 .left)) (ranks-of s (g .0 .0) o _ _ (c .before .before .before .tables-valid .ensures) (not-false _ (c .before .before .if3 .left))) (slots-of s (g .0 .0) o _ _ (c .before .slots-valid .ensures) (not-true _ (c .if4 .taken))), omega arith)
 
 returns-5 : tie.Need-returns-5
 returns-5 c =
@@ -109,7 +109,7 @@ returns-6 c =
     let s = c .before .before .before .before .before .before .before .before .before .before .before .before .before .args .image .now in
     let g = c .before .before .before .before .before .before .before .before .before .f .given in
     let o : FrameOf (c .before .before .before .before .before .before .before .before .before .before .before .before .before .args .image .now) (g .0 .0) = rw (g .1) at (c .before .before .before .before .before .before .before .before .before .before .before .read-frame .ensures) in
-    (o, stage-0 s (g .0 .0) o (spare-of s (g .0 .0) o _ _ (c .before .before .before .before .before .before .before .spare-clear .ensures) (not-false _ (c .before .before .before .before .before .before .if1 .left))) (sym (c .before .before .before .before .before .nodes-right .ensures) ∙ not-false _ (c .before .before .before .before .if2 .left)) (ranks-of s (g .0 .0) o _ _ (c .before .before .before .tables-right .ensures) (not-false _ (c .before .before .if3 .left))) (slots-of s (g .0 .0) o _ _ (c .before .slots-right .ensures) (not-false _ (c .if4 .left))))
+    (o, stage-0 s (g .0 .0) o (spare-of s (g .0 .0) o _ _ (c .before .before .before .before .before .before .before .spare-clear .ensures) (not-false _ (c .before .before .before .before .before .before .if1 .left))) (sym (c .before .before .before .before .before .nodes-valid .ensures) ∙ not-false _ (c .before .before .before .before .if2 .left)) (ranks-of s (g .0 .0) o _ _ (c .before .before .before .tables-valid .ensures) (not-false _ (c .before .before .if3 .left))) (slots-of s (g .0 .0) o _ _ (c .before .slots-valid .ensures) (not-false _ (c .if4 .left))))
 
 pub accept-spec : {M : Type 1} → statement M
 accept-spec =
@@ -120,11 +120,11 @@ accept-spec =
     enum-known-f
     spare-clear-requires
     returns
-    nodes-right-requires
+    nodes-valid-requires
     returns-2
-    tables-right-requires
+    tables-valid-requires
     returns-3
-    slots-right-requires
+    slots-valid-requires
     returns-4
     returns-5
     returns-6)

@@ -3,7 +3,7 @@ use mathlib.Core.Path.{_∙_}
 use native.Mathlib.Omega.{arith}
 use borrow.Author.Needs.{needs}
 use Rattle.spec.specs.Nodes.{read-leaves}
-use Rattle.ask_files.proofs.AnswerLaws.{inside-told, reply-told, reply-key, seek-told, keyless-told}
+use Rattle.ask_files.proofs.AnswerLaws.{inside-keyless, reply-keyless, reply-key, seek-keyless, keyless-keyless}
 use Rattle.ask.proofs.lengths.key_length.Statement.{statement}
 use Rattle.ask.proofs.lengths.key_length.Tie as tie
 
@@ -11,7 +11,7 @@ enum-known-question : tie.Need-enum-known-question
 enum-known-question c = search needs
 
 key-at-requires : tie.Need-key-at-requires
-key-at-requires c κs = inside-told (c .before .before .before .before .before .args .file .now) (c .before .question .given .1) (c .before .before .before .before .before .pre .2)
+key-at-requires c κs = inside-keyless (c .before .before .before .before .before .args .file .now) (c .before .question .given .1) (c .before .before .before .before .before .pre .2)
 
 seek-reply-requires : tie.Need-seek-reply-requires
 seek-reply-requires c κs = search needs
@@ -33,28 +33,28 @@ returns c =
     let a = c .before .before .before .before .before .before .before .args in
     let g = c .before .before .before .question .given in
     let r = c .seek-reply in
-    let e = r .ensures .1 ∙ seek-told (read-leaves (a .image .now)) (a .file .now) (g .0 .0) (g .0 .1 .0) _ (c .before .key-at .ensures .0) ∙ reply-told (read-leaves (a .image .now)) (a .file .now) (g .1) in
+    let e = r .ensures .1 ∙ seek-keyless (read-leaves (a .image .now)) (a .file .now) (g .0 .0) (g .0 .1 .0) _ (c .before .key-at .ensures .0) ∙ reply-keyless (read-leaves (a .image .now)) (a .file .now) (g .1) in
     (reply-key (read-leaves (a .image .now)) (a .file .now) (r .result) (a .question) (r .ensures .0) e, r .ensures .0 .small)
 
 returns-2 : tie.Need-returns-2
 returns-2 c =
     let a = c .before .before .before .before .args in
-    (keyless-told (read-leaves (a .image .now)) (a .file .now) (c .enum-told .given .1) tt, omega arith)
+    (keyless-keyless (read-leaves (a .image .now)) (a .file .now) (c .enum-told .given .1) tt, omega arith)
 
 returns-3 : tie.Need-returns-3
 returns-3 c =
     let a = c .before .before .before .before .args in
-    (keyless-told (read-leaves (a .image .now)) (a .file .now) (c .enum-told2 .given .1) tt, omega arith)
+    (keyless-keyless (read-leaves (a .image .now)) (a .file .now) (c .enum-told2 .given .1) tt, omega arith)
 
 returns-4 : tie.Need-returns-4
 returns-4 c =
     let a = c .before .before .before .before .args in
-    (keyless-told (read-leaves (a .image .now)) (a .file .now) (c .enum-told3 .given .1) tt, omega arith)
+    (keyless-keyless (read-leaves (a .image .now)) (a .file .now) (c .enum-told3 .given .1) tt, omega arith)
 
 returns-5 : tie.Need-returns-5
 returns-5 c =
     let a = c .before .before .before .before .args in
-    (keyless-told (read-leaves (a .image .now)) (a .file .now) (c .enum-told4 .given .1) tt, omega arith)
+    (keyless-keyless (read-leaves (a .image .now)) (a .file .now) (c .enum-told4 .given .1) tt, omega arith)
 
 pub key-length-spec : {M : Type 1} → statement M
 key-length-spec =

@@ -4,7 +4,7 @@ use mathlib.Core.Path.{subst, _≡_, refl, sym, ap, _∙_}
 use lib.ListN.{replicate, length, drop}
 use Rattle.spec.specs.Keys.{keys-of}
 use Rattle.theory.specs.Lists.{bytes-drop}
-use Rattle.theory.specs.Words.{Is-bytes}
+use Rattle.theory.specs.Terms.{Is-bytes}
 use Rattle.build_laws.specs.Cursors.{sums}
 use Rattle.build_laws.specs.PackedBody.{small-of}
 use Rattle.build_laws.specs.BytePass.{byte-state}

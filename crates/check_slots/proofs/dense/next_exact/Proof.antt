@@ -38,12 +38,12 @@ next-set-requires : tie.Need-next-set-requires
 next-set-requires c κs =
     let a = c .before .before .before .args in
     let p = c .before .before .before .pre in
-    rw (by-end (a .f .dp) (blocks 8 (a .f .dense))) (room (a .f .dense) (length (dp-body (a .image .now) (a .f))) (bodies-sized (a .image .now) (a .f) (p .0 .frame) .dp), p .0 .frame .dense, p .1)
+    rw (by-end (a .f .dp) (blocks 8 (a .f .dense .nodes))) (room (a .f .dense .nodes) (length (dp-body (a .image .now) (a .f))) (bodies-sized (a .image .now) (a .f) (p .0 .frame) .dp), p .0 .frame .dense, p .1)
 
 returns : tie.Need-returns
 returns c =
     let a = c .before .before .before .before .args in
-    rw (by-end (a .f .dp) (blocks 8 (a .f .dense))) at (c .next-set .ensures)
+    rw (by-end (a .f .dp) (blocks 8 (a .f .dense .nodes))) at (c .next-set .ensures)
 
 pub next-exact-spec : {M : Type 1} → statement M
 next-exact-spec =

@@ -35,7 +35,7 @@ sub-b c = search needs
 mul-read32 : tie.Need-mul-read32
 mul-read32 c =
     let a = c .before .before .before .before .args in
-    few-blocks (a .f .entries) (c .before .before .before .before .pre .frame .entries)
+    few-blocks (a .f .sparse .entries) (c .before .before .before .before .pre .frame .entries)
 
 add-read32 : tie.Need-add-read32
 add-read32 c =
@@ -55,8 +55,8 @@ ones-at-requires c κs =
     let a = c .before .before .before .before .before .before .args in
     let p = c .before .before .before .before .before .before .pre in
     let b = last-block (a .image .now) (a .f) p (c .before .before .before .if1 .left) .1 in
-    let e = eight-words ((a .f .entries - 1) / 512) in
-    (bodies-inside (a .image .now) (a .f) (p .frame) .sc .0, p .frame .entries, rw e (below b), c .read32 .ensures .0 ∙ entry-entry (a .image .now) (a .f) p ((a .f .entries - 1) / 512) b ∙ ap (rank (sc-body (a .image .now) (a .f))) (sym e))
+    let e = eight-words ((a .f .sparse .entries - 1) / 512) in
+    (bodies-inside (a .image .now) (a .f) (p .frame) .sc .0, p .frame .entries, rw e (below b), c .read32 .ensures .0 ∙ entry-entry (a .image .now) (a .f) p ((a .f .sparse .entries - 1) / 512) b ∙ ap (rank (sc-body (a .image .now) (a .f))) (sym e))
 
 returns-2 : tie.Need-returns-2
 returns-2 c = search needs

@@ -19,13 +19,13 @@ sparse-at-requires c κs =
     let a = c .before .args in
     let p = c .before .pre in
     let o = p .0 .frame in
-    (placed (a .image .now) (a .f) o, bodies-inside (a .image .now) (a .f) o .sl .0, o .leaves, o .width, few (p .1) (rank-le (sc-body (a .image .now) (a .f)) (a .f .entries)) (o .leaves))
+    (placed (a .image .now) (a .f) o, bodies-inside (a .image .now) (a .f) o .sl .0, o .leaves, o .width, few (p .1) (rank-le (sc-body (a .image .now) (a .f)) (a .f .sparse .entries)) (o .leaves))
 
 returns : tie.Need-returns
 returns c =
     let a = c .before .before .args in
     c .sparse-at .ensures
-    ∙ ap (λ (d : ℕ). all-from (sparse-exact (clear-at (a .image .now) (a .f) 0) (sl-body (a .image .now) (a .f)) (sc-body (a .image .now) (a .f)) (sb-body (a .image .now) (a .f)) (a .f .entries) d) 0 (a .f .entries)) (c .before .before .pre .1)
+    ∙ ap (λ (d : ℕ). all-from (sparse-exact (clear-at (a .image .now) (a .f) 0) (sl-body (a .image .now) (a .f)) (sc-body (a .image .now) (a .f)) (sb-body (a .image .now) (a .f)) (a .f .sparse .entries) d) 0 (a .f .sparse .entries)) (c .before .before .pre .1)
 
 pub sparse-part-spec : {M : Type 1} → statement M
 sparse-part-spec = tie.close (tie.spec sparse-at-requires returns)

@@ -37,26 +37,26 @@ mul-table-end c = search needs
 add-table-end : tie.Need-add-table-end
 add-table-end c = search needs
 
-sub-ranks-right : tie.Need-sub-ranks-right
-sub-ranks-right c = search needs
+sub-ranks-valid : tie.Need-sub-ranks-valid
+sub-ranks-valid c = search needs
 
-part-ranks-right-start : tie.Need-part-ranks-right-start
-part-ranks-right-start c = search needs
+part-ranks-valid-start : tie.Need-part-ranks-valid-start
+part-ranks-valid-start c = search needs
 
-part-ranks-right-end : tie.Need-part-ranks-right-end
-part-ranks-right-end c = search needs
+part-ranks-valid-end : tie.Need-part-ranks-valid-end
+part-ranks-valid-end c = search needs
 
-sub-ranks-right-2 : tie.Need-sub-ranks-right-2
-sub-ranks-right-2 c = search needs
+sub-ranks-valid-2 : tie.Need-sub-ranks-valid-2
+sub-ranks-valid-2 c = search needs
 
-part-ranks-right-start-2 : tie.Need-part-ranks-right-start-2
-part-ranks-right-start-2 c = search needs
+part-ranks-valid-start-2 : tie.Need-part-ranks-valid-start-2
+part-ranks-valid-start-2 c = search needs
 
-part-ranks-right-end-2 : tie.Need-part-ranks-right-end-2
-part-ranks-right-end-2 c = search needs
+part-ranks-valid-end-2 : tie.Need-part-ranks-valid-end-2
+part-ranks-valid-end-2 c = search needs
 
-ranks-right-requires : tie.Need-ranks-right-requires
-ranks-right-requires c κs =
+ranks-valid-requires : tie.Need-ranks-valid-requires
+ranks-valid-requires c κs =
     let a = c .before .before .before .args in
     let p = c .before .before .before .pre in
     let s : Bytes = a .image .now in
@@ -67,7 +67,7 @@ returns c =
     let a = c .before .before .before .before .args in
     let p = c .before .before .before .before .pre in
     let s : Bytes = a .image .now in
-    c .ranks-right .ensures
+    c .ranks-valid .ensures
     ∙ ap₂ (λ (k m : ℕ). equal (part s (a .table) m) (entries (λ b. rank (part s (a .at) k) (64 * a .words * b)) (blocks (64 * a .words) (a .n)))) (by-end (a .at) (blocks 8 (a .n))) (by-end (a .table) (4 * blocks (64 * a .words) (a .n)))
     ∙ ranked-is s (a .at) (a .n) (a .table) (a .words) (p .0) (p .3)
 
@@ -84,11 +84,11 @@ ranks-at-spec =
     add-end-2
     mul-table-end
     add-table-end
-    sub-ranks-right
-    part-ranks-right-start
-    part-ranks-right-end
-    sub-ranks-right-2
-    part-ranks-right-start-2
-    part-ranks-right-end-2
-    ranks-right-requires
+    sub-ranks-valid
+    part-ranks-valid-start
+    part-ranks-valid-end
+    sub-ranks-valid-2
+    part-ranks-valid-start-2
+    part-ranks-valid-end-2
+    ranks-valid-requires
     returns)

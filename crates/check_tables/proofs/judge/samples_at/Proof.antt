@@ -19,33 +19,33 @@ add-end-2 c = search needs
 add-table-end : tie.Need-add-table-end
 add-table-end c = search needs
 
-sub-samples-right : tie.Need-sub-samples-right
-sub-samples-right c = search needs
+sub-samples-valid : tie.Need-sub-samples-valid
+sub-samples-valid c = search needs
 
-part-samples-right-start : tie.Need-part-samples-right-start
-part-samples-right-start c = search needs
+part-samples-valid-start : tie.Need-part-samples-valid-start
+part-samples-valid-start c = search needs
 
-part-samples-right-end : tie.Need-part-samples-right-end
-part-samples-right-end c = search needs
+part-samples-valid-end : tie.Need-part-samples-valid-end
+part-samples-valid-end c = search needs
 
-sub-samples-right-2 : tie.Need-sub-samples-right-2
-sub-samples-right-2 c = search needs
+sub-samples-valid-2 : tie.Need-sub-samples-valid-2
+sub-samples-valid-2 c = search needs
 
-part-samples-right-start-2 : tie.Need-part-samples-right-start-2
-part-samples-right-start-2 c = search needs
+part-samples-valid-start-2 : tie.Need-part-samples-valid-start-2
+part-samples-valid-start-2 c = search needs
 
-part-samples-right-end-2 : tie.Need-part-samples-right-end-2
-part-samples-right-end-2 c = search needs
+part-samples-valid-end-2 : tie.Need-part-samples-valid-end-2
+part-samples-valid-end-2 c = search needs
 
-samples-right-requires : tie.Need-samples-right-requires
-samples-right-requires c κs = search needs
+samples-valid-requires : tie.Need-samples-valid-requires
+samples-valid-requires c κs = search needs
 
 returns : tie.Need-returns
 returns c =
     let a = c .before .before .before .before .args in
     let p = c .before .before .before .before .pre in
     let s : Bytes = a .image .now in
-    c .samples-right .ensures
+    c .samples-valid .ensures
     ∙ ap₂ (λ (k m : ℕ). equal (part s (a .table) m) (entries (λ t. select (part s (a .at) k) (a .n) (64 * t)) (blocks 64 (rank (part s (a .at) k) (a .n))))) (by-end (a .at) (blocks 8 (a .n))) (by-end (a .table) (a .m))
     ∙ sampled-is s (a .at) (a .n) (a .table) (a .m) (p .1)
 
@@ -56,11 +56,11 @@ samples-at-spec =
     add-end
     add-end-2
     add-table-end
-    sub-samples-right
-    part-samples-right-start
-    part-samples-right-end
-    sub-samples-right-2
-    part-samples-right-start-2
-    part-samples-right-end-2
-    samples-right-requires
+    sub-samples-valid
+    part-samples-valid-start
+    part-samples-valid-end
+    sub-samples-valid-2
+    part-samples-valid-start-2
+    part-samples-valid-end-2
+    samples-valid-requires
     returns)

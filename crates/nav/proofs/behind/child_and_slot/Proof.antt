@@ -44,7 +44,7 @@ returns : tie.Need-returns
 unfolding child-at slot-at
 returns c =
     let a = c .before .before .before .before .before .before .before .before .args in
-    let l = lt-ltb (a .m .0) (a .f .dense) (omega arith) in
+    let l = lt-ltb (a .m .0) (a .f .dense .nodes) (omega arith) in
     (rw l (omega (arith, c .before .before .child-rank .ensures)), rw l (omega (arith, c .before .before .before .label-rank .ensures, c .before .before .child-rank .ensures, c .exact-rank .ensures)))
 
 entry-rank-requires : tie.Need-entry-rank-requires
@@ -55,13 +55,13 @@ add-t15 : tie.Need-add-t15
 add-t15 c =
     let a = c .before .before .before .before .before .before .args in
     let p = c .before .before .before .before .before .before .pre in
-    omega (arith, dense-totals (a .image .now) (a .f) (p .0) .0, few-children (a .image .now) (a .f) (p .0) (a .f .dense) (omega arith), c .before .entry-rank .ensures, rank-le (drop (a .f .sc) (a .image .now)) (a .at .0), p .1 .sparse (omega arith), p .0 .entry-size, p .0 .writable .few-entries)
+    omega (arith, dense-totals (a .image .now) (a .f) (p .0) .0, few-children (a .image .now) (a .f) (p .0) (a .f .dense .nodes) (omega arith), c .before .entry-rank .ensures, rank-le (drop (a .f .sc) (a .image .now)) (a .at .0), p .1 .sparse (omega arith), p .0 .entry-size, p .0 .writable .few-entries)
 
 add-t16 : tie.Need-add-t16
 add-t16 c =
     let a = c .before .before .before .before .before .before .args in
     let p = c .before .before .before .before .before .before .pre in
-    omega (arith, dense-totals (a .image .now) (a .f) (p .0) .0, few-children (a .image .now) (a .f) (p .0) (a .f .dense) (omega arith), c .before .entry-rank .ensures, rank-le (drop (a .f .sc) (a .image .now)) (a .at .0), p .1 .sparse (omega arith), p .0 .entry-size, p .0 .writable .few-entries)
+    omega (arith, dense-totals (a .image .now) (a .f) (p .0) .0, few-children (a .image .now) (a .f) (p .0) (a .f .dense .nodes) (omega arith), c .before .entry-rank .ensures, rank-le (drop (a .f .sc) (a .image .now)) (a .at .0), p .1 .sparse (omega arith), p .0 .entry-size, p .0 .writable .few-entries)
 
 sub-t18 : tie.Need-sub-t18
 sub-t18 c =
@@ -77,7 +77,7 @@ add-t20 : tie.Need-add-t20
 add-t20 c =
     let a = c .before .before .before .before .before .before .before .before .args in
     let p = c .before .before .before .before .before .before .before .before .pre in
-    omega (arith, dense-totals (a .image .now) (a .f) (p .0) .1, leaves-all (nodes (a .image .now) (a .f)) (a .f .dense), p .0 .writable .leaf-total, p .0 .writable .few, p .1 .sparse (omega arith), p .0 .writable .few-entries, p .0 .entry-size)
+    omega (arith, dense-totals (a .image .now) (a .f) (p .0) .1, leaves-all (nodes (a .image .now) (a .f)) (a .f .dense .nodes), p .0 .writable .leaf-total, p .0 .writable .few, p .1 .sparse (omega arith), p .0 .writable .few-entries, p .0 .entry-size)
 
 returns-2 : tie.Need-returns-2
 unfolding child-at slot-at
@@ -86,7 +86,7 @@ returns-2 c =
     let p = c .before .before .before .before .before .before .before .before .pre .0 in
     let d = dense-totals (a .image .now) (a .f) p in
     let e = c .before .before .before .entry-rank .ensures in
-    let l = le-ltb (a .m .0) (a .f .dense) (omega arith) in
+    let l = le-ltb (a .m .0) (a .f .dense .nodes) (omega arith) in
     (rw l (omega (arith, d .0, e, dense-kids (a .image .now) (a .f) p)), rw l (omega (arith, d .1, e, dense-leaves (a .image .now) (a .f) p)))
 
 pub child-and-slot-spec : {M : Type 1} → statement M

@@ -19,7 +19,7 @@ returns : tie.Need-returns
 unfolding child-at
 returns c =
     let a = c .before .before .before .before .before .args in
-    rw (lt-ltb (a .m .0) (a .f .dense) (omega arith)) (omega (arith, c .child-rank .ensures))
+    rw (lt-ltb (a .m .0) (a .f .dense .nodes) (omega arith)) (omega (arith, c .child-rank .ensures))
 
 entry-rank-requires : tie.Need-entry-rank-requires
 entry-rank-requires c κs =
@@ -29,20 +29,20 @@ add-t9 : tie.Need-add-t9
 add-t9 c =
     let a = c .before .before .before .before .before .before .args in
     let p = c .before .before .before .before .before .before .pre in
-    omega (arith, dense-totals (a .image .now) (a .f) (p .0) .0, few-children (a .image .now) (a .f) (p .0) (a .f .dense) (omega arith), c .before .entry-rank .ensures, rank-le (drop (a .f .sc) (a .image .now)) (a .at .0), p .1 .sparse (omega arith), p .0 .entry-size, p .0 .writable .few-entries)
+    omega (arith, dense-totals (a .image .now) (a .f) (p .0) .0, few-children (a .image .now) (a .f) (p .0) (a .f .dense .nodes) (omega arith), c .before .entry-rank .ensures, rank-le (drop (a .f .sc) (a .image .now)) (a .at .0), p .1 .sparse (omega arith), p .0 .entry-size, p .0 .writable .few-entries)
 
 add-t10 : tie.Need-add-t10
 add-t10 c =
     let a = c .before .before .before .before .before .before .args in
     let p = c .before .before .before .before .before .before .pre in
-    omega (arith, dense-totals (a .image .now) (a .f) (p .0) .0, few-children (a .image .now) (a .f) (p .0) (a .f .dense) (omega arith), c .before .entry-rank .ensures, rank-le (drop (a .f .sc) (a .image .now)) (a .at .0), p .1 .sparse (omega arith), p .0 .entry-size, p .0 .writable .few-entries)
+    omega (arith, dense-totals (a .image .now) (a .f) (p .0) .0, few-children (a .image .now) (a .f) (p .0) (a .f .dense .nodes) (omega arith), c .before .entry-rank .ensures, rank-le (drop (a .f .sc) (a .image .now)) (a .at .0), p .1 .sparse (omega arith), p .0 .entry-size, p .0 .writable .few-entries)
 
 returns-2 : tie.Need-returns-2
 unfolding child-at
 returns-2 c =
     let a = c .before .before .before .before .before .before .args in
     let p = c .before .before .before .before .before .before .pre .0 in
-    rw (le-ltb (a .m .0) (a .f .dense) (omega arith)) (omega (arith, dense-totals (a .image .now) (a .f) p .0, c .before .entry-rank .ensures, dense-kids (a .image .now) (a .f) p))
+    rw (le-ltb (a .m .0) (a .f .dense .nodes) (omega arith)) (omega (arith, dense-totals (a .image .now) (a .f) p .0, c .before .entry-rank .ensures, dense-kids (a .image .now) (a .f) p))
 
 pub child-spec : {M : Type 1} → statement M
 child-spec =

@@ -37,7 +37,7 @@ returns : tie.Need-returns
 unfolding slot-at
 returns c =
     let a = c .before .before .before .before .before .before .before .before .args in
-    rw (lt-ltb (a .m .0) (a .f .dense) (omega arith)) (omega (arith, c .before .before .before .label-rank .ensures, c .before .before .child-rank .ensures, c .exact-rank .ensures))
+    rw (lt-ltb (a .m .0) (a .f .dense .nodes) (omega arith)) (omega (arith, c .before .before .before .label-rank .ensures, c .before .before .child-rank .ensures, c .exact-rank .ensures))
 
 sub-t13 : tie.Need-sub-t13
 sub-t13 c =
@@ -58,14 +58,14 @@ add-t16 c =
     let a = c .before .before .before .before .before .before .before .args in
     let p = c .before .before .before .before .before .before .before .pre in
     let t = p .0 .writable in
-    omega (arith, dense-totals (a .image .now) (a .f) (p .0) .1, leaves-all (nodes (a .image .now) (a .f)) (a .f .dense), t .leaf-total, t .few, p .1 .sparse (omega arith), t .few-entries, p .0 .entry-size)
+    omega (arith, dense-totals (a .image .now) (a .f) (p .0) .1, leaves-all (nodes (a .image .now) (a .f)) (a .f .dense .nodes), t .leaf-total, t .few, p .1 .sparse (omega arith), t .few-entries, p .0 .entry-size)
 
 returns-2 : tie.Need-returns-2
 unfolding slot-at
 returns-2 c =
     let a = c .before .before .before .before .before .before .before .args in
     let p = c .before .before .before .before .before .before .before .pre .0 in
-    rw (le-ltb (a .m .0) (a .f .dense) (omega arith)) (omega (arith, dense-totals (a .image .now) (a .f) p .1, c .before .entry-rank .ensures, dense-leaves (a .image .now) (a .f) p))
+    rw (le-ltb (a .m .0) (a .f .dense .nodes) (omega arith)) (omega (arith, dense-totals (a .image .now) (a .f) p .1, c .before .entry-rank .ensures, dense-leaves (a .image .now) (a .f) p))
 
 pub slot-spec : {M : Type 1} → statement M
 slot-spec =

@@ -1,4 +1,4 @@
-use Rattle.nav_laws.specs.Positions.{entries-right, sole-plain, other-plain, first-exact, labels-room}
+use Rattle.nav_laws.specs.Positions.{entries-valid, sole-plain, other-plain, first-exact, labels-room}
 use Rattle.nav_laws.specs.Tables.{start-found}
 use Rattle.bits_laws.specs.Bits.{select}
 use mathlib.Core.Path.{ap, _∙_}
@@ -29,9 +29,9 @@ returns c =
     let a = c .before .before .before .before .before .args in
     let p = c .before .before .before .before .before .pre in
     let n = c .before .before .before .node-start .ensures .0 in
-    let e = c .before .before .next-start .ensures .0 ∙ ap (select (drop (a .f .sb) (a .image .now)) (a .f .entries)) (start-found (a .image .now) (a .f) (p .0) (a .m .0) (c .before .before .before .node-start .result .0) (p .1) (p .2) n .1) in
+    let e = c .before .before .next-start .ensures .0 ∙ ap (select (drop (a .f .sb) (a .image .now)) (a .f .sparse .entries)) (start-found (a .image .now) (a .f) (p .0) (a .m .0) (c .before .before .before .node-start .result .0) (p .1) (p .2) n .1) in
     let x = sole-plain (a .image .now) (a .f) (p .0) (a .m .0) (p .1) (p .2) (c .before .before .before .node-start .result .0) (c .before .before .next-start .result .0) n e (omega arith) in
-    let r = entries-right (a .image .now) (a .f) (p .0) (a .m .0) (p .1) (p .2) (c .before .before .before .node-start .result .0) (c .before .before .next-start .result .0) false n e x in
+    let r = entries-valid (a .image .now) (a .f) (p .0) (a .m .0) (p .1) (p .2) (c .before .before .before .node-start .result .0) (c .before .before .next-start .result .0) false n e x in
     (r .0, omega (arith, r .1), omega (arith, r .2), c .before .before .next-start .ensures .1)
 
 shared-slice-read-if2 : tie.Need-shared-slice-read-if2
@@ -44,9 +44,9 @@ returns-2 c =
     let a = c .before .before .before .before .before .before .before .args in
     let p = c .before .before .before .before .before .before .before .pre in
     let n = c .before .before .before .before .before .node-start .ensures .0 in
-    let e = c .before .before .before .before .next-start .ensures .0 ∙ ap (select (drop (a .f .sb) (a .image .now)) (a .f .entries)) (start-found (a .image .now) (a .f) (p .0) (a .m .0) (c .before .before .before .before .before .node-start .result .0) (p .1) (p .2) n .1) in
+    let e = c .before .before .before .before .next-start .ensures .0 ∙ ap (select (drop (a .f .sb) (a .image .now)) (a .f .sparse .entries)) (start-found (a .image .now) (a .f) (p .0) (a .m .0) (c .before .before .before .before .before .node-start .result .0) (p .1) (p .2) n .1) in
     let x = other-plain (a .image .now) (a .f) (p .0) (a .m .0) (p .1) (p .2) (c .before .before .before .before .before .node-start .result .0) n (c .if2 .taken) in
-    let r = entries-right (a .image .now) (a .f) (p .0) (a .m .0) (p .1) (p .2) (c .before .before .before .before .before .node-start .result .0) (c .before .before .before .before .next-start .result .0) false n e x in
+    let r = entries-valid (a .image .now) (a .f) (p .0) (a .m .0) (p .1) (p .2) (c .before .before .before .before .before .node-start .result .0) (c .before .before .before .before .next-start .result .0) false n e x in
     (r .0, omega (arith, r .1), omega (arith, r .2), c .before .before .before .before .next-start .ensures .1)
 
 add-t9 : tie.Need-add-t9
@@ -57,9 +57,9 @@ returns-3 c =
     let a = c .before .before .before .before .before .before .before .args in
     let p = c .before .before .before .before .before .before .before .pre in
     let n = c .before .before .before .before .before .node-start .ensures .0 in
-    let e = c .before .before .before .before .next-start .ensures .0 ∙ ap (select (drop (a .f .sb) (a .image .now)) (a .f .entries)) (start-found (a .image .now) (a .f) (p .0) (a .m .0) (c .before .before .before .before .before .node-start .result .0) (p .1) (p .2) n .1) in
+    let e = c .before .before .before .before .next-start .ensures .0 ∙ ap (select (drop (a .f .sb) (a .image .now)) (a .f .sparse .entries)) (start-found (a .image .now) (a .f) (p .0) (a .m .0) (c .before .before .before .before .before .node-start .result .0) (p .1) (p .2) n .1) in
     let x = first-exact (a .image .now) (a .f) (p .0) (a .m .0) (p .1) (p .2) (c .before .before .before .before .before .node-start .result .0) (c .before .before .before .before .next-start .result .0) n e (omega arith) (c .if2 .left) in
-    let r = entries-right (a .image .now) (a .f) (p .0) (a .m .0) (p .1) (p .2) (c .before .before .before .before .before .node-start .result .0) (c .before .before .before .before .next-start .result .0) true n e x in
+    let r = entries-valid (a .image .now) (a .f) (p .0) (a .m .0) (p .1) (p .2) (c .before .before .before .before .before .node-start .result .0) (c .before .before .before .before .next-start .result .0) true n e x in
     (r .0, omega (arith, r .1), omega (arith, r .2), c .before .before .before .before .next-start .ensures .1)
 
 pub entries-of-spec : {M : Type 1} → statement M

@@ -21,7 +21,7 @@ add-t6 c =
     let a = c .before .before .before .before .args in
     let p = c .before .before .before .before .pre .0 in
     let n = c .before .before .node-start in
-    omega (arith, dense-totals (a .image .now) (a .f) p .0, few-children (a .image .now) (a .f) p (a .f .dense) (omega arith), c .before .entry-rank .ensures, rank-le (drop (a .f .sc) (a .image .now)) (n .result .0), n .ensures .1, p .writable .few-entries, p .entry-size)
+    omega (arith, dense-totals (a .image .now) (a .f) p .0, few-children (a .image .now) (a .f) p (a .f .dense .nodes) (omega arith), c .before .entry-rank .ensures, rank-le (drop (a .f .sc) (a .image .now)) (n .result .0), n .ensures .1, p .writable .few-entries, p .entry-size)
 
 sub-t7 : tie.Need-sub-t7
 sub-t7 c =
@@ -37,7 +37,7 @@ add-t9 : tie.Need-add-t9
 add-t9 c =
     let a = c .before .before .before .before .before .before .args in
     let p = c .before .before .before .before .before .before .pre .0 in
-    omega (arith, dense-totals (a .image .now) (a .f) p .1, leaves-all (nodes (a .image .now) (a .f)) (a .f .dense), p .writable .leaf-total, p .writable .few, c .before .before .before .before .node-start .ensures .1, p .writable .few-entries, p .entry-size)
+    omega (arith, dense-totals (a .image .now) (a .f) p .1, leaves-all (nodes (a .image .now) (a .f)) (a .f .dense .nodes), p .writable .leaf-total, p .writable .few, c .before .before .before .before .node-start .ensures .1, p .writable .few-entries, p .entry-size)
 
 returns : tie.Need-returns
 returns c =

@@ -30,7 +30,7 @@ next-one-requires c κs =
 returns : tie.Need-returns
 returns c =
     let a = c .before .before .before .before .args in
-    (c .next-one .ensures .0 ∙ ap (λ (z : List ℕ). select z (a .f .entries) (rank z (a .at .0 + 1))) (tail-part (a .image .now) (a .f .sb)), c .next-one .ensures .2)
+    (c .next-one .ensures .0 ∙ ap (λ (z : List ℕ). select z (a .f .sparse .entries) (rank z (a .at .0 + 1))) (tail-part (a .image .now) (a .f .sb)), c .next-one .ensures .2)
 
 pub next-start-spec : {M : Type 1} → statement M
 next-start-spec = tie.close (tie.spec sub-next-one part-next-one-start part-next-one-end add-next-one next-one-requires returns)

@@ -39,7 +39,7 @@ select-64-requires c κs =
 returns : tie.Need-returns
 returns c =
     let a = c .before .before .before .before .before .before .args in
-    (c .select-64 .ensures .0 ∙ ap (λ (z : List ℕ). select z (a .f .entries) (a .m .0 - a .f .dense)) (tail-part (a .image .now) (a .f .sb)), c .select-64 .ensures .1)
+    (c .select-64 .ensures .0 ∙ ap (λ (z : List ℕ). select z (a .f .sparse .entries) (a .m .0 - a .f .dense .nodes)) (tail-part (a .image .now) (a .f .sb)), c .select-64 .ensures .1)
 
 pub node-start-spec : {M : Type 1} → statement M
 node-start-spec =

@@ -7,12 +7,12 @@ use borrow.Author.Needs.{needs}
 use lib.ListN.{length}
 use Rattle.spec.specs.Bytes.{low-bits}
 use Rattle.print_laws.specs.Writing.{Written, written-none, written-append, written-as}
-use Rattle.print_laws.specs.Texts.{bit-figure, bit-figures-none, bit-figures-more, length-bit-figures}
+use Rattle.print_laws.specs.Texts.{bit-digit, bit-digits-none, bit-digits-more, length-bit-digits}
 use Rattle.print_text.proofs.lines.write_bits.Statement.{statement}
 use Rattle.print_text.proofs.lines.write_bits.Tie as tie
 
 abbrev Inv-loop : tie.InvT-loop
-Inv-loop out₀ at suffix width next₀ i₀ out next i = (i ≤ width) × (length out ≡ length out₀) × Written out₀ at (map bit-figure (low-bits i suffix)) out next
+Inv-loop out₀ at suffix width next₀ i₀ out next i = (i ≤ width) × (length out ≡ length out₀) × Written out₀ at (map bit-digit (low-bits i suffix)) out next
 
 abbrev μ-loop : tie.MeasureT-loop
 μ-loop out₀ at suffix width next₀ i₀ out next i = width - i
@@ -20,19 +20,19 @@ abbrev μ-loop : tie.MeasureT-loop
 loop-holds : tie.Need-loop-holds Inv-loop μ-loop
 loop-holds c =
     let a = c .before .args in
-    (omega arith, refl, written-as (written-none (a .out .now) (a .at) (omega arith)) (sym (bit-figures-none (a .suffix))))
+    (omega arith, refl, written-as (written-none (a .out .now) (a .at) (omega arith)) (sym (bit-digits-none (a .suffix))))
 
-shr-figure : tie.Need-shr-figure Inv-loop μ-loop
-shr-figure c = omega arith
+shr-digit : tie.Need-shr-digit Inv-loop μ-loop
+shr-digit c = omega arith
 
-figure-requires : tie.Need-figure-requires Inv-loop μ-loop
-figure-requires c κs = omega arith
+digit-requires : tie.Need-digit-requires Inv-loop μ-loop
+digit-requires c κs = omega arith
 
 write-byte-requires : tie.Need-write-byte-requires Inv-loop μ-loop
 write-byte-requires c κs =
     let a = c .before .before .before .before .before .args in
     let l = c .before .before .before .loop in
-    omega (arith, length-bit-figures (l .i) (a .suffix))
+    omega (arith, length-bit-digits (l .i) (a .suffix))
 
 add-i : tie.Need-add-i Inv-loop μ-loop
 add-i c = search needs
@@ -46,9 +46,9 @@ loop-again c =
     let l = c .before .before .before .before .before .before .loop in (
       omega arith,
       c .before .before .write-byte .kept .0 ∙ l .inv .1,
-      written-as (written-append (omega (arith, length-bit-figures (l .i) (a .suffix))) (l .inv .2) (c .before .before .write-byte .ensures))
-          (ap (λ (x : ℕ). map bit-figure (low-bits (l .i) (a .suffix)) ++ x ∷ []) (c .before .before .before .figure .ensures)
-          ∙ sym (ap (λ (k : ℕ). map bit-figure (low-bits k (a .suffix))) (add-one (l .i)) ∙ bit-figures-more (l .i) (a .suffix))),
+      written-as (written-append (omega (arith, length-bit-digits (l .i) (a .suffix))) (l .inv .2) (c .before .before .write-byte .ensures))
+          (ap (λ (x : ℕ). map bit-digit (low-bits (l .i) (a .suffix)) ++ x ∷ []) (c .before .before .before .digit .ensures)
+          ∙ sym (ap (λ (k : ℕ). map bit-digit (low-bits k (a .suffix))) (add-one (l .i)) ∙ bit-digits-more (l .i) (a .suffix))),
     )
 
 same-length : tie.Need-same-length Inv-loop μ-loop
@@ -59,7 +59,7 @@ returns c =
     let a = c .before .before .before .args in
     let l = c .before .loop in
     let e : l .i ≡ a .width = omega arith in
-    written-as (l .inv .2) (ap (λ (k : ℕ). map bit-figure (low-bits k (a .suffix))) e)
+    written-as (l .inv .2) (ap (λ (k : ℕ). map bit-digit (low-bits k (a .suffix))) e)
 
 pub write-bits-spec : {M : Type 1} → statement M
 write-bits-spec =
@@ -68,8 +68,8 @@ write-bits-spec =
     Inv-loop
     μ-loop
     loop-holds
-    shr-figure
-    figure-requires
+    shr-digit
+    digit-requires
     write-byte-requires
     add-i
     loop-less

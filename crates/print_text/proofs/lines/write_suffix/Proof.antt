@@ -3,7 +3,7 @@ use mathlib.Core.Logic.{inl, inr}
 use native.Mathlib.Omega.{arith}
 use lib.ListN.{length}
 use Rattle.print_laws.specs.Writing.{written-as}
-use Rattle.print_laws.specs.Texts.{suffix-none, suffix-open, length-bit-figures}
+use Rattle.print_laws.specs.Texts.{suffix-none, suffix-open, length-bit-digits}
 use borrow.Author.Needs.{needs}
 use Rattle.print_text.proofs.lines.write_suffix.Statement.{statement}
 use Rattle.print_text.proofs.lines.write_suffix.Tie as tie
@@ -37,7 +37,7 @@ returns-2 c =
 write-bits-requires : tie.Need-write-bits-requires
 write-bits-requires c κs =
     let a = c .before .before .before .before .args in
-    (omega arith, omega (arith, ap length (suffix-open (a .exact) (a .width) (a .suffix) (c .before .before .if1 .left) (c .before .if2 .left)), length-bit-figures (a .width) (a .suffix)))
+    (omega arith, omega (arith, ap length (suffix-open (a .exact) (a .width) (a .suffix) (c .before .before .if1 .left) (c .before .if2 .left)), length-bit-digits (a .width) (a .suffix)))
 
 same-length-3 : tie.Need-same-length-3
 same-length-3 c = search needs

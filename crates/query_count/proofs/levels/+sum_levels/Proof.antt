@@ -97,7 +97,7 @@ sum-levels-add-t9 : (t : ℕ) → sum-levels-lts.Need-add-t9 (
 sum-levels-add-t9 t c =
     let a = c .before .before .before .before .before .before .before .args in
     let p = c .before .before .before .before .before .before .before .pre .1 in
-    let some : 0 < a .f .dense + a .f .sparse = omega (arith, p .2, c .before .before .if2 .left) in
+    let some : 0 < a .f .dense .nodes + a .f .sparse .nodes = omega (arith, p .2, c .before .before .if2 .left) in
     omega (arith, c .before .before2 .ensures .0, rest-node (a .image .now) (a .f) (p .0) (a .node .0) some, p .0 .dense-size, p .0 .sparse-size, p .0 .writable .few-dense, p .0 .writable .few-sparse)
 
 sum-levels-sum-levels-requires : (t : ℕ) → sum-levels-lts.Need-sum-levels-requires (
@@ -111,7 +111,7 @@ sum-levels-sum-levels-requires t c κs =
     let p = c .before .before .before .before .before .before .before .pre .1 in
     let u = c .before .before .before .before .before .before .before .pre .0 in
     let z = c .before .before .before .before .before .if1 .left in
-    let some : 0 < a .f .dense + a .f .sparse = omega (arith, p .2, c .before .before .if2 .left) in
+    let some : 0 < a .f .dense .nodes + a .f .sparse .nodes = omega (arith, p .2, c .before .before .if2 .left) in
     (omega arith, (p .0, omega (arith, p .1), omega (arith, c .before .before2 .ensures .0, rest-node (a .image .now) (a .f) (p .0) (a .node .0) some)))
 
 sum-levels-add-result : (t : ℕ) → sum-levels-lts.Need-add-result (

@@ -15,7 +15,7 @@ use Rattle.query_point.proofs.descent.descend.Statement.{statement}
 use Rattle.query_point.proofs.descent.descend.Tie as tie
 
 abbrev Inv-loop : tie.InvT-loop
-Inv-loop image f key m₀ d₀ m d = (m < f .dense + f .sparse) × (d ≤ length key) × (descend (nodes image f) 0 key ≡ descend (nodes image f) m (drop d key))
+Inv-loop image f key m₀ d₀ m d = (m < f .dense .nodes + f .sparse .nodes) × (d ≤ length key) × (descend (nodes image f) 0 key ≡ descend (nodes image f) m (drop d key))
 
 abbrev μ-loop : tie.MeasureT-loop
 μ-loop image f key m₀ d₀ m d = length key - d

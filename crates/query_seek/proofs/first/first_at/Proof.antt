@@ -15,7 +15,7 @@ use Rattle.query_seek.proofs.first.first_at.Statement.{statement}
 use Rattle.query_seek.proofs.first.first_at.Tie as tie
 
 abbrev Inv-loop : tie.InvT-loop
-Inv-loop image f key₀ depth node₀ d₀ key node d = (d ≤ 64) × (node < f .dense + f .sparse) × (length key ≡ 64) × (low-each (behind-each (take d₀ key₀) (first-leaf (nodes image f) (64 - d₀) node₀)) ≡ low-each (behind-each (take d key) (first-leaf (nodes image f) (64 - d) node)))
+Inv-loop image f key₀ depth node₀ d₀ key node d = (d ≤ 64) × (node < f .dense .nodes + f .sparse .nodes) × (length key ≡ 64) × (low-each (behind-each (take d₀ key₀) (first-leaf (nodes image f) (64 - d₀) node₀)) ≡ low-each (behind-each (take d key) (first-leaf (nodes image f) (64 - d) node)))
 
 abbrev μ-loop : tie.MeasureT-loop
 μ-loop image f key₀ depth node₀ d₀ key node d = 64 - d

@@ -20,7 +20,7 @@ use Rattle.query_seek.proofs.seeking.along.Tie as tie
 
 abbrev Inv-loop : tie.InvT-loop
 Inv-loop image f start path₀ bound₀ path bound =
-    Leading image f start (bound .node) (bound .depth) (bound .sum) × (length path ≡ 64) × Nodes-below (f .dense + f .sparse) path (bound .depth)
+    Leading image f start (bound .node) (bound .depth) (bound .sum) × (length path ≡ 64) × Nodes-below (f .dense .nodes + f .sparse .nodes) path (bound .depth)
     × (next-from (high-passed (length start)) (f .width) (nodes image f) 64 0 [] start none ≡ next-from (high-passed (length start)) (f .width) (nodes image f) (64 - bound .depth) (bound .node) (take (bound .depth) start) (drop (bound .depth) start) (turns (nodes image f) start path (bound .depth)))
 
 abbrev μ-loop : tie.MeasureT-loop
@@ -85,7 +85,7 @@ returns c =
       λ q. absurd (omega arith),
       summed-none (a .image .now) (a .f) (p .0) (a .start .now) (l .bound .node) (l .bound .depth) (l .bound .sum) (l .inv .0) (found .kind) (next .result .child .0) (next .result .slot .0) more (p .2) (g .1) child-is slot-is (c .if2 .taken),
       length-set (l .path) (l .bound .depth) (l .bound .node) ∙ l .inv .1,
-      node-stored (a .f .dense + a .f .sparse) (l .path) (l .bound .depth) (l .bound .node) fits (l .inv .0 .node-in) (l .inv .2),
+      node-stored (a .f .dense .nodes + a .f .sparse .nodes) (l .path) (l .bound .depth) (l .bound .node) fits (l .inv .0 .node-in) (l .inv .2),
     )
 
 at-leaf-requires : tie.Need-at-leaf-requires Inv-loop μ-loop
@@ -126,7 +126,7 @@ returns-2 c =
       λ q. omega (arith, e .2, slot-is, z, p .0 .writable .leaf-total),
       rw (e .1, e .3, e .4) (summed-leaf (a .image .now) (a .f) (p .0) (a .start .now) (l .bound .node) (l .bound .depth) (l .bound .sum) (l .inv .0) (found .kind) (next .result .child .0) (next .result .slot .0) more (p .2) (g .1) child-is slot-is (c .before .if3 .taken)),
       length-set (l .path) (l .bound .depth) (l .bound .node) ∙ l .inv .1,
-      λ i h. node-stored (a .f .dense + a .f .sparse) (l .path) (l .bound .depth) (l .bound .node) fits (l .inv .0 .node-in) (l .inv .2) i (omega (arith, h, e .4)),
+      λ i h. node-stored (a .f .dense .nodes + a .f .sparse .nodes) (l .path) (l .bound .depth) (l .bound .node) fits (l .inv .0 .node-in) (l .inv .2) i (omega (arith, h, e .4)),
     )
 
 loop-less : tie.Need-loop-less Inv-loop μ-loop
@@ -146,7 +146,7 @@ loop-again c =
     let slot-is = next .ensures .1 ∙ g .0 .slot-is in (
       leading-on (a .image .now) (a .f) (p .0) (a .start .now) (l .bound .node) (l .bound .depth) (l .bound .sum) (l .inv .0) (found .kind) (next .result .child .0) (next .result .slot .0) more (p .2) (g .1) child-is slot-is (c .before .before .if2 .left) (c .if3 .left),
       length-set (l .path) (l .bound .depth) (l .bound .node) ∙ l .inv .1,
-      node-stored (a .f .dense + a .f .sparse) (l .path) (l .bound .depth) (l .bound .node) fits (l .inv .0 .node-in) (l .inv .2),
+      node-stored (a .f .dense .nodes + a .f .sparse .nodes) (l .path) (l .bound .depth) (l .bound .node) fits (l .inv .0 .node-in) (l .inv .2),
       l .inv .3 ∙ seek-on (high-passed (length (a .start .now))) (a .f .width) (nodes (a .image .now) (a .f)) (a .start .now) (l .path) (l .bound .node) (l .bound .depth) (getD (a .start .now) (l .bound .depth) 0) (found .kind) more fits refl (g .1) (c .before .before .if2 .left) (c .if3 .left)
           ∙ ap (λ (x : ℕ). next-from (high-passed (length (a .start .now))) (a .f .width) (nodes (a .image .now) (a .f)) (64 - (l .bound .depth + 1)) x (take (l .bound .depth + 1) (a .start .now)) (drop (l .bound .depth + 1) (a .start .now)) (turns (nodes (a .image .now) (a .f)) (a .start .now) (set (l .path) (l .bound .depth) (l .bound .node)) (l .bound .depth + 1))) (sym child-is),
     )

@@ -2,7 +2,7 @@
 use mathlib.Core.Path.{refl}
 use borrow.Author.Needs.{needs}
 use Rattle.image_types.specs.declared.Frame.{Frame}
-use Rattle.check_image.specs.Answers.{Accepted-right}
+use Rattle.check_image.specs.Answers.{Accepted-valid}
 use Rattle.check_image.specs.declared.Accepted.the-variants.{At, Refused}
 use Rattle.walk.specs.StateLaws.{opened-unchecked, checked, opened-past, opened-at}
 use Rattle.walk.proofs.states.locate.Statement.{statement}
@@ -28,7 +28,7 @@ returns c =
     let d = c .before .before .before .before in
     let s = d .before .before .before .before .args .image .now in
     let f : Frame = d .f .given .0 .0 in
-    let o : Accepted-right s (At f) = rw (d .f .given .1) at (d .before .before .accept .ensures) in
+    let o : Accepted-valid s (At f) = rw (d .f .given .1) at (d .before .before .accept .ensures) in
     opened-past s f (checked s f (λ i. d .before .before .before .shared-slice-known .given i .fits) (o .0) (o .1)) (o .1) (c .refused2 .result) _ (c .before .if1 .taken) (c .refused2 .ensures)
 
 seek-requires : tie.Need-seek-requires
@@ -36,14 +36,14 @@ seek-requires c κs =
     let d = c .before .before .before in
     let s = d .before .before .before .before .args .image .now in
     let f : Frame = d .f .given .0 .0 in
-    let o : Accepted-right s (At f) = rw (d .f .given .1) at (d .before .before .accept .ensures) in
+    let o : Accepted-valid s (At f) = rw (d .f .given .1) at (d .before .before .accept .ensures) in
     (checked s f (λ i. d .before .before .before .shared-slice-known .given i .fits) (o .0) (o .1), c .if1 .left)
 
 returns-2 : tie.Need-returns-2
 returns-2 c =
     let d = c .before .before in
     let s = d .before .before .before .before .args .image .now in
-    let o : Accepted-right s (Refused (d .number .given .0 .0)) = rw (d .number .given .1) at (d .before .before .accept .ensures) in
+    let o : Accepted-valid s (Refused (d .number .given .0 .0)) = rw (d .number .given .1) at (d .before .before .accept .ensures) in
     opened-unchecked s (c .refused .result) _ _ (o .0) (o .1) (c .refused .ensures)
 
 returns-3 : tie.Need-returns-3
@@ -51,7 +51,7 @@ returns-3 c =
     let d = c .before .before .before .before in
     let s = d .before .before .before .before .args .image .now in
     let f : Frame = d .f .given .0 .0 in
-    let o : Accepted-right s (At f) = rw (d .f .given .1) at (d .before .before .accept .ensures) in
+    let o : Accepted-valid s (At f) = rw (d .f .given .1) at (d .before .before .accept .ensures) in
     (opened-at s f (checked s f (λ i. d .before .before .before .shared-slice-known .given i .fits) (o .0) (o .1)) (o .1) _ (c .seek .result) (c .seek .ensures), refl)
 
 pub locate-spec : {M : Type 1} → statement M

@@ -1,0 +1,84 @@
+use Rattle.bits_laws.specs.ValueLaws.{Small}
+use Rattle.check_trie_laws.specs.WordEntries.{word-judged, word-ascends, word-lasts}
+use borrow.Author.Needs.{needs}
+use Rattle.check_trie.proofs.sparse.word_valid.Statement.{statement}
+use Rattle.check_trie.proofs.sparse.word_valid.Tie as tie
+
+mul-read64 : tie.Need-mul-read64
+mul-read64 c = search needs
+
+read64-requires : tie.Need-read64-requires
+read64-requires c κs = search needs
+
+add-read-word : tie.Need-add-read-word
+add-read-word c = search needs
+
+read-word-requires : tie.Need-read-word-requires
+read-word-requires c κs = search needs
+
+shift-in-requires : tie.Need-shift-in-requires
+shift-in-requires c κs = search needs
+
+mul-read64-2 : tie.Need-mul-read64-2
+mul-read64-2 c = search needs
+
+read64-requires-2 : tie.Need-read64-requires-2
+read64-requires-2 c κs = search needs
+
+returns : tie.Need-returns
+returns c =
+    let a = c .before .before .before .before .before .before .before .before .args in
+    let small₁ : Small (a .sl .now) = λ i. c .before .before .before .before .before .before .before .shared-slice-known .given i .fits in
+    let small₂ : Small (a .sc .now) = λ i. c .before .before .before .before .before .before .shared-slice-known2 .given i .fits in
+    let small₃ : Small (a .sb .now) = λ i. c .before .before .before .before .before .shared-slice-known3 .given i .fits in
+    word-lasts (a .sl .now) (a .sc .now) (a .sb .now) small₁ small₂ small₃ (a .q) (c .before .before .before .before .read64 .result) (c .before .before .before .read-word .result) (c .before .before .shift-in .result) (c .before .read642 .result)
+    (c .before .before .before .before .read64 .ensures) (c .before .before .before .read-word .ensures) (c .before .before .shift-in .ensures) (c .before .read642 .ensures) (c .if1 .taken)
+
+mul-ascents : tie.Need-mul-ascents
+mul-ascents c = search needs
+
+ascents-requires : tie.Need-ascents-requires
+ascents-requires c κs = search needs
+
+returns-2 : tie.Need-returns-2
+returns-2 c =
+    let a = c .before .before .before .before .before .before .before .before .before .before .args in
+    let small₁ : Small (a .sl .now) = λ i. c .before .before .before .before .before .before .before .before .before .shared-slice-known .given i .fits in
+    let small₂ : Small (a .sc .now) = λ i. c .before .before .before .before .before .before .before .before .shared-slice-known2 .given i .fits in
+    let small₃ : Small (a .sb .now) = λ i. c .before .before .before .before .before .before .before .shared-slice-known3 .given i .fits in
+    word-ascends (a .sl .now) (a .sc .now) (a .sb .now) small₁ small₂ small₃ (a .q) (c .before .before .before .before .before .before .read64 .result) (c .before .before .before .before .before .read-word .result) (c .before .before .before .before .shift-in .result) (c .before .before .before .read642 .result)
+    (c .before .before .before .before .before .before .read64 .ensures) (c .before .before .before .before .before .read-word .ensures) (c .before .before .before .before .shift-in .ensures) (c .before .before .before .read642 .ensures) (c .before .ascents .result) (c .before .ascents .ensures) (c .if2 .taken)
+
+mul-full-labels : tie.Need-mul-full-labels
+mul-full-labels c = search needs
+
+full-labels-requires : tie.Need-full-labels-requires
+full-labels-requires c κs = search needs
+
+returns-3 : tie.Need-returns-3
+returns-3 c =
+    let a = c .before .before .before .before .before .before .before .before .before .before .before .args in
+    let small₁ : Small (a .sl .now) = λ i. c .before .before .before .before .before .before .before .before .before .before .shared-slice-known .given i .fits in
+    let small₂ : Small (a .sc .now) = λ i. c .before .before .before .before .before .before .before .before .before .shared-slice-known2 .given i .fits in
+    let small₃ : Small (a .sb .now) = λ i. c .before .before .before .before .before .before .before .before .shared-slice-known3 .given i .fits in
+    word-judged (a .sl .now) (a .sc .now) (a .sb .now) small₁ small₂ small₃ (a .q) (c .before .before .before .before .before .before .before .read64 .result) (c .before .before .before .before .before .before .read-word .result) (c .before .before .before .before .before .shift-in .result) (c .before .before .before .before .read642 .result)
+    (c .before .before .before .before .before .before .before .read64 .ensures) (c .before .before .before .before .before .before .read-word .ensures) (c .before .before .before .before .before .shift-in .ensures) (c .before .before .before .before .read642 .ensures) (c .before .before .ascents .result) (c .full-labels .result) (c .before .before .ascents .ensures) (c .full-labels .ensures)
+
+pub word-valid-spec : {M : Type 1} → statement M
+word-valid-spec =
+    tie.close
+    (tie.spec
+    mul-read64
+    read64-requires
+    add-read-word
+    read-word-requires
+    shift-in-requires
+    mul-read64-2
+    read64-requires-2
+    returns
+    mul-ascents
+    ascents-requires
+    returns-2
+    mul-full-labels
+    full-labels-requires
+    returns-3)
