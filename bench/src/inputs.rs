@@ -1,8 +1,9 @@
 //! The keys and questions that are measured.
 
-use reference::keys::MAX_RECORDS;
-use reference::questions::Question;
-use reference::random::{many_keys, Random};
+use range_filter_tests::generate::keys::many_keys;
+use range_filter_tests::random::Random;
+use range_filter_tests::reference::keys::MAX_KEYS;
+use range_filter_tests::reference::questions::Question;
 use std::collections::BTreeSet;
 
 /// A named way to make keys.
@@ -29,11 +30,11 @@ pub const KEY_SETS: [KeySet; 3] = [
     },
     KeySet {
         name: "64-byte keys in pairs",
-        make: |random| many_keys(random, MAX_RECORDS, 64),
+        make: |random| many_keys(random, MAX_KEYS, 64),
     },
 ];
 
-/// Dense levels and suffix width.
+/// Pairs of dense levels and suffix width.
 pub const SETTINGS: [(u64, u64); 2] = [(0, 0), (2, 8)];
 
 /// The kinds of questions; a range ends at the key with its last byte FF, and a stem
@@ -64,15 +65,10 @@ pub const KINDS: [Kind; 5] = [
 /// Gives keys of random bytes.
 fn random_keys(random: &mut Random, length: usize) -> Vec<Vec<u8>> {
     let mut keys = BTreeSet::new();
-    while keys.len() < MAX_RECORDS {
-        keys.insert(random_key(random, length));
+    while keys.len() < MAX_KEYS {
+        keys.insert(random.bytes(length, length));
     }
     keys.into_iter().collect()
-}
-
-/// Gives one key of random bytes.
-fn random_key(random: &mut Random, length: usize) -> Vec<u8> {
-    (0..length).map(|_| random.byte()).collect()
 }
 
 /// Replaces the last byte of a key by FF.
@@ -104,5 +100,5 @@ fn key_to_ask(random: &mut Random, keys: &[Vec<u8>]) -> Vec<u8> {
     if random.once_in(2) {
         return key;
     }
-    random_key(random, key.len())
+    random.bytes(key.len(), key.len())
 }

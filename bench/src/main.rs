@@ -6,23 +6,21 @@ mod timing;
 
 use inputs::{questions, Kind, KEY_SETS, KINDS, SETTINGS};
 use range_filter_bench::fast;
-use reference::build::Answer;
-use reference::keys::{self, MAX_KEY};
-use reference::library;
-use reference::questions::{write, MAX_QUESTIONS};
-use reference::random::Random;
+use range_filter_tests::answer::Answer;
+use range_filter_tests::library;
+use range_filter_tests::random::Random;
+use range_filter_tests::reference::keys::{self, MAX_KEY};
+use range_filter_tests::reference::questions::{write, MAX_QUESTIONS};
+use range_filter_tests::reference::replies::REPLY_HEAD;
 use timing::{compare, Line};
 
 /// The seed of all keys and questions.
 const SEED: u64 = 1;
 
-/// The bytes of a reply before its key.
-const REPLY_HEAD: usize = 8;
-
 /// A key list with settings, and the words that end the names of its lines.
 struct Case<'a> {
     keys: &'a [Vec<u8>],
-    dense: u64,
+    dense_levels: u64,
     n: u64,
     name: String,
 }
@@ -31,12 +29,12 @@ struct Case<'a> {
 fn main() {
     for key_set in &KEY_SETS {
         let keys = (key_set.make)(&mut Random::new(SEED));
-        for (dense, n) in SETTINGS {
+        for (dense_levels, n) in SETTINGS {
             measure(&Case {
                 keys: &keys,
-                dense,
+                dense_levels,
                 n,
-                name: format!("{}, dense {dense} n {n}", key_set.name),
+                name: format!("{}, dense {dense_levels} n {n}", key_set.name),
             });
         }
     }
@@ -54,7 +52,12 @@ fn measure(case: &Case) {
 
 /// Measures build by key and gives the image.
 fn measure_build(case: &Case) -> Vec<u8> {
-    let &Case { keys, dense, n, .. } = case;
+    let &Case {
+        keys,
+        dense_levels,
+        n,
+        ..
+    } = case;
     let list = keys::write(keys);
     let mut image = vec![0; 2 * list.len()];
     let mut library_image = image.clone();
@@ -64,17 +67,14 @@ fn measure_build(case: &Case) -> Vec<u8> {
         units: keys.len(),
     };
     let (list, out) = (list.as_slice(), library_image.as_mut_slice());
-    let library = || library::build(list, dense, n, out);
+    let library = || library::build(list, dense_levels, n, out);
     let mut answer = Answer::Written(0);
     compare(&line, library, || {
-        answer = fast::build::build(list, dense, n, &mut image);
+        answer = fast::build::build(list, dense_levels, n, &mut image);
         answer
     });
     assert_eq!(library_image, image);
-    let Answer::Written(length) = answer else {
-        panic!("the list is refused");
-    };
-    image.truncate(length);
+    image.truncate(answer.length());
     image
 }
 

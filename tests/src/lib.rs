@@ -1,15 +1,11 @@
-//! A plain reference of succinct range filter images, written from document 01
-//! by definition: clarity comes before speed.
+//! What the tests share: an implementation written from document 01 to compare with, the
+//! calls of the proved library, generators of inputs, and the comparisons themselves.
 
-pub mod build;
-pub mod check;
-pub mod decode;
-pub mod image;
-pub mod keys;
-pub mod leaves;
+pub mod answer;
+pub mod compare;
+pub mod examples;
+pub mod generate;
 pub mod library;
-pub mod print;
-pub mod questions;
 pub mod random;
-pub mod rebuild;
-pub mod walk;
+pub mod reference;
+pub mod tally;

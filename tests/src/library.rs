@@ -1,12 +1,14 @@
-//! The calls of the proved library, made by `rt staticlib range_filter`, as safe functions.
+//! The calls of the proved library, which `rt staticlib range_filter` makes, as safe
+//! functions.
 
-use crate::build::Answer;
+use crate::answer::Answer;
 
+// The exports: a slice is a pointer and a length.
 extern "C" {
     fn range_filter_build(
         list: *const u8,
         list_len: usize,
-        dense: u64,
+        dense_levels: u64,
         n: u64,
         out: *mut u8,
         out_len: usize,
@@ -33,14 +35,14 @@ extern "C" {
 }
 
 /// Builds the image of a key list at the start of the output.
-pub fn build(list: &[u8], dense: u64, n: u64, out: &mut [u8]) -> Answer {
+pub fn build(list: &[u8], dense_levels: u64, n: u64, out: &mut [u8]) -> Answer {
     // SAFETY: pointers and lengths are those of slices that live through the call,
     // and the output is lent to it alone.
     answer(unsafe {
         range_filter_build(
             list.as_ptr(),
             list.len(),
-            dense,
+            dense_levels,
             n,
             out.as_mut_ptr(),
             out.len(),
@@ -86,8 +88,8 @@ pub fn walk(image: &[u8], place: u64, records: &mut [u8]) -> Answer {
     })
 }
 
-/// Reads what a call returns: a number above 32 bits of bytes written, of which a
-/// refusal has none.
+/// Reads what a call returns: the refusal number times 2^32, plus the bytes written, of
+/// which a refusal has none.
 fn answer(returned: u64) -> Answer {
     match ((returned >> 32) as u32, returned as u32) {
         (0, written) => Answer::Written(written as usize),

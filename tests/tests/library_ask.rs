@@ -1,15 +1,20 @@
-//! The proved library's ask against the reference: the same answer and the same bytes
-//! of the reply buffer, with bytes around it that must keep their values.
+//! The proved library's ask against the reference, on generated images and question files.
 
-use reference::build::Answer;
-use reference::keys::MAX_KEY;
-use reference::leaves::{highest, lowest, Leaf};
-use reference::library;
-use reference::questions::{accepted_leaves, ask, write, Question, MAX_QUESTIONS};
-use reference::random::{
-    any_image, any_keys, built, damaged, key_near, many_keys, question_near, Random,
-};
-use std::collections::{BTreeMap, BTreeSet};
+use range_filter_tests::answer::Answer;
+use range_filter_tests::examples::IMAGE_A;
+use range_filter_tests::generate::images::{any_image, built, large_images};
+use range_filter_tests::generate::keys::any_keys;
+use range_filter_tests::generate::questions::{key_near, questions_near};
+use range_filter_tests::generate::universe::Universe;
+use range_filter_tests::generate::{damaged, every_setting};
+use range_filter_tests::random::Random;
+use range_filter_tests::reference::check::accepted_leaves;
+use range_filter_tests::reference::keys::MAX_KEY;
+use range_filter_tests::reference::leaves::{highest, lowest, Leaf};
+use range_filter_tests::reference::questions::{write, Question, MAX_QUESTIONS};
+use range_filter_tests::reference::replies::REPLY_HEAD;
+use range_filter_tests::tally::Tally;
+use range_filter_tests::{compare, library};
 
 const IMAGES: usize = 3_000;
 const QUESTIONS_AN_IMAGE: usize = 50;
@@ -19,32 +24,21 @@ const DAMAGED_IMAGES: usize = 20_000;
 const LARGE_KEYS: usize = 5_000;
 const LARGE_QUESTIONS: usize = 600;
 
-/// Bytes before and behind the reply buffer that no call may touch.
-const GUARD: usize = 32;
-
-/// The byte that buffers hold before a call.
-const UNTOUCHED: u8 = 0xA5;
-
-/// Asserts that the library answers as the reference does and leaves the same bytes
-/// in the reply buffer and around it; gives the answer.
+/// Compares the replies to a question file in a buffer of some length.
 fn compare(image: &[u8], file: &[u8], room: usize) -> Answer {
-    let mut expected = vec![UNTOUCHED; room];
-    let mut guarded = vec![UNTOUCHED; GUARD + room + GUARD];
-    let answer = ask(image, file, &mut expected);
-    let replies = &mut guarded[GUARD..GUARD + room];
-    assert_eq!(library::ask(image, file, replies), answer, "{file:?}");
-    assert!(*replies == *expected, "{image:?} {file:?}");
-    let behind = guarded[GUARD + room..].iter();
-    assert!(guarded[..GUARD]
-        .iter()
-        .chain(behind)
-        .all(|&byte| byte == UNTOUCHED));
-    answer
+    compare::ask(library::ask, image, file, room)
 }
 
-/// Gives the room that replies to questions never exceed.
-fn room(questions: usize) -> usize {
-    questions * 72
+/// Gives the most bytes that the replies to so many questions have.
+fn most(questions: usize) -> usize {
+    questions * (REPLY_HEAD + MAX_KEY)
+}
+
+/// Compares the replies to questions in a buffer that takes all of them.
+fn compare_replies(image: &[u8], asked: &[Question]) {
+    for questions in asked.chunks(MAX_QUESTIONS) {
+        compare(image, &write(questions), most(questions.len())).length();
+    }
 }
 
 /// Gives the next byte string of at most 64 bytes, if there is one.
@@ -73,8 +67,8 @@ fn just_below(key: &[u8]) -> Option<Vec<u8>> {
     Some(last)
 }
 
-/// Gives a key with its prefix, its extensions, its neighbours in key order, and
-/// itself at the lengths that bound a key's.
+/// Gives a key with its prefix, its extensions, its neighbours in key order, and itself at
+/// the lengths that bound a key's.
 fn around(key: &[u8]) -> Vec<Vec<u8>> {
     let mut keys = vec![key.to_vec(), key[..key.len() - 1].to_vec()];
     keys.extend(just_below(key));
@@ -89,8 +83,8 @@ fn around(key: &[u8]) -> Vec<Vec<u8>> {
     keys
 }
 
-/// Gives all keys around stored keys and around the ends of leaves' intervals, in
-/// key order.
+/// Gives all keys around stored keys and around the ends of leaves' intervals, in key
+/// order.
 fn keys_around(stored: &[Vec<u8>], leaves: &[Leaf]) -> Vec<Vec<u8>> {
     let ends = leaves.iter().flat_map(|leaf| [lowest(leaf), highest(leaf)]);
     let mut keys = vec![Vec::new()];
@@ -102,8 +96,8 @@ fn keys_around(stored: &[Vec<u8>], leaves: &[Leaf]) -> Vec<Vec<u8>> {
     keys
 }
 
-/// Gives every kind of question about each of ascending keys: ranges and counts from
-/// a key to itself, to the next one and to one further away.
+/// Gives every kind of question about each of ascending keys: ranges and counts from a key
+/// to itself, to the next one and to one further away.
 fn questions_about(keys: &[Vec<u8>]) -> Vec<Question> {
     let mut asked = Vec::new();
     for (i, key) in keys.iter().enumerate() {
@@ -130,16 +124,19 @@ fn one_of_each() -> Vec<Question> {
     ]
 }
 
-/// Gives the image of list A.
-fn image_a() -> Vec<u8> {
-    let keys: [&[u8]; 4] = [b"D1", b"D12", b"D2", b"V"];
-    built(&keys.map(<[u8]>::to_vec), 0, 0)
-}
-
-/// Gives random questions around the ends of an accepted image's intervals.
-fn questions(random: &mut Random, image: &[u8], count: usize) -> Vec<Question> {
-    let leaves = accepted_leaves(image).expect("a built image is accepted");
-    (0..count).map(|_| question_near(random, &leaves)).collect()
+#[test]
+fn all_lists_of_small_universes_get_the_reference_replies() {
+    let universes = [
+        Universe::of_two_byte_keys(),
+        Universe::of_three_byte_keys(),
+        Universe::of_short_lists(),
+    ];
+    for (dense_levels, universe) in (0..).zip(&universes) {
+        for (number, list) in universe.lists.iter().enumerate() {
+            let n = [0, 1, 8, 9, 16][number % 5];
+            compare_replies(&built(list, dense_levels, n), &universe.questions);
+        }
+    }
 }
 
 #[test]
@@ -147,23 +144,19 @@ fn random_questions_get_the_reference_replies() {
     let mut random = Random::new(61);
     for _ in 0..IMAGES {
         let image = any_image(&mut random);
-        let asked = questions(&mut random, &image, QUESTIONS_AN_IMAGE);
-        let file = write(&asked);
-        assert!(matches!(
-            compare(&image, &file, room(asked.len())),
-            Answer::Written(_)
-        ));
+        let asked = questions_near(&mut random, &image, QUESTIONS_AN_IMAGE);
+        compare_replies(&image, &asked);
     }
 }
 
 #[test]
 fn every_setting_gets_the_reference_replies() {
     let mut random = Random::new(62);
-    for (dense, n) in (0..=4).flat_map(|dense| (0..=16).map(move |n| (dense, n))) {
+    for (dense_levels, n) in every_setting() {
         for _ in 0..LISTS_A_SETTING {
-            let image = built(&any_keys(&mut random), dense, n);
-            let file = write(&questions(&mut random, &image, QUESTIONS_AN_IMAGE));
-            compare(&image, &file, room(QUESTIONS_AN_IMAGE));
+            let image = built(&any_keys(&mut random), dense_levels, n);
+            let asked = questions_near(&mut random, &image, QUESTIONS_AN_IMAGE);
+            compare_replies(&image, &asked);
         }
     }
 }
@@ -172,15 +165,12 @@ fn every_setting_gets_the_reference_replies() {
 fn keys_around_every_end_get_the_reference_replies() {
     let mut random = Random::new(70);
     let mut count = 0;
-    for (dense, n) in (0..=4).flat_map(|dense| (0..=16).map(move |n| (dense, n))) {
+    for (dense_levels, n) in every_setting() {
         let stored = any_keys(&mut random);
-        let image = built(&stored, dense, n);
+        let image = built(&stored, dense_levels, n);
         let leaves = accepted_leaves(&image).expect("a built image is accepted");
         let asked = questions_about(&keys_around(&stored, &leaves));
-        for some in asked.chunks(MAX_QUESTIONS) {
-            let answer = compare(&image, &write(some), room(some.len()));
-            assert!(matches!(answer, Answer::Written(_)));
-        }
+        compare_replies(&image, &asked);
         count += asked.len();
     }
     assert!(count > 50_000, "{count} questions");
@@ -202,19 +192,27 @@ fn keys_of_every_length_get_the_reference_replies() {
             asked.push(Question::Range(Vec::new(), key.clone()));
             asked.push(Question::Count(Vec::new(), key));
         }
-        compare(&image, &write(&asked), room(asked.len()));
+        compare_replies(&image, &asked);
     }
 }
 
 #[test]
-fn a_reply_buffer_one_byte_short_is_refused() {
+fn large_images_get_the_reference_replies() {
+    let images: Vec<Vec<u8>> = large_images(&mut Random::new(69), LARGE_KEYS).collect();
+    let mut random = Random::new(71);
+    for image in images {
+        let asked = questions_near(&mut random, &image, LARGE_QUESTIONS);
+        compare_replies(&image, &asked);
+    }
+}
+
+#[test]
+fn reply_buffers_one_byte_short_are_refused_with_25() {
     let mut random = Random::new(64);
     for _ in 0..IMAGES / 10 {
         let image = any_image(&mut random);
-        let file = write(&questions(&mut random, &image, 9));
-        let Answer::Written(length) = compare(&image, &file, room(9)) else {
-            panic!("a question file is taken");
-        };
+        let file = write(&questions_near(&mut random, &image, 9));
+        let length = compare(&image, &file, most(9)).length();
         assert_eq!(compare(&image, &file, length), Answer::Written(length));
         assert_eq!(compare(&image, &file, length - 1), Answer::Refused(25));
     }
@@ -223,67 +221,48 @@ fn a_reply_buffer_one_byte_short_is_refused() {
 #[test]
 fn reply_buffers_of_every_length_are_judged_alike() {
     let file = write(&one_of_each());
-    let image = image_a();
-    let most = room(one_of_each().len());
-    let Answer::Written(length) = compare(&image, &file, most) else {
-        panic!("a question file is taken");
-    };
+    let most = most(one_of_each().len());
+    let length = compare(IMAGE_A, &file, most).length();
     for room in 0..=most + 1 {
-        let expected = if room < length {
-            Answer::Refused(25)
-        } else {
-            Answer::Written(length)
+        let expected = match room < length {
+            true => Answer::Refused(25),
+            false => Answer::Written(length),
         };
-        assert_eq!(compare(&image, &file, room), expected);
+        assert_eq!(compare(IMAGE_A, &file, room), expected);
     }
 }
 
 #[test]
-fn the_1025th_question_is_refused() {
+fn questions_behind_1024_others_are_refused_with_24() {
     let mut random = Random::new(65);
     let image = any_image(&mut random);
-    let asked = questions(&mut random, &image, MAX_QUESTIONS + 1);
-    let most = write(&asked[..MAX_QUESTIONS]);
-    assert!(matches!(
-        compare(&image, &most, room(asked.len())),
-        Answer::Written(_)
-    ));
-    assert_eq!(
-        compare(&image, &write(&asked), room(asked.len())),
-        Answer::Refused(24)
-    );
-    let stray = [&most[..], &[0]].concat();
-    assert_eq!(
-        compare(&image, &stray, room(asked.len())),
-        Answer::Refused(24)
-    );
+    let asked = questions_near(&mut random, &image, MAX_QUESTIONS + 1);
+    let room = most(asked.len());
+    let taken = write(&asked[..MAX_QUESTIONS]);
+    assert_eq!(compare(&image, &taken, room).number(), 0);
+    assert_eq!(compare(&image, &write(&asked), room), Answer::Refused(24));
 }
 
 #[test]
-fn question_files_damaged_at_every_place_are_judged_alike() {
-    let image = image_a();
+fn question_files_damaged_at_every_byte_are_judged_alike() {
     let whole = write(&one_of_each());
-    let mut numbers = BTreeSet::new();
+    let mut tally = Tally::default();
     for at in 0..whole.len() {
-        let cut = whole[..at].to_vec();
-        let without = [&whole[..at], &whole[at + 1..]].concat();
-        let mut files = vec![cut, without];
+        let mut files = vec![whole[..at].to_vec()];
+        files.push([&whole[..at], &whole[at + 1..]].concat());
         for byte in [0x00, 0x01, 0x40, 0x41, b'P', b'Q', b'X', 0xFF] {
             files.push([&whole[..at], &[byte], &whole[at..]].concat());
             files.push([&whole[..at], &[byte], &whole[at + 1..]].concat());
         }
         for file in files {
-            if let Answer::Refused(number) = compare(&image, &file, room(8)) {
-                numbers.insert(number);
-            }
+            tally.note(compare(IMAGE_A, &file, most(8)).number());
         }
     }
-    assert_eq!(numbers, BTreeSet::from([21, 22, 23]));
+    assert_eq!(tally.numbers(), [0, 21, 22, 23]);
 }
 
 #[test]
 fn the_first_fault_of_a_long_file_is_its_number() {
-    let image = image_a();
     let one = write(&[Question::Point(b"D1".to_vec())]);
     let few = one.repeat(MAX_QUESTIONS - 1);
     let faults: [(&[u8], u32); 5] = [
@@ -295,64 +274,28 @@ fn the_first_fault_of_a_long_file_is_its_number() {
     ];
     for (fault, number) in faults {
         let last = [&few[..], fault, &one[..]].concat();
-        assert_eq!(compare(&image, &last, 0), Answer::Refused(number));
+        assert_eq!(compare(IMAGE_A, &last, 0), Answer::Refused(number));
         let behind = [&few[..], &one[..], fault].concat();
-        assert_eq!(compare(&image, &behind, 0), Answer::Refused(24));
+        assert_eq!(compare(IMAGE_A, &behind, 0), Answer::Refused(24));
     }
 }
 
 #[test]
 fn damaged_question_files_are_judged_alike() {
-    let mut random = Random::new(66);
-    let mut tally: BTreeMap<u32, usize> = BTreeMap::new();
-    for _ in 0..DAMAGED_FILES {
-        let image = any_image(&mut random);
-        let mut file = write(&questions(&mut random, &image, 4));
-        let at = random.below(file.len() + 1);
-        match random.below(3) {
-            0 => file.truncate(at),
-            1 if at < file.len() => file[at] = random.byte(),
-            _ => file.insert(at, random.byte()),
-        }
-        if let Answer::Refused(number) = compare(&image, &file, room(8)) {
-            *tally.entry(number).or_default() += 1;
-        }
-    }
-    assert_eq!(tally.into_keys().collect::<Vec<_>>(), [21, 22, 23]);
+    let tally = Tally::of(66, DAMAGED_FILES, |random| {
+        let image = any_image(random);
+        let file = write(&questions_near(random, &image, 4));
+        compare(&image, &damaged(random, &file), most(8)).number()
+    });
+    assert_eq!(tally.numbers(), [0, 21, 22, 23]);
 }
 
 #[test]
 fn damaged_images_are_refused_alike() {
-    let mut random = Random::new(67);
-    let mut tally: BTreeMap<u32, usize> = BTreeMap::new();
-    for _ in 0..DAMAGED_IMAGES {
-        let image = any_image(&mut random);
-        let file = write(&questions(&mut random, &image, 3));
-        let image = damaged(&mut random, &image);
-        if let Answer::Refused(number) = compare(&image, &file, room(3)) {
-            *tally.entry(number).or_default() += 1;
-        }
-    }
-    assert_eq!(
-        tally.into_keys().collect::<Vec<_>>(),
-        [11, 12, 13, 14, 15, 16]
-    );
-}
-
-#[test]
-fn an_empty_question_file_is_taken() {
-    let mut random = Random::new(68);
-    let image = any_image(&mut random);
-    assert_eq!(compare(&image, &[], 0), Answer::Written(0));
-    assert_eq!(compare(&image, &[], 7), Answer::Written(0));
-}
-
-#[test]
-fn large_images_get_the_reference_replies() {
-    let mut random = Random::new(69);
-    for (dense, n, length) in [(0, 0, 8), (2, 8, 8), (4, 16, 13), (0, 9, 63), (1, 16, 64)] {
-        let image = built(&many_keys(&mut random, LARGE_KEYS, length), dense, n);
-        let file = write(&questions(&mut random, &image, LARGE_QUESTIONS));
-        compare(&image, &file, room(LARGE_QUESTIONS));
-    }
+    let tally = Tally::of(67, DAMAGED_IMAGES, |random| {
+        let image = any_image(random);
+        let file = write(&questions_near(random, &image, 3));
+        compare(&damaged(random, &image), &file, most(3)).number()
+    });
+    assert_eq!(tally.numbers(), [0, 11, 12, 13, 14, 15, 16]);
 }

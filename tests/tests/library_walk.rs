@@ -1,55 +1,55 @@
-//! The proved library's walk against the reference: the same answer and the same bytes
-//! of the buffer, with bytes around it that must keep their values.
+//! The proved library's walk against the reference. The library exports one call, which
+//! writes the records of the leaves from a place on: with room for one record it gives the
+//! leaf at a place, and at the place behind it the next leaf.
 
-use reference::build::Answer;
-use reference::library;
-use reference::questions::accepted_leaves;
-use reference::random::{
-    any_image, any_keys, built, damaged, many_keys, recounted, reshaped, small_frame, Random,
-};
-use reference::walk::{write_records, RECORD_BYTES};
-use std::collections::BTreeMap;
+use range_filter_tests::answer::Answer;
+use range_filter_tests::examples::IMAGE_A;
+use range_filter_tests::generate::every_setting;
+use range_filter_tests::generate::images::{any_image, built, large_images, small_frame, CHANGES};
+use range_filter_tests::generate::keys::{any_keys, many_mixed_keys};
+use range_filter_tests::random::Random;
+use range_filter_tests::reference::check::accepted_leaves;
+use range_filter_tests::reference::leaves::Leaf;
+use range_filter_tests::reference::walk::{at, next, record, Stand, RECORD_BYTES};
+use range_filter_tests::tally::Tally;
+use range_filter_tests::{compare, library};
 
 const IMAGES: usize = 1_500;
+const STEPPED_IMAGES: usize = 400;
 const LISTS_A_SETTING: usize = 3;
 const CHANGES_A_KIND: usize = 20_000;
 const SMALL_FRAMES: usize = 60_000;
 const LARGE_KEYS: usize = 5_000;
 const PLACES_A_LARGE_IMAGE: usize = 20;
+const MOST_RECORDS: usize = 40;
 
-/// Bytes before and behind the buffer that no call may touch.
-const GUARD: usize = 32;
-
-/// The byte that buffers hold before a call.
-const UNTOUCHED: u8 = 0x5A;
+/// The images that are walked from every place: dense levels, n, key length and about so
+/// many keys.
+const EVERY_PLACE: [(u64, u64, usize, usize); 6] = [
+    (0, 0, 8, 2_000),
+    (2, 8, 8, 1_000),
+    (3, 16, 4, 2_000),
+    (4, 16, 13, 600),
+    (0, 9, 63, 200),
+    (1, 16, 64, 200),
+];
 
 /// Buffer lengths around those of no, one and two records.
 const LENGTHS: [usize; 8] = [0, 1, 67, 68, 69, 135, 136, 137];
 
-/// Asserts that the library answers with a buffer of this length as the reference does,
-/// with the same bytes in the buffer, and touches no byte around it.
-fn compare(image: &[u8], place: u64, length: usize) -> Answer {
-    let mut guarded = vec![UNTOUCHED; GUARD + length + GUARD];
-    let mut expected = guarded.clone();
-    let buffer = GUARD..GUARD + length;
-    let answer = write_records(image, place, &mut expected[buffer.clone()]);
-    let walked = library::walk(image, place, &mut guarded[buffer]);
-    assert_eq!(walked, answer, "{place} {length} {image:?}");
-    assert_eq!(guarded, expected, "{place} {length} {image:?}");
-    answer
+/// Compares the records from a place in a buffer of some length.
+fn compare(image: &[u8], place: u64, room: usize) -> Answer {
+    compare::walk(library::walk, image, place, room)
 }
 
-/// Gives the number of a refusal, 0 for success.
-fn number(answer: Answer) -> u32 {
-    match answer {
-        Answer::Written(_) => 0,
-        Answer::Refused(number) => number,
-    }
+/// Gives the leaves of an image that is accepted.
+fn leaves(image: &[u8]) -> Vec<Leaf> {
+    accepted_leaves(image).expect("the image is accepted")
 }
 
-/// Gives the number of leaves of an accepted image.
-fn leaf_count(image: &[u8]) -> usize {
-    accepted_leaves(image).expect("the image is accepted").len()
+/// Gives the records of leaves, one behind the other.
+fn records(leaves: &[Leaf]) -> Vec<u8> {
+    leaves.iter().flat_map(record).collect()
 }
 
 /// Gives places far behind any leaf.
@@ -58,116 +58,181 @@ fn far_places() -> impl Iterator<Item = u64> {
     powers.into_iter().chain([u64::MAX - 1, u64::MAX])
 }
 
-/// Gives the records of all leaves of an accepted image by one call.
-fn whole_walk(image: &[u8], leaves: usize) -> Vec<u8> {
-    let mut records = vec![UNTOUCHED; leaves * RECORD_BYTES];
-    let walked = library::walk(image, 0, &mut records);
-    assert_eq!(walked, Answer::Written(leaves * RECORD_BYTES));
-    records
-}
-
-/// Gives the same by a call for each leaf, and one that says that the walk is done.
-fn leaf_by_leaf(image: &[u8]) -> Vec<u8> {
-    let mut records = Vec::new();
-    let mut record = [UNTOUCHED; RECORD_BYTES];
-    for place in 0.. {
-        match library::walk(image, place, &mut record) {
-            Answer::Written(0) => break,
-            answer => assert_eq!(answer, Answer::Written(RECORD_BYTES)),
+/// Walks an image from its start to done by calls with room for so many records, each from
+/// the place behind the last record written, and gives all records.
+fn walked(image: &[u8], room: usize) -> Vec<u8> {
+    let mut all = Vec::new();
+    let mut buffer = vec![0; room * RECORD_BYTES];
+    loop {
+        let place = all.len() / RECORD_BYTES;
+        let length = library::walk(image, place as u64, &mut buffer).length();
+        if length == 0 {
+            return all;
         }
-        records.extend(record);
+        all.extend_from_slice(&buffer[..length]);
     }
-    records
 }
 
-/// Walks an accepted image from every place with buffers of many lengths, and behind
+/// Walks an accepted image from every place with buffers of many lengths, and from behind
 /// done, where it is refused; gives the number of its leaves.
-fn walk_all(image: &[u8]) -> usize {
-    let leaves = leaf_count(image);
-    let whole = leaves * RECORD_BYTES;
-    for place in 0..=leaves as u64 {
-        for length in LENGTHS.into_iter().chain([whole, whole + 1]) {
-            compare(image, place, length);
+fn walk_from_everywhere(image: &[u8]) -> usize {
+    let leaves = leaves(image);
+    let done = leaves.len() as u64;
+    let whole = leaves.len() * RECORD_BYTES;
+    for place in 0..=done {
+        for room in LENGTHS.into_iter().chain([whole, whole + 1]) {
+            compare(image, place, room);
         }
     }
-    for behind in far_places().chain([leaves as u64 + 1, leaves as u64 + 2]) {
+    for behind in far_places().chain([done + 1, done + 2]) {
         assert_eq!(compare(image, behind, whole), Answer::Refused(17));
     }
-    assert_eq!(whole_walk(image, leaves), leaf_by_leaf(image));
-    leaves
+    for room in [1, 2, 5, leaves.len() + 1] {
+        assert_eq!(walked(image, room), records(&leaves));
+    }
+    leaves.len()
+}
+
+/// Asserts that calls from a place, with room for one record and with room for many, give
+/// the records that a whole walk has there.
+fn compare_at(image: &[u8], whole: &[u8], place: usize, many: usize) {
+    for room in [RECORD_BYTES, many] {
+        let rest = &whole[place * RECORD_BYTES..];
+        let length = rest.len().min(room / RECORD_BYTES * RECORD_BYTES);
+        let expected = |buffer: &mut [u8]| {
+            buffer[..length].copy_from_slice(&rest[..length]);
+            Answer::Written(length)
+        };
+        let found = |buffer: &mut [u8]| library::walk(image, place as u64, buffer);
+        compare::same(room, expected, found, &(place, room));
+    }
 }
 
 #[test]
-fn every_leaf_is_given_in_key_order() {
+fn list_a_is_walked() {
+    let mut last = [0; RECORD_BYTES];
+    last[..3].copy_from_slice(b"\x02\x01V");
+    let mut found = [0; RECORD_BYTES];
+    library::walk(IMAGE_A, 3, &mut found);
+    assert_eq!(found, last);
+    assert_eq!(walk_from_everywhere(IMAGE_A), 4);
+    assert_eq!(compare(IMAGE_A, 4, RECORD_BYTES), Answer::Written(0));
+    assert_eq!(compare(IMAGE_A, 5, RECORD_BYTES), Answer::Refused(17));
+}
+
+#[test]
+fn random_images_are_walked_from_every_place() {
     let mut random = Random::new(71);
     for _ in 0..IMAGES {
-        walk_all(&any_image(&mut random));
+        walk_from_everywhere(&any_image(&mut random));
     }
 }
 
 #[test]
-fn every_setting_is_walked() {
+fn images_of_every_setting_are_walked_from_every_place() {
     let mut random = Random::new(72);
-    for (dense, n) in (0..=4).flat_map(|dense| (0..=16).map(move |n| (dense, n))) {
+    for (dense_levels, n) in every_setting() {
         for _ in 0..LISTS_A_SETTING {
-            walk_all(&built(&any_keys(&mut random), dense, n));
+            walk_from_everywhere(&built(&any_keys(&mut random), dense_levels, n));
         }
-        assert_eq!(walk_all(&built(&[], dense, n)), 0);
+        assert_eq!(walk_from_everywhere(&built(&[], dense_levels, n)), 0);
     }
 }
 
 #[test]
-fn changed_images_get_the_reference_answers() {
+fn steps_go_from_leaf_to_leaf_as_next_says() {
+    let mut random = Random::new(76);
+    for _ in 0..STEPPED_IMAGES {
+        let image = any_image(&mut random);
+        let mut place = 0;
+        while let Stand::Leaf(leaf) = at(&image, place) {
+            let mut found = [0; RECORD_BYTES];
+            let answer = library::walk(&image, place, &mut found);
+            assert_eq!((answer.length(), found), (RECORD_BYTES, record(&leaf)));
+            place = next(&image, place).expect("a leaf has a next place");
+        }
+        assert_eq!(compare(&image, place, RECORD_BYTES), Answer::Written(0));
+    }
+}
+
+#[test]
+fn done_stays_done() {
+    let mut random = Random::new(77);
+    let images = (0..STEPPED_IMAGES).map(|_| any_image(&mut random));
+    for image in images.chain([built(&[], 0, 0), built(&[], 4, 16)]) {
+        let done = leaves(&image).len() as u64;
+        assert_eq!(next(&image, done), Ok(done));
+        for room in LENGTHS.into_iter().chain([10 * RECORD_BYTES]) {
+            assert_eq!(compare(&image, done, room), Answer::Written(0));
+            assert_eq!(compare(&image, done, room), Answer::Written(0));
+        }
+        assert_eq!(compare(&image, done + 1, RECORD_BYTES), Answer::Refused(17));
+    }
+}
+
+#[test]
+fn every_place_of_large_images_is_opened() {
+    let mut random = Random::new(78);
+    for (dense_levels, n, length, count) in EVERY_PLACE {
+        let keys = many_mixed_keys(&mut random, count, length);
+        let image = built(&keys, dense_levels, n);
+        let whole = records(&leaves(&image));
+        for place in 0..=keys.len() {
+            let many = random.below(MOST_RECORDS * RECORD_BYTES);
+            compare_at(&image, &whole, place, many);
+        }
+    }
+}
+
+#[test]
+fn large_images_are_walked_in_steps_of_many_records() {
+    let mut random = Random::new(75);
+    let images: Vec<Vec<u8>> = large_images(&mut random, LARGE_KEYS).collect();
+    for image in images {
+        let leaves = leaves(&image);
+        let whole = records(&leaves);
+        for room in [100, 999, leaves.len(), leaves.len() + 1] {
+            assert!(walked(&image, room) == whole, "{room} records a call");
+        }
+        for _ in 0..PLACES_A_LARGE_IMAGE {
+            let place = random.below(leaves.len());
+            compare_at(&image, &whole, place, random.below(whole.len()));
+        }
+        compare_at(&image, &whole, leaves.len(), whole.len());
+    }
+}
+
+#[test]
+fn changed_images_are_walked_or_refused_alike() {
     let mut random = Random::new(73);
-    let mut tally = BTreeMap::new();
+    let mut tally = Tally::default();
     for _ in 0..CHANGES_A_KIND {
         let image = any_image(&mut random);
-        for change in [damaged, recounted, reshaped] {
-            let changed = change(&mut random, &image);
+        for change in &CHANGES {
+            let changed = (change.apply)(&mut random, &image);
             let place = random.below(8) as u64;
-            let answer = compare(&changed, place, random.below(300));
-            *tally.entry(number(answer)).or_insert(0) += 1;
+            let room = random.below(300);
+            tally.note(compare(&changed, place, room).number());
         }
     }
-    let numbers: Vec<u32> = tally.into_keys().collect();
-    assert_eq!(numbers, [0, 11, 12, 13, 14, 15, 16, 17]);
+    assert_eq!(tally.numbers(), [0, 11, 12, 13, 14, 15, 16, 17]);
 }
 
 #[test]
-fn small_frames_get_the_reference_answers() {
-    let mut random = Random::new(74);
-    let mut tally = BTreeMap::new();
-    for _ in 0..SMALL_FRAMES {
-        let image = small_frame(&mut random);
+fn small_frames_are_walked_or_refused_alike() {
+    let tally = Tally::of(74, SMALL_FRAMES, |random| {
+        let image = small_frame(random);
         let place = random.below(4) as u64;
-        let answer = compare(&image, place, random.below(300));
-        *tally.entry(number(answer)).or_insert(0) += 1;
-    }
-    assert!(tally.contains_key(&0) && tally.contains_key(&14) && tally.contains_key(&17));
+        compare(&image, place, random.below(300)).number()
+    });
+    assert_eq!(tally.numbers(), [0, 14, 16, 17]);
 }
 
 #[test]
 fn refused_images_are_refused_at_every_place() {
     for place in far_places().chain(0..4) {
-        for length in LENGTHS {
-            assert_eq!(compare(&[], place, length), Answer::Refused(11));
-        }
-    }
-}
-
-#[test]
-fn large_images_are_walked() {
-    let mut random = Random::new(75);
-    for (dense, n, length) in [(0, 0, 8), (2, 8, 8), (4, 16, 13), (0, 9, 63), (1, 16, 64)] {
-        let image = built(&many_keys(&mut random, LARGE_KEYS, length), dense, n);
-        let leaves = leaf_count(&image);
-        let whole = leaves * RECORD_BYTES;
-        for _ in 0..PLACES_A_LARGE_IMAGE {
-            compare(&image, random.below(leaves) as u64, random.below(whole));
-        }
-        for (place, written) in [(0, whole), (leaves - 1, RECORD_BYTES), (leaves, 0)] {
-            let answer = compare(&image, place as u64, whole);
-            assert_eq!(answer, Answer::Written(written));
+        for room in LENGTHS {
+            assert_eq!(compare(&[], place, room), Answer::Refused(11));
         }
     }
 }

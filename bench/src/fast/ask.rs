@@ -1,13 +1,11 @@
 //! Question files and their replies.
 
 use super::check::accept;
-use super::trie::{Trie, Way};
-use reference::build::Answer;
-use reference::keys::MAX_KEY;
-use reference::questions::{MAX_QUESTIONS, NONE};
-
-/// The bytes of a reply before its key.
-const REPLY_HEAD: usize = 8;
+use super::trie::{Path, Trie};
+use range_filter_tests::answer::Answer;
+use range_filter_tests::reference::keys::MAX_KEY;
+use range_filter_tests::reference::questions::MAX_QUESTIONS;
+use range_filter_tests::reference::replies::{NONE, REPLY_HEAD};
 
 /// A question by the second letter of its mark, with its key or bounds; the upper
 /// bound is empty where there is none.
@@ -36,10 +34,10 @@ fn reply_bytes(image: &[u8], file: &[u8]) -> Result<Vec<u8>, u32> {
     let image = accept(image)?;
     let questions = parse(file)?;
     let trie = Trie::new(&image);
-    let mut way = Way::new();
+    let mut path = Path::new();
     let mut replies = Vec::with_capacity(questions.len() * (REPLY_HEAD + MAX_KEY));
     for question in &questions {
-        reply(&trie, &mut way, question, &mut replies);
+        reply(&trie, &mut path, question, &mut replies);
     }
     Ok(replies)
 }
@@ -90,7 +88,7 @@ fn parse_key<'a>(rest: &mut &'a [u8]) -> Result<&'a [u8], u32> {
 }
 
 /// Writes the reply to a question.
-fn reply(trie: &Trie, way: &mut Way, question: &Question, replies: &mut Vec<u8>) {
+fn reply(trie: &Trie, path: &mut Path, question: &Question, replies: &mut Vec<u8>) {
     let Question {
         letter,
         lower,
@@ -98,37 +96,37 @@ fn reply(trie: &Trie, way: &mut Way, question: &Question, replies: &mut Vec<u8>)
     } = *question;
     let number = match letter {
         b'P' => u32::from(trie.has(lower)),
-        b'R' => u32::from(meets(trie, way, lower, upper)),
-        b'B' => u32::from(begins(trie, way, lower)),
-        b'C' => count(trie, way, lower, upper),
-        _ => return reply_to_seek(trie, way, lower, replies),
+        b'R' => u32::from(meets(trie, path, lower, upper)),
+        b'B' => u32::from(begins(trie, path, lower)),
+        b'C' => count(trie, path, lower, upper),
+        _ => return reply_to_seek(trie, path, lower, replies),
     };
     write_reply(replies, letter, number, &[]);
 }
 
 /// Says whether some leaf has a possible key in a range: the first one that reaches
 /// the lower bound must start in it.
-fn meets(trie: &Trie, way: &mut Way, lower: &[u8], upper: &[u8]) -> bool {
-    trie.seek(lower, way)
-        .is_some_and(|leaf| way.lowest(leaf) <= upper)
+fn meets(trie: &Trie, path: &mut Path, lower: &[u8], upper: &[u8]) -> bool {
+    trie.seek(lower, path)
+        .is_some_and(|leaf| path.lowest(leaf) <= upper)
 }
 
 /// Says whether some leaf has a possible key from a stem to the stem and one FF.
-fn begins(trie: &Trie, way: &mut Way, stem: &[u8]) -> bool {
+fn begins(trie: &Trie, path: &mut Path, stem: &[u8]) -> bool {
     let mut upper = [0xFF; MAX_KEY + 1];
     upper[..stem.len()].copy_from_slice(stem);
-    meets(trie, way, stem, &upper[..MAX_KEY.min(stem.len() + 1)])
+    meets(trie, path, stem, &upper[..MAX_KEY.min(stem.len() + 1)])
 }
 
 /// Counts the leaves with a possible key in a range: those that start at or below
 /// the upper bound, less those that end below the lower one.
-fn count(trie: &Trie, way: &mut Way, lower: &[u8], upper: &[u8]) -> u32 {
-    let ended = match trie.seek(lower, way) {
-        Some(_) => trie.place(way),
+fn count(trie: &Trie, path: &mut Path, lower: &[u8], upper: &[u8]) -> u32 {
+    let ended = match trie.seek(lower, path) {
+        Some(_) => trie.place(path),
         None => return 0,
     };
-    let started = match trie.seek(upper, way) {
-        Some(leaf) => trie.place(way) + usize::from(way.lowest(leaf) <= upper),
+    let started = match trie.seek(upper, path) {
+        Some(leaf) => trie.place(path) + usize::from(path.lowest(leaf) <= upper),
         None => trie.leaves(),
     };
     (started - ended) as u32
@@ -136,11 +134,11 @@ fn count(trie: &Trie, way: &mut Way, lower: &[u8], upper: &[u8]) -> u32 {
 
 /// Writes the reply to a seek: the first leaf that reaches the start, with the
 /// greater of the start and its lowest key.
-fn reply_to_seek(trie: &Trie, way: &mut Way, start: &[u8], replies: &mut Vec<u8>) {
-    match trie.seek(start, way) {
+fn reply_to_seek(trie: &Trie, path: &mut Path, start: &[u8], replies: &mut Vec<u8>) {
+    match trie.seek(start, path) {
         Some(leaf) => {
-            let place = trie.place(way) as u32;
-            write_reply(replies, b'S', place, way.lowest(leaf).max(start));
+            let place = trie.place(path) as u32;
+            write_reply(replies, b'S', place, path.lowest(leaf).max(start));
         }
         None => write_reply(replies, b'S', NONE, &[]),
     }

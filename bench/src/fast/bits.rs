@@ -6,7 +6,7 @@ const LOW_BITS: u64 = 0x0101_0101_0101_0101;
 /// The highest bit of each byte of a word.
 const HIGH_BITS: u64 = 0x8080_8080_8080_8080;
 
-/// Loads eight bytes from a place on, low byte first, zeros behind the end.
+/// Loads eight bytes from an offset on, low byte first, zeros behind the end.
 #[inline]
 pub fn load(bytes: &[u8], at: usize) -> u64 {
     match bytes.get(at..).and_then(<[u8]>::first_chunk) {
@@ -15,7 +15,7 @@ pub fn load(bytes: &[u8], at: usize) -> u64 {
     }
 }
 
-/// Loads the fewer than eight bytes that are left from a place on; this is rare.
+/// Loads the fewer than eight bytes that are left from an offset on; this is rare.
 #[cold]
 fn load_tail(bytes: &[u8], at: usize) -> u64 {
     let rest = bytes.get(at..).unwrap_or_default();

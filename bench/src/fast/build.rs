@@ -3,26 +3,23 @@
 //! shares with the key before up to its leaf, so the work is linear in the image.
 
 use super::bits::{load, ones, ones_of, select_in_word, word};
-use super::EXACT_LABEL;
-use reference::build::Answer;
-use reference::check::bit_counts;
-use reference::image::{
-    Header, DENSE_BLOCK, HEADER_LENGTH, MARKS, MAX_DENSE, MAX_WIDTH, SAMPLE, SPARSE_BLOCK,
+use range_filter_tests::answer::Answer;
+use range_filter_tests::reference::build::EXTRA_LABEL;
+use range_filter_tests::reference::format::{
+    Header, Settings, DENSE_BLOCK, HEADER_LENGTH, MARKS, MAX_DENSE_LEVELS, MAX_WIDTH, NODE_BITS,
+    RECORDS, RECORD_HEAD, SAMPLE, SPARSE_BLOCK,
 };
-use reference::keys::{MAX_KEY, MAX_RECORDS};
+use range_filter_tests::reference::keys::{MAX_KEY, MAX_KEYS};
 
 /// The levels that nodes stand on.
 const LEVELS: usize = MAX_KEY;
-
-/// The bytes of a record's mark and body length.
-const RECORD_HEAD: usize = 6;
 
 /// The keys whose labels are gathered by level before they are copied to the image,
 /// so that the writes of many levels do not compete for the same cache lines.
 const BATCH: usize = 128;
 
 /// A key of the list: where it starts, what it shares with the key before, and the
-/// level behind its last entry. An exact leaf's last entry is the mark of its node.
+/// level behind its last entry. An exact leaf's last entry stands on its own node.
 #[derive(Clone, Copy)]
 struct Record {
     start: u32,
@@ -53,8 +50,8 @@ struct Batch {
 
 /// Builds the image of a key list at the start of the output; a refusal leaves the
 /// output as it was.
-pub fn build(list: &[u8], dense: u64, n: u64, out: &mut [u8]) -> Answer {
-    match fill(list, dense, n, out) {
+pub fn build(list: &[u8], dense_levels: u64, n: u64, out: &mut [u8]) -> Answer {
+    match fill(list, dense_levels, n, out) {
         Ok(length) => Answer::Written(length),
         Err(number) => Answer::Refused(number),
     }
@@ -62,17 +59,21 @@ pub fn build(list: &[u8], dense: u64, n: u64, out: &mut [u8]) -> Answer {
 
 /// Judges everything and then fills the bodies. Number 6 is not judged, since a
 /// key has at most one entry on each of 65 levels and so 6 never comes.
-fn fill(list: &[u8], dense: u64, n: u64, out: &mut [u8]) -> Result<usize, u32> {
-    if dense > u64::from(MAX_DENSE) || n > u64::from(MAX_WIDTH) {
+fn fill(list: &[u8], dense_levels: u64, n: u64, out: &mut [u8]) -> Result<usize, u32> {
+    if dense_levels > u64::from(MAX_DENSE_LEVELS) || n > u64::from(MAX_WIDTH) {
         return Err(5);
     }
     let plan = Plan::of_list(list)?;
-    let (header, cursors) = plan.lay_out(dense as u8, n as u8);
-    let lengths = bit_counts(&header).map(|bits| bits.div_ceil(8) as usize);
-    let length = HEADER_LENGTH + MARKS.len() * RECORD_HEAD + lengths.iter().sum::<usize>();
+    let settings = Settings {
+        dense_levels: dense_levels as u8,
+        width: n as u8,
+    };
+    let (header, cursors) = plan.lay_out(settings);
+    let lengths = header.body_bits().map(|bits| bits.div_ceil(8) as usize);
+    let length = HEADER_LENGTH + RECORDS * RECORD_HEAD + lengths.iter().sum::<usize>();
     let image = out.get_mut(..length).ok_or(7_u32)?;
     let [dl, dc, dp, sl, sc, sb, sv, rl, rc, rp, rs, ts] = write_frame(image, &header, &lengths);
-    fill_dense(list, &plan.records, dense as usize, &cursors, [dl, dc, dp]);
+    fill_dense(list, &plan.records, &header, &cursors, [dl, dc, dp]);
     fill_sparse(list, &plan.records, &header, &cursors, [sl, sc, sb]);
     fill_slots(list, &plan.records, n as usize, &cursors, sv);
     fill_ranks(dl, rl, DENSE_BLOCK);
@@ -99,13 +100,13 @@ impl Plan {
     /// Reads a key list, or gives the number of the first record's fault.
     fn of_list(list: &[u8]) -> Result<Self, u32> {
         let mut plan = Plan {
-            records: Vec::with_capacity(MAX_RECORDS.min(list.len() / 4)),
+            records: Vec::with_capacity(MAX_KEYS.min(list.len() / 4)),
             starts: [0; LEVELS],
             ends: [0; LEVELS + 1],
         };
         let mut at = 0;
         while at < list.len() {
-            if plan.records.len() == MAX_RECORDS {
+            if plan.records.len() == MAX_KEYS {
                 return Err(4);
             }
             let length = key_length(&list[at..])?;
@@ -154,17 +155,11 @@ impl Plan {
     }
 
     /// Counts the nodes, entries and slots of each level, and from them the header's
-    /// counts and the places where the levels start.
-    fn lay_out(&self, dense: u8, width: u8) -> (Header, Cursors) {
+    /// counts and the numbers with which the levels start.
+    fn lay_out(&self, settings: Settings) -> (Header, Cursors) {
         let mut header = Header {
-            version: 1,
-            dense,
-            width,
-            zero: 0,
             leaves: self.records.len() as u32,
-            dense_nodes: 0,
-            sparse_entries: 0,
-            sparse_nodes: 0,
+            ..Header::new(settings)
         };
         let mut cursors = Cursors {
             nodes: [0; LEVELS],
@@ -181,7 +176,7 @@ impl Plan {
             let nodes = entries + u32::from(level == 0 && !self.records.is_empty());
             entries += self.starts[level];
             slots += self.ends[level + 1];
-            if level < usize::from(dense) {
+            if level < usize::from(settings.dense_levels) {
                 header.dense_nodes += nodes;
             } else {
                 header.sparse_nodes += nodes;
@@ -225,15 +220,10 @@ fn shared_prefix(list: &[u8], one: usize, other: usize, limit: usize) -> usize {
 fn write_frame<'a>(
     image: &'a mut [u8],
     header: &Header,
-    lengths: &[usize; 12],
-) -> [&'a mut [u8]; 12] {
+    lengths: &[usize; RECORDS],
+) -> [&'a mut [u8]; RECORDS] {
     let (head, mut rest) = image.split_at_mut(HEADER_LENGTH);
-    head[..2].copy_from_slice(b"HD");
-    head[2..6].copy_from_slice(&[header.version, header.dense, header.width, header.zero]);
-    head[6..10].copy_from_slice(&header.leaves.to_le_bytes());
-    head[10..14].copy_from_slice(&header.dense_nodes.to_le_bytes());
-    head[14..18].copy_from_slice(&header.sparse_entries.to_le_bytes());
-    head[18..].copy_from_slice(&header.sparse_nodes.to_le_bytes());
+    head.copy_from_slice(&header.bytes());
     std::array::from_fn(|record| {
         let (mark, behind) = std::mem::take(&mut rest).split_at_mut(RECORD_HEAD);
         mark[..2].copy_from_slice(MARKS[record]);
@@ -248,31 +238,32 @@ fn write_frame<'a>(
 fn fill_dense(
     list: &[u8],
     records: &[Record],
-    dense: usize,
+    header: &Header,
     cursors: &Cursors,
-    [labels, children, marks]: [&mut [u8]; 3],
+    [labels, has_child, is_prefix_key]: [&mut [u8]; 3],
 ) {
-    if dense == 0 {
+    let dense_levels = usize::from(header.settings.dense_levels);
+    if dense_levels == 0 {
         return;
     }
     labels.fill(0);
-    children.fill(0);
-    marks.fill(0);
+    has_child.fill(0);
+    is_prefix_key.fill(0);
     let mut nodes = cursors.nodes.map(|node| (node as usize).wrapping_sub(1));
     nodes[0] = 0;
     for record in records {
         let (shared, end) = (usize::from(record.shared), usize::from(record.end));
         let key = record.key(list);
-        for level in shared..dense.min(end) {
+        for level in shared..dense_levels.min(end) {
             nodes[level] = nodes[level].wrapping_add(usize::from(level > shared));
             if level == key.len() {
-                set(marks, nodes[level]);
+                set(is_prefix_key, nodes[level]);
                 break;
             }
-            let position = nodes[level] * 256 + usize::from(key[level]);
+            let position = nodes[level] * NODE_BITS + usize::from(key[level]);
             set(labels, position);
             if level + 1 < end {
-                set(children, position);
+                set(has_child, position);
             }
         }
     }
@@ -285,14 +276,14 @@ fn fill_sparse(
     records: &[Record],
     header: &Header,
     cursors: &Cursors,
-    [labels, children, louds]: [&mut [u8]; 3],
+    [labels, has_child, louds]: [&mut [u8]; 3],
 ) {
     let Some(last) = labels.len().checked_sub(1) else {
         return;
     };
-    children.fill(0xFF);
+    has_child.fill(0xFF);
     louds.fill(0xFF);
-    let dense = usize::from(header.dense);
+    let dense_levels = usize::from(header.settings.dense_levels);
     let mut entries = cursors.entries;
     let mut batch = Batch {
         labels: [[0; BATCH]; LEVELS],
@@ -301,19 +292,20 @@ fn fill_sparse(
     for records in records.chunks(BATCH) {
         for record in records {
             let (shared, leaf) = (usize::from(record.shared), usize::from(record.end) - 1);
-            if shared >= dense {
+            if shared >= dense_levels {
                 clear(louds, batch.position(&entries, shared));
             }
-            if leaf >= dense {
-                clear(children, batch.position(&entries, leaf));
-                batch.add(record.key(list), shared.max(dense), leaf, record.is_exact());
+            if leaf >= dense_levels {
+                clear(has_child, batch.position(&entries, leaf));
+                let first = shared.max(dense_levels);
+                batch.add(record.key(list), first, leaf, record.is_exact());
             }
         }
         batch.copy_to(labels, &mut entries);
     }
     set(louds, 0);
     let used = 0xFF >> (7 - last % 8);
-    children[last / 8] &= used;
+    has_child[last / 8] &= used;
     louds[last / 8] &= used;
 }
 
@@ -335,7 +327,7 @@ impl Batch {
             *count += 1;
         }
         if exact {
-            self.labels[leaf][usize::from(self.counts[leaf]) % BATCH] = EXACT_LABEL;
+            self.labels[leaf][usize::from(self.counts[leaf]) % BATCH] = EXTRA_LABEL;
             self.counts[leaf] += 1;
         }
     }

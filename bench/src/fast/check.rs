@@ -2,17 +2,16 @@
 //! starts alone: a level's nodes all come before their children if its first one does.
 
 use super::bits::{below, bit, entry, is_clear_from, load, not_below, ones, select_in_word, word};
-use super::EXACT_LABEL;
-use reference::check::bit_counts;
-use reference::decode::{frame, Frame};
-use reference::image::{
-    DC, DENSE_BLOCK, DL, DP, MAX_DENSE, MAX_WIDTH, RC, RL, RP, RS, SAMPLE, SB, SC, SL,
+use range_filter_tests::reference::build::EXTRA_LABEL;
+use range_filter_tests::reference::check::{header_is_valid, lengths_are_valid};
+use range_filter_tests::reference::format::{
+    frame, Frame, DC, DENSE_BLOCK, DL, DP, NODE_BITS, RC, RL, RP, RS, SAMPLE, SB, SC, SL,
     SPARSE_BLOCK, SV, TS,
 };
-use reference::keys::{MAX_KEY, MAX_RECORDS};
+use range_filter_tests::reference::keys::MAX_KEY;
 
 /// The words of a dense node.
-const NODE_WORDS: usize = 4;
+const NODE_WORDS: usize = NODE_BITS / 64;
 
 /// An accepted image with what the questions need of its pass.
 pub struct Accepted<'a> {
@@ -37,14 +36,14 @@ pub struct Counts {
     pub leaves: usize,
 }
 
-/// A pass over the nodes in level order, with the dense labels and exact marks passed
+/// A pass over the nodes in level order, with the dense labels and prefix keys passed
 /// so far. Faults of the tables and slots are only noted, since faults of the trie
 /// come first.
 struct Pass<'a> {
     frame: &'a Frame<'a>,
     counts: Counts,
     labels: usize,
-    marks: usize,
+    prefix_keys: usize,
     levels: Levels,
     rank_is_wrong: bool,
     slot_is_wrong: bool,
@@ -72,7 +71,7 @@ pub fn check(image: &[u8]) -> u32 {
 /// Accepts an image or gives the number of its fault.
 pub fn accept(image: &[u8]) -> Result<Accepted<'_>, u32> {
     let frame = frame(image).ok_or(11_u32)?;
-    if !header_is_right(&frame) || !lengths_are_right(&frame) {
+    if !header_is_valid(&frame.header) || !lengths_are_valid(&frame) {
         return Err(12);
     }
     if !spare_bits_are_clear(&frame) {
@@ -83,7 +82,7 @@ pub fn accept(image: &[u8]) -> Result<Accepted<'_>, u32> {
     if pass.rank_is_wrong {
         return Err(15);
     }
-    if pass.slot_is_wrong || !late_slots_are_right(&frame, &pass.levels) {
+    if pass.slot_is_wrong || !late_slots_are_valid(&frame, &pass.levels) {
         return Err(16);
     }
     let levels = pass.levels;
@@ -94,43 +93,27 @@ pub fn accept(image: &[u8]) -> Result<Accepted<'_>, u32> {
     })
 }
 
-/// Judges version, settings, zero byte and leaf count.
-fn header_is_right(frame: &Frame) -> bool {
-    let header = &frame.header;
-    header.version == 1
-        && header.dense <= MAX_DENSE
-        && header.width <= MAX_WIDTH
-        && header.zero == 0
-        && header.leaves as usize <= MAX_RECORDS
-}
-
-/// Judges the length of each body.
-fn lengths_are_right(frame: &Frame) -> bool {
-    let lengths = bit_counts(&frame.header).map(|bits| bits.div_ceil(8));
-    lengths == frame.bodies.map(|body| body.len() as u64)
-}
-
 /// Judges the bits behind each body's last one.
 fn spare_bits_are_clear(frame: &Frame) -> bool {
-    let mut bodies = bit_counts(&frame.header).into_iter().zip(frame.bodies);
+    let mut bodies = frame.header.body_bits().into_iter().zip(frame.bodies);
     bodies.all(|(bits, body)| bits % 8 == 0 || body[body.len() - 1] >> (bits % 8) == 0)
 }
 
 /// Reads a suffix slot, the first bit lowest.
 #[inline]
 pub fn slot(frame: &Frame, number: usize) -> u64 {
-    let width = usize::from(frame.header.width);
+    let width = usize::from(frame.header.settings.width);
     let position = number * width;
     load(frame.bodies[SV], position / 8) >> (position % 8) & below(width)
 }
 
 /// Judges the slots of cut keys of 63 and 64 bytes, which are the last slots.
-fn late_slots_are_right(frame: &Frame, levels: &Levels) -> bool {
+fn late_slots_are_valid(frame: &Frame, levels: &Levels) -> bool {
     let leaves = frame.header.leaves as usize;
     let starts = &levels.slots[..levels.count];
     let start = |level: usize| starts.get(level).copied().unwrap_or(leaves);
     let [of_63_bytes, of_64_bytes] = [start(MAX_KEY - 2), start(MAX_KEY - 1)];
-    let width = usize::from(frame.header.width);
+    let width = usize::from(frame.header.settings.width);
     is_clear_from(frame.bodies[SV], of_64_bytes * width)
         && (width <= 8 || (of_63_bytes..of_64_bytes).all(|number| slot(frame, number) >> 8 == 0))
 }
@@ -156,7 +139,7 @@ impl<'a> Pass<'a> {
             frame,
             counts: Counts::default(),
             labels: 0,
-            marks: 0,
+            prefix_keys: 0,
             levels: Levels {
                 count: 0,
                 next: 0,
@@ -196,8 +179,8 @@ impl<'a> Pass<'a> {
     fn dense_node(&mut self, node: usize) -> bool {
         let exact = bit(self.frame.bodies[DP], node);
         let before = self.counts;
-        let level_is_right = self.dense_level(node);
-        self.dense_mark(node, exact);
+        let level_is_valid = self.dense_level(node);
+        self.dense_prefix_key(node, exact);
         let [mut labels, mut stray] = [0; 2];
         for index in node * NODE_WORDS..(node + 1) * NODE_WORDS {
             let label_bits = word(self.frame.bodies[DL], index);
@@ -214,8 +197,8 @@ impl<'a> Pass<'a> {
         let sole_leaf = self.counts.leaves + self.counts.children
             == before.leaves + before.children + 1
             && self.counts.children == before.children;
-        let entries_are_right = if node == 0 { !exact } else { !sole_leaf };
-        level_is_right && labels != 0 && stray == 0 && entries_are_right
+        let entries_are_valid = if node == 0 { !exact } else { !sole_leaf };
+        level_is_valid && labels != 0 && stray == 0 && entries_are_valid
     }
 
     /// Enters a level where a dense node starts one; it must be a dense level.
@@ -223,18 +206,18 @@ impl<'a> Pass<'a> {
         let counts = self.counts;
         node != self.levels.next
             || self.levels.enter(node, counts.children, counts.leaves)
-                && self.levels.count <= usize::from(self.frame.header.dense)
+                && self.levels.count <= usize::from(self.frame.header.settings.dense_levels)
     }
 
-    /// Passes the exact mark of a dense node.
-    fn dense_mark(&mut self, node: usize, exact: bool) {
+    /// Passes the bit of D-IsPrefixKey of a dense node.
+    fn dense_prefix_key(&mut self, node: usize, exact: bool) {
         if node.is_multiple_of(DENSE_BLOCK) {
             let rank = entry(self.frame.bodies[RP], node / DENSE_BLOCK);
-            self.rank_is_wrong |= rank != self.marks;
+            self.rank_is_wrong |= rank != self.prefix_keys;
         }
         if exact {
             self.slot_is_wrong |= slot(self.frame, self.counts.leaves) != 0;
-            self.marks += 1;
+            self.prefix_keys += 1;
             self.counts.leaves += 1;
         }
     }
@@ -246,19 +229,19 @@ impl<'a> Pass<'a> {
         header.sparse_entries == 0
             || bit(self.frame.bodies[SB], 0)
                 && self.levels.next == self.counts.nodes
-                && self.levels.count == usize::from(header.dense)
+                && self.levels.count == usize::from(header.settings.dense_levels)
     }
 
     /// Passes a word of sparse entries.
     fn sparse_word(&mut self, dense: Counts, entries: Entries) -> bool {
         self.judge_tables(dense, entries);
-        let is_right = self.sparse_levels(entries)
+        let is_valid = self.sparse_levels(entries)
             && entries.sole_leaves() & !self.root_entry(entries) == 0
-            && self.labels_are_right(entries);
+            && self.labels_are_valid(entries);
         self.counts.nodes += ones(entries.louds);
         self.counts.children += ones(entries.children);
         self.counts.leaves += ones(entries.used & !entries.children);
-        is_right
+        is_valid
     }
 
     /// Notes wrong ranks and samples of a word.
@@ -297,7 +280,7 @@ impl<'a> Pass<'a> {
 
     /// Judges the order of labels: where one inside a node is not above the label
     /// before, that one must be the extra label of an exact leaf.
-    fn labels_are_right(&mut self, entries: Entries) -> bool {
+    fn labels_are_valid(&mut self, entries: Entries) -> bool {
         let inside = entries.used & !entries.louds;
         if inside == 0 {
             return true;
@@ -307,9 +290,9 @@ impl<'a> Pass<'a> {
             return false;
         }
         while falls != 0 {
-            let place = falls.trailing_zeros() as usize;
-            let leaves = self.counts.leaves + ones(!entries.children & below(place));
-            if !self.is_extra_label(entries.index * 64 + place - 1) {
+            let bit = falls.trailing_zeros() as usize;
+            let leaves = self.counts.leaves + ones(!entries.children & below(bit));
+            if !self.is_extra_label(entries.index * 64 + bit - 1) {
                 return false;
             }
             self.slot_is_wrong |= slot(self.frame, leaves - 1) != 0;
@@ -321,7 +304,7 @@ impl<'a> Pass<'a> {
     /// Says whether an entry before another of its node is the extra label of an
     /// exact leaf.
     fn is_extra_label(&self, position: usize) -> bool {
-        self.frame.bodies[SL][position] == EXACT_LABEL
+        self.frame.bodies[SL][position] == EXTRA_LABEL
             && bit(self.frame.bodies[SB], position)
             && !bit(self.frame.bodies[SC], position)
     }

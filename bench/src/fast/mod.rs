@@ -6,6 +6,3 @@ mod bits;
 pub mod build;
 pub mod check;
 mod trie;
-
-/// The extra label at the start of a sparse node that is an exact leaf.
-const EXACT_LABEL: u8 = 0xFF;

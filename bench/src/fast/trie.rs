@@ -3,12 +3,11 @@
 
 use super::bits::{bit, next_one, rank, rank_by_eight, select};
 use super::check::{slot, Accepted};
-use super::EXACT_LABEL;
-use reference::image::{DC, DL, DP, RC, RL, RP, RS, SB, SC, SL, TS};
-use reference::keys::MAX_KEY;
-
-/// The bits of a dense node.
-const NODE_BITS: usize = 256;
+use range_filter_tests::reference::build::EXTRA_LABEL;
+use range_filter_tests::reference::format::{
+    DC, DL, DP, NODE_BITS, RC, RL, RP, RS, SB, SC, SL, TS,
+};
+use range_filter_tests::reference::keys::MAX_KEY;
 
 /// Room for a cut key and two suffix bytes.
 const LOWEST_ROOM: usize = MAX_KEY + 2;
@@ -24,32 +23,32 @@ pub struct Trie<'a> {
     slots_before_levels: usize,
 }
 
-/// The continuing branches and the slots before a place in level order.
+/// The continuing branches and the slots before a node or branch in level order.
 #[derive(Clone, Copy, Default)]
 struct Before {
     children: usize,
     slots: usize,
 }
 
-/// A way from the root: on each level the label, the branch and what is before it.
-pub struct Way {
+/// A path from the root: on each level the label, the branch and what is before it.
+pub struct Path {
     depth: usize,
     labels: [u8; LOWEST_ROOM],
     branches: [usize; MAX_KEY],
     before: [Before; MAX_KEY],
 }
 
-/// The leaf at the end of a way, with its suffix as the high bits of two bytes.
+/// The leaf at the end of a path, with its suffix as the high bits of two bytes.
 #[derive(Clone, Copy)]
 pub enum Leaf {
     Exact,
     Open { suffix: u16 },
 }
 
-impl Way {
+impl Path {
     /// Stands at the root.
     pub fn new() -> Self {
-        Way {
+        Path {
             depth: 0,
             labels: [0; LOWEST_ROOM],
             branches: [0; MAX_KEY],
@@ -125,7 +124,7 @@ impl<'a> Trie<'a> {
             return (!exact).then(|| next_one(self.body(DL), from, end));
         }
         let first = self.first_entry(node);
-        let exact = self.body(SL)[first] == EXACT_LABEL
+        let exact = self.body(SL)[first] == EXTRA_LABEL
             && first + 1 < self.entries
             && !bit(self.body(SB), first + 1);
         (!exact).then_some(self.dense_bits + first)
@@ -141,7 +140,7 @@ impl<'a> Trie<'a> {
         }
         let first = self.first_entry(node);
         let end = self.behind_node(first);
-        let start = first + usize::from(end - first > 1 && self.body(SL)[first] == EXACT_LABEL);
+        let start = first + usize::from(end - first > 1 && self.body(SL)[first] == EXTRA_LABEL);
         let labels = &self.body(SL)[start..end];
         let found = start + labels.partition_point(|&other| other < label);
         (found < end).then_some(self.dense_bits + found)
@@ -229,8 +228,8 @@ impl<'a> Trie<'a> {
     /// Reads the bits of a key behind a cut that a suffix is compared with.
     #[inline]
     fn key_suffix(&self, key: &[u8], cut: usize) -> u16 {
-        let byte = |place: usize| key.get(place).copied().unwrap_or(0);
-        let kept = !(0xFFFF_u32 >> self.image.frame.header.width) as u16;
+        let byte = |at: usize| key.get(at).copied().unwrap_or(0);
+        let kept = !(0xFFFF_u32 >> self.image.frame.header.settings.width) as u16;
         u16::from_be_bytes([byte(cut), byte(cut + 1)]) & kept
     }
 
@@ -255,62 +254,62 @@ impl<'a> Trie<'a> {
     }
 
     /// Finds the first leaf whose highest possible key is not below a start, and
-    /// leaves the way to it.
-    pub fn seek(&self, start: &[u8], way: &mut Way) -> Option<Leaf> {
-        way.depth = 0;
+    /// leaves the path to it.
+    pub fn seek(&self, start: &[u8], path: &mut Path) -> Option<Leaf> {
+        path.depth = 0;
         if self.leaves == 0 {
             return None;
         }
         let mut node = 0;
         for &label in start {
             let Some(branch) = self.lower_bound(node, label) else {
-                return self.next_leaf(way);
+                return self.next_leaf(path);
             };
-            let before = self.step(way, branch);
+            let before = self.step(path, branch);
             if self.label(branch) != label {
-                return Some(self.first_leaf_below(way));
+                return Some(self.first_leaf_below(path));
             }
             if !self.has_child(branch) {
                 let suffix = self.suffix(before.slots);
-                if self.key_suffix(start, way.depth) <= suffix {
+                if self.key_suffix(start, path.depth) <= suffix {
                     return Some(Leaf::Open { suffix });
                 }
-                return self.next_leaf(way);
+                return self.next_leaf(path);
             }
             node = before.children + 1;
         }
-        Some(self.first_leaf(way, node))
+        Some(self.first_leaf(path, node))
     }
 
-    /// Adds a branch to a way.
+    /// Adds a branch to a path.
     #[inline]
-    fn step(&self, way: &mut Way, branch: usize) -> Before {
+    fn step(&self, path: &mut Path, branch: usize) -> Before {
         let before = self.before_branch(branch);
-        way.labels[way.depth] = self.label(branch);
-        way.branches[way.depth] = branch;
-        way.before[way.depth] = before;
-        way.depth += 1;
+        path.labels[path.depth] = self.label(branch);
+        path.branches[path.depth] = branch;
+        path.before[path.depth] = before;
+        path.depth += 1;
         before
     }
 
-    /// Goes to the first leaf behind everything below the end of a way.
-    fn next_leaf(&self, way: &mut Way) -> Option<Leaf> {
-        while way.depth > 0 {
-            way.depth -= 1;
-            if let Some(next) = self.next_branch(way.branches[way.depth]) {
-                self.step(way, next);
-                return Some(self.first_leaf_below(way));
+    /// Goes to the first leaf behind everything below the end of a path.
+    fn next_leaf(&self, path: &mut Path) -> Option<Leaf> {
+        while path.depth > 0 {
+            path.depth -= 1;
+            if let Some(next) = self.next_branch(path.branches[path.depth]) {
+                self.step(path, next);
+                return Some(self.first_leaf_below(path));
             }
         }
         None
     }
 
-    /// Goes to the first leaf at or below the last branch of a way.
-    fn first_leaf_below(&self, way: &mut Way) -> Leaf {
-        let last = way.depth - 1;
-        let Before { children, slots } = way.before[last];
-        if self.has_child(way.branches[last]) {
-            return self.first_leaf(way, children + 1);
+    /// Goes to the first leaf at or below the last branch of a path.
+    fn first_leaf_below(&self, path: &mut Path) -> Leaf {
+        let last = path.depth - 1;
+        let Before { children, slots } = path.before[last];
+        if self.has_child(path.branches[last]) {
+            return self.first_leaf(path, children + 1);
         }
         Leaf::Open {
             suffix: self.suffix(slots),
@@ -318,10 +317,10 @@ impl<'a> Trie<'a> {
     }
 
     /// Goes to the first leaf at or below a node.
-    fn first_leaf(&self, way: &mut Way, node: usize) -> Leaf {
+    fn first_leaf(&self, path: &mut Path, node: usize) -> Leaf {
         let mut node = node;
         while let Some(branch) = self.first_branch_unless_exact(node) {
-            let before = self.step(way, branch);
+            let before = self.step(path, branch);
             if !self.has_child(branch) {
                 return Leaf::Open {
                     suffix: self.suffix(before.slots),
@@ -332,14 +331,14 @@ impl<'a> Trie<'a> {
         Leaf::Exact
     }
 
-    /// Gives the number in key order of the leaf at the end of a way: on each level
-    /// the leaves before the way, and on the levels below it those before the first
+    /// Gives the number in key order of the leaf at the end of a path: on each level
+    /// the leaves before the path, and on the levels below it those before the first
     /// node that is not before it.
-    pub fn place(&self, way: &Way) -> usize {
-        let passed = &way.before[..way.depth];
+    pub fn place(&self, path: &Path) -> usize {
+        let passed = &path.before[..path.depth];
         let mut slots: usize = passed.iter().map(|before| before.slots).sum();
         let mut children = passed.last().map_or(0, |before| before.children);
-        for _ in way.depth..self.image.levels.count {
+        for _ in path.depth..self.image.levels.count {
             if children + 1 == self.nodes {
                 slots += self.leaves;
                 break;

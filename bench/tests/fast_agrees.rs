@@ -1,0 +1,166 @@
+//! The fast implementation gives what the reference gives, so that the benchmark compares
+//! with one that does the same work.
+
+use range_filter_bench::fast;
+use range_filter_tests::answer::Answer;
+use range_filter_tests::compare;
+use range_filter_tests::generate::images::{any_image, built, small_frame, CHANGES};
+use range_filter_tests::generate::keys::{any_keys, many_keys, many_mixed_keys};
+use range_filter_tests::generate::questions::questions_near;
+use range_filter_tests::generate::{any_settings, damaged};
+use range_filter_tests::random::Random;
+use range_filter_tests::reference::keys::{self, MAX_KEYS};
+use range_filter_tests::reference::questions::{write, MAX_QUESTIONS};
+use range_filter_tests::tally::{judge_changed_images, Tally};
+
+const LISTS: usize = 4_000;
+const DAMAGED_LISTS: usize = 10_000;
+const LARGE_LISTS: usize = 40;
+const IMAGES: usize = 3_000;
+const CHANGES_A_KIND: usize = 20_000;
+const SMALL_FRAMES: usize = 100_000;
+const CHANGES_A_LARGE_IMAGE: usize = 20;
+const QUESTION_FILES: usize = 3_000;
+const LARGE_QUESTION_FILES: usize = 20;
+const ROOM: usize = 1 << 20;
+
+/// Compares a build, and gives the answer.
+fn compare_build(list: &[u8], settings: (u64, u64), room: usize) -> Answer {
+    compare::build(fast::build::build, list, settings, room)
+}
+
+/// Compares a check, and gives the number.
+fn compare_check(image: &[u8]) -> u32 {
+    compare::check(fast::check::check, image)
+}
+
+/// Compares the replies to a question file, and gives the answer.
+fn compare_ask(image: &[u8], file: &[u8], room: usize) -> Answer {
+    compare::ask(fast::ask::ask, image, file, room)
+}
+
+/// Gives some hundred keys, of which some begin others, with settings that go round.
+fn large_list(random: &mut Random, round: usize) -> (Vec<Vec<u8>>, (u64, u64)) {
+    let count = 200 + random.below(1_000);
+    let length = 2 + random.below(5);
+    let keys = many_mixed_keys(random, count, length);
+    (keys, ((round % 5) as u64, (round % 17) as u64))
+}
+
+#[test]
+fn lists_build_alike() {
+    let mut random = Random::new(1);
+    for _ in 0..LISTS {
+        let list = keys::write(&any_keys(&mut random));
+        let settings = any_settings(&mut random);
+        let length = compare_build(&list, settings, ROOM).length();
+        compare_build(&list, settings, length).length();
+        let short = compare_build(&list, settings, length - 1);
+        assert_eq!(short, Answer::Refused(7));
+    }
+}
+
+#[test]
+fn damaged_lists_are_refused_alike() {
+    let tally = Tally::of(2, DAMAGED_LISTS, |random| {
+        let list = keys::write(&any_keys(random));
+        let list = damaged(random, &list);
+        let dense_levels = *random.pick(&[0, 2, 4, 5, 256]);
+        let n = *random.pick(&[0, 8, 16, 17, 1 << 32]);
+        compare_build(&list, (dense_levels, n), ROOM).number()
+    });
+    assert_eq!(tally.numbers(), [0, 1, 2, 3, 5]);
+}
+
+#[test]
+fn large_lists_build_alike() {
+    let mut random = Random::new(3);
+    for round in 0..LARGE_LISTS {
+        let (keys, settings) = large_list(&mut random, round);
+        compare_build(&keys::write(&keys), settings, ROOM).length();
+    }
+}
+
+#[test]
+fn longest_list_builds_and_checks_alike() {
+    let keys = many_keys(&mut Random::new(4), MAX_KEYS, 4);
+    let mut list = keys::write(&keys);
+    compare_build(&list, (1, 9), ROOM).length();
+    assert_eq!(compare_check(&built(&keys, 1, 9)), 0);
+    list.push(0);
+    assert_eq!(compare_build(&list, (1, 9), ROOM), Answer::Refused(4));
+}
+
+#[test]
+fn images_are_judged_alike() {
+    let tally = Tally::of(5, IMAGES, |random| compare_check(&any_image(random)));
+    assert_eq!(tally.numbers(), [0]);
+}
+
+#[test]
+fn changed_images_are_judged_alike() {
+    judge_changed_images(6, CHANGES_A_KIND, any_image, compare_check);
+}
+
+#[test]
+fn small_frames_are_judged_alike() {
+    let tally = Tally::of(9, SMALL_FRAMES, |random| {
+        compare_check(&small_frame(random))
+    });
+    assert_eq!(tally.numbers(), [0, 14, 16]);
+}
+
+#[test]
+fn large_images_are_judged_alike() {
+    let mut random = Random::new(10);
+    let mut tally = Tally::default();
+    for round in 0..LARGE_LISTS {
+        let (keys, (dense_levels, n)) = large_list(&mut random, round);
+        let image = built(&keys, dense_levels, n);
+        assert_eq!(compare_check(&image), 0);
+        for change in &CHANGES {
+            for _ in 0..CHANGES_A_LARGE_IMAGE {
+                tally.note(compare_check(&(change.apply)(&mut random, &image)));
+            }
+        }
+    }
+    assert!(tally.times(14) > 0 && tally.times(15) > 0, "{tally:?}");
+}
+
+#[test]
+fn questions_are_replied_to_alike() {
+    let mut random = Random::new(11);
+    let mut tally = Tally::default();
+    for _ in 0..QUESTION_FILES {
+        let image = any_image(&mut random);
+        let file = write(&questions_near(&mut random, &image, 20));
+        tally.note(compare_ask(&image, &file, ROOM).number());
+        let room = random.below(400);
+        tally.note(compare_ask(&image, &file, room).number());
+        let file = damaged(&mut random, &file);
+        tally.note(compare_ask(&image, &file, ROOM).number());
+    }
+    assert_eq!(tally.numbers(), [0, 21, 22, 23, 25]);
+}
+
+#[test]
+fn questions_over_large_images_are_replied_to_alike() {
+    let mut random = Random::new(12);
+    for round in 0..LARGE_QUESTION_FILES {
+        let (keys, (dense_levels, n)) = large_list(&mut random, round);
+        let image = built(&keys, dense_levels, n);
+        let mut file = write(&questions_near(&mut random, &image, MAX_QUESTIONS));
+        compare_ask(&image, &file, ROOM).length();
+        file.push(b'Q');
+        assert_eq!(compare_ask(&image, &file, ROOM), Answer::Refused(24));
+    }
+}
+
+#[test]
+fn damaged_images_are_refused_by_ask_alike() {
+    let tally = Tally::of(13, QUESTION_FILES, |random| {
+        let image = any_image(random);
+        compare_ask(&damaged(random, &image), b"QP\x01aQS\x00", ROOM).number()
+    });
+    assert!(tally.times(0) > 0 && tally.times(11) > 0, "{tally:?}");
+}

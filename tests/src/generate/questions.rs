@@ -1,0 +1,57 @@
+//! Questions whose keys lie around the ends of leaves' intervals.
+
+use crate::random::Random;
+use crate::reference::check::accepted_leaves;
+use crate::reference::keys::MAX_KEY;
+use crate::reference::leaves::{highest, lowest, Leaf};
+use crate::reference::questions::Question;
+
+/// Gives a byte string at or beside an end of a leaf's interval, or a short one.
+pub fn key_near(random: &mut Random, leaves: &[Leaf]) -> Vec<u8> {
+    if leaves.is_empty() || random.once_in(8) {
+        return random.string(b"\x00ab\x80\xFF", 0, 4);
+    }
+    let leaf = random.pick(leaves);
+    let mut key = match random.below(3) {
+        0 => lowest(leaf),
+        1 => highest(leaf),
+        _ => leaf.cut_key.clone(),
+    };
+    match random.below(8) {
+        0 => key.truncate(random.below(key.len())),
+        1 => key.push(0x00),
+        2 => key.push(random.byte()),
+        3 => add_to_last_byte(&mut key, 1),
+        4 => add_to_last_byte(&mut key, 0xFF),
+        _ => (),
+    }
+    key.truncate(MAX_KEY);
+    key
+}
+
+/// Adds to the last byte of a key without carrying.
+fn add_to_last_byte(key: &mut [u8], number: u8) {
+    if let Some(last) = key.last_mut() {
+        *last = last.wrapping_add(number);
+    }
+}
+
+/// Gives a question whose keys lie around the ends of leaves' intervals.
+pub fn question_near(random: &mut Random, leaves: &[Leaf]) -> Question {
+    let one = key_near(random, leaves);
+    let other = key_near(random, leaves);
+    let (lower, upper) = (one.clone().min(other.clone()), one.clone().max(other));
+    match random.below(5) {
+        0 => Question::Point(one),
+        1 => Question::Seek(one),
+        2 => Question::BeginsWith(one),
+        3 => Question::Range(lower, upper),
+        _ => Question::Count(lower, upper),
+    }
+}
+
+/// Gives so many questions around the ends of the intervals of a built image's leaves.
+pub fn questions_near(random: &mut Random, image: &[u8], count: usize) -> Vec<Question> {
+    let leaves = accepted_leaves(image).expect("a built image is accepted");
+    (0..count).map(|_| question_near(random, &leaves)).collect()
+}

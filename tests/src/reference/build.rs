@@ -1,0 +1,144 @@
+//! Building an image from a key list.
+
+use super::format::{
+    assemble, count32, pack, Header, Settings, MAX_DENSE_LEVELS, MAX_WIDTH, NODE_BITS, RECORDS,
+};
+use super::keys;
+use super::leaves::{leaves, Leaf};
+use super::tables::TrieBits;
+use super::trie::{entry_count, nodes, Branch, Node};
+use crate::answer::{put, Answer};
+
+/// The most trie entries of an image.
+pub const MAX_ENTRIES: usize = 4_300_000;
+
+/// The label that starts a sparse node that is an exact leaf.
+pub const EXTRA_LABEL: u8 = 0xFF;
+
+/// An entry of a sparse node.
+struct Entry {
+    label: u8,
+    has_child: bool,
+    first: bool,
+}
+
+/// Builds the image of a key list at the start of the output; a refusal leaves the output
+/// as it was.
+pub fn build(list: &[u8], dense_levels: u64, n: u64, out: &mut [u8]) -> Answer {
+    put(image(list, dense_levels, n), 7, out)
+}
+
+/// Gives the image of a key list, or the number of the first fault in the order of
+/// document 01.
+pub fn image(list: &[u8], dense_levels: u64, n: u64) -> Result<Vec<u8>, u32> {
+    let settings = settings(dense_levels, n)?;
+    let keys = keys::parse(list)?;
+    let leaves = leaves(&keys, usize::from(settings.width));
+    let nodes = nodes(&leaves);
+    judge_entries(entry_count(&nodes))?;
+    Ok(lay_out(settings, &leaves, &nodes))
+}
+
+/// Judges the settings before they are narrowed.
+fn settings(dense_levels: u64, n: u64) -> Result<Settings, u32> {
+    if dense_levels > u64::from(MAX_DENSE_LEVELS) || n > u64::from(MAX_WIDTH) {
+        return Err(5);
+    }
+    Ok(Settings {
+        dense_levels: dense_levels as u8,
+        width: n as u8,
+    })
+}
+
+/// Judges the number of trie entries.
+pub fn judge_entries(entries: usize) -> Result<(), u32> {
+    if entries > MAX_ENTRIES {
+        return Err(6);
+    }
+    Ok(())
+}
+
+/// Lays out the image of leaves in key order and of their nodes.
+fn lay_out(settings: Settings, leaves: &[Leaf], nodes: &[Node]) -> Vec<u8> {
+    let dense_levels = usize::from(settings.dense_levels);
+    let dense_nodes = nodes.partition_point(|node| node.level < dense_levels);
+    let (dense, sparse) = nodes.split_at(dense_nodes);
+    let entries = sparse_entries(sparse);
+    let header = Header {
+        leaves: count32(leaves.len()),
+        dense_nodes: count32(dense.len()),
+        sparse_entries: count32(entries.len()),
+        sparse_nodes: count32(sparse.len()),
+        ..Header::new(settings)
+    };
+    assemble(&header, &bodies(dense, &entries, &slots(leaves, nodes)))
+}
+
+/// Gives the bodies from dense nodes, sparse entries and suffix slots.
+fn bodies(dense: &[Node], entries: &[Entry], slots: &[bool]) -> [Vec<u8>; RECORDS] {
+    let bits = TrieBits {
+        d_labels: dense_bits(dense, |_| true),
+        d_has_child: dense_bits(dense, |branch| branch.leaf.is_none()),
+        d_is_prefix_key: dense.iter().map(|node| node.exact.is_some()).collect(),
+        s_has_child: entries.iter().map(|entry| entry.has_child).collect(),
+        s_louds: entries.iter().map(|entry| entry.first).collect(),
+    };
+    let [rl, rc, rp, rs, ts] = bits.tables();
+    [
+        pack(&bits.d_labels),
+        pack(&bits.d_has_child),
+        pack(&bits.d_is_prefix_key),
+        entries.iter().map(|entry| entry.label).collect(),
+        pack(&bits.s_has_child),
+        pack(&bits.s_louds),
+        pack(slots),
+        rl,
+        rc,
+        rp,
+        rs,
+        ts,
+    ]
+}
+
+/// Gives 256 bits for each dense node, set at the labels of the branches picked.
+fn dense_bits(dense: &[Node], picked: impl Fn(&Branch) -> bool) -> Vec<bool> {
+    let mut bits = vec![false; dense.len() * NODE_BITS];
+    for (number, node) in dense.iter().enumerate() {
+        for branch in node.branches.iter().filter(|branch| picked(branch)) {
+            bits[number * NODE_BITS + usize::from(branch.label)] = true;
+        }
+    }
+    bits
+}
+
+/// Gives the entries of sparse nodes; a node that is an exact leaf starts with an extra
+/// label.
+fn sparse_entries(sparse: &[Node]) -> Vec<Entry> {
+    let mut entries = Vec::new();
+    for node in sparse {
+        let start = entries.len();
+        let extra = node.exact.map(|_| (EXTRA_LABEL, false));
+        let branches = node.branches.iter();
+        let branches = branches.map(|branch| (branch.label, branch.leaf.is_none()));
+        for (label, has_child) in extra.into_iter().chain(branches) {
+            entries.push(Entry {
+                label,
+                has_child,
+                first: entries.len() == start,
+            });
+        }
+    }
+    entries
+}
+
+/// Gives the suffix slots in level order, an exact leaf before its node's branches.
+fn slots(leaves: &[Leaf], nodes: &[Node]) -> Vec<bool> {
+    let mut bits = Vec::new();
+    for node in nodes {
+        let branch_leaves = node.branches.iter().filter_map(|branch| branch.leaf);
+        for leaf in node.exact.into_iter().chain(branch_leaves) {
+            bits.extend_from_slice(&leaves[leaf].suffix);
+        }
+    }
+    bits
+}

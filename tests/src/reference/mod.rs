@@ -1,0 +1,17 @@
+//! An implementation of document 01, written from its text alone. It follows the
+//! definitions word by word: clarity comes before speed, and no code is taken from the
+//! library or from the benchmark.
+
+pub mod build;
+pub mod check;
+pub mod decode;
+pub mod format;
+pub mod keys;
+pub mod leaves;
+pub mod print;
+pub mod questions;
+pub mod rebuild;
+pub mod replies;
+pub mod tables;
+pub mod trie;
+pub mod walk;

@@ -1,0 +1,161 @@
+//! The reference alone: its replies compared with brute force over all key lists of a
+//! small universe.
+//!
+//! The lists are grouped by the image they build, and every reply is compared with the
+//! lists of its group alone: a point, range or stem is denied just if no list has such a
+//! key, a count is the most of any list, and a seek gives the least key not below its
+//! start that any list has, with its number in the list. No interval is used.
+//!
+//! This is exact for questions from the universe though longer keys exist: cutting a byte
+//! of an alphabet of 00, 80 and FF to its high bit and filling with zeros stays in the
+//! alphabet, so that with the widths below each leaf's lowest key lies in the universe,
+//! and so does the greater of it and a bound.
+//!
+//! Longer keys and other widths are covered by lists with the same image that have as many
+//! keys in a question's range as any list can have.
+
+use range_filter_tests::generate::any_settings;
+use range_filter_tests::generate::images::built;
+use range_filter_tests::generate::keys::any_keys;
+use range_filter_tests::generate::questions::question_near;
+use range_filter_tests::generate::universe::{List, Universe};
+use range_filter_tests::random::Random;
+use range_filter_tests::reference::check::accepted_leaves;
+use range_filter_tests::reference::keys::MAX_KEY;
+use range_filter_tests::reference::leaves::{is_possible, leaves, lowest, Leaf};
+use range_filter_tests::reference::questions::Question;
+use range_filter_tests::reference::replies::{replies, Reply, NONE};
+use std::collections::HashMap;
+
+const WIDTHS: [u64; 5] = [0, 1, 8, 9, 16];
+const ATTAINED_LISTS: usize = 400;
+const QUESTIONS_A_LIST: usize = 40;
+
+/// Groups lists by the image they build.
+fn grouped(lists: &[List], dense_levels: u64, n: u64) -> HashMap<Vec<u8>, Vec<&List>> {
+    let mut groups: HashMap<Vec<u8>, Vec<&List>> = HashMap::new();
+    for list in lists {
+        let image = built(list, dense_levels, n);
+        groups.entry(image).or_default().push(list);
+    }
+    groups
+}
+
+/// Gives the most keys that any list of a group has in a range.
+fn most_in_range(group: &[&List], lower: &[u8], upper: &[u8]) -> u32 {
+    let inside = |key: &&Vec<u8>| lower <= key.as_slice() && key.as_slice() <= upper;
+    let count = |list: &&List| list.iter().filter(inside).count() as u32;
+    group.iter().map(count).max().unwrap_or(0)
+}
+
+/// Gives the least key not below a start that any list of a group has, and its number in
+/// that list.
+fn least_from(group: &[&List], start: &[u8]) -> (u32, Vec<u8>) {
+    let first = |list: &&List| {
+        let number = list.iter().position(|key| key.as_slice() >= start)?;
+        Some((list[number].clone(), number as u32))
+    };
+    match group.iter().filter_map(first).min() {
+        Some((key, number)) => (number, key),
+        None => (NONE, Vec::new()),
+    }
+}
+
+/// Gives the upper bound of the range that a begins-with question names.
+fn last_of(stem: &[u8]) -> Vec<u8> {
+    stem.iter().copied().chain([0xFF]).take(MAX_KEY).collect()
+}
+
+/// Gives the reply that the lists of a group call for.
+fn brute_reply(group: &[&List], question: &Question) -> Reply {
+    let most = |lower: &[u8], upper: &[u8]| most_in_range(group, lower, upper);
+    let (number, key) = match question {
+        Question::Point(key) => (most(key, key), Vec::new()),
+        Question::Range(lower, upper) => (most(lower, upper).min(1), Vec::new()),
+        Question::BeginsWith(stem) => (most(stem, &last_of(stem)).min(1), Vec::new()),
+        Question::Count(lower, upper) => (most(lower, upper), Vec::new()),
+        Question::Seek(start) => least_from(group, start),
+    };
+    Reply {
+        letter: question.letter(),
+        number,
+        key,
+    }
+}
+
+/// Compares the replies over every image of a universe with the lists that build it.
+fn compare_universe(universe: &Universe, dense_levels: u64) {
+    for n in WIDTHS {
+        for (image, group) in grouped(&universe.lists, dense_levels, n) {
+            let leaves = accepted_leaves(&image).expect("a built image is accepted");
+            let replies = replies(&leaves, &universe.questions);
+            for (question, reply) in universe.questions.iter().zip(replies) {
+                let brute = brute_reply(&group, question);
+                assert_eq!(reply, brute, "{question:?} over {:?}", group[0]);
+            }
+        }
+    }
+}
+
+#[test]
+fn replies_agree_over_all_lists_of_two_byte_keys() {
+    let universe = Universe::of_two_byte_keys();
+    assert_eq!(universe.lists.len(), 1 << 12);
+    compare_universe(&universe, 0);
+}
+
+#[test]
+fn replies_agree_over_all_lists_of_three_byte_keys() {
+    compare_universe(&Universe::of_three_byte_keys(), 1);
+}
+
+#[test]
+fn replies_agree_over_all_short_lists_of_three_byte_keys() {
+    compare_universe(&Universe::of_short_lists(), 2);
+}
+
+/// Gives a list with the same image that has as many keys from a bound on as it can: each
+/// leaf's key is the least possible one from the bound on, if there is one.
+fn fullest_list(list: &[Vec<u8>], leaves: &[Leaf], lower: &[u8]) -> List {
+    let fullest = |(key, leaf): (&Vec<u8>, &Leaf)| {
+        let least = lowest(leaf).max(lower.to_vec());
+        match is_possible(leaf, &least) {
+            true => least,
+            false => key.clone(),
+        }
+    };
+    list.iter().zip(leaves).map(fullest).collect()
+}
+
+#[test]
+fn replies_over_long_keys_are_attained() {
+    let mut random = Random::new(13);
+    for _ in 0..ATTAINED_LISTS {
+        let list = any_keys(&mut random);
+        let (dense_levels, n) = any_settings(&mut random);
+        let image = built(&list, dense_levels, n);
+        let leaves = leaves(&list, n as usize);
+        for _ in 0..QUESTIONS_A_LIST {
+            let question = question_near(&mut random, &leaves);
+            let fullest = fullest_list(&list, &leaves, question.keys()[0]);
+            assert_eq!(built(&fullest, dense_levels, n), image);
+            let brute = brute_reply(&[&fullest, &list], &question);
+            assert_eq!(replies(&leaves, &[question]), [brute], "{list:?}");
+        }
+    }
+}
+
+#[test]
+fn keys_of_a_list_are_never_denied() {
+    let mut random = Random::new(14);
+    for _ in 0..ATTAINED_LISTS {
+        let list = any_keys(&mut random);
+        let (dense_levels, n) = any_settings(&mut random);
+        let image = built(&list, dense_levels, n);
+        let leaves = accepted_leaves(&image).expect("a built image is accepted");
+        let points: Vec<Question> = list.iter().cloned().map(Question::Point).collect();
+        let replies = replies(&leaves, &points);
+        assert_eq!(replies.len(), list.len());
+        assert!(replies.iter().all(|reply| reply.number == 1), "{list:?}");
+    }
+}
