@@ -1,11 +1,13 @@
 //! What the tests share: an implementation written from document 01 to compare with, the
-//! calls of the proved library, generators of inputs, and the comparisons themselves.
+//! calls of the proved library, the printer program, generators of inputs, and the
+//! comparisons themselves.
 
 pub mod answer;
 pub mod compare;
 pub mod examples;
 pub mod generate;
 pub mod library;
+pub mod printer;
 pub mod random;
 pub mod reference;
 pub mod tally;

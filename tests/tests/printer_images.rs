@@ -1,0 +1,154 @@
+//! The leaf printer's program against the reference's text, on generated images, on
+//! changed ones, and on inputs at and over the longest that it takes.
+
+use range_filter_tests::examples::{list_a, list_van, IMAGE_A};
+use range_filter_tests::generate::every_setting;
+use range_filter_tests::generate::images::{any_image, built, small_frame};
+use range_filter_tests::generate::keys::{many_mixed_keys, owned};
+use range_filter_tests::printer;
+use range_filter_tests::random::Random;
+use range_filter_tests::reference::check::check;
+use range_filter_tests::reference::print::{print, MAX_INPUT};
+use range_filter_tests::tally::{judge_changed_images, Tally};
+
+const IMAGES: usize = 600;
+const CHANGES_A_KIND: usize = 1_000;
+const SMALL_FRAMES: usize = 1_000;
+
+/// Asserts that the program prints the reference's text, and gives the text.
+fn compare(input: &[u8]) -> String {
+    let text = print(input);
+    assert!(printer::print(input) == text, "{input:?}");
+    text
+}
+
+/// Gives the image of as many keys of a list as the printer takes, and the image of one key
+/// more, which is too long.
+fn images_at_the_limit(keys: &[Vec<u8>], dense_levels: u64, n: u64) -> [Vec<u8>; 2] {
+    let image = |count: usize| built(&keys[..count], dense_levels, n);
+    let counts: Vec<usize> = (0..=keys.len()).collect();
+    let too_many = counts.partition_point(|&count| image(count).len() <= MAX_INPUT);
+    assert!(
+        too_many <= keys.len(),
+        "the keys have an image that is too long"
+    );
+    [image(too_many - 1), image(too_many)]
+}
+
+#[test]
+fn list_a_is_printed() {
+    let text = "leaves 4\n0 E 4431 -\n1 O 443132 -\n2 O 4432 -\n3 O 56 -\n";
+    assert_eq!(compare(IMAGE_A), text);
+}
+
+#[test]
+fn suffix_bits_are_printed_first_bit_first() {
+    let lines = "0 E 4431 -\n1 O 443132 00000000\n2 O 4432 00000000\n3 O 56 01000001\n";
+    let text = format!("leaves 4\n{lines}");
+    assert_eq!(compare(&built(&list_van(), 0, 8)), text);
+}
+
+#[test]
+fn an_extra_ff_is_printed_as_an_exact_leaf() {
+    let text = "leaves 1\n0 O FF -\n";
+    assert_eq!(compare(&built(&owned(&[b"\xFF"]), 0, 0)), text);
+    let text = "leaves 2\n0 E FF -\n1 O FFFF -\n";
+    assert_eq!(compare(&built(&owned(&[b"\xFF", b"\xFF\xFF"]), 0, 0)), text);
+}
+
+#[test]
+fn the_empty_input_is_refused() {
+    assert_eq!(compare(b""), "refused 11\n");
+}
+
+#[test]
+fn empty_images_are_printed() {
+    for (dense_levels, n) in every_setting() {
+        assert_eq!(compare(&built(&[], dense_levels, n)), "leaves 0\n");
+    }
+}
+
+#[test]
+fn list_a_is_printed_at_every_setting() {
+    for (dense_levels, n) in every_setting() {
+        compare(&built(&list_a(), dense_levels, n));
+    }
+}
+
+#[test]
+fn random_images_are_printed() {
+    let tally = Tally::of(81, IMAGES, |random| {
+        let image = any_image(random);
+        compare(&image);
+        check(&image)
+    });
+    assert_eq!(tally.numbers(), [0]);
+}
+
+#[test]
+fn changed_images_are_printed_or_refused() {
+    judge_changed_images(82, CHANGES_A_KIND, any_image, |image| {
+        compare(image);
+        check(image)
+    });
+}
+
+#[test]
+fn small_frames_are_printed_or_refused() {
+    let tally = Tally::of(83, SMALL_FRAMES, |random| {
+        let image = small_frame(random);
+        compare(&image);
+        check(&image)
+    });
+    assert!(tally.times(0) > 0 && tally.times(14) > 0, "{tally:?}");
+}
+
+#[test]
+fn shortened_images_are_refused() {
+    for length in 0..IMAGE_A.len() {
+        assert_eq!(compare(&IMAGE_A[..length]), "refused 11\n");
+    }
+}
+
+#[test]
+fn images_at_the_limit_are_printed_and_longer_ones_are_too_long() {
+    let mut random = Random::new(85);
+    for (dense_levels, n, length, count) in [
+        (0, 0, 3, 40_000),
+        (1, 16, 5, 20_000),
+        (4, 7, 8, 2_000),
+        (0, 9, 64, 4_000),
+    ] {
+        let keys = many_mixed_keys(&mut random, count, length);
+        let [taken, too_long] = images_at_the_limit(&keys, dense_levels, n);
+        assert!(compare(&taken).starts_with("leaves "));
+        assert_eq!(check(&too_long), 0);
+        assert_eq!(compare(&too_long), "too long\n");
+    }
+}
+
+#[test]
+fn inputs_over_65536_bytes_are_too_long() {
+    let mut random = Random::new(84);
+    for length in [MAX_INPUT + 1, MAX_INPUT + 2, 2 * MAX_INPUT, 1 << 20] {
+        let mut input = IMAGE_A.to_vec();
+        input.resize(length, 0);
+        assert_eq!(compare(&input), "too long\n");
+        assert_eq!(compare(&random.bytes(length, length)), "too long\n");
+    }
+    assert_eq!(compare(&[0; MAX_INPUT]), "refused 11\n");
+}
+
+#[test]
+fn inputs_that_come_in_pieces_are_read_whole() {
+    let mut random = Random::new(86);
+    let keys = many_mixed_keys(&mut random, 20_000, 5);
+    let [longest, too_long] = images_at_the_limit(&keys, 0, 9);
+    let inputs = [IMAGE_A.to_vec(), any_image(&mut random), longest, too_long];
+    for input in &inputs {
+        for piece in [input.len() / 300 + 1, input.len() / 2 + 1, input.len() - 1] {
+            let text = printer::print_in_pieces(input, piece);
+            assert!(text == print(input), "{piece} bytes a piece");
+        }
+    }
+}
