@@ -9,7 +9,7 @@ ghost use Rattle.nav_laws.specs.Accepted.{Accepted};
 ghost use Rattle.query_laws.specs.Summed.{level-starts};
 ghost use Rattle.ask_laws.specs.FileLaws.{Taken-from};
 ghost use Rattle.ask_files.specs.Questions.{Inside, question-of};
-ghost use Rattle.ask.specs.Outcomes.{file-replies};
+ghost use Rattle.ask.specs.Replies.{file-replies};
 use super::replies::seek_reply;
 use ask_files::file::QuestionAt;
 use ask_files::file::key_at;
@@ -51,12 +51,15 @@ fn replies_length(image: &[u8], f: Frame, file: &[u8]) -> usize
     total
 }
 
-// Whether the replies to all questions of a file that is taken, count of them, fit into room bytes. No reply has more than 72 bytes, so their lengths are summed only where room is short.
+// The bytes of the longest reply: mark, letter, number, length and a key of 64 bytes.
+const LONGEST_REPLY: usize = 72;
+
+// Whether the replies to all questions of a file that is taken, count of them, fit into room bytes. No reply is longer than LONGEST_REPLY, so their lengths are summed only where room is short.
 pub fn replies_fit(image: &[u8], f: Frame, file: &[u8], count: usize, room: usize) -> bool
     requires { ⌜ Accepted (now image) f × Taken-from (now file) 0 × (count ≡ length (questions-of (now file))) ⌝ }
     ensures { λ r. ⌜ r ≡ leb (length (file-replies (now (image .entry)) (now (file .entry)))) room ⌝ }
 {
-    if 72 * count <= room {
+    if LONGEST_REPLY * count <= room {
         return true;
     }
     replies_length(image, f, file) <= room

@@ -9,7 +9,7 @@ ghost use Rattle.nav_laws.specs.Accepted.{Accepted};
 ghost use Rattle.query_laws.specs.Summed.{level-starts};
 ghost use Rattle.ask_laws.specs.FileLaws.{Taken-from};
 ghost use Rattle.ask_files.specs.Questions.{Inside, question-of, Sized, reply-of};
-ghost use Rattle.ask.specs.Outcomes.{file-replies};
+ghost use Rattle.ask.specs.Replies.{file-replies};
 use ask_files::file::QuestionAt;
 use ask_files::file::key_at;
 use ask_files::file::question_at;

@@ -7,6 +7,7 @@ ghost use Rattle.spec.specs.Questions.{reply-bytes};
 ghost use Rattle.bits_laws.specs.Bits.{placed};
 ghost use Rattle.ask_laws.specs.ReplyLaws.{answer};
 ghost use Rattle.ask_files.specs.Questions.{reply-mark, reply-head, reply-of, Sized};
+use bits::copy::write_bytes;
 use bits::numbers::write32;
 
 // A reply by value: its letter, its number, and its key in the first n bytes of an array.
@@ -25,18 +26,6 @@ fn write_mark(out: &mut [u8], at: usize, letter: u8)
     out[at] = b'A';
     out[at + 1] = b'N';
     out[at + 2] = letter;
-}
-
-// The bytes of xs go to out from at, and all else stays.
-fn write_bytes(out: &mut [u8], at: usize, xs: &[u8])
-    requires { ⌜ at + length (now xs) ≤ length (now out) ⌝ }
-    ensures { λ _. ⌜ now (out .exit) ≡ placed (now (out .entry)) at (now (xs .entry)) ⌝ }
-{
-    let mut i = 0usize;
-    while i < xs.len() {
-        out[at + i] = xs[i];
-        i = i + 1;
-    }
 }
 
 // A reply's first eight bytes go to out from at, and all else stays: the mark, the letter, the number, and the length of a key of n bytes.

@@ -4,4 +4,3 @@ pub mod QuestionAt
 pub mod FileLaws
 pub mod AskedAt
 pub mod ReplyLaws
-pub mod ReplyBound

@@ -1,8 +1,8 @@
-// Numbers of four and of eight bytes in a slice, the low byte first; a byte as a number, and the smaller of two numbers.
+// Numbers of four and of eight bytes in a slice, the low byte first; numbers widened, the smaller and the larger of two, and counts of begun blocks.
 ghost use mathlib.Core.Path.{_≡_};
-ghost use Prim.Native.Nat.{_+_, _*_, _≤_, _<_, min};
+ghost use Prim.Native.Nat.{_+_, _*_, _^_, _≤_, _<_, min, max};
 ghost use lib.ListN.{length, drop};
-ghost use Rattle.spec.specs.Bytes.{from32, le32};
+ghost use Rattle.spec.specs.Bytes.{bit, blocks, from32, le32};
 ghost use Rattle.bits_laws.specs.Bits.{word, placed};
 
 // A byte as a usize.
@@ -19,11 +19,47 @@ fn wide64(x: u8) -> u64
     x as u64
 }
 
+// A u32 as a usize.
+pub fn wide32(x: u32) -> usize
+    ensures { λ r. ⌜ r ≡ x ⌝ }
+{
+    x as usize
+}
+
+// A truth value as a number: 1 or 0.
+pub fn one_if(b: bool) -> usize
+    ensures { λ r. ⌜ (r ≡ bit b) × (r ≤ 1) ⌝ }
+{
+    if b { 1 } else { 0 }
+}
+
 // The smaller of two numbers.
 pub fn smaller(a: usize, b: usize) -> usize
     ensures { λ r. ⌜ r ≡ min a b ⌝ }
 {
     if a < b { a } else { b }
+}
+
+// The larger of two numbers.
+pub fn larger(a: usize, b: usize) -> usize
+    ensures { λ r. ⌜ r ≡ max a b ⌝ }
+{
+    if a < b { b } else { a }
+}
+
+// How many blocks of w bits n bits begin.
+pub fn blocks_for(w: usize, n: usize) -> usize
+    requires { ⌜ (0 < w) × (w ≤ 512) × (n < 2 ^ 63) ⌝ }
+    ensures { λ r. ⌜ r ≡ blocks w n ⌝ }
+{
+    (n + (w - 1)) / w
+}
+
+// How many bytes so many bits begin.
+pub fn bytes_for(bits: usize) -> usize
+    ensures { λ r. ⌜ r ≡ blocks 8 bits ⌝ }
+{
+    bits / 8 + (bits % 8 + 7) / 8
 }
 
 // The number in the four bytes of s from at.

@@ -39,16 +39,41 @@ pub fn ones_before(s: &[u8], q: usize, j: usize) -> usize
     u64::count_ones(read_word(s, q) % (1u64 << j)) as usize
 }
 
-// The ones before bit k of s, counted on from word `from`, before which stand `before` ones.
-pub fn rank_from(s: &[u8], from: usize, before: usize, k: usize) -> usize
-    requires { ⌜ (k ≤ 8 * length (now s)) × (64 * from ≤ k) × (before ≡ rank (now s) (64 * from)) ⌝ }
-    ensures { λ r. ⌜ r ≡ rank (now (s .entry)) k ⌝ }
+// The ones of s from word `from` on and before bit k.
+pub fn ones_between(s: &[u8], from: usize, k: usize) -> usize
+    requires { ⌜ (k ≤ 8 * length (now s)) × (64 * from ≤ k) ⌝ }
+    ensures { λ r. ⌜ rank (now (s .entry)) k ≡ rank (now (s .entry)) (64 * from) + r ⌝ }
 {
-    let mut r = before;
+    let mut r = 0usize;
     let mut q = from;
     while q < k / 64 {
         r = r + ones_word(s, q);
         q = q + 1;
     }
     r + ones_before(s, q, k % 64)
+}
+
+// The ones before bit k of s, counted on from word `from`, before which stand `before` ones.
+pub fn rank_from(s: &[u8], from: usize, before: usize, k: usize) -> usize
+    requires { ⌜ (k ≤ 8 * length (now s)) × (64 * from ≤ k) × (before ≡ rank (now s) (64 * from)) ⌝ }
+    ensures { λ r. ⌜ r ≡ rank (now (s .entry)) k ⌝ }
+{
+    before + ones_between(s, from, k)
+}
+
+// The ones among the first n bits of s.
+pub fn ones_of(s: &[u8], n: usize) -> usize
+    requires { ⌜ n ≤ 8 * length (now s) ⌝ }
+    ensures { λ r. ⌜ r ≡ rank (now (s .entry)) n ⌝ }
+{
+    rank_from(s, 0, 0, n)
+}
+
+// The ones before bit k of s, counted on from bit `from`, before which stand `before` ones.
+pub fn rank_on(s: &[u8], from: usize, before: usize, k: usize) -> usize
+    requires { ⌜ (k ≤ 8 * length (now s)) × (from ≤ k) × (before ≡ rank (now s) from) ⌝ }
+    ensures { λ r. ⌜ r ≡ rank (now (s .entry)) k ⌝ }
+{
+    let word = from / 64;
+    rank_from(s, word, before - ones_before(s, word, from % 64), k)
 }

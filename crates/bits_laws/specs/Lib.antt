@@ -4,6 +4,8 @@ pub mod UnpackLaws
 pub mod ValueLaws
 pub mod CoverLaws
 pub mod Placing
+pub mod Parts
 pub mod RankLaws
 pub mod SelectLaws
 pub mod WordLaws
+pub mod PartLaws

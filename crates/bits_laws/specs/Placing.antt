@@ -64,6 +64,13 @@ lent-placed o xs k j h =
     ∙ ap (λ (x : Bytes). take k o ++ (take j (drop k o) ++ xs ++ x)) (drop-drop (j + length xs) k o ∙ ap (λ (n : ℕ). drop n o) w)
     ∙ sym (append-assoc (take k o) (take j (drop k o) ++ xs) (drop (k + j + length xs) o)) ∙ ap (λ (x : Bytes). x ++ drop (k + j + length xs) o) (sym (append-assoc (take k o) (take j (drop k o)) xs) ∙ ap (λ (x : Bytes). x ++ xs) (sym (take-add k j o)))
 
+-- a part from k to the end, lent, with a body of n bytes at its front, and back
+pub lent-front : (o ys body : Bytes) (k n : ℕ) → n ≡ length body → k + n ≤ length o → ys ≡ body ++ drop n (midOf k (length o - k) o) → putMid k (length o - k) o ys ≡ placed o k body
+lent-front o ys body k n e h f =
+    let u : n ≡ 0 + length body = omega arith in
+    let v : k + 0 ≡ k = omega arith in
+    ap (putMid k (length o - k) o) (f ∙ ap (λ (i : ℕ). body ++ drop i (midOf k (length o - k) o)) u) ∙ lent-placed o body k 0 (omega arith) ∙ ap (λ (i : ℕ). placed o i body) v
+
 -- ---- cleared bytes
 
 -- one zero more

@@ -99,3 +99,19 @@ select-min s n m p l g = go (leb p n) refl
     go : (b : Bool) → leb p n ≡ b → min p n ≡ select s n m
     go true e = let h = leb-true p n e in let r = select-here s n m p h l g in omega arith
     go false e = let h = leb-false p n e in let r = select-all s n m (omega (arith, rank-up s n p (omega arith))) in omega arith
+
+-- as many ones stand before the select of m as are asked, if there are so many
+pub rank-select : (s : Bytes) (n m : ℕ) → m ≤ rank s n → rank s (select s n m) ≡ m
+rank-select s n m h = go (ltb (select s n m) n) refl
+  where
+    f : (select s n m ≤ n) × (rank s (select s n m) ≤ m) × (select s n m < n → m < rank s (select s n m + 1))
+    f = select-is s n m
+
+    go : (b : Bool) → ltb (select s n m) n ≡ b → rank s (select s n m) ≡ m
+    go true e = omega (arith, f .1, f .2 (ltb-true (select s n m) n e), step)
+      where
+        step : rank s (select s n m + 1) ≤ rank s (select s n m) + 1
+        step = omega (arith, rank-slow s (select s n m) (select s n m + 1) (omega arith) .1)
+    go false e =
+        let w : select s n m ≡ n = omega (arith, f .0, ltb-false (select s n m) n e) in
+        omega (arith, f .1, ap (rank s) w)

@@ -36,7 +36,8 @@ low-bit (suc k) x (suc i) h =
     let w : 1 + i ≡ suc i = omega arith in
     low-bit k (x / 2) i (omega arith) ∙ ap (λ (n : ℕ). n % 2) (shr-shr x 1 i ∙ ap (λ (z : ℕ). x / 2 ^ z) w)
 
-length-low-bits : (k x : ℕ) → length (low-bits k x) ≡ k
+-- as many bits as asked for
+pub length-low-bits : (k x : ℕ) → length (low-bits k x) ≡ k
 unfolding low-bits
 length-low-bits zero x = refl
 length-low-bits (suc k) x = ap suc (length-low-bits k (x / 2))

@@ -1,3 +1,1 @@
-pub mod RecordLaws
-pub mod ImageLaws
 pub mod AnswerLaws

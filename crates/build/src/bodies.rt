@@ -1,21 +1,48 @@
-// A record with a body that is filled from the keys.
+// The body of a record: filled by a pass over the keys, or counted in the finished body of an earlier record. A further record is a row of the table and a case of its source.
 ghost use mathlib.Core.Path.{_≡_};
 ghost use mathlib.Core.List.{_++_};
-ghost use Prim.Native.Nat.{_+_, _≤_};
-ghost use lib.ListN.{length, getD, drop};
-ghost use Rattle.spec.specs.Keys.{keys-of};
-ghost use Rattle.spec.specs.Image.{marked};
+ghost use Prim.Native.Nat.{_+_, _<_};
+ghost use lib.ListN.{drop};
 ghost use Rattle.bits_laws.specs.Bits.{placed};
-ghost use Rattle.build_laws.specs.BodyChoice.{body-of, counters-of, levels-of};
-ghost use Rattle.build.specs.Build.{Ready, list-bodies};
-use super::Settings;
+ghost use Rattle.build_laws.specs.BodyChoice.{levels-of};
+ghost use Rattle.build_laws.specs.Plan.{source-at, list-body, plan-counters, Body-room, Laid-out, span-at, body-at, start-at, Writing};
 use build_laws::Body;
+use build_laws::COUNTERS;
+use build_laws::Counters;
 use build_laws::Kind;
 use build_laws::Levels;
+use build_laws::Pass;
+use build_laws::Plan;
+use build_laws::Source;
 use build_passes::fill::write_keys;
 use build_passes::starts::start_levels;
-use image_records::header::begin_record;
 use image_records::header::clear;
+use image_records::table::BEFORE_BODY;
+use image_records::table::body_size;
+use rank_tables::rank_write::fill_ranks;
+use rank_tables::sample_write::fill_samples;
+use rank_tables_laws::Span;
+
+// Where the body of record i comes from.
+fn source_of(i: usize) -> Source
+    requires { ⌜ i < 12 ⌝ }
+    ensures { λ r. ⌜ r ≡ source-at i ⌝ }
+{
+    match i {
+        0 => Source::Keys(Body::Entries(Kind::DL)),
+        1 => Source::Keys(Body::Entries(Kind::DC)),
+        2 => Source::Keys(Body::Entries(Kind::DP)),
+        3 => Source::Keys(Body::Entries(Kind::SL)),
+        4 => Source::Keys(Body::Entries(Kind::SC)),
+        5 => Source::Keys(Body::Entries(Kind::SB)),
+        6 => Source::Keys(Body::Slots),
+        7 => Source::Ranks(0, 1),
+        8 => Source::Ranks(1, 1),
+        9 => Source::Ranks(2, 1),
+        10 => Source::Ranks(4, 8),
+        _ => Source::Samples(5),
+    }
+}
 
 // The levels that a body's pass goes over.
 fn levels_of(body: Body, dense: usize) -> Levels
@@ -34,51 +61,75 @@ fn levels_of(body: Body, dense: usize) -> Levels
     }
 }
 
-// A body of so many bytes, filled by a pass over the keys, goes to the front of out, and all else stays; cnt are the counters that say where its levels start.
-fn fill_from_keys(
-    out: &mut [u8],
-    len: usize,
-    list: &[u8],
-    cnt: &[u32; 65],
-    st: Settings,
-    body: Body,
-)
-    requires { ⌜ Ready (now list) (st .dense) (st .width) × (now cnt ≡ counters-of body (keys-of (now list))) × (len ≡ length (body-of body (list-bodies (now list) (st .dense) (st .width)))) × (len ≤ length (now out)) ⌝ }
-    ensures { λ _. ⌜ now (out .exit) ≡ body-of body (list-bodies (now (list .entry)) (st .dense) (st .width)) ++ drop len (now (out .entry)) ⌝ }
+// The counters that say where the levels of a body start.
+fn counters_of(plan: Plan, body: Body) -> Counters
+    ensures { λ r. ⌜ r ≡ plan-counters plan body ⌝ }
 {
-    clear(out, len);
-    let l = levels_of(body, st.dense);
-    let mut cur = [0u32; 65];
-    start_levels(&mut cur, cnt, l.lo);
-    write_keys(out, &mut cur, list, l, st.width, body);
+    match body {
+        Body::Slots => plan.leaves,
+        Body::Entries(kind) => match kind {
+            Kind::DL => plan.nodes,
+            Kind::DC => plan.nodes,
+            Kind::DP => plan.nodes,
+            Kind::SL => plan.entries,
+            Kind::SC => plan.entries,
+            Kind::SB => plan.entries,
+        },
+    }
 }
 
-// A body of so many bytes goes to the front of out, and all else stays; an empty one takes no pass.
-fn fill_body(out: &mut [u8], len: usize, list: &[u8], cnt: &[u32; 65], st: Settings, body: Body)
-    requires { ⌜ Ready (now list) (st .dense) (st .width) × (now cnt ≡ counters-of body (keys-of (now list))) × (len ≡ length (body-of body (list-bodies (now list) (st .dense) (st .width)))) × (len ≤ length (now out)) ⌝ }
-    ensures { λ _. ⌜ now (out .exit) ≡ body-of body (list-bodies (now (list .entry)) (st .dense) (st .width)) ++ drop len (now (out .entry)) ⌝ }
+// A body of so many bytes, filled by a pass over the keys, goes to the front of out, and all else stays; an empty one takes no pass.
+fn fill_from_keys(out: &mut [u8], len: usize, list: &[u8], plan: Plan, body: Body)
+    requires { ⌜ Body-room (now list) plan body len (now out) ⌝ }
+    ensures { λ _. ⌜ now (out .exit) ≡ list-body (now (list .entry)) plan body ++ drop len (now (out .entry)) ⌝ }
 {
     if len == 0 {
         return;
     }
-    fill_from_keys(out, len, list, cnt, st, body);
+    clear(out, len);
+    let levels = levels_of(body, plan.header.dense.levels);
+    let counters = counters_of(plan, body);
+    let mut cur = [0u32; COUNTERS];
+    start_levels(&mut cur, &counters, levels.lo);
+    let pass = Pass {
+        body: body,
+        levels: levels,
+        width: plan.header.width,
+    };
+    write_keys(out, &mut cur, list, pass);
 }
 
-// The record of a body goes to out from `at`, and all else stays.
-pub fn write_body(
-    out: &mut [u8],
-    at: usize,
-    mark: &[u8; 2],
-    len: usize,
-    list: &[u8],
-    cnt: &[u32; 65],
-    st: Settings,
-    body: Body,
-)
-    requires { ⌜ Ready (now list) (st .dense) (st .width) × (now cnt ≡ counters-of body (keys-of (now list))) × (len ≡ length (body-of body (list-bodies (now list) (st .dense) (st .width)))) × (at + 6 + len ≤ length (now out)) ⌝ }
-    ensures { λ _. ⌜ now (out .exit) ≡ placed (now (out .entry)) at (marked (getD (now (mark .entry)) 0 0) (getD (now (mark .entry)) 1 0) (body-of body (list-bodies (now (list .entry)) (st .dense) (st .width)))) ⌝ }
+// The bytes of record i's body in the output.
+fn body_span(plan: Plan, i: usize) -> Span
+    requires { ⌜ Laid-out plan i ⌝ }
+    ensures { λ r. ⌜ r ≡ span-at plan i ⌝ }
 {
-    begin_record(out, at, mark, len);
-    let start = at + 6;
-    fill_body(&mut out[start..], len, list, cnt, st, body);
+    let starts = plan.starts;
+    let h = plan.header;
+    Span {
+        at: starts[i] + BEFORE_BODY,
+        len: body_size(h, i),
+    }
+}
+
+// The body of record i goes to its place in out, and all else stays. The bodies of the records before it are finished.
+pub fn fill_body(out: &mut [u8], list: &[u8], plan: Plan, i: usize)
+    requires { ⌜ Writing (now list) plan i (now out) ⌝ }
+    ensures { λ _. ⌜ now (out .exit) ≡ placed (now (out .entry)) (start-at plan i + 6) (body-at (now (list .entry)) plan i) ⌝ }
+{
+    let span = body_span(plan, i);
+    let start = span.at;
+    let len = span.len;
+    let source = source_of(i);
+    match source {
+        Source::Keys(body) => fill_from_keys(&mut out[start..], len, list, plan, body),
+        Source::Ranks(j, words) => {
+            let counted = body_span(plan, j);
+            fill_ranks(out, counted, start, len / 4, words)
+        }
+        Source::Samples(j) => {
+            let counted = body_span(plan, j);
+            fill_samples(out, counted, plan.header.sparse.entries, start)
+        }
+    }
 }

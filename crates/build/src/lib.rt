@@ -2,45 +2,39 @@
 ghost use mathlib.Core.Path.{_≡_};
 ghost use Rattle.spec.specs.Build.{build};
 ghost use Rattle.image_types.specs.Header.{settings};
-ghost use Rattle.build.specs.Build.{outcome};
-use build_list::judge::Judged;
+ghost use Rattle.image_types.specs.Outcomes.{outcome};
+use build_laws::KeyList;
 use build_list::judge::judge_list;
 use image::build_image;
+use image_types::Written;
 
-pub mod bodies; // bodies.rt: a record with a body that is filled from the keys
-pub mod tables; // tables.rt: a record with a table that is counted in a finished body
-pub mod image; // image.rt: header and records, one behind the other
-
-// So many bytes written, or a refusal's number.
-pub enum Built {
-    Bytes(usize),
-    Refused(u32),
-}
+pub mod bodies; // bodies.rt: a record's body, filled from the keys or counted in an earlier body
+pub mod image; // image.rt: the plan of an image, its header and its records
 
 // Dense levels and the suffix width, in range.
 pub struct Settings {
-    pub dense: usize,
+    pub levels: usize,
     pub width: usize,
 }
 
 // Builds the image of a key list into the output: 5, a setting out of range; then record by record 4, 1, 2, 1, 3; then 7, the image is longer than the output.
 // Number 6 never comes: no key list has over 4,300,000 trie entries.
-pub fn build(list: &[u8], dense: u64, n: u64, out: &mut [u8]) -> Built
+pub fn build(list: &[u8], dense: u64, n: u64, out: &mut [u8]) -> Written
     ensures { λ r. ⌜ outcome r (now (out .exit)) ≡ build (now (list .entry)) (settings dense n) (now (out .entry)) ⌝ }
 {
     if 4 < dense {
-        return Built::Refused(5);
+        return Written::Refused(5);
     }
     if 16 < n {
-        return Built::Refused(5);
+        return Written::Refused(5);
     }
-    let judged = judge_list(list);
-    match judged {
-        Judged::Refused(r) => Built::Refused(r),
-        Judged::Keys(count) => build_image(
+    let keys = judge_list(list);
+    match keys {
+        KeyList::Refused(r) => Written::Refused(r),
+        KeyList::Keys(count) => build_image(
             list,
             Settings {
-                dense: dense as usize,
+                levels: dense as usize,
                 width: n as usize,
             },
             count,

@@ -13,17 +13,17 @@ use Rattle.spec.specs.Image.{Settings, Bodies, has, positions}
 use Rattle.spec.specs.Image as Literal
 use Rattle.spec.specs.Nodes.{Node}
 use Rattle.spec.specs.Trie.{leaf-count}
-use Rattle.build_laws.specs.TrieItems.{Item, items-of}
+use Rattle.build_laws.specs.TrieEntries.{Slotted, slotted-of}
 use Rattle.build_laws.specs.Emissions.{Emission, values-below, Levels-below}
 use Rattle.build_laws.specs.Cursors.{sum-of, sums, level-start, start-sum, start-grows}
 use Rattle.build_laws.specs.SetBits.{positions-below}
 use Rattle.build_laws.specs.BitPass.{Bit-state, bit-state, write-all-bits, write-all-is, emitted-ones, cursor-ones, Started, ones-by-level, ones-of-bits, every, Room, room-of}
-use Rattle.build_laws.specs.NodeBodies.{leaves-items, labels-items, children-items, starts-items, slots-items, items-wide}
-use Rattle.build_laws.specs.DenseRows.{Cell, cell-step, cell-ones, label-cell, child-cell, exact-cell, label-ones, child-ones, exact-ones}
-use Rattle.build_laws.specs.BytePass.{byte-state, place-all, place-all-is, one-step, at-cursor, byte-room}
+use Rattle.build_laws.specs.NodeBodies.{leaves-slotted, labels-slotted, children-slotted, starts-slotted, slots-slotted, slotted-wide}
+use Rattle.build_laws.specs.DenseRows.{cell-step, cell-ones, label-cell, child-cell, exact-cell, on-entry, label-ones, child-ones, exact-ones}
+use Rattle.build_laws.specs.BytePass.{byte-state, put-bytes, put-bytes-is, one-step, at-cursor, byte-room}
 use Rattle.build_laws.specs.PackedBody.{filled-body}
-use Rattle.build_laws.specs.PassEmissions.{label-emissions, child-emissions, start-emissions, dense-label-emissions, dense-child-emissions, dense-exact-emissions, slot-emissions, label-of-items, child-of-items, start-of-items, label-cells-of-items, child-cells-of-items, exact-cells-of-items, emissions-below, first-longer, slots-below}
-use Rattle.build_laws.specs.SlotItems.{leaf-slots, values-slots, slots-concat, sum-slots}
+use Rattle.build_laws.specs.PassEmissions.{label-emissions, child-emissions, start-emissions, dense-label-emissions, dense-child-emissions, dense-exact-emissions, slot-emissions, label-of-slotted, child-of-slotted, start-of-slotted, label-cells-of-slotted, child-cells-of-slotted, exact-cells-of-slotted, emissions-below, first-longer, slots-below}
+use Rattle.build_laws.specs.SlotEntries.{leaf-slots, values-slots, slots-concat, sum-slots}
 use Rattle.build_laws.specs.TrieFacts.{dense-nodes, sparse-nodes, nodes-both}
 use Rattle.build_laws.specs.KeyBits.{key-bodies, bodies-are, some, facts, sparse-values, dense-values, all-values, mapped-values, DL-bits, DC-bits, DP-bits, SC-bits, SB-bits, SV-bits}
 use Rattle.build_laws.specs.Lengths.{length-SL, length-SC-bits, length-SB-bits, length-SV-bits, length-DL-bits, length-DC-bits, length-DP-bits}
@@ -34,6 +34,8 @@ use Rattle.theory.specs.Bits.{length-pack}
 use Rattle.theory.specs.LevelTrie.{trie}
 use Rattle.theory.specs.NodeBits.{slots}
 use Rattle.theory.specs.KeyLeaves.{leaves-length}
+use Rattle.build_laws.specs.Limits.{counters}
+use Rattle.build_laws.specs.declared.Cell.{Cell}
 
 -- one bit at the cursor
 abbrev pub bit-at : ℕ → Bool → List ℕ
@@ -46,7 +48,7 @@ slot-at n c s = positions (n * c) s
 -- ---- any pass that sets bits
 
 module _ {A : Type 0} (inc : A → ℕ) (ones-at : ℕ → A → List ℕ) (es : List (Emission A)) (cur : List ℕ) (bs : Bits)
-    (w : length cur ≡ 65) (l : Levels-below 64 es) (s : Started inc ones-at es cur) (f : (j : ℕ) → has (cursor-ones inc ones-at 0 (values-below es 64)) j ≡ has (positions 0 bs) j) where
+    (w : length cur ≡ counters) (l : Levels-below 64 es) (s : Started inc ones-at es cur) (f : (j : ℕ) → has (cursor-ones inc ones-at 0 (values-below es 64)) j ≡ has (positions 0 bs) j) where
   ones-are : (j : ℕ) → has (emitted-ones inc ones-at es cur) j ≡ has (positions 0 bs) j
   ones-are j = ones-by-level inc ones-at es cur (omega arith) l s j ∙ f j
 
@@ -93,84 +95,84 @@ module _ (st : Settings) (ks : List Bytes) (b : Built-from st ks) where
   -- ---- SL
 
   -- the labels level by level are the body
-  pub SL-values : values-below (label-emissions (st .dense) 0 ks) 64 ≡ key-bodies st ks .SL
+  pub SL-values : values-below (label-emissions (st .dense-levels) 0 ks) 64 ≡ key-bodies st ks .SL
   SL-values =
-      (mapped-values st ks b) (λ (i : Item). i .label) (st .dense) 64 (label-emissions (st .dense) 0 ks) (items-of (sparse-nodes st (leaves (st .width) ks))) (label-of-items (st .width) (st .dense) ks) (sparse-values st ks b)
-      ∙ sym (labels-items (sparse-nodes st (leaves (st .width) ks))) ∙ sym (ap (λ (z : Bodies). z .SL) (bodies-are st ks b))
+      (mapped-values st ks b) (λ (i : Slotted). i .entry .label) (st .dense-levels) 64 (label-emissions (st .dense-levels) 0 ks) (slotted-of (sparse-nodes st (leaves (st .width) ks))) (label-of-slotted (st .width) (st .dense-levels) ks) (sparse-values st ks b)
+      ∙ sym (labels-slotted (sparse-nodes st (leaves (st .width) ks))) ∙ sym (ap (λ (z : Bodies). z .SL) (bodies-are st ks b))
 
-  labels-below : Levels-below 64 (label-emissions (st .dense) 0 ks)
+  labels-below : Levels-below 64 (label-emissions (st .dense-levels) 0 ks)
   unfolding label-emissions
-  labels-below = emissions-below (st .dense) 64 (λ p q k d. getD k d 0) 255 0 ks (first-longer ks (b .keys)) (b .keys) (b .up)
+  labels-below = emissions-below (st .dense-levels) 64 (λ p q k d. getD k d 0) 255 0 ks (first-longer ks (b .keys)) (b .keys) (b .up)
 
   -- SL: labels placed at entry cursors
-  pub SL-filled : (cur out o : List ℕ) → length cur ≡ 65 → Cursors-at (entry-counts ks) (st .dense) cur → length (key-bodies st ks .SL) ≤ length out
-      → o ≡ place-all (label-emissions (st .dense) 0 ks) (byte-state out cur) .bytes
+  pub SL-filled : (cur out o : List ℕ) → length cur ≡ counters → Cursors-at (entry-counts ks) (st .dense-levels) cur → length (key-bodies st ks .SL) ≤ length out
+      → o ≡ put-bytes (label-emissions (st .dense-levels) 0 ks) (byte-state out cur) .bytes
       → o ≡ key-bodies st ks .SL ++ drop (length (key-bodies st ks .SL)) out
   SL-filled cur out o w c h e =
-      e ∙ place-all-is (label-emissions (st .dense) 0 ks) out cur w labels-below
-      (sparse-starts-at (st .width) ks (some st ks b) (b .up) (st .dense) (omega (arith, b .dense-range)) (λ (i : Item). i .label) (label-emissions (st .dense) 0 ks) (label-of-items (st .width) (st .dense) ks) cur c)
+      e ∙ put-bytes-is (label-emissions (st .dense-levels) 0 ks) out cur w labels-below
+      (sparse-starts-at (st .width) ks (some st ks b) (b .up) (st .dense-levels) (omega (arith, b .dense-range)) (λ (i : Slotted). i .entry .label) (label-emissions (st .dense-levels) 0 ks) (label-of-slotted (st .width) (st .dense-levels) ks) cur c)
       (omega (arith, ap length SL-values)) ∙ ap (λ (z : List ℕ). z ++ drop (length z) out) SL-values
 
   -- SL: there is room for what is placed
-  pub SL-room : (cur : List ℕ) → length cur ≡ 65 → Cursors-at (entry-counts ks) (st .dense) cur → Room one-step at-cursor (sums (entry-counts ks) (st .dense) 64) (sums (entry-counts ks) (st .dense) 64) (label-emissions (st .dense) 0 ks) cur
+  pub SL-room : (cur : List ℕ) → length cur ≡ counters → Cursors-at (entry-counts ks) (st .dense-levels) cur → Room one-step at-cursor (sums (entry-counts ks) (st .dense-levels) 64) (sums (entry-counts ks) (st .dense-levels) 64) (label-emissions (st .dense-levels) 0 ks) cur
   SL-room cur w c =
-      byte-room (label-emissions (st .dense) 0 ks) cur (sums (entry-counts ks) (st .dense) 64) w labels-below
-      (sparse-starts-at (st .width) ks (some st ks b) (b .up) (st .dense) (omega (arith, b .dense-range)) (λ (i : Item). i .label) (label-emissions (st .dense) 0 ks) (label-of-items (st .width) (st .dense) ks) cur c)
+      byte-room (label-emissions (st .dense-levels) 0 ks) cur (sums (entry-counts ks) (st .dense-levels) 64) w labels-below
+      (sparse-starts-at (st .width) ks (some st ks b) (b .up) (st .dense-levels) (omega (arith, b .dense-range)) (λ (i : Slotted). i .entry .label) (label-emissions (st .dense-levels) 0 ks) (label-of-slotted (st .width) (st .dense-levels) ks) cur c)
       (omega (arith, ap length SL-values, length-SL st ks b))
 
   -- ---- SC and SB
 
-  child-values : values-below (child-emissions (st .dense) 0 ks) 64 ≡ (SC-bits st ks b)
+  child-values : values-below (child-emissions (st .dense-levels) 0 ks) 64 ≡ (SC-bits st ks b)
   child-values =
-      (mapped-values st ks b) (λ (i : Item). i .child) (st .dense) 64 (child-emissions (st .dense) 0 ks) (items-of (sparse-nodes st (leaves (st .width) ks))) (child-of-items (st .width) (st .dense) ks) (sparse-values st ks b)
-      ∙ sym (children-items (sparse-nodes st (leaves (st .width) ks)))
+      (mapped-values st ks b) (λ (i : Slotted). i .entry .child) (st .dense-levels) 64 (child-emissions (st .dense-levels) 0 ks) (slotted-of (sparse-nodes st (leaves (st .width) ks))) (child-of-slotted (st .width) (st .dense-levels) ks) (sparse-values st ks b)
+      ∙ sym (children-slotted (sparse-nodes st (leaves (st .width) ks)))
 
-  start-values : values-below (start-emissions (st .dense) 0 ks) 64 ≡ (SB-bits st ks b)
+  start-values : values-below (start-emissions (st .dense-levels) 0 ks) 64 ≡ (SB-bits st ks b)
   start-values =
-      (mapped-values st ks b) (λ (i : Item). i .start) (st .dense) 64 (start-emissions (st .dense) 0 ks) (items-of (sparse-nodes st (leaves (st .width) ks))) (start-of-items (st .width) (st .dense) ks) (sparse-values st ks b)
-      ∙ sym (starts-items (sparse-nodes st (leaves (st .width) ks)) ((facts st ks b) .sparse-fit))
+      (mapped-values st ks b) (λ (i : Slotted). i .entry .start) (st .dense-levels) 64 (start-emissions (st .dense-levels) 0 ks) (slotted-of (sparse-nodes st (leaves (st .width) ks))) (start-of-slotted (st .width) (st .dense-levels) ks) (sparse-values st ks b)
+      ∙ sym (starts-slotted (sparse-nodes st (leaves (st .width) ks)) ((facts st ks b) .sparse-fit))
 
-  children-below : Levels-below 64 (child-emissions (st .dense) 0 ks)
+  children-below : Levels-below 64 (child-emissions (st .dense-levels) 0 ks)
   unfolding child-emissions
-  children-below = emissions-below (st .dense) 64 _ false 0 ks (first-longer ks (b .keys)) (b .keys) (b .up)
+  children-below = emissions-below (st .dense-levels) 64 _ false 0 ks (first-longer ks (b .keys)) (b .keys) (b .up)
 
-  starts-below : Levels-below 64 (start-emissions (st .dense) 0 ks)
+  starts-below : Levels-below 64 (start-emissions (st .dense-levels) 0 ks)
   unfolding start-emissions
-  starts-below = emissions-below (st .dense) 64 _ true 0 ks (first-longer ks (b .keys)) (b .keys) (b .up)
+  starts-below = emissions-below (st .dense-levels) 64 _ true 0 ks (first-longer ks (b .keys)) (b .keys) (b .up)
 
-  module _ (cur : List ℕ) (w : length cur ≡ 65) (c : Cursors-at (entry-counts ks) (st .dense) cur) where
-    children-started : Started one-step bit-at (child-emissions (st .dense) 0 ks) cur
-    children-started d h = inr (sparse-starts-at (st .width) ks (some st ks b) (b .up) (st .dense) (omega (arith, b .dense-range)) (λ (i : Item). i .child) (child-emissions (st .dense) 0 ks) (child-of-items (st .width) (st .dense) ks) cur c d h)
+  module _ (cur : List ℕ) (w : length cur ≡ counters) (c : Cursors-at (entry-counts ks) (st .dense-levels) cur) where
+    children-started : Started one-step bit-at (child-emissions (st .dense-levels) 0 ks) cur
+    children-started d h = inr (sparse-starts-at (st .width) ks (some st ks b) (b .up) (st .dense-levels) (omega (arith, b .dense-range)) (λ (i : Slotted). i .entry .child) (child-emissions (st .dense-levels) 0 ks) (child-of-slotted (st .width) (st .dense-levels) ks) cur c d h)
 
-    starts-started : Started one-step bit-at (start-emissions (st .dense) 0 ks) cur
-    starts-started d h = inr (sparse-starts-at (st .width) ks (some st ks b) (b .up) (st .dense) (omega (arith, b .dense-range)) (λ (i : Item). i .start) (start-emissions (st .dense) 0 ks) (start-of-items (st .width) (st .dense) ks) cur c d h)
+    starts-started : Started one-step bit-at (start-emissions (st .dense-levels) 0 ks) cur
+    starts-started d h = inr (sparse-starts-at (st .width) ks (some st ks b) (b .up) (st .dense-levels) (omega (arith, b .dense-range)) (λ (i : Slotted). i .entry .start) (start-emissions (st .dense-levels) 0 ks) (start-of-slotted (st .width) (st .dense-levels) ks) cur c d h)
 
     -- SC: child bits set at entry cursors, in bytes that were zero
     pub SC-filled : (o rest : Bytes) → Is-bytes o → Is-bytes rest
-        → unpack o ≡ write-all-bits one-step bit-at (child-emissions (st .dense) 0 ks) (bit-state (unpack (replicate (length (key-bodies st ks .SC)) 0 ++ rest)) cur) .bits
+        → unpack o ≡ write-all-bits one-step bit-at (child-emissions (st .dense-levels) 0 ks) (bit-state (unpack (replicate (length (key-bodies st ks .SC)) 0 ++ rest)) cur) .bits
         → o ≡ key-bodies st ks .SC ++ rest
     SC-filled o rest p q e =
         let y = ap (λ (z : Bodies). z .SC) (bodies-are st ks b) in
-        pass-filled one-step bit-at (child-emissions (st .dense) 0 ks) cur (SC-bits st ks b) w children-below children-started
+        pass-filled one-step bit-at (child-emissions (st .dense-levels) 0 ks) cur (SC-bits st ks b) w children-below children-started
         (λ j. ap (λ (z : Bits). has (cursor-ones one-step bit-at 0 z) j) child-values ∙ ap (λ (z : List ℕ). has z j) (bits-ones (SC-bits st ks b))) _ (ap length y) o rest p q e ∙ ap (λ (z : Bytes). z ++ rest) (sym y)
 
     -- SC: there is room for what is set
-    pub SC-room : Room one-step bit-at (sums (entry-counts ks) (st .dense) 64) (sums (entry-counts ks) (st .dense) 64) (child-emissions (st .dense) 0 ks) cur
-    SC-room = rw (length-SC-bits st ks b, sparse-top (st .width) ks (some st ks b) (b .up) (st .dense) (omega (arith, b .dense-range)) (λ (i : Item). i .child) (child-emissions (st .dense) 0 ks) (child-of-items (st .width) (st .dense) ks)) at (pass-room one-step bit-at (child-emissions (st .dense) 0 ks) cur (SC-bits st ks b) w children-below children-started
+    pub SC-room : Room one-step bit-at (sums (entry-counts ks) (st .dense-levels) 64) (sums (entry-counts ks) (st .dense-levels) 64) (child-emissions (st .dense-levels) 0 ks) cur
+    SC-room = rw (length-SC-bits st ks b, sparse-top (st .width) ks (some st ks b) (b .up) (st .dense-levels) (omega (arith, b .dense-range)) (λ (i : Slotted). i .entry .child) (child-emissions (st .dense-levels) 0 ks) (child-of-slotted (st .width) (st .dense-levels) ks)) at (pass-room one-step bit-at (child-emissions (st .dense-levels) 0 ks) cur (SC-bits st ks b) w children-below children-started
         (λ j. ap (λ (z : Bits). has (cursor-ones one-step bit-at 0 z) j) child-values ∙ ap (λ (z : List ℕ). has z j) (bits-ones (SC-bits st ks b))))
 
     -- SB: start bits set at entry cursors, in bytes that were zero
     pub SB-filled : (o rest : Bytes) → Is-bytes o → Is-bytes rest
-        → unpack o ≡ write-all-bits one-step bit-at (start-emissions (st .dense) 0 ks) (bit-state (unpack (replicate (length (key-bodies st ks .SB)) 0 ++ rest)) cur) .bits
+        → unpack o ≡ write-all-bits one-step bit-at (start-emissions (st .dense-levels) 0 ks) (bit-state (unpack (replicate (length (key-bodies st ks .SB)) 0 ++ rest)) cur) .bits
         → o ≡ key-bodies st ks .SB ++ rest
     SB-filled o rest p q e =
         let y = ap (λ (z : Bodies). z .SB) (bodies-are st ks b) in
-        pass-filled one-step bit-at (start-emissions (st .dense) 0 ks) cur (SB-bits st ks b) w starts-below starts-started
+        pass-filled one-step bit-at (start-emissions (st .dense-levels) 0 ks) cur (SB-bits st ks b) w starts-below starts-started
         (λ j. ap (λ (z : Bits). has (cursor-ones one-step bit-at 0 z) j) start-values ∙ ap (λ (z : List ℕ). has z j) (bits-ones (SB-bits st ks b))) _ (ap length y) o rest p q e ∙ ap (λ (z : Bytes). z ++ rest) (sym y)
 
     -- SB: there is room for what is set
-    pub SB-room : Room one-step bit-at (sums (entry-counts ks) (st .dense) 64) (sums (entry-counts ks) (st .dense) 64) (start-emissions (st .dense) 0 ks) cur
-    SB-room = rw (length-SB-bits st ks b, sparse-top (st .width) ks (some st ks b) (b .up) (st .dense) (omega (arith, b .dense-range)) (λ (i : Item). i .start) (start-emissions (st .dense) 0 ks) (start-of-items (st .width) (st .dense) ks)) at (pass-room one-step bit-at (start-emissions (st .dense) 0 ks) cur (SB-bits st ks b) w starts-below starts-started
+    pub SB-room : Room one-step bit-at (sums (entry-counts ks) (st .dense-levels) 64) (sums (entry-counts ks) (st .dense-levels) 64) (start-emissions (st .dense-levels) 0 ks) cur
+    SB-room = rw (length-SB-bits st ks b, sparse-top (st .width) ks (some st ks b) (b .up) (st .dense-levels) (omega (arith, b .dense-range)) (λ (i : Slotted). i .entry .start) (start-emissions (st .dense-levels) 0 ks) (start-of-slotted (st .width) (st .dense-levels) ks)) at (pass-room one-step bit-at (start-emissions (st .dense-levels) 0 ks) cur (SB-bits st ks b) w starts-below starts-started
         (λ j. ap (λ (z : Bits). has (cursor-ones one-step bit-at 0 z) j) start-values ∙ ap (λ (z : List ℕ). has z j) (bits-ones (SB-bits st ks b))))
 
   -- ---- SV
@@ -178,21 +180,21 @@ module _ (st : Settings) (ks : List Bytes) (b : Built-from st ks) where
   slot-ones : (j : ℕ) → has (cursor-ones one-step (slot-at (st .width)) 0 (values-below (slot-emissions (st .width) 0 ks) 64)) j ≡ has (positions 0 (SV-bits st ks b)) j
   slot-ones j =
       let N : List Node = concat (trie (leaves (st .width) ks)) in
-      let e : values-below (slot-emissions (st .width) 0 ks) 64 ≡ leaf-slots (items-of N) = values-slots (st .width) ks 64 (omega arith) ∙ ap leaf-slots (all-values st ks b) in
-      let t = slots-concat (st .width) (items-of N) (items-wide (st .width) N (rw (nodes-both st (leaves (st .width) ks)) at ((facts st ks b) .wide))) in
+      let e : values-below (slot-emissions (st .width) 0 ks) 64 ≡ leaf-slots (slotted-of N) = values-slots (st .width) ks 64 (omega arith) ∙ ap leaf-slots (all-values st ks b) in
+      let t = slots-concat (st .width) (slotted-of N) (slotted-wide (st .width) N (rw (nodes-both st (leaves (st .width) ks)) at ((facts st ks b) .wide))) in
       let z : st .width * 0 ≡ 0 = omega arith in
       ap (λ (xs : List Bits). has (cursor-ones one-step (slot-at (st .width)) 0 xs) j) e
-      ∙ ap (λ (is : List ℕ). has is j) (slots-ones (st .width) (leaf-slots (items-of N)) (t .1))
-      ∙ ap₂ (λ (k : ℕ) (bs : Bits). has (positions k bs) j) z (t .0 ∙ sym (slots-items N) ∙ ap (λ (ns : List Node). concat (map slots ns)) (sym (nodes-both st (leaves (st .width) ks))))
+      ∙ ap (λ (is : List ℕ). has is j) (slots-ones (st .width) (leaf-slots (slotted-of N)) (t .1))
+      ∙ ap₂ (λ (k : ℕ) (bs : Bits). has (positions k bs) j) z (t .0 ∙ sym (slots-slotted N) ∙ ap (λ (ns : List Node). concat (map slots ns)) (sym (nodes-both st (leaves (st .width) ks))))
 
   slots-top : level-start one-step (slot-emissions (st .width) 0 ks) 64 ≡ length ks
   slots-top =
       let N : List Node = concat (trie (leaves (st .width) ks)) in
       sym (start-sum one-step (slot-emissions (st .width) 0 ks) 64)
       ∙ ap (sum-of one-step) (values-slots (st .width) ks 64 (omega arith) ∙ ap leaf-slots (all-values st ks b))
-      ∙ sum-slots (items-of N) ∙ leaves-items N ∙ ap leaf-count (sym (nodes-both st (leaves (st .width) ks))) ∙ facts st ks b .leaf-total ∙ leaves-length (st .width) ks
+      ∙ sum-slots (slotted-of N) ∙ leaves-slotted N ∙ ap leaf-count (sym (nodes-both st (leaves (st .width) ks))) ∙ facts st ks b .leaf-total ∙ leaves-length (st .width) ks
 
-  module _ (cur : List ℕ) (w : length cur ≡ 65) (c : Cursors-at (leaf-counts ks) 0 cur) where
+  module _ (cur : List ℕ) (w : length cur ≡ counters) (c : Cursors-at (leaf-counts ks) 0 cur) where
     -- SV: slots set at n times the leaf cursors, in bytes that were zero
     pub SV-filled : (o rest : Bytes) → Is-bytes o → Is-bytes rest
         → unpack o ≡ write-all-bits one-step (slot-at (st .width)) (slot-emissions (st .width) 0 ks) (bit-state (unpack (replicate (length (key-bodies st ks .SV)) 0 ++ rest)) cur) .bits
@@ -208,75 +210,75 @@ module _ (st : Settings) (ks : List Bytes) (b : Built-from st ks) where
 
   -- ---- DL, DC and DP
 
-  DL-ones : (j : ℕ) → has (cursor-ones cell-step (cell-ones 256) 0 (values-below (dense-label-emissions (st .dense) 0 ks) 64)) j ≡ has (positions 0 (DL-bits st ks b)) j
+  DL-ones : (j : ℕ) → has (cursor-ones cell-step (cell-ones 256) 0 (values-below (dense-label-emissions (st .dense-levels) 0 ks) 64)) j ≡ has (positions 0 (DL-bits st ks b)) j
   DL-ones j =
-      ap (λ (xs : List Cell). has (cursor-ones cell-step (cell-ones 256) 0 xs) j) ((mapped-values st ks b) label-cell 0 (st .dense) (dense-label-emissions (st .dense) 0 ks) (items-of (dense-nodes st (leaves (st .width) ks))) (label-cells-of-items (st .width) (st .dense) ks) (dense-values st ks b))
+      ap (λ (xs : List Cell). has (cursor-ones cell-step (cell-ones 256) 0 xs) j) ((mapped-values st ks b) (on-entry label-cell) 0 (st .dense-levels) (dense-label-emissions (st .dense-levels) 0 ks) (slotted-of (dense-nodes st (leaves (st .width) ks))) (label-cells-of-slotted (st .width) (st .dense-levels) ks) (dense-values st ks b))
       ∙ label-ones (dense-nodes st (leaves (st .width) ks)) ((facts st ks b) .dense-fit) ((facts st ks b) .dense-small) j
 
-  DC-ones : (j : ℕ) → has (cursor-ones cell-step (cell-ones 256) 0 (values-below (dense-child-emissions (st .dense) 0 ks) 64)) j ≡ has (positions 0 (DC-bits st ks b)) j
+  DC-ones : (j : ℕ) → has (cursor-ones cell-step (cell-ones 256) 0 (values-below (dense-child-emissions (st .dense-levels) 0 ks) 64)) j ≡ has (positions 0 (DC-bits st ks b)) j
   DC-ones j =
-      ap (λ (xs : List Cell). has (cursor-ones cell-step (cell-ones 256) 0 xs) j) ((mapped-values st ks b) child-cell 0 (st .dense) (dense-child-emissions (st .dense) 0 ks) (items-of (dense-nodes st (leaves (st .width) ks))) (child-cells-of-items (st .width) (st .dense) ks) (dense-values st ks b))
+      ap (λ (xs : List Cell). has (cursor-ones cell-step (cell-ones 256) 0 xs) j) ((mapped-values st ks b) (on-entry child-cell) 0 (st .dense-levels) (dense-child-emissions (st .dense-levels) 0 ks) (slotted-of (dense-nodes st (leaves (st .width) ks))) (child-cells-of-slotted (st .width) (st .dense-levels) ks) (dense-values st ks b))
       ∙ child-ones (dense-nodes st (leaves (st .width) ks)) ((facts st ks b) .dense-fit) ((facts st ks b) .dense-small) j
 
-  DP-ones : (j : ℕ) → has (cursor-ones cell-step (cell-ones 1) 0 (values-below (dense-exact-emissions (st .dense) 0 ks) 64)) j ≡ has (positions 0 (DP-bits st ks b)) j
+  DP-ones : (j : ℕ) → has (cursor-ones cell-step (cell-ones 1) 0 (values-below (dense-exact-emissions (st .dense-levels) 0 ks) 64)) j ≡ has (positions 0 (DP-bits st ks b)) j
   DP-ones j =
-      ap (λ (xs : List Cell). has (cursor-ones cell-step (cell-ones 1) 0 xs) j) ((mapped-values st ks b) exact-cell 0 (st .dense) (dense-exact-emissions (st .dense) 0 ks) (items-of (dense-nodes st (leaves (st .width) ks))) (exact-cells-of-items (st .width) (st .dense) ks) (dense-values st ks b))
+      ap (λ (xs : List Cell). has (cursor-ones cell-step (cell-ones 1) 0 xs) j) ((mapped-values st ks b) (on-entry exact-cell) 0 (st .dense-levels) (dense-exact-emissions (st .dense-levels) 0 ks) (slotted-of (dense-nodes st (leaves (st .width) ks))) (exact-cells-of-slotted (st .width) (st .dense-levels) ks) (dense-values st ks b))
       ∙ exact-ones (dense-nodes st (leaves (st .width) ks)) ((facts st ks b) .dense-fit) j
 
-  label-cells-below : Levels-below 64 (dense-label-emissions (st .dense) 0 ks)
+  label-cells-below : Levels-below 64 (dense-label-emissions (st .dense-levels) 0 ks)
   unfolding dense-label-emissions
-  label-cells-below = emissions-below 0 (st .dense) _ _ 0 ks (first-longer ks (b .keys)) (b .keys) (b .up)
+  label-cells-below = emissions-below 0 (st .dense-levels) _ _ 0 ks (first-longer ks (b .keys)) (b .keys) (b .up)
 
-  child-cells-below : Levels-below 64 (dense-child-emissions (st .dense) 0 ks)
+  child-cells-below : Levels-below 64 (dense-child-emissions (st .dense-levels) 0 ks)
   unfolding dense-child-emissions
-  child-cells-below = emissions-below 0 (st .dense) _ _ 0 ks (first-longer ks (b .keys)) (b .keys) (b .up)
+  child-cells-below = emissions-below 0 (st .dense-levels) _ _ 0 ks (first-longer ks (b .keys)) (b .keys) (b .up)
 
-  exact-cells-below : Levels-below 64 (dense-exact-emissions (st .dense) 0 ks)
+  exact-cells-below : Levels-below 64 (dense-exact-emissions (st .dense-levels) 0 ks)
   unfolding dense-exact-emissions
-  exact-cells-below = emissions-below 0 (st .dense) _ _ 0 ks (first-longer ks (b .keys)) (b .keys) (b .up)
+  exact-cells-below = emissions-below 0 (st .dense-levels) _ _ 0 ks (first-longer ks (b .keys)) (b .keys) (b .up)
 
-  module _ (cur : List ℕ) (w : length cur ≡ 65) (c : Cursors-at (node-counts ks) 0 cur) where
-    label-cells-started : Started cell-step (cell-ones 256) (dense-label-emissions (st .dense) 0 ks) cur
-    label-cells-started = dense-started (st .width) ks (some st ks b) (b .up) (st .dense) (omega (arith, b .dense-range)) label-cell cell-step (cell-ones 256) (λ i. refl) (dense-label-emissions (st .dense) 0 ks) (label-cells-of-items (st .width) (st .dense) ks) cur c
+  module _ (cur : List ℕ) (w : length cur ≡ counters) (c : Cursors-at (node-counts ks) 0 cur) where
+    label-cells-started : Started cell-step (cell-ones 256) (dense-label-emissions (st .dense-levels) 0 ks) cur
+    label-cells-started = dense-started (st .width) ks (some st ks b) (b .up) (st .dense-levels) (omega (arith, b .dense-range)) (on-entry label-cell) cell-step (cell-ones 256) (λ i. refl) (dense-label-emissions (st .dense-levels) 0 ks) (label-cells-of-slotted (st .width) (st .dense-levels) ks) cur c
 
-    child-cells-started : Started cell-step (cell-ones 256) (dense-child-emissions (st .dense) 0 ks) cur
-    child-cells-started = dense-started (st .width) ks (some st ks b) (b .up) (st .dense) (omega (arith, b .dense-range)) child-cell cell-step (cell-ones 256) (λ i. refl) (dense-child-emissions (st .dense) 0 ks) (child-cells-of-items (st .width) (st .dense) ks) cur c
+    child-cells-started : Started cell-step (cell-ones 256) (dense-child-emissions (st .dense-levels) 0 ks) cur
+    child-cells-started = dense-started (st .width) ks (some st ks b) (b .up) (st .dense-levels) (omega (arith, b .dense-range)) (on-entry child-cell) cell-step (cell-ones 256) (λ i. refl) (dense-child-emissions (st .dense-levels) 0 ks) (child-cells-of-slotted (st .width) (st .dense-levels) ks) cur c
 
-    exact-cells-started : Started cell-step (cell-ones 1) (dense-exact-emissions (st .dense) 0 ks) cur
-    exact-cells-started = dense-started (st .width) ks (some st ks b) (b .up) (st .dense) (omega (arith, b .dense-range)) exact-cell cell-step (cell-ones 1) (λ i. refl) (dense-exact-emissions (st .dense) 0 ks) (exact-cells-of-items (st .width) (st .dense) ks) cur c
+    exact-cells-started : Started cell-step (cell-ones 1) (dense-exact-emissions (st .dense-levels) 0 ks) cur
+    exact-cells-started = dense-started (st .width) ks (some st ks b) (b .up) (st .dense-levels) (omega (arith, b .dense-range)) (on-entry exact-cell) cell-step (cell-ones 1) (λ i. refl) (dense-exact-emissions (st .dense-levels) 0 ks) (exact-cells-of-slotted (st .width) (st .dense-levels) ks) cur c
 
     -- DL: label bits set in the rows of node cursors, in bytes that were zero
     pub DL-filled : (o rest : Bytes) → Is-bytes o → Is-bytes rest
-        → unpack o ≡ write-all-bits cell-step (cell-ones 256) (dense-label-emissions (st .dense) 0 ks) (bit-state (unpack (replicate (length (key-bodies st ks .DL)) 0 ++ rest)) cur) .bits
+        → unpack o ≡ write-all-bits cell-step (cell-ones 256) (dense-label-emissions (st .dense-levels) 0 ks) (bit-state (unpack (replicate (length (key-bodies st ks .DL)) 0 ++ rest)) cur) .bits
         → o ≡ key-bodies st ks .DL ++ rest
     DL-filled o rest p q e =
         let y = ap (λ (z : Bodies). z .DL) (bodies-are st ks b) in
-        pass-filled cell-step (cell-ones 256) (dense-label-emissions (st .dense) 0 ks) cur (DL-bits st ks b) w label-cells-below label-cells-started DL-ones _ (ap length y) o rest p q e ∙ ap (λ (z : Bytes). z ++ rest) (sym y)
+        pass-filled cell-step (cell-ones 256) (dense-label-emissions (st .dense-levels) 0 ks) cur (DL-bits st ks b) w label-cells-below label-cells-started DL-ones _ (ap length y) o rest p q e ∙ ap (λ (z : Bytes). z ++ rest) (sym y)
 
     -- DL: there is room for what is set
-    pub DL-room : Room cell-step (cell-ones 256) (256 * sums (node-counts ks) 0 (st .dense)) (sums (node-counts ks) 0 (st .dense)) (dense-label-emissions (st .dense) 0 ks) cur
-    DL-room = rw (length-DL-bits st ks b, dense-top (st .width) ks (some st ks b) (b .up) (st .dense) (omega (arith, b .dense-range)) label-cell cell-step (λ i. refl) (dense-label-emissions (st .dense) 0 ks) (label-cells-of-items (st .width) (st .dense) ks)) at (pass-room cell-step (cell-ones 256) (dense-label-emissions (st .dense) 0 ks) cur (DL-bits st ks b) w label-cells-below label-cells-started DL-ones)
+    pub DL-room : Room cell-step (cell-ones 256) (256 * sums (node-counts ks) 0 (st .dense-levels)) (sums (node-counts ks) 0 (st .dense-levels)) (dense-label-emissions (st .dense-levels) 0 ks) cur
+    DL-room = rw (length-DL-bits st ks b, dense-top (st .width) ks (some st ks b) (b .up) (st .dense-levels) (omega (arith, b .dense-range)) (on-entry label-cell) cell-step (λ i. refl) (dense-label-emissions (st .dense-levels) 0 ks) (label-cells-of-slotted (st .width) (st .dense-levels) ks)) at (pass-room cell-step (cell-ones 256) (dense-label-emissions (st .dense-levels) 0 ks) cur (DL-bits st ks b) w label-cells-below label-cells-started DL-ones)
 
     -- DC: the bits of labels that continue, set in the rows of node cursors, in bytes that were zero
     pub DC-filled : (o rest : Bytes) → Is-bytes o → Is-bytes rest
-        → unpack o ≡ write-all-bits cell-step (cell-ones 256) (dense-child-emissions (st .dense) 0 ks) (bit-state (unpack (replicate (length (key-bodies st ks .DC)) 0 ++ rest)) cur) .bits
+        → unpack o ≡ write-all-bits cell-step (cell-ones 256) (dense-child-emissions (st .dense-levels) 0 ks) (bit-state (unpack (replicate (length (key-bodies st ks .DC)) 0 ++ rest)) cur) .bits
         → o ≡ key-bodies st ks .DC ++ rest
     DC-filled o rest p q e =
         let y = ap (λ (z : Bodies). z .DC) (bodies-are st ks b) in
-        pass-filled cell-step (cell-ones 256) (dense-child-emissions (st .dense) 0 ks) cur (DC-bits st ks b) w child-cells-below child-cells-started DC-ones _ (ap length y) o rest p q e ∙ ap (λ (z : Bytes). z ++ rest) (sym y)
+        pass-filled cell-step (cell-ones 256) (dense-child-emissions (st .dense-levels) 0 ks) cur (DC-bits st ks b) w child-cells-below child-cells-started DC-ones _ (ap length y) o rest p q e ∙ ap (λ (z : Bytes). z ++ rest) (sym y)
 
     -- DC: there is room for what is set
-    pub DC-room : Room cell-step (cell-ones 256) (256 * sums (node-counts ks) 0 (st .dense)) (sums (node-counts ks) 0 (st .dense)) (dense-child-emissions (st .dense) 0 ks) cur
-    DC-room = rw (length-DC-bits st ks b, dense-top (st .width) ks (some st ks b) (b .up) (st .dense) (omega (arith, b .dense-range)) child-cell cell-step (λ i. refl) (dense-child-emissions (st .dense) 0 ks) (child-cells-of-items (st .width) (st .dense) ks)) at (pass-room cell-step (cell-ones 256) (dense-child-emissions (st .dense) 0 ks) cur (DC-bits st ks b) w child-cells-below child-cells-started DC-ones)
+    pub DC-room : Room cell-step (cell-ones 256) (256 * sums (node-counts ks) 0 (st .dense-levels)) (sums (node-counts ks) 0 (st .dense-levels)) (dense-child-emissions (st .dense-levels) 0 ks) cur
+    DC-room = rw (length-DC-bits st ks b, dense-top (st .width) ks (some st ks b) (b .up) (st .dense-levels) (omega (arith, b .dense-range)) (on-entry child-cell) cell-step (λ i. refl) (dense-child-emissions (st .dense-levels) 0 ks) (child-cells-of-slotted (st .width) (st .dense-levels) ks)) at (pass-room cell-step (cell-ones 256) (dense-child-emissions (st .dense-levels) 0 ks) cur (DC-bits st ks b) w child-cells-below child-cells-started DC-ones)
 
     -- DP: the bits of exact leaves, set at node cursors, in bytes that were zero
     pub DP-filled : (o rest : Bytes) → Is-bytes o → Is-bytes rest
-        → unpack o ≡ write-all-bits cell-step (cell-ones 1) (dense-exact-emissions (st .dense) 0 ks) (bit-state (unpack (replicate (length (key-bodies st ks .DP)) 0 ++ rest)) cur) .bits
+        → unpack o ≡ write-all-bits cell-step (cell-ones 1) (dense-exact-emissions (st .dense-levels) 0 ks) (bit-state (unpack (replicate (length (key-bodies st ks .DP)) 0 ++ rest)) cur) .bits
         → o ≡ key-bodies st ks .DP ++ rest
     DP-filled o rest p q e =
         let y = ap (λ (z : Bodies). z .DP) (bodies-are st ks b) in
-        pass-filled cell-step (cell-ones 1) (dense-exact-emissions (st .dense) 0 ks) cur (DP-bits st ks b) w exact-cells-below exact-cells-started DP-ones _ (ap length y) o rest p q e ∙ ap (λ (z : Bytes). z ++ rest) (sym y)
+        pass-filled cell-step (cell-ones 1) (dense-exact-emissions (st .dense-levels) 0 ks) cur (DP-bits st ks b) w exact-cells-below exact-cells-started DP-ones _ (ap length y) o rest p q e ∙ ap (λ (z : Bytes). z ++ rest) (sym y)
 
     -- DP: there is room for what is set
-    pub DP-room : Room cell-step (cell-ones 1) (sums (node-counts ks) 0 (st .dense)) (sums (node-counts ks) 0 (st .dense)) (dense-exact-emissions (st .dense) 0 ks) cur
-    DP-room = rw (length-DP-bits st ks b, dense-top (st .width) ks (some st ks b) (b .up) (st .dense) (omega (arith, b .dense-range)) exact-cell cell-step (λ i. refl) (dense-exact-emissions (st .dense) 0 ks) (exact-cells-of-items (st .width) (st .dense) ks)) at (pass-room cell-step (cell-ones 1) (dense-exact-emissions (st .dense) 0 ks) cur (DP-bits st ks b) w exact-cells-below exact-cells-started DP-ones)
+    pub DP-room : Room cell-step (cell-ones 1) (sums (node-counts ks) 0 (st .dense-levels)) (sums (node-counts ks) 0 (st .dense-levels)) (dense-exact-emissions (st .dense-levels) 0 ks) cur
+    DP-room = rw (length-DP-bits st ks b, dense-top (st .width) ks (some st ks b) (b .up) (st .dense-levels) (omega (arith, b .dense-range)) (on-entry exact-cell) cell-step (λ i. refl) (dense-exact-emissions (st .dense-levels) 0 ks) (exact-cells-of-slotted (st .width) (st .dense-levels) ks)) at (pass-room cell-step (cell-ones 1) (dense-exact-emissions (st .dense-levels) 0 ks) cur (DP-bits st ks b) w exact-cells-below exact-cells-started DP-ones)

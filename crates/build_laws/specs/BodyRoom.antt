@@ -11,7 +11,8 @@ use Rattle.build_laws.specs.Emissions.{Emission, emission, map-emissions
 use Rattle.build_laws.specs.Cursors.{sums}
 use Rattle.build_laws.specs.BitPass.{Room, Positions-below}
 use Rattle.build_laws.specs.BytePass.{one-step, at-cursor}
-use Rattle.build_laws.specs.DenseRows.{cell-step, cell-ones}
+use Rattle.build_laws.specs.DenseRows.{cell-step, cell-ones, label-cell, child-cell, exact-cell}
+use Rattle.build_laws.specs.KeyEntries.{entry-at, exact-entry}
 use Rattle.build_laws.specs.PassEmissions.{label-emissions, child-emissions, start-emissions, dense-label-emissions, dense-child-emissions, dense-exact-emissions, slot-emissions}
 use Rattle.build_laws.specs.SmallCounters.{room-map}
 use Rattle.build_laws.specs.Counters.{entry-counts, node-counts, leaf-counts, Cursors-at}
@@ -23,8 +24,9 @@ use Rattle.build_laws.specs.declared.Entry.{Entry}
 use Rattle.build_laws.specs.declared.Kind.the-variants.{DL, DC, DP, SL, SC, SB}
 use Rattle.build_laws.specs.declared.Body.{Body}
 use Rattle.build_laws.specs.declared.Body.the-variants.{Entries, Slots}
-use Rattle.build_laws.specs.Writes.{entry-at, exact-entry, all-entries, label-cell, child-cell, exact-cell, Keys-room}
+use Rattle.build_laws.specs.Passes.{all-entries, Keys-room}
 use Rattle.build_laws.specs.BodyChoice.{body-of, counters-of, levels-of}
+use Rattle.build_laws.specs.Limits.{counters, counter-max}
 
 -- ---- more room
 
@@ -74,13 +76,13 @@ module _ (hi : ℕ) (ks : List Bytes) where
 -- ---- few enough
 
 -- the counted of the levels from lo on
-few-sums : (c : List ℕ) (lo d : ℕ) → ((e : ℕ) → e < 65 → getD c e 0 ≤ 131070) → d ≤ 65 → sums c lo d ≤ 8600000
+few-sums : (c : List ℕ) (lo d : ℕ) → ((e : ℕ) → e < counters → getD c e 0 ≤ 131070) → d ≤ counters → sums c lo d ≤ counter-max
 few-sums c lo d h l =
-    let p : d * 131070 ≤ 65 * 131070 = omega arith in
+    let p : d * 131070 ≤ counters * 131070 = omega arith in
     omega (arith, sums-few c lo 131070 h d l)
 
 -- No sum of a body's counters passes what the cursors may reach.
-pub counters-few : (body : Body) (ks : List Bytes) (lo d : ℕ) → length ks ≤ 65535 → d ≤ 65 → sums (counters-of body ks) lo d ≤ 8600000
+pub counters-few : (body : Body) (ks : List Bytes) (lo d : ℕ) → length ks ≤ 65535 → d ≤ counters → sums (counters-of body ks) lo d ≤ counter-max
 counters-few (Entries DL) ks lo d h l = few-sums (node-counts ks) lo d (node-counts-few ks h) l
 counters-few (Entries DC) ks lo d h l = few-sums (node-counts ks) lo d (node-counts-few ks h) l
 counters-few (Entries DP) ks lo d h l = few-sums (node-counts ks) lo d (node-counts-few ks h) l
@@ -95,42 +97,42 @@ counters-few Slots ks lo d h l = few-sums (leaf-counts ks) lo d (leaf-counts-few
 eight : (n size : ℕ) → blocks 8 n ≤ size → n ≤ 8 * size
 eight n size h = omega arith
 
-module _ (st : Settings) (ks : List Bytes) (b : Built-from st ks) (cur : List ℕ) (w : length cur ≡ 65) (size : ℕ) where
+module _ (st : Settings) (ks : List Bytes) (b : Built-from st ks) (cur : List ℕ) (w : length cur ≡ counters) (size : ℕ) where
   -- S-Labels: room in so many bytes
-  pub room-SL : Cursors-at (entry-counts ks) (st .dense) cur → length (key-bodies st ks .SL) ≤ size → Room one-step at-cursor size 8600000 (label-emissions (st .dense) 0 ks) cur
-  room-SL c h = room-more one-step at-cursor _ size _ 8600000 (label-emissions (st .dense) 0 ks) cur (omega (arith, length-SL st ks b)) (counters-few (Entries SL) ks (st .dense) 64 (b .few) (omega arith)) (SL-room st ks b cur w c)
+  pub room-SL : Cursors-at (entry-counts ks) (st .dense-levels) cur → length (key-bodies st ks .SL) ≤ size → Room one-step at-cursor size counter-max (label-emissions (st .dense-levels) 0 ks) cur
+  room-SL c h = room-more one-step at-cursor _ size _ counter-max (label-emissions (st .dense-levels) 0 ks) cur (omega (arith, length-SL st ks b)) (counters-few (Entries SL) ks (st .dense-levels) 64 (b .few) (omega arith)) (SL-room st ks b cur w c)
 
   -- S-HasChild: room in so many bytes
-  pub room-SC : Cursors-at (entry-counts ks) (st .dense) cur → length (key-bodies st ks .SC) ≤ size → Room one-step bit-at (8 * size) 8600000 (child-emissions (st .dense) 0 ks) cur
-  room-SC c h = room-more one-step bit-at _ (8 * size) _ 8600000 (child-emissions (st .dense) 0 ks) cur (eight _ size (omega (arith, length-SC st ks b))) (counters-few (Entries SC) ks (st .dense) 64 (b .few) (omega arith)) (SC-room st ks b cur w c)
+  pub room-SC : Cursors-at (entry-counts ks) (st .dense-levels) cur → length (key-bodies st ks .SC) ≤ size → Room one-step bit-at (8 * size) counter-max (child-emissions (st .dense-levels) 0 ks) cur
+  room-SC c h = room-more one-step bit-at _ (8 * size) _ counter-max (child-emissions (st .dense-levels) 0 ks) cur (eight _ size (omega (arith, length-SC st ks b))) (counters-few (Entries SC) ks (st .dense-levels) 64 (b .few) (omega arith)) (SC-room st ks b cur w c)
 
   -- S-LOUDS: room in so many bytes
-  pub room-SB : Cursors-at (entry-counts ks) (st .dense) cur → length (key-bodies st ks .SB) ≤ size → Room one-step bit-at (8 * size) 8600000 (start-emissions (st .dense) 0 ks) cur
-  room-SB c h = room-more one-step bit-at _ (8 * size) _ 8600000 (start-emissions (st .dense) 0 ks) cur (eight _ size (omega (arith, length-SB st ks b))) (counters-few (Entries SB) ks (st .dense) 64 (b .few) (omega arith)) (SB-room st ks b cur w c)
+  pub room-SB : Cursors-at (entry-counts ks) (st .dense-levels) cur → length (key-bodies st ks .SB) ≤ size → Room one-step bit-at (8 * size) counter-max (start-emissions (st .dense-levels) 0 ks) cur
+  room-SB c h = room-more one-step bit-at _ (8 * size) _ counter-max (start-emissions (st .dense-levels) 0 ks) cur (eight _ size (omega (arith, length-SB st ks b))) (counters-few (Entries SB) ks (st .dense-levels) 64 (b .few) (omega arith)) (SB-room st ks b cur w c)
 
   -- D-Labels: room in so many bytes
-  pub room-DL : Cursors-at (node-counts ks) 0 cur → length (key-bodies st ks .DL) ≤ size → Room cell-step (cell-ones 256) (8 * size) 8600000 (dense-label-emissions (st .dense) 0 ks) cur
-  room-DL c h = room-more cell-step (cell-ones 256) _ (8 * size) _ 8600000 (dense-label-emissions (st .dense) 0 ks) cur (omega (arith, length-DL st ks b)) (counters-few (Entries DL) ks 0 (st .dense) (b .few) (omega (arith, b .dense-range))) (DL-room st ks b cur w c)
+  pub room-DL : Cursors-at (node-counts ks) 0 cur → length (key-bodies st ks .DL) ≤ size → Room cell-step (cell-ones 256) (8 * size) counter-max (dense-label-emissions (st .dense-levels) 0 ks) cur
+  room-DL c h = room-more cell-step (cell-ones 256) _ (8 * size) _ counter-max (dense-label-emissions (st .dense-levels) 0 ks) cur (omega (arith, length-DL st ks b)) (counters-few (Entries DL) ks 0 (st .dense-levels) (b .few) (omega (arith, b .dense-range))) (DL-room st ks b cur w c)
 
   -- D-HasChild: room in so many bytes
-  pub room-DC : Cursors-at (node-counts ks) 0 cur → length (key-bodies st ks .DC) ≤ size → Room cell-step (cell-ones 256) (8 * size) 8600000 (dense-child-emissions (st .dense) 0 ks) cur
-  room-DC c h = room-more cell-step (cell-ones 256) _ (8 * size) _ 8600000 (dense-child-emissions (st .dense) 0 ks) cur (omega (arith, length-DC st ks b)) (counters-few (Entries DC) ks 0 (st .dense) (b .few) (omega (arith, b .dense-range))) (DC-room st ks b cur w c)
+  pub room-DC : Cursors-at (node-counts ks) 0 cur → length (key-bodies st ks .DC) ≤ size → Room cell-step (cell-ones 256) (8 * size) counter-max (dense-child-emissions (st .dense-levels) 0 ks) cur
+  room-DC c h = room-more cell-step (cell-ones 256) _ (8 * size) _ counter-max (dense-child-emissions (st .dense-levels) 0 ks) cur (omega (arith, length-DC st ks b)) (counters-few (Entries DC) ks 0 (st .dense-levels) (b .few) (omega (arith, b .dense-range))) (DC-room st ks b cur w c)
 
   -- D-IsPrefixKey: room in so many bytes
-  pub room-DP : Cursors-at (node-counts ks) 0 cur → length (key-bodies st ks .DP) ≤ size → Room cell-step (cell-ones 1) (8 * size) 8600000 (dense-exact-emissions (st .dense) 0 ks) cur
-  room-DP c h = room-more cell-step (cell-ones 1) _ (8 * size) _ 8600000 (dense-exact-emissions (st .dense) 0 ks) cur (eight _ size (omega (arith, length-DP st ks b))) (counters-few (Entries DP) ks 0 (st .dense) (b .few) (omega (arith, b .dense-range))) (DP-room st ks b cur w c)
+  pub room-DP : Cursors-at (node-counts ks) 0 cur → length (key-bodies st ks .DP) ≤ size → Room cell-step (cell-ones 1) (8 * size) counter-max (dense-exact-emissions (st .dense-levels) 0 ks) cur
+  room-DP c h = room-more cell-step (cell-ones 1) _ (8 * size) _ counter-max (dense-exact-emissions (st .dense-levels) 0 ks) cur (eight _ size (omega (arith, length-DP st ks b))) (counters-few (Entries DP) ks 0 (st .dense-levels) (b .few) (omega (arith, b .dense-range))) (DP-room st ks b cur w c)
 
   -- the suffix slots: room in so many bytes
-  pub room-SV : Cursors-at (leaf-counts ks) 0 cur → length (key-bodies st ks .SV) ≤ size → Room one-step (slot-at (st .width)) (8 * size) 8600000 (slot-emissions (st .width) 0 ks) cur
-  room-SV c h = room-more one-step (slot-at (st .width)) _ (8 * size) _ 8600000 (slot-emissions (st .width) 0 ks) cur (eight _ size (omega (arith, length-SV st ks b))) (omega (arith, b .few)) (SV-room st ks b cur w c)
+  pub room-SV : Cursors-at (leaf-counts ks) 0 cur → length (key-bodies st ks .SV) ≤ size → Room one-step (slot-at (st .width)) (8 * size) counter-max (slot-emissions (st .width) 0 ks) cur
+  room-SV c h = room-more one-step (slot-at (st .width)) _ (8 * size) _ counter-max (slot-emissions (st .width) 0 ks) cur (eight _ size (omega (arith, length-SV st ks b))) (omega (arith, b .few)) (SV-room st ks b cur w c)
 
   -- A body's bytes have room for what its pass writes.
-  pub body-room : (body : Body) → Cursors-at (counters-of body ks) (levels-of body (st .dense) .lo) cur → length (body-of body (key-bodies st ks)) ≤ size
-      → Keys-room body (levels-of body (st .dense) .lo) (levels-of body (st .dense) .hi) (st .width) 0 ks size cur
-  body-room (Entries SL) c h = room-map (λ (e : Entry). e .label) one-step at-cursor size 8600000 (all-entries (st .dense) 64 0 ks) cur (rw (labels-map (st .dense) ks) at (room-SL c h))
-  body-room (Entries SC) c h = room-map (λ (e : Entry). e .child) one-step bit-at (8 * size) 8600000 (all-entries (st .dense) 64 0 ks) cur (rw (children-map (st .dense) ks) at (room-SC c h))
-  body-room (Entries SB) c h = room-map (λ (e : Entry). e .start) one-step bit-at (8 * size) 8600000 (all-entries (st .dense) 64 0 ks) cur (rw (starts-map (st .dense) ks) at (room-SB c h))
-  body-room (Entries DL) c h = room-map label-cell cell-step (cell-ones 256) (8 * size) 8600000 (all-entries 0 (st .dense) 0 ks) cur (rw (label-cells-map (st .dense) ks) at (room-DL c h))
-  body-room (Entries DC) c h = room-map child-cell cell-step (cell-ones 256) (8 * size) 8600000 (all-entries 0 (st .dense) 0 ks) cur (rw (child-cells-map (st .dense) ks) at (room-DC c h))
-  body-room (Entries DP) c h = room-map exact-cell cell-step (cell-ones 1) (8 * size) 8600000 (all-entries 0 (st .dense) 0 ks) cur (rw (exact-cells-map (st .dense) ks) at (room-DP c h))
+  pub body-room : (body : Body) → Cursors-at (counters-of body ks) (levels-of body (st .dense-levels) .lo) cur → length (body-of body (key-bodies st ks)) ≤ size
+      → Keys-room body (levels-of body (st .dense-levels) .lo) (levels-of body (st .dense-levels) .hi) (st .width) 0 ks size cur
+  body-room (Entries SL) c h = room-map (λ (e : Entry). e .label) one-step at-cursor size counter-max (all-entries (st .dense-levels) 64 0 ks) cur (rw (labels-map (st .dense-levels) ks) at (room-SL c h))
+  body-room (Entries SC) c h = room-map (λ (e : Entry). e .child) one-step bit-at (8 * size) counter-max (all-entries (st .dense-levels) 64 0 ks) cur (rw (children-map (st .dense-levels) ks) at (room-SC c h))
+  body-room (Entries SB) c h = room-map (λ (e : Entry). e .start) one-step bit-at (8 * size) counter-max (all-entries (st .dense-levels) 64 0 ks) cur (rw (starts-map (st .dense-levels) ks) at (room-SB c h))
+  body-room (Entries DL) c h = room-map label-cell cell-step (cell-ones 256) (8 * size) counter-max (all-entries 0 (st .dense-levels) 0 ks) cur (rw (label-cells-map (st .dense-levels) ks) at (room-DL c h))
+  body-room (Entries DC) c h = room-map child-cell cell-step (cell-ones 256) (8 * size) counter-max (all-entries 0 (st .dense-levels) 0 ks) cur (rw (child-cells-map (st .dense-levels) ks) at (room-DC c h))
+  body-room (Entries DP) c h = room-map exact-cell cell-step (cell-ones 1) (8 * size) counter-max (all-entries 0 (st .dense-levels) 0 ks) cur (rw (exact-cells-map (st .dense-levels) ks) at (room-DP c h))
   body-room Slots c h = room-SV c h

@@ -10,13 +10,13 @@ use Rattle.bits_laws.specs.UnpackLaws.{unpack-with-bit}
 use Rattle.build_laws.specs.Emissions.{Emission, emission, map-emissions}
 use Rattle.build_laws.specs.SetBits.{set-bits}
 use Rattle.build_laws.specs.BitPass.{bit-state, write-all-bits, Room, Positions-below}
-use Rattle.build_laws.specs.BytePass.{Byte-state, place, place-all, one-step}
-use Rattle.build_laws.specs.DenseRows.{cell-step, cell-ones}
+use Rattle.build_laws.specs.BytePass.{Byte-state, put-byte, put-bytes, one-step}
+use Rattle.build_laws.specs.DenseRows.{cell-step, cell-ones, label-cell, child-cell, exact-cell}
 use Rattle.build_laws.specs.BodyLaws.{bit-at}
 use Rattle.build_laws.specs.declared.Entry.{Entry}
 use Rattle.build_laws.specs.declared.Kind.the-variants.{DL, DC, DP, SL, SC, SB}
-use Rattle.build_laws.specs.Writes.{with-bits, set-at-cursor, set-all, label-cell, child-cell, exact-cell, write-entries}
-use Rattle.build_laws.specs.WriteLaws.{length-with-bits}
+use Rattle.build_laws.specs.Passes.{with-bits, set-at-cursor, set-all, write-entries}
+use Rattle.build_laws.specs.CursorWrites.{length-with-bits}
 
 -- ---- bits in bytes
 
@@ -48,10 +48,10 @@ set-all-bits inc ones-at top (emission d x ∷ es) z r =
 -- ---- entries by their kind
 
 -- labels are placed
-pub labels-placed : (es : List (Emission Entry)) (z : Byte-state) → write-entries SL es z ≡ place-all (map-emissions (λ (e : Entry). e .label) es) z
-unfolding write-entries place-all map-emissions
-labels-placed [] z = refl
-labels-placed (emission d e ∷ es) z = labels-placed es (place (emission d (e .label)) z)
+pub labels-put : (es : List (Emission Entry)) (z : Byte-state) → write-entries SL es z ≡ put-bytes (map-emissions (λ (e : Entry). e .label) es) z
+unfolding write-entries put-bytes map-emissions
+labels-put [] z = refl
+labels-put (emission d e ∷ es) z = labels-put es (put-byte (emission d (e .label)) z)
 
 -- child bits are set at the cursors
 pub children-set : (es : List (Emission Entry)) (z : Byte-state) → write-entries SC es z ≡ set-all one-step bit-at (map-emissions (λ (e : Entry). e .child) es) z

@@ -17,6 +17,7 @@ use Rattle.build_laws.specs.Emissions.{Emission, emission, level-values,
 use Rattle.build_laws.specs.Cursors.{sum-of, level-start, start-sum, start-grows}
 use Rattle.build_laws.specs.SetBits.{positions-below}
 use Rattle.build_laws.specs.BitPass.{Room, room-of, ones-by-level, ones-of-bits, every, cursor-ones}
+use Rattle.build_laws.specs.Limits.{counters}
 
 -- the bytes of the output, and a cursor for each level
 pub record Byte-state : Type 0 where
@@ -28,13 +29,13 @@ abbrev pub byte-state : List ℕ → List ℕ → Byte-state
 byte-state o c = record { bytes = o; cursors = c }
 
 -- an emission writes its value at its level's cursor, which goes on by one
-abbrev pub place : Emission ℕ → Byte-state → Byte-state
-place (emission d x) s = record { bytes = set (s .bytes) (getD (s .cursors) d 0) x; cursors = set (s .cursors) d (getD (s .cursors) d 0 + 1) }
+abbrev pub put-byte : Emission ℕ → Byte-state → Byte-state
+put-byte (emission d x) s = record { bytes = set (s .bytes) (getD (s .cursors) d 0) x; cursors = set (s .cursors) d (getD (s .cursors) d 0 + 1) }
 
 -- emissions one after the other
-unfoldable pub place-all : List (Emission ℕ) → Byte-state → Byte-state
-place-all [] s = s
-place-all (e ∷ es) s = place-all es (place e s)
+unfoldable pub put-bytes : List (Emission ℕ) → Byte-state → Byte-state
+put-bytes [] s = s
+put-bytes (e ∷ es) s = put-bytes es (put-byte e s)
 
 -- ---- what was placed so far
 
@@ -49,8 +50,8 @@ below-grows es d e h =
     rw w at (below-next es d (e - suc d))
 
 -- Of all emissions some are done: the cursors stand behind them on their levels, their values stand where they belong, and what lies behind all is as it was.
-record Placed (all done : List (Emission ℕ)) (was : List ℕ) (s : Byte-state) : Type 0 where
-  width : length (s .cursors) ≡ 65
+record Put (all done : List (Emission ℕ)) (was : List ℕ) (s : Byte-state) : Type 0 where
+  width : length (s .cursors) ≡ counters
   same : length (s .bytes) ≡ length was
   cursor : (d : ℕ) → d < 64 → getD (s .cursors) d 0 ≡ length (values-below all d) + length (level-values d done)
   placed : (d j : ℕ) → d < 64 → j < length (level-values d done) → getD (s .bytes) (length (values-below all d) + j) 0 ≡ getD (level-values d done) j 0
@@ -59,7 +60,7 @@ record Placed (all done : List (Emission ℕ)) (was : List ℕ) (s : Byte-state)
 level-split : (all done todo : List (Emission ℕ)) (d : ℕ) → done ++ todo ≡ all → length (level-values d all) ≡ length (level-values d done) + length (level-values d todo)
 level-split all done todo d e = sym (ap (λ (z : List (Emission ℕ)). length (level-values d z)) e) ∙ ap length (level-append d done todo) ∙ length-append (level-values d done) (level-values d todo)
 
-module _ (all done todo : List (Emission ℕ)) (was : List ℕ) (s : Byte-state) (d x : ℕ) (e : done ++ (emission d x ∷ todo) ≡ all) (h : d < 64) (fits : length (values-below all 64) ≤ length was) (w : Placed all done was s) where
+module _ (all done todo : List (Emission ℕ)) (was : List ℕ) (s : Byte-state) (d x : ℕ) (e : done ++ (emission d x ∷ todo) ≡ all) (h : d < 64) (fits : length (values-below all 64) ≤ length was) (w : Put all done was s) where
   here-at : level-values d (done ++ (emission d x ∷ [])) ≡ level-values d done ++ (x ∷ [])
   here-at = level-append d done (emission d x ∷ []) ∙ ap (λ (z : List ℕ). level-values d done ++ z) (level-here d x [] ∙ ap (λ (z : List ℕ). x ∷ z) (level-none d))
 
@@ -83,8 +84,8 @@ module _ (all done todo : List (Emission ℕ)) (was : List ℕ) (s : Byte-state)
   spot : getD (s .cursors) d 0 < length (values-below all 64)
   spot = omega (arith, w .cursor d h, more-at, below-grows all d 64 h)
 
-  step-placed : (i j : ℕ) → i < 64 → j < length (level-values i (done ++ (emission d x ∷ []))) → getD (set (s .bytes) (getD (s .cursors) d 0) x) (length (values-below all i) + j) 0 ≡ getD (level-values i (done ++ (emission d x ∷ []))) j 0
-  step-placed i j l k = go (eqb i d) refl
+  step-put : (i j : ℕ) → i < 64 → j < length (level-values i (done ++ (emission d x ∷ []))) → getD (set (s .bytes) (getD (s .cursors) d 0) x) (length (values-below all i) + j) 0 ≡ getD (level-values i (done ++ (emission d x ∷ []))) j 0
+  step-put i j l k = go (eqb i d) refl
     where
       old : (i : ℕ) → i < 64 → j < length (level-values i done) → (length (values-below all i) + j ≡ getD (s .cursors) d 0 → ⊥) → getD (set (s .bytes) (getD (s .cursors) d 0) x) (length (values-below all i) + j) 0 ≡ getD (level-values i done) j 0
       old i l k n = getD-set-other (s .bytes) (getD (s .cursors) d 0) (length (values-below all i) + j) x 0 n ∙ w .placed i j l k
@@ -115,28 +116,28 @@ module _ (all done todo : List (Emission ℕ)) (was : List ℕ) (s : Byte-state)
               far : d ≤ i → (i ≡ d → ⊥) → ⊥
               far f n = let g : d < i = omega arith in omega (arith, w .cursor d h, below-grows all d i g, more-at)
 
-  placed-step : Placed all (done ++ (emission d x ∷ [])) was (place (emission d x) s)
-  placed-step = record {
+  put-step : Put all (done ++ (emission d x ∷ [])) was (put-byte (emission d x) s)
+  put-step = record {
     width = length-set (s .cursors) d (getD (s .cursors) d 0 + 1) ∙ w .width;
     same = length-set (s .bytes) (getD (s .cursors) d 0) x ∙ w .same;
     cursor = step-cursor;
-    placed = step-placed;
+    placed = step-put;
     kept = λ i l. getD-set-other (s .bytes) (getD (s .cursors) d 0) i x 0 (λ z. omega (arith, spot)) ∙ w .kept i l;
   }
 
-placed-all : (all done es rest : List (Emission ℕ)) (was : List ℕ) (s : Byte-state) → done ++ (es ++ rest) ≡ all → Levels-below 64 es → length (values-below all 64) ≤ length was → Placed all done was s → Placed all (done ++ es) was (place-all es s)
-unfolding place-all
-placed-all all done [] rest was s e l f w = rw (append-nil done) w
-placed-all all done (emission d x ∷ es) rest was s e l f w =
+put-all : (all done es rest : List (Emission ℕ)) (was : List ℕ) (s : Byte-state) → done ++ (es ++ rest) ≡ all → Levels-below 64 es → length (values-below all 64) ≤ length was → Put all done was s → Put all (done ++ es) was (put-bytes es s)
+unfolding put-bytes
+put-all all done [] rest was s e l f w = rw (append-nil done) w
+put-all all done (emission d x ∷ es) rest was s e l f w =
     rw (← append-assoc done (emission d x ∷ []) es)
-    (placed-all all (done ++ (emission d x ∷ [])) es rest was (place (emission d x) s) (append-assoc done (emission d x ∷ []) (es ++ rest) ∙ e) (l .1) f (placed-step all done (es ++ rest) was s d x e (l .0) f w))
+    (put-all all (done ++ (emission d x ∷ [])) es rest was (put-byte (emission d x) s) (append-assoc done (emission d x ∷ []) (es ++ rest) ∙ e) (l .1) f (put-step all done (es ++ rest) was s d x e (l .0) f w))
 
 -- ---- the end
 
-placed-values : (all : List (Emission ℕ)) (was : List ℕ) (s : Byte-state) → Placed all all was s → (m i : ℕ) → m ≤ 64 → i < length (values-below all m) → getD (s .bytes) i 0 ≡ getD (values-below all m) i 0
+put-values : (all : List (Emission ℕ)) (was : List ℕ) (s : Byte-state) → Put all all was s → (m i : ℕ) → m ≤ 64 → i < length (values-below all m) → getD (s .bytes) i 0 ≡ getD (values-below all m) i 0
 unfolding values-below
-placed-values all was s w zero i h l = absurd (omega arith)
-placed-values all was s w (suc m) i h l = go (ltb i (length (values-below all m))) refl (λ k. placed-values all was s w m i (omega arith) k)
+put-values all was s w zero i h l = absurd (omega arith)
+put-values all was s w (suc m) i h l = go (ltb i (length (values-below all m))) refl (λ k. put-values all was s w m i (omega arith) k)
   where
     go : (b : Bool) → ltb i (length (values-below all m)) ≡ b → (i < length (values-below all m) → getD (s .bytes) i 0 ≡ getD (values-below all m) i 0) → getD (s .bytes) i 0 ≡ getD (values-below all m ++ level-values m all) i 0
     go true q ih = let k = ltb-true i (length (values-below all m)) q in ih k ∙ sym (List·getD-append (values-below all m) (level-values m all) 0 i k)
@@ -147,20 +148,20 @@ placed-values all was s w (suc m) i h l = go (ltb i (length (values-below all m)
         let u : getD (s .bytes) (length (values-below all m) + j) 0 ≡ getD (level-values m all) j 0 = w .placed m j (omega arith) (omega (arith, length-append (values-below all m) (level-values m all))) in
         ap (λ (z : ℕ). getD (s .bytes) z 0) e ∙ u ∙ sym (ap (λ (z : ℕ). getD (values-below all m ++ level-values m all) z 0) e ∙ getD-append-add (values-below all m) (level-values m all) j 0)
 
-placed-done : (all : List (Emission ℕ)) (was : List ℕ) (s : Byte-state) → length (values-below all 64) ≤ length was → Placed all all was s → s .bytes ≡ values-below all 64 ++ drop (length (values-below all 64)) was
-placed-done all was s f w =
+put-done : (all : List (Emission ℕ)) (was : List ℕ) (s : Byte-state) → length (values-below all 64) ≤ length was → Put all all was s → s .bytes ≡ values-below all 64 ++ drop (length (values-below all 64)) was
+put-done all was s f w =
     ext-getD 0 (s .bytes) (values-below all 64 ++ drop (length (values-below all 64)) was) (omega (arith, w .same, length-append (values-below all 64) (drop (length (values-below all 64)) was), length-drop (length (values-below all 64)) was)) (λ i l. go i (ltb i (length (values-below all 64))) refl)
   where
     go : (i : ℕ) → (b : Bool) → ltb i (length (values-below all 64)) ≡ b → getD (s .bytes) i 0 ≡ getD (values-below all 64 ++ drop (length (values-below all 64)) was) i 0
-    go i true q = let k = ltb-true i (length (values-below all 64)) q in placed-values all was s w 64 i (omega arith) k ∙ sym (List·getD-append (values-below all 64) (drop (length (values-below all 64)) was) 0 i k)
+    go i true q = let k = ltb-true i (length (values-below all 64)) q in put-values all was s w 64 i (omega arith) k ∙ sym (List·getD-append (values-below all 64) (drop (length (values-below all 64)) was) 0 i k)
     go i false q =
         let k = ltb-false i (length (values-below all 64)) q in
         let e : i ≡ length (values-below all 64) + (i - length (values-below all 64)) = omega arith in
         w .kept i k ∙ ap (λ (z : ℕ). getD was z 0) e ∙ sym (getD-drop (length (values-below all 64)) was (i - length (values-below all 64)) 0)
         ∙ sym (ap (λ (z : ℕ). getD (values-below all 64 ++ drop (length (values-below all 64)) was) z 0) e ∙ getD-append-add (values-below all 64) (drop (length (values-below all 64)) was) (i - length (values-below all 64)) 0)
 
-placed-start : (all : List (Emission ℕ)) (out cur : List ℕ) → length cur ≡ 65 → ((d : ℕ) → d < 64 → getD cur d 0 ≡ length (values-below all d)) → Placed all [] out (byte-state out cur)
-placed-start all out cur l c = record {
+put-start : (all : List (Emission ℕ)) (out cur : List ℕ) → length cur ≡ counters → ((d : ℕ) → d < 64 → getD cur d 0 ≡ length (values-below all d)) → Put all [] out (byte-state out cur)
+put-start all out cur l c = record {
   width = l;
   same = refl;
   cursor = λ d h. c d h ∙ omega (arith, ap length (level-none {A = ℕ} d));
@@ -184,16 +185,16 @@ unfolding sum-of
 sum-length [] = refl
 sum-length (x ∷ xs) = omega (arith, sum-length xs)
 
--- as many values on the levels below d as the place at which d starts
+-- as many values on the levels below d as the position at which d starts
 pub start-length : {A : Type 0} (es : List (Emission A)) (d : ℕ) → level-start one-step es d ≡ length (values-below es d)
 start-length es d = sym (start-sum one-step es d) ∙ sum-length (values-below es d)
 
 -- Bytes written by emissions of levels below 64, from cursors at the levels' starts: the values level by level, and then what was there.
-pub place-all-is : (es : List (Emission ℕ)) (out cur : List ℕ) → length cur ≡ 65 → Levels-below 64 es → ((d : ℕ) → d < 64 → getD cur d 0 ≡ level-start one-step es d) → length (values-below es 64) ≤ length out
-    → place-all es (byte-state out cur) .bytes ≡ values-below es 64 ++ drop (length (values-below es 64)) out
-place-all-is es out cur w l c f =
-    placed-done es out (place-all es (byte-state out cur)) f
-    (placed-all es [] es [] out (byte-state out cur) (append-nil es) l f (placed-start es out cur w (λ d h. c d h ∙ start-length es d)))
+pub put-bytes-is : (es : List (Emission ℕ)) (out cur : List ℕ) → length cur ≡ counters → Levels-below 64 es → ((d : ℕ) → d < 64 → getD cur d 0 ≡ level-start one-step es d) → length (values-below es 64) ≤ length out
+    → put-bytes es (byte-state out cur) .bytes ≡ values-below es 64 ++ drop (length (values-below es 64)) out
+put-bytes-is es out cur w l c f =
+    put-done es out (put-bytes es (byte-state out cur)) f
+    (put-all es [] es [] out (byte-state out cur) (append-nil es) l f (put-start es out cur w (λ d h. c d h ∙ start-length es d)))
 
 single : (k : ℕ) → positions k (true ∷ []) ≡ k ∷ []
 unfolding positions
@@ -211,7 +212,7 @@ length-true [] = refl
 length-true (x ∷ xs) = ap suc (length-true xs)
 
 -- There is room for all of them in n bytes, if there are no more values than that.
-pub byte-room : (es : List (Emission ℕ)) (cur : List ℕ) (n : ℕ) → length cur ≡ 65 → Levels-below 64 es → ((d : ℕ) → d < 64 → getD cur d 0 ≡ level-start one-step es d) → length (values-below es 64) ≤ n
+pub byte-room : (es : List (Emission ℕ)) (cur : List ℕ) (n : ℕ) → length cur ≡ counters → Levels-below 64 es → ((d : ℕ) → d < 64 → getD cur d 0 ≡ level-start one-step es d) → length (values-below es 64) ≤ n
     → Room one-step at-cursor n n es cur
 byte-room es cur n w l c f =
     room-of one-step at-cursor n n es cur (omega arith) l (λ d h. inr (omega (arith, c d h, start-grows one-step es d 64 h, start-length es 64)))

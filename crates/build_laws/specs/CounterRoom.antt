@@ -20,6 +20,7 @@ use Rattle.build_laws.specs.BytePass.{one-step, sum-length}
 use Rattle.build_laws.specs.PassEmissions.{start-emissions, slot-emissions, emissions-below, first-longer, slots-below}
 use Rattle.build_laws.specs.SmallCounters.{keys-few}
 use Rattle.build_laws.specs.Counters.{entry-counts, node-counts, leaf-counts}
+use Rattle.build_laws.specs.Limits.{counters}
 
 -- a counter writes nothing
 abbrev pub no-ones : {A : Type 0} → ℕ → A → List ℕ
@@ -32,13 +33,13 @@ module _ {A : Type 0} (inc : A → ℕ) where
   none-emitted (emission d x ∷ es) c j = none-emitted es (set c d (getD c d 0 + inc x)) j
 
   -- Counters from zero have room for emissions whose increments on each level sum up to at most top.
-  pub counter-room : (top : ℕ) (es : List (Emission A)) → Levels-below 64 es → ((d : ℕ) → sum-of inc (level-values d es) ≤ top) → Room inc no-ones 0 top es (replicate 65 0)
+  pub counter-room : (top : ℕ) (es : List (Emission A)) → Levels-below 64 es → ((d : ℕ) → sum-of inc (level-values d es) ≤ top) → Room inc no-ones 0 top es (replicate counters 0)
   counter-room top es l f =
-      room-of inc no-ones 0 top es (replicate 65 0) (omega (arith, length-replicate {A = ℕ} 65 0)) l (λ d h. inr (omega (arith, f d, zero-at d h)))
-      (λ j h. absurd (true≢false (sym h ∙ none-emitted es (replicate 65 0) j)))
+      room-of inc no-ones 0 top es (replicate counters 0) (omega (arith, length-replicate {A = ℕ} counters 0)) l (λ d h. inr (omega (arith, f d, zero-at d h)))
+      (λ j h. absurd (true≢false (sym h ∙ none-emitted es (replicate counters 0) j)))
     where
-      zero-at : (d : ℕ) → d < 64 → _≡_ {A = ℕ} (getD (replicate 65 0) d 0) 0
-      zero-at d h = getD-replicate 65 d 0 0 (omega arith)
+      zero-at : (d : ℕ) → d < 64 → _≡_ {A = ℕ} (getD (replicate counters 0) d 0) 0
+      zero-at d h = getD-replicate counters d 0 0 (omega arith)
 
 -- ---- how many on a level
 
@@ -74,9 +75,9 @@ starts-below ks s a = emissions-below 0 64 _ true 0 ks (first-longer ks s) s a
 
 -- The three counters have room for a list of keys, none of them above top.
 pub record Counters-room (top : ℕ) (ks : List Bytes) : Type 0 where
-  pub entries : Room one-step no-ones 0 top (start-emissions 0 0 ks) (replicate 65 0)
-  pub nodes : Room bit no-ones 0 top (start-emissions 0 0 ks) (replicate 65 0)
-  pub leaves : Room one-step no-ones 0 top (slot-emissions 0 0 ks) (replicate 65 0)
+  pub entries : Room one-step no-ones 0 top (start-emissions 0 0 ks) (replicate counters 0)
+  pub nodes : Room bit no-ones 0 top (start-emissions 0 0 ks) (replicate counters 0)
+  pub leaves : Room one-step no-ones 0 top (slot-emissions 0 0 ks) (replicate counters 0)
 
 -- for any list of at most 65,535 keys
 pub counters-room : (top : ℕ) (ks : List Bytes) → 131070 ≤ top → Keys ks → Ascending ks → length ks ≤ 65535 → Counters-room top ks
@@ -89,25 +90,25 @@ counters-room top ks t s a h = record {
 
 -- ---- sums
 
-counter-few : {A : Type 0} (inc : A → ℕ) (es : List (Emission A)) (top d : ℕ) → sum-of inc (level-values d es) ≤ top → d < 65 → getD (counts inc es (replicate 65 0)) d 0 ≤ top
-counter-few inc es top d f h = omega (arith, counts-at inc es (replicate 65 0) d (omega (arith, length-replicate {A = ℕ} 65 0)), f, zero-at d h)
+counter-few : {A : Type 0} (inc : A → ℕ) (es : List (Emission A)) (top d : ℕ) → sum-of inc (level-values d es) ≤ top → d < counters → getD (counts inc es (replicate counters 0)) d 0 ≤ top
+counter-few inc es top d f h = omega (arith, counts-at inc es (replicate counters 0) d (omega (arith, length-replicate {A = ℕ} counters 0)), f, zero-at d h)
   where
-    zero-at : (d : ℕ) → d < 65 → _≡_ {A = ℕ} (getD (replicate 65 0) d 0) 0
-    zero-at d h = getD-replicate 65 d 0 0 h
+    zero-at : (d : ℕ) → d < counters → _≡_ {A = ℕ} (getD (replicate counters 0) d 0) 0
+    zero-at d h = getD-replicate counters d 0 0 h
 
 module _ (ks : List Bytes) (h : length ks ≤ 65535) where
   -- no level has more entries
-  pub entry-counts-few : (d : ℕ) → d < 65 → getD (entry-counts ks) d 0 ≤ 131070
+  pub entry-counts-few : (d : ℕ) → d < counters → getD (entry-counts ks) d 0 ≤ 131070
   unfolding entry-counts
   entry-counts-few d l = counter-few one-step (start-emissions 0 0 ks) 131070 d (omega (arith, sum-length (level-values d (start-emissions 0 0 ks)), starts-few ks d)) l
 
   -- nor more nodes
-  pub node-counts-few : (d : ℕ) → d < 65 → getD (node-counts ks) d 0 ≤ 131070
+  pub node-counts-few : (d : ℕ) → d < counters → getD (node-counts ks) d 0 ≤ 131070
   unfolding node-counts
   node-counts-few d l = counter-few bit (start-emissions 0 0 ks) 131070 d (omega (arith, bits-few (level-values d (start-emissions 0 0 ks)), starts-few ks d)) l
 
   -- nor more leaves
-  pub leaf-counts-few : (d : ℕ) → d < 65 → getD (leaf-counts ks) d 0 ≤ 131070
+  pub leaf-counts-few : (d : ℕ) → d < counters → getD (leaf-counts ks) d 0 ≤ 131070
   unfolding leaf-counts
   leaf-counts-few d l = counter-few one-step (slot-emissions 0 0 ks) 131070 d (omega (arith, sum-length (level-values d (slot-emissions 0 0 ks)), level-few d (slot-emissions 0 0 ks), length-slots 0 0 ks)) l
 
@@ -116,7 +117,7 @@ cond-few true x top h = h
 cond-few false x top h = omega arith
 
 -- the sums of such counters stay small
-pub sums-few : (c : List ℕ) (lo top : ℕ) → ((d : ℕ) → d < 65 → getD c d 0 ≤ top) → (d : ℕ) → d ≤ 65 → sums c lo d ≤ d * top
+pub sums-few : (c : List ℕ) (lo top : ℕ) → ((d : ℕ) → d < counters → getD c d 0 ≤ top) → (d : ℕ) → d ≤ counters → sums c lo d ≤ d * top
 unfolding sums
 sums-few c lo top f zero h = omega arith
 sums-few c lo top f (suc d) h = omega (arith, sums-few c lo top f d (omega arith), cond-few (leb lo d) (getD c d 0) top (f d (omega arith)), suc-mul d top)

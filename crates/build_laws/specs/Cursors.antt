@@ -1,4 +1,4 @@
--- Counters of one number a level: what they are after emissions have been counted, and the place at which each level starts. Used by every pass over the keys.
+-- Counters of one number a level: what they are after emissions have been counted, and the position at which each level starts. Used by every pass over the keys.
 use Prim.Native.Nat.{ℕ, zero, suc, _+_, _<_, _≤_}
 use mathlib.Core.Path.{_≡_, refl, sym, ap, ap₂, _∙_}
 use mathlib.Core.Bool.{Bool, true, false, cond}

@@ -8,7 +8,7 @@ use lib.ListN.{length}
 use lib.Dec.{leb, ltb, eqb}
 use borrow.Author.Tests.{ltb-true, ltb-false, leb-true, leb-false, eq-eqb, ne-eqb, eqb-true, eqb-false}
 use Rattle.spec.specs.Bytes.{Bytes}
-use Rattle.build_laws.specs.LevelItems.{pred}
+use Rattle.build_laws.specs.LevelEntries.{pred}
 use Rattle.theory.specs.Neighbours.{next-shared}
 use Rattle.build_laws.specs.NeighbourLeaves.{cut-length}
 

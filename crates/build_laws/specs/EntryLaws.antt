@@ -14,8 +14,9 @@ use Rattle.build_laws.specs.BytePass.{Byte-state}
 use Rattle.build_laws.specs.declared.Entry.{Entry}
 use Rattle.build_laws.specs.declared.Kind.{Kind}
 use Rattle.build_laws.specs.declared.Kind.the-variants.{DL, DC, DP, SL, SC, SB}
-use Rattle.build_laws.specs.Writes.{key-exact, kind-step, kind-ones, capacity, write-entry, write-entries}
-use Rattle.build_laws.specs.Counts.{Counter-room}
+use Rattle.build_laws.specs.Passes.{key-exact, kind-step, kind-ones, capacity, write-entry, write-entries}
+use Rattle.build_laws.specs.CountPass.{Counter-room}
+use Rattle.build_laws.specs.Limits.{counter-max}
 
 -- what a key emits from level d to below `end`, and for its exact leaf
 unfoldable pub key-rest : {A : Type 0} → (ℕ → A) → A → ℕ → ℕ → ℕ → ℕ → ℕ → ℕ → List (Emission A)
@@ -74,7 +75,7 @@ entry-cursors SB d e s = refl
 -- what holds between the levels: what is left gives what all entries give, and there is room for it
 pub record Left (kind : Kind) (cap : ℕ) (rest : List (Emission Entry)) (s final : Byte-state) : Type 0 where
   pub run : write-entries kind rest s ≡ final
-  pub room : Room (kind-step kind) (kind-ones kind) cap 8600000 rest (s .cursors)
+  pub room : Room (kind-step kind) (kind-ones kind) cap counter-max rest (s .cursors)
 
 -- one entry is written
 pub left-next : (kind : Kind) (cap d : ℕ) (x e : Entry) (es : List (Emission Entry)) (s z final : Byte-state) → e ≡ x → z ≡ write-entry kind (emission d e) s → Left kind cap (emission d x ∷ es) s final → Left kind cap es z final
@@ -82,15 +83,15 @@ left-next kind cap d x e es s z final q w l =
     let u : z ≡ write-entry kind (emission d x) s = w ∙ ap (λ (y : Entry). write-entry kind (emission d y) s) q in
     record {
       run = ap (write-entries kind es) u ∙ sym (write-cons kind (emission d x) es s) ∙ l .run;
-      room = subst (λ (c : List ℕ). Room (kind-step kind) (kind-ones kind) cap 8600000 es c) (sym (ap (λ (y : Byte-state). y .cursors) u ∙ entry-cursors kind d x s)) (l .room .3);
+      room = subst (λ (c : List ℕ). Room (kind-step kind) (kind-ones kind) cap counter-max es c) (sym (ap (λ (y : Byte-state). y .cursors) u ∙ entry-cursors kind d x s)) (l .room .3);
     }
 
 -- room for the next entry
 pub left-room : (kind : Kind) (cap n d : ℕ) (x e : Entry) (es : List (Emission Entry)) (s final : Byte-state) → e ≡ x → cap ≡ capacity kind n → Left kind cap (emission d x ∷ es) s final
-    → Room (kind-step kind) (kind-ones kind) (capacity kind n) 8600000 (emission d e ∷ []) (s .cursors)
+    → Room (kind-step kind) (kind-ones kind) (capacity kind n) counter-max (emission d e ∷ []) (s .cursors)
 left-room kind cap n d x e es s final q k l =
-    subst (λ (y : Entry). Room (kind-step kind) (kind-ones kind) (capacity kind n) 8600000 (emission d y ∷ []) (s .cursors)) (sym q)
-    (room-one (kind-step kind) (kind-ones kind) (capacity kind n) 8600000 d x es (s .cursors) (subst (λ (c : ℕ). Room (kind-step kind) (kind-ones kind) c 8600000 (emission d x ∷ es) (s .cursors)) k (l .room)))
+    subst (λ (y : Entry). Room (kind-step kind) (kind-ones kind) (capacity kind n) counter-max (emission d y ∷ []) (s .cursors)) (sym q)
+    (room-one (kind-step kind) (kind-ones kind) (capacity kind n) counter-max d x es (s .cursors) (subst (λ (c : ℕ). Room (kind-step kind) (kind-ones kind) c counter-max (emission d x ∷ es) (s .cursors)) k (l .room)))
 
 -- nothing is left
 pub left-done : (kind : Kind) (cap : ℕ) (s final : Byte-state) → Left kind cap [] s final → s ≡ final

@@ -1,4 +1,4 @@
--- The bits that a key list's image is made of, by the nodes of its trie, and that the keys emit the items of these nodes. Used by the laws of lengths and of the bodies.
+-- The bits that a key list's image is made of, by the nodes of its trie, and that the keys emit the entries of these nodes. Used by the laws of lengths and of the bodies.
 use Prim.Native.Nat.{ℕ}
 use mathlib.Core.Path.{_≡_, sym, ap, _∙_}
 use mathlib.Core.List.{List, _++_, map}
@@ -10,12 +10,12 @@ use Rattle.spec.specs.Leaves.{leaves}
 use Rattle.spec.specs.Image.{Settings, Bodies}
 use Rattle.spec.specs.Image as Literal
 use Rattle.spec.specs.Nodes.{is-exact}
-use Rattle.build_laws.specs.LevelItems.{Chain}
-use Rattle.build_laws.specs.TrieItems.{Item, Rooted, items-of, items-between, items-first, items-rest}
+use Rattle.build_laws.specs.LevelEntries.{Chain}
+use Rattle.build_laws.specs.TrieEntries.{Slotted, Rooted, slotted-of, slotted-between, slotted-first, slotted-rest}
 use Rattle.theory.specs.Neighbours.{Nonempty}
 use Rattle.build_laws.specs.NeighbourLeaves.{leaves-chain}
 use Rattle.build_laws.specs.Emissions.{Emission, values-below, map-emissions}
-use Rattle.build_laws.specs.KeyItems.{item-emissions, values-emitted}
+use Rattle.build_laws.specs.KeyEntries.{slotted-emissions, values-emitted}
 use Rattle.build_laws.specs.PassEmissions.{values-map, keys-nonempty}
 use Rattle.build_laws.specs.TrieFacts.{dense-nodes, sparse-nodes, Trie-facts, trie-facts, bodies-levels}
 use Rattle.theory.specs.BuildLaws.{Built-from, built-fits}
@@ -25,7 +25,7 @@ use Rattle.theory.specs.NodeBits.{dense-labels, dense-has-child, sparse-has-chi
 
 -- the bodies of a key list's image, as document 01 has them
 abbrev pub key-bodies : Settings → List Bytes → Bodies
-key-bodies st ks = Literal.bodies (st .dense) (leaves (st .width) ks)
+key-bodies st ks = Literal.bodies (st .dense-levels) (leaves (st .width) ks)
 
 module _ (st : Settings) (ks : List Bytes) (b : Built-from st ks) where
   -- the keys are not empty
@@ -44,28 +44,28 @@ module _ (st : Settings) (ks : List Bytes) (b : Built-from st ks) where
   pub chain : Chain (leaves (st .width) ks) × Rooted (leaves (st .width) ks)
   chain = leaves-chain (st .width) ks some (b .up)
 
-  -- the items that the keys emit on the sparse levels are those of the sparse nodes
-  pub sparse-values : values-below (item-emissions (st .dense) 64 (st .width) ks) 64 ≡ items-of (sparse-nodes st (leaves (st .width) ks))
+  -- the entries that the keys emit on the sparse levels are those of the sparse nodes
+  pub sparse-values : values-below (slotted-emissions (st .dense-levels) 64 (st .width) ks) 64 ≡ slotted-of (sparse-nodes st (leaves (st .width) ks))
   unfolding sparse-nodes
   sparse-values =
-      values-emitted (st .width) (st .dense) 64 ks (omega (arith, b .dense-range)) (omega arith) some (b .up)
-      ∙ sym (items-rest (st .dense) (leaves (st .width) ks) (omega (arith, b .dense-range)) (chain .0) (chain .1))
+      values-emitted (st .width) (st .dense-levels) 64 ks (omega (arith, b .dense-range)) (omega arith) some (b .up)
+      ∙ sym (slotted-rest (st .dense-levels) (leaves (st .width) ks) (omega (arith, b .dense-range)) (chain .0) (chain .1))
 
   -- those on the dense levels are those of the dense nodes
-  pub dense-values : values-below (item-emissions 0 (st .dense) (st .width) ks) 64 ≡ items-of (dense-nodes st (leaves (st .width) ks))
+  pub dense-values : values-below (slotted-emissions 0 (st .dense-levels) (st .width) ks) 64 ≡ slotted-of (dense-nodes st (leaves (st .width) ks))
   unfolding dense-nodes
   dense-values =
-      values-emitted (st .width) 0 (st .dense) ks (omega arith) (omega (arith, b .dense-range)) some (b .up)
-      ∙ ap (λ (k : ℕ). items-between 0 k (leaves (st .width) ks)) (sub-zero (st .dense))
-      ∙ sym (items-first (st .dense) (leaves (st .width) ks) (omega (arith, b .dense-range)) (chain .0) (chain .1))
+      values-emitted (st .width) 0 (st .dense-levels) ks (omega arith) (omega (arith, b .dense-range)) some (b .up)
+      ∙ ap (λ (k : ℕ). slotted-between 0 k (leaves (st .width) ks)) (sub-zero (st .dense-levels))
+      ∙ sym (slotted-first (st .dense-levels) (leaves (st .width) ks) (omega (arith, b .dense-range)) (chain .0) (chain .1))
 
   -- those on all levels are those of all nodes
-  pub all-values : values-below (item-emissions 0 64 (st .width) ks) 64 ≡ items-of (concat (trie (leaves (st .width) ks)))
-  all-values = values-emitted (st .width) 0 64 ks (omega arith) (omega arith) some (b .up) ∙ sym (items-rest 0 (leaves (st .width) ks) (omega arith) (chain .0) (chain .1))
+  pub all-values : values-below (slotted-emissions 0 64 (st .width) ks) 64 ≡ slotted-of (concat (trie (leaves (st .width) ks)))
+  all-values = values-emitted (st .width) 0 64 ks (omega arith) (omega arith) some (b .up) ∙ sym (slotted-rest 0 (leaves (st .width) ks) (omega arith) (chain .0) (chain .1))
 
-  -- a function of the items that the keys emit
-  pub mapped-values : {B : Type 0} (f : Item → B) (lo hi : ℕ) (es : List (Emission B)) (xs : List Item) → es ≡ map-emissions f (item-emissions lo hi (st .width) ks) → values-below (item-emissions lo hi (st .width) ks) 64 ≡ xs → values-below es 64 ≡ map f xs
-  mapped-values f lo hi es xs e q = ap (λ (z : List (Emission _)). values-below z 64) e ∙ values-map f (item-emissions lo hi (st .width) ks) 64 ∙ ap (map f) q
+  -- a function of the entries that the keys emit
+  pub mapped-values : {B : Type 0} (f : Slotted → B) (lo hi : ℕ) (es : List (Emission B)) (xs : List Slotted) → es ≡ map-emissions f (slotted-emissions lo hi (st .width) ks) → values-below (slotted-emissions lo hi (st .width) ks) 64 ≡ xs → values-below es 64 ≡ map f xs
+  mapped-values f lo hi es xs e q = ap (λ (z : List (Emission _)). values-below z 64) e ∙ values-map f (slotted-emissions lo hi (st .width) ks) 64 ∙ ap (map f) q
 
   -- ---- the bits of the bodies
 

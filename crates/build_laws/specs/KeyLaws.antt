@@ -10,12 +10,12 @@ use lib.Dec.{leb, ltb, eqb}
 use borrow.Author.Tests.{lt-ltb, le-ltb, eq-eqb, ne-eqb, le-leb, lt-leb}
 use Rattle.spec.specs.Bytes.{Bytes, shared}
 use Rattle.bits_laws.specs.Bits.{key}
-use Rattle.build_laws.specs.LevelItems.{pred}
+use Rattle.build_laws.specs.LevelEntries.{pred}
 use Rattle.build_laws.specs.NeighbourLeaves.{cut-length}
-use Rattle.build_laws.specs.KeyItems.{continues-at}
+use Rattle.build_laws.specs.KeyEntries.{continues-at}
 use Rattle.build_laws.specs.PassEmissions.{leaf-level}
-use Rattle.build_laws.specs.List.{shared-behind}
-use Rattle.build_laws.specs.Writes.{key-exact}
+use Rattle.build_laws.specs.KeyRecords.{shared-behind}
+use Rattle.build_laws.specs.Passes.{key-exact}
 
 -- one less than a number that is not 0
 pub pred-less : (p : ℕ) → (p ≡ 0 → ⊥) → p - 1 ≡ pred p

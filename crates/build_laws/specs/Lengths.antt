@@ -10,9 +10,9 @@ use Rattle.spec.specs.Leaves.{leaves, leaf}
 use Rattle.spec.specs.Image.{Settings, Bodies, nodes}
 use Rattle.spec.specs.Image as Literal
 use Rattle.spec.specs.Nodes.{is-exact}
-use Rattle.build_laws.specs.TrieItems.{Item, items-of, items-between, items-first, items-rest}
+use Rattle.build_laws.specs.TrieEntries.{Slotted, slotted-of, slotted-between, slotted-first, slotted-rest}
 use Rattle.build_laws.specs.Cursors.{sum-of, sums}
-use Rattle.build_laws.specs.NodeBodies.{labels-items, nodes-items, node-step}
+use Rattle.build_laws.specs.NodeBodies.{labels-slotted, nodes-entries, node-step}
 use Rattle.build_laws.specs.TrieFacts.{dense-nodes, sparse-nodes, dense-count, sparse-count}
 use Rattle.build_laws.specs.Counters.{entry-counts, node-counts, entries-total, nodes-total}
 use Rattle.build_laws.specs.KeyBits.{key-bodies, bodies-are, some, fits, facts, chain, DL-bits, DC-bits, DP-bits, SC-bits, SB-bits, SV-bits}
@@ -34,59 +34,59 @@ row-ranks k = omega arith
 module _ (st : Settings) (ks : List Bytes) (b : Built-from st ks) where
   -- ---- the header's counts
 
-  nodes-dense : length (dense-nodes st (leaves (st .width) ks)) ≡ sums (node-counts ks) 0 (st .dense)
+  nodes-dense : length (dense-nodes st (leaves (st .width) ks)) ≡ sums (node-counts ks) 0 (st .dense-levels)
   unfolding dense-nodes
   nodes-dense =
-      sym (nodes-items (dense-nodes st (leaves (st .width) ks)) (facts st ks b .dense-fit))
-      ∙ ap (sum-of node-step) (items-first (st .dense) (leaves (st .width) ks) (omega (arith, b .dense-range)) (chain st ks b .0) (chain st ks b .1) ∙ ap (λ (k : ℕ). items-between 0 k (leaves (st .width) ks)) (sym (sub-zero (st .dense))))
-      ∙ nodes-total (st .width) ks (some st ks b) (b .up) 0 (st .dense) (omega arith) (omega (arith, b .dense-range))
+      sym (nodes-entries (dense-nodes st (leaves (st .width) ks)) (facts st ks b .dense-fit))
+      ∙ ap (sum-of node-step) (slotted-first (st .dense-levels) (leaves (st .width) ks) (omega (arith, b .dense-range)) (chain st ks b .0) (chain st ks b .1) ∙ ap (λ (k : ℕ). slotted-between 0 k (leaves (st .width) ks)) (sym (sub-zero (st .dense-levels))))
+      ∙ nodes-total (st .width) ks (some st ks b) (b .up) 0 (st .dense-levels) (omega arith) (omega (arith, b .dense-range))
 
-  nodes-sparse : length (sparse-nodes st (leaves (st .width) ks)) ≡ sums (node-counts ks) (st .dense) 64
+  nodes-sparse : length (sparse-nodes st (leaves (st .width) ks)) ≡ sums (node-counts ks) (st .dense-levels) 64
   unfolding sparse-nodes
   nodes-sparse =
-      sym (nodes-items (sparse-nodes st (leaves (st .width) ks)) (facts st ks b .sparse-fit))
-      ∙ ap (sum-of node-step) (items-rest (st .dense) (leaves (st .width) ks) (omega (arith, b .dense-range)) (chain st ks b .0) (chain st ks b .1))
-      ∙ nodes-total (st .width) ks (some st ks b) (b .up) (st .dense) 64 (omega (arith, b .dense-range)) (omega arith)
+      sym (nodes-entries (sparse-nodes st (leaves (st .width) ks)) (facts st ks b .sparse-fit))
+      ∙ ap (sum-of node-step) (slotted-rest (st .dense-levels) (leaves (st .width) ks) (omega (arith, b .dense-range)) (chain st ks b .0) (chain st ks b .1))
+      ∙ nodes-total (st .width) ks (some st ks b) (b .up) (st .dense-levels) 64 (omega (arith, b .dense-range)) (omega arith)
 
-  entries-sparse : length (concat (map sparse-labels (sparse-nodes st (leaves (st .width) ks)))) ≡ sums (entry-counts ks) (st .dense) 64
+  entries-sparse : length (concat (map sparse-labels (sparse-nodes st (leaves (st .width) ks)))) ≡ sums (entry-counts ks) (st .dense-levels) 64
   unfolding sparse-nodes
   entries-sparse =
-      ap length (labels-items (sparse-nodes st (leaves (st .width) ks))) ∙ length-map (items-of (sparse-nodes st (leaves (st .width) ks))) (λ (i : Item). i .label)
-      ∙ ap length (items-rest (st .dense) (leaves (st .width) ks) (omega (arith, b .dense-range)) (chain st ks b .0) (chain st ks b .1))
-      ∙ entries-total (st .width) ks (some st ks b) (b .up) (st .dense) (omega (arith, b .dense-range))
+      ap length (labels-slotted (sparse-nodes st (leaves (st .width) ks))) ∙ length-map (slotted-of (sparse-nodes st (leaves (st .width) ks))) (λ (i : Slotted). i .entry .label)
+      ∙ ap length (slotted-rest (st .dense-levels) (leaves (st .width) ks) (omega (arith, b .dense-range)) (chain st ks b .0) (chain st ks b .1))
+      ∙ entries-total (st .width) ks (some st ks b) (b .up) (st .dense-levels) (omega (arith, b .dense-range))
 
   -- the header's count of dense nodes
-  pub dense-nodes-total : length (nodes (leaves (st .width) ks) 0 (st .dense)) ≡ sums (node-counts ks) 0 (st .dense)
+  pub dense-nodes-total : length (nodes (leaves (st .width) ks) 0 (st .dense-levels)) ≡ sums (node-counts ks) 0 (st .dense-levels)
   dense-nodes-total = dense-count st (leaves (st .width) ks) (fits st ks b) ∙ nodes-dense
 
   -- the header's count of sparse nodes
-  pub sparse-nodes-total : length (nodes (leaves (st .width) ks) (st .dense) 64) ≡ sums (node-counts ks) (st .dense) 64
+  pub sparse-nodes-total : length (nodes (leaves (st .width) ks) (st .dense-levels) 64) ≡ sums (node-counts ks) (st .dense-levels) 64
   sparse-nodes-total = sparse-count st (leaves (st .width) ks) (fits st ks b) ∙ nodes-sparse
 
   -- ---- the bodies' lengths
 
   -- SL: a byte an entry
-  pub length-SL : length (key-bodies st ks .SL) ≡ sums (entry-counts ks) (st .dense) 64
+  pub length-SL : length (key-bodies st ks .SL) ≡ sums (entry-counts ks) (st .dense-levels) 64
   length-SL = ap (λ (z : Bodies). length (z .SL)) (bodies-are st ks b) ∙ entries-sparse
 
   -- the bits of SC, one an entry
-  pub length-SC-bits : length (SC-bits st ks b) ≡ sums (entry-counts ks) (st .dense) 64
+  pub length-SC-bits : length (SC-bits st ks b) ≡ sums (entry-counts ks) (st .dense-levels) 64
   length-SC-bits = length-sc (sparse-nodes st (leaves (st .width) ks)) (facts st ks b .sparse-fit) ∙ entries-sparse
 
   -- the bits of SB, one an entry
-  pub length-SB-bits : length (SB-bits st ks b) ≡ sums (entry-counts ks) (st .dense) 64
+  pub length-SB-bits : length (SB-bits st ks b) ≡ sums (entry-counts ks) (st .dense-levels) 64
   length-SB-bits = length-sb (sparse-nodes st (leaves (st .width) ks)) (facts st ks b .sparse-fit) ∙ entries-sparse
 
   -- the bits of DL, 256 a dense node
-  pub length-DL-bits : length (DL-bits st ks b) ≡ 256 * sums (node-counts ks) 0 (st .dense)
+  pub length-DL-bits : length (DL-bits st ks b) ≡ 256 * sums (node-counts ks) 0 (st .dense-levels)
   length-DL-bits = length-dl (dense-nodes st (leaves (st .width) ks)) ∙ ap (λ (k : ℕ). 256 * k) nodes-dense
 
   -- the bits of DC, 256 a dense node
-  pub length-DC-bits : length (DC-bits st ks b) ≡ 256 * sums (node-counts ks) 0 (st .dense)
+  pub length-DC-bits : length (DC-bits st ks b) ≡ 256 * sums (node-counts ks) 0 (st .dense-levels)
   length-DC-bits = length-dc (dense-nodes st (leaves (st .width) ks)) ∙ ap (λ (k : ℕ). 256 * k) nodes-dense
 
   -- the bits of DP, one a dense node
-  pub length-DP-bits : length (DP-bits st ks b) ≡ sums (node-counts ks) 0 (st .dense)
+  pub length-DP-bits : length (DP-bits st ks b) ≡ sums (node-counts ks) 0 (st .dense-levels)
   length-DP-bits = length-map (dense-nodes st (leaves (st .width) ks)) is-exact ∙ nodes-dense
 
   -- the bits of SV, n a leaf
@@ -96,21 +96,21 @@ module _ (st : Settings) (ks : List Bytes) (b : Built-from st ks) where
       ∙ ap (λ (k : ℕ). k * st .width) (facts st ks b .leaf-total ∙ leaves-length (st .width) ks)
 
   -- DL and DC: 32 bytes a dense node
-  pub length-DL : length (key-bodies st ks .DL) ≡ 32 * sums (node-counts ks) 0 (st .dense)
-  length-DL = ap (λ (z : Bodies). length (z .DL)) (bodies-are st ks b) ∙ length-pack (DL-bits st ks b) ∙ ap (blocks 8) length-DL-bits ∙ row-bytes (sums (node-counts ks) 0 (st .dense))
+  pub length-DL : length (key-bodies st ks .DL) ≡ 32 * sums (node-counts ks) 0 (st .dense-levels)
+  length-DL = ap (λ (z : Bodies). length (z .DL)) (bodies-are st ks b) ∙ length-pack (DL-bits st ks b) ∙ ap (blocks 8) length-DL-bits ∙ row-bytes (sums (node-counts ks) 0 (st .dense-levels))
 
-  pub length-DC : length (key-bodies st ks .DC) ≡ 32 * sums (node-counts ks) 0 (st .dense)
-  length-DC = ap (λ (z : Bodies). length (z .DC)) (bodies-are st ks b) ∙ length-pack (DC-bits st ks b) ∙ ap (blocks 8) length-DC-bits ∙ row-bytes (sums (node-counts ks) 0 (st .dense))
+  pub length-DC : length (key-bodies st ks .DC) ≡ 32 * sums (node-counts ks) 0 (st .dense-levels)
+  length-DC = ap (λ (z : Bodies). length (z .DC)) (bodies-are st ks b) ∙ length-pack (DC-bits st ks b) ∙ ap (blocks 8) length-DC-bits ∙ row-bytes (sums (node-counts ks) 0 (st .dense-levels))
 
   -- DP: a bit a dense node
-  pub length-DP : length (key-bodies st ks .DP) ≡ blocks 8 (sums (node-counts ks) 0 (st .dense))
+  pub length-DP : length (key-bodies st ks .DP) ≡ blocks 8 (sums (node-counts ks) 0 (st .dense-levels))
   length-DP = ap (λ (z : Bodies). length (z .DP)) (bodies-are st ks b) ∙ length-pack (DP-bits st ks b) ∙ ap (blocks 8) length-DP-bits
 
   -- SC and SB: a bit an entry
-  pub length-SC : length (key-bodies st ks .SC) ≡ blocks 8 (sums (entry-counts ks) (st .dense) 64)
+  pub length-SC : length (key-bodies st ks .SC) ≡ blocks 8 (sums (entry-counts ks) (st .dense-levels) 64)
   length-SC = ap (λ (z : Bodies). length (z .SC)) (bodies-are st ks b) ∙ length-pack (SC-bits st ks b) ∙ ap (blocks 8) length-SC-bits
 
-  pub length-SB : length (key-bodies st ks .SB) ≡ blocks 8 (sums (entry-counts ks) (st .dense) 64)
+  pub length-SB : length (key-bodies st ks .SB) ≡ blocks 8 (sums (entry-counts ks) (st .dense-levels) 64)
   length-SB = ap (λ (z : Bodies). length (z .SB)) (bodies-are st ks b) ∙ length-pack (SB-bits st ks b) ∙ ap (blocks 8) length-SB-bits
 
   -- SV: n bits a leaf
@@ -118,26 +118,26 @@ module _ (st : Settings) (ks : List Bytes) (b : Built-from st ks) where
   length-SV = ap (λ (z : Bodies). length (z .SV)) (bodies-are st ks b) ∙ length-pack (SV-bits st ks b) ∙ ap (blocks 8) length-SV-bits
 
   -- RL and RC: 16 bytes a dense node
-  pub length-RL : length (key-bodies st ks .RL) ≡ 16 * sums (node-counts ks) 0 (st .dense)
-  length-RL = ap (λ (z : Bodies). length (z .RL)) (bodies-are st ks b) ∙ length-ranks 64 (DL-bits st ks b) ∙ ap (λ (k : ℕ). 4 * blocks 64 k) length-DL-bits ∙ row-ranks (sums (node-counts ks) 0 (st .dense))
+  pub length-RL : length (key-bodies st ks .RL) ≡ 16 * sums (node-counts ks) 0 (st .dense-levels)
+  length-RL = ap (λ (z : Bodies). length (z .RL)) (bodies-are st ks b) ∙ length-ranks 64 (DL-bits st ks b) ∙ ap (λ (k : ℕ). 4 * blocks 64 k) length-DL-bits ∙ row-ranks (sums (node-counts ks) 0 (st .dense-levels))
 
-  pub length-RC : length (key-bodies st ks .RC) ≡ 16 * sums (node-counts ks) 0 (st .dense)
-  length-RC = ap (λ (z : Bodies). length (z .RC)) (bodies-are st ks b) ∙ length-ranks 64 (DC-bits st ks b) ∙ ap (λ (k : ℕ). 4 * blocks 64 k) length-DC-bits ∙ row-ranks (sums (node-counts ks) 0 (st .dense))
+  pub length-RC : length (key-bodies st ks .RC) ≡ 16 * sums (node-counts ks) 0 (st .dense-levels)
+  length-RC = ap (λ (z : Bodies). length (z .RC)) (bodies-are st ks b) ∙ length-ranks 64 (DC-bits st ks b) ∙ ap (λ (k : ℕ). 4 * blocks 64 k) length-DC-bits ∙ row-ranks (sums (node-counts ks) 0 (st .dense-levels))
 
   -- RP: four bytes for each begun block of 64 dense nodes
-  pub length-RP : length (key-bodies st ks .RP) ≡ 4 * blocks 64 (sums (node-counts ks) 0 (st .dense))
+  pub length-RP : length (key-bodies st ks .RP) ≡ 4 * blocks 64 (sums (node-counts ks) 0 (st .dense-levels))
   length-RP = ap (λ (z : Bodies). length (z .RP)) (bodies-are st ks b) ∙ length-ranks 64 (DP-bits st ks b) ∙ ap (λ (k : ℕ). 4 * blocks 64 k) length-DP-bits
 
   -- RS: four bytes for each begun block of 512 entries
-  pub length-RS : length (key-bodies st ks .RS) ≡ 4 * blocks 512 (sums (entry-counts ks) (st .dense) 64)
+  pub length-RS : length (key-bodies st ks .RS) ≡ 4 * blocks 512 (sums (entry-counts ks) (st .dense-levels) 64)
   length-RS = ap (λ (z : Bodies). length (z .RS)) (bodies-are st ks b) ∙ length-ranks 512 (SC-bits st ks b) ∙ ap (λ (k : ℕ). 4 * blocks 512 k) length-SC-bits
 
   -- as many ones in SB as sparse nodes
-  pub ones-SB : ones (SB-bits st ks b) ≡ sums (node-counts ks) (st .dense) 64
+  pub ones-SB : ones (SB-bits st ks b) ≡ sums (node-counts ks) (st .dense-levels) 64
   ones-SB = louds-ones (sparse-nodes st (leaves (st .width) ks)) (facts st ks b .sparse-fit) .0 ∙ nodes-sparse
 
   -- TS: four bytes for each begun 64 sparse nodes
-  pub length-TS : length (key-bodies st ks .TS) ≡ 4 * blocks 64 (sums (node-counts ks) (st .dense) 64)
+  pub length-TS : length (key-bodies st ks .TS) ≡ 4 * blocks 64 (sums (node-counts ks) (st .dense-levels) 64)
   length-TS =
       ap (λ (z : Bodies). length (z .TS)) (bodies-are st ks b) ∙ length-samples (SB-bits st ks b)
       ∙ ap (λ (k : ℕ). 4 * blocks 64 k) ones-SB

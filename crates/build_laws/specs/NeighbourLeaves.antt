@@ -14,8 +14,8 @@ use Rattle.spec.specs.Keys.{below}
 use Rattle.spec.specs.Leaves.{Leaf, leaves, bits-behind}
 use Rattle.theory.specs.Terms.{Ascending}
 use Rattle.theory.specs.Order.{shared-comm, below-cons, shared-eq, shared-ne, above-short, shared-le}
-use Rattle.build_laws.specs.LevelItems.{Follows, Chain, Node-leaf}
-use Rattle.build_laws.specs.TrieItems.{Rooted}
+use Rattle.build_laws.specs.LevelEntries.{Follows, Chain, Node-leaf}
+use Rattle.build_laws.specs.TrieEntries.{Rooted}
 use Rattle.theory.specs.Neighbours.{next-shared, neighbour-leaf, neighbour-leaves, next-shared-le, Nonempty, leaves-by-neighbours}
 
 -- how long the cut key of a key of n bytes is that shares p bytes with the key before and q with the next

@@ -11,13 +11,14 @@ use Rattle.spec.specs.Bytes.{Bytes, Bits, shared}
 use Rattle.spec.specs.Leaves.{bits-behind}
 use Rattle.theory.specs.Terms.{Ascending, Keys}
 use Rattle.theory.specs.Order.{shared-comm, above-short}
-use Rattle.build_laws.specs.LevelItems.{pred}
-use Rattle.build_laws.specs.TrieItems.{Item}
+use Rattle.build_laws.specs.LevelEntries.{pred}
+use Rattle.build_laws.specs.TrieEntries.{Slotted}
 use Rattle.theory.specs.Neighbours.{next-shared, next-shared-le, Nonempty}
 use Rattle.build_laws.specs.NeighbourLeaves.{cut-length, cut-le}
 use Rattle.build_laws.specs.Emissions.{Emission, emission, level-values, values-below, Levels-below, map-emissions, key-emissions, emissions, below-append, key-below, map-keys, level-map}
-use Rattle.build_laws.specs.KeyItems.{continues-at, item-at, exact-item, item-emissions}
-use Rattle.build_laws.specs.DenseRows.{Cell, cell, label-cell, child-cell, exact-cell}
+use Rattle.build_laws.specs.KeyEntries.{continues-at, slotted-at, exact-slotted, slotted-emissions}
+use Rattle.build_laws.specs.DenseRows.{cell, label-cell, child-cell, exact-cell, on-entry}
+use Rattle.build_laws.specs.declared.Cell.{Cell}
 
 -- ---- sparse levels, from lo on
 
@@ -53,39 +54,39 @@ unfoldable pub dense-exact-emissions : ℕ → ℕ → List Bytes → List (Emis
 unfolding emissions
 dense-exact-emissions hi p ks = emissions 0 hi (λ p q k d. cell (leb p d) false 0) (cell true true 0) p ks
 
--- ---- they are functions of the items
+-- ---- they are functions of the entries
 
 module _ (n lo : ℕ) (ks : List Bytes) where
-  -- the items' labels
-  pub label-of-items : label-emissions lo 0 ks ≡ map-emissions (λ (i : Item). i .label) (item-emissions lo 64 n ks)
-  unfolding label-emissions item-emissions
-  label-of-items = sym (map-keys (λ (i : Item). i .label) lo 64 (item-at n) (exact-item n) 0 ks)
+  -- the entries' labels
+  pub label-of-slotted : label-emissions lo 0 ks ≡ map-emissions (λ (i : Slotted). i .entry .label) (slotted-emissions lo 64 n ks)
+  unfolding label-emissions slotted-emissions
+  label-of-slotted = sym (map-keys (λ (i : Slotted). i .entry .label) lo 64 (slotted-at n) (exact-slotted n) 0 ks)
 
   -- whether they continue
-  pub child-of-items : child-emissions lo 0 ks ≡ map-emissions (λ (i : Item). i .child) (item-emissions lo 64 n ks)
-  unfolding child-emissions item-emissions
-  child-of-items = sym (map-keys (λ (i : Item). i .child) lo 64 (item-at n) (exact-item n) 0 ks)
+  pub child-of-slotted : child-emissions lo 0 ks ≡ map-emissions (λ (i : Slotted). i .entry .child) (slotted-emissions lo 64 n ks)
+  unfolding child-emissions slotted-emissions
+  child-of-slotted = sym (map-keys (λ (i : Slotted). i .entry .child) lo 64 (slotted-at n) (exact-slotted n) 0 ks)
 
   -- whether they start a node
-  pub start-of-items : start-emissions lo 0 ks ≡ map-emissions (λ (i : Item). i .start) (item-emissions lo 64 n ks)
-  unfolding start-emissions item-emissions
-  start-of-items = sym (map-keys (λ (i : Item). i .start) lo 64 (item-at n) (exact-item n) 0 ks)
+  pub start-of-slotted : start-emissions lo 0 ks ≡ map-emissions (λ (i : Slotted). i .entry .start) (slotted-emissions lo 64 n ks)
+  unfolding start-emissions slotted-emissions
+  start-of-slotted = sym (map-keys (λ (i : Slotted). i .entry .start) lo 64 (slotted-at n) (exact-slotted n) 0 ks)
 
 module _ (n hi : ℕ) (ks : List Bytes) where
   -- their label cells
-  pub label-cells-of-items : dense-label-emissions hi 0 ks ≡ map-emissions label-cell (item-emissions 0 hi n ks)
-  unfolding dense-label-emissions item-emissions
-  label-cells-of-items = sym (map-keys label-cell 0 hi (item-at n) (exact-item n) 0 ks)
+  pub label-cells-of-slotted : dense-label-emissions hi 0 ks ≡ map-emissions (on-entry label-cell) (slotted-emissions 0 hi n ks)
+  unfolding dense-label-emissions slotted-emissions
+  label-cells-of-slotted = sym (map-keys (on-entry label-cell) 0 hi (slotted-at n) (exact-slotted n) 0 ks)
 
   -- their child cells
-  pub child-cells-of-items : dense-child-emissions hi 0 ks ≡ map-emissions child-cell (item-emissions 0 hi n ks)
-  unfolding dense-child-emissions item-emissions
-  child-cells-of-items = sym (map-keys child-cell 0 hi (item-at n) (exact-item n) 0 ks)
+  pub child-cells-of-slotted : dense-child-emissions hi 0 ks ≡ map-emissions (on-entry child-cell) (slotted-emissions 0 hi n ks)
+  unfolding dense-child-emissions slotted-emissions
+  child-cells-of-slotted = sym (map-keys (on-entry child-cell) 0 hi (slotted-at n) (exact-slotted n) 0 ks)
 
   -- their exact cells
-  pub exact-cells-of-items : dense-exact-emissions hi 0 ks ≡ map-emissions exact-cell (item-emissions 0 hi n ks)
-  unfolding dense-exact-emissions item-emissions
-  exact-cells-of-items = sym (map-keys exact-cell 0 hi (item-at n) (exact-item n) 0 ks)
+  pub exact-cells-of-slotted : dense-exact-emissions hi 0 ks ≡ map-emissions (on-entry exact-cell) (slotted-emissions 0 hi n ks)
+  unfolding dense-exact-emissions slotted-emissions
+  exact-cells-of-slotted = sym (map-keys (on-entry exact-cell) 0 hi (slotted-at n) (exact-slotted n) 0 ks)
 
 -- the values of all levels, mapped
 pub values-map : {A B : Type 0} (f : A → B) (es : List (Emission A)) (d : ℕ) → values-below (map-emissions f es) d ≡ map f (values-below es d)

@@ -13,8 +13,8 @@ use Rattle.build_laws.specs.Emissions.{emission}
 use Rattle.build_laws.specs.BytePass.{byte-state, one-step}
 use Rattle.build_laws.specs.PassEmissions.{key-slot}
 use Rattle.build_laws.specs.BodyLaws.{slot-at}
-use Rattle.build_laws.specs.Writes.{with-bits, set-at-cursor}
-use Rattle.build_laws.specs.WriteLaws.{with-none}
+use Rattle.build_laws.specs.Passes.{with-bits, set-at-cursor}
+use Rattle.build_laws.specs.CursorWrites.{with-none}
 
 no-ones : (n base : ℕ) → positions base (replicate n false) ≡ []
 unfolding positions

@@ -8,7 +8,7 @@ use lib.ListN.{length, getD, set, length-append}
 use lib.Dec.{leb, ltb, eqb}
 use borrow.Author.Tests.{leb-true, leb-false, ltb-true, ltb-false}
 use Rattle.spec.specs.Bytes.{Bytes}
-use Rattle.build_laws.specs.LevelItems.{pred}
+use Rattle.build_laws.specs.LevelEntries.{pred}
 use Rattle.theory.specs.Neighbours.{next-shared}
 use Rattle.build_laws.specs.NeighbourLeaves.{cut-length}
 use Rattle.build_laws.specs.Emissions.{Emission, emission, level-values, map-emissions, key-emissions, emissions, level-append, level-none, key-level, key-low, key-high}

@@ -24,12 +24,12 @@ use Rattle.theory.specs.TrieGroups.{well-sized-depth}
 -- the nodes on the dense levels, in level order
 unfoldable pub dense-nodes : Settings → List Leaf → List Node
 unfolding concat trie
-dense-nodes st ls = concat (take (st .dense) (trie ls))
+dense-nodes st ls = concat (take (st .dense-levels) (trie ls))
 
 -- the other nodes
 unfoldable pub sparse-nodes : Settings → List Leaf → List Node
 unfolding concat trie
-sparse-nodes st ls = concat (drop (st .dense) (trie ls))
+sparse-nodes st ls = concat (drop (st .dense-levels) (trie ls))
 
 -- Dense and sparse nodes as a builder's trie has them: each has a label, labels are bytes, slots have n bits, and as many leaves as are counted.
 pub record Trie-facts (n count : ℕ) (ds ss : List Node) : Type 0 where
@@ -46,7 +46,7 @@ all-split P (x ∷ a) b h = let q = all-split P a b (h .1) in ((h .0, q .0), q .
 -- both kinds of nodes together are the trie's
 pub nodes-both : (st : Settings) (ls : List Leaf) → dense-nodes st ls ++ sparse-nodes st ls ≡ concat (trie ls)
 unfolding dense-nodes sparse-nodes
-nodes-both st ls = concat-split (st .dense) (trie ls)
+nodes-both st ls = concat-split (st .dense-levels) (trie ls)
 
 -- the nodes of such a list's trie
 pub trie-facts : (st : Settings) (ls : List Leaf) → Buildable st ls → Trie-facts (st .width) (length ls) (dense-nodes st ls) (sparse-nodes st ls)
@@ -84,27 +84,27 @@ same-bits ls dp sp ds ss p q =
     )
 
 module _ (st : Settings) (ls : List Leaf) (v : Buildable st ls) where
-  literal-nodes : Prefix-nodes (st .dense) ls
-  literal-nodes = prefix-nodes (st .dense) ls (omega (arith, v .dense-range)) (v .realizable) (well-sized-depth (st .width) ls (v .well-sized))
+  literal-nodes : Prefix-nodes (st .dense-levels) ls
+  literal-nodes = prefix-nodes (st .dense-levels) ls (omega (arith, v .dense-range)) (v .realizable) (well-sized-depth (st .width) ls (v .well-sized))
 
   -- The bodies of document 01 are those of the trie's dense and sparse nodes.
-  pub bodies-levels : Literal.bodies (st .dense) ls
+  pub bodies-levels : Literal.bodies (st .dense-levels) ls
       ≡ bodies-of (concat (map dense-labels (dense-nodes st ls))) (concat (map dense-has-child (dense-nodes st ls))) (map is-exact (dense-nodes st ls))
       (concat (map sparse-labels (sparse-nodes st ls))) (concat (map sparse-has-child (sparse-nodes st ls))) (concat (map louds (sparse-nodes st ls))) (concat (map slots (dense-nodes st ls ++ sparse-nodes st ls)))
   unfolding dense-nodes sparse-nodes
   bodies-levels =
-      literal-bodies (st .dense) ls
-      ∙ same-bits ls (nodes ls 0 (st .dense)) (nodes ls (st .dense) 64) (concat (take (st .dense) (trie ls))) (concat (drop (st .dense) (trie ls))) (literal-nodes .first) (literal-nodes .rest)
+      literal-bodies (st .dense-levels) ls
+      ∙ same-bits ls (nodes ls 0 (st .dense-levels)) (nodes ls (st .dense-levels) 64) (concat (take (st .dense-levels) (trie ls))) (concat (drop (st .dense-levels) (trie ls))) (literal-nodes .first) (literal-nodes .rest)
 
   -- so many dense nodes
-  pub dense-count : length (nodes ls 0 (st .dense)) ≡ length (dense-nodes st ls)
+  pub dense-count : length (nodes ls 0 (st .dense-levels)) ≡ length (dense-nodes st ls)
   unfolding dense-nodes
-  dense-count = sym (length-map (nodes ls 0 (st .dense)) (node-at ls)) ∙ ap length (literal-nodes .first)
+  dense-count = sym (length-map (nodes ls 0 (st .dense-levels)) (node-at ls)) ∙ ap length (literal-nodes .first)
 
   -- so many sparse nodes
-  pub sparse-count : length (nodes ls (st .dense) 64) ≡ length (sparse-nodes st ls)
+  pub sparse-count : length (nodes ls (st .dense-levels) 64) ≡ length (sparse-nodes st ls)
   unfolding sparse-nodes
-  sparse-count = sym (length-map (nodes ls (st .dense) 64) (node-at ls)) ∙ ap length (literal-nodes .rest)
+  sparse-count = sym (length-map (nodes ls (st .dense-levels) 64) (node-at ls)) ∙ ap length (literal-nodes .rest)
 
   all-nodes : map (node-at ls) (nodes ls 0 64) ≡ concat (trie ls)
   all-nodes = prefix-nodes 0 ls (omega arith) (v .realizable) (well-sized-depth (st .width) ls (v .well-sized)) .rest

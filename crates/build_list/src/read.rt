@@ -1,15 +1,15 @@
 // The key of a record, and what it shares with the next.
 ghost use mathlib.Core.Path.{_≡_};
 ghost use Prim.Native.Nat.{_+_, _≤_, _<_};
-ghost use lib.ListN.{length, getD};
-ghost use Rattle.build_laws.specs.List.{shared-behind, key-at};
+ghost use lib.ListN.{length};
+ghost use Rattle.build_laws.specs.KeyRecords.{record-end, Whole-records, shared-behind, key-at};
 use bits::numbers::wide;
 use build_laws::Key;
 use keys::compare::shared;
 
 // The length of the prefix that the key of n bytes from a shares with the key of the record behind it, 0 if there is none.
 fn next_shared(s: &[u8], a: usize, n: usize) -> usize
-    requires { ⌜ (a + n ≤ length (now s)) × (a + n < length (now s) → a + n + 3 + getD (now s) (a + n + 2) 0 ≤ length (now s)) ⌝ }
+    requires { ⌜ (a + n ≤ length (now s)) × (a + n < length (now s) → record-end (now s) (a + n) ≤ length (now s)) ⌝ }
     ensures { λ r. ⌜ r ≡ shared-behind (now (s .entry)) a n ⌝ }
 {
     let end = a + n;
@@ -23,7 +23,7 @@ fn next_shared(s: &[u8], a: usize, n: usize) -> usize
 
 // The key of the record at `at`, which starts nodes from the level `first` on.
 pub fn read_key(s: &[u8], at: usize, first: usize) -> Key
-    requires { ⌜ (at + 3 + getD (now s) (at + 2) 0 ≤ length (now s)) × (at + 3 + getD (now s) (at + 2) 0 < length (now s) → at + 3 + getD (now s) (at + 2) 0 + 3 + getD (now s) (at + 3 + getD (now s) (at + 2) 0 + 2) 0 ≤ length (now s)) ⌝ }
+    requires { ⌜ Whole-records (now s) at ⌝ }
     ensures { λ r. ⌜ r ≡ key-at (now (s .entry)) at first ⌝ }
 {
     let a = at + 3;

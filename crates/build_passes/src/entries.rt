@@ -2,19 +2,18 @@
 ghost use mathlib.Core.Path.{_≡_};
 ghost use Prim.Native.Nat.{_+_, _≤_, _<_};
 ghost use lib.ListN.{length};
-ghost use Rattle.build_laws.specs.LevelItems.{pred};
+ghost use Rattle.build_laws.specs.LevelEntries.{pred};
 ghost use Rattle.build_laws.specs.NeighbourLeaves.{cut-length};
-ghost use Rattle.build_laws.specs.KeyItems.{continues-at};
-ghost use Rattle.build_laws.specs.PassEmissions.{Key-numbers};
-ghost use Rattle.build_laws.specs.BitPass.{Room};
+ghost use Rattle.build_laws.specs.KeyEntries.{continues-at, entry-at, exact-entry};
 ghost use Rattle.build_laws.specs.BytePass.{byte-state};
-ghost use Rattle.bits_laws.specs.Bits.{key};
-ghost use Rattle.build_laws.specs.Writes.{entry-at, exact-entry, key-entries, key-exact, kind-step, kind-ones, capacity, write-entries};
+ghost use Rattle.build_laws.specs.Passes.{key-bytes, Listed-key, listed-entries, key-exact, Entries-room, write-entries};
+ghost use Rattle.build_laws.specs.Limits.{counters};
 use super::numbers::cut_length;
-use super::numbers::larger;
-use super::numbers::less;
-use super::numbers::smaller;
+use super::numbers::one_less;
 use super::put::write_entry;
+use bits::numbers::larger;
+use bits::numbers::smaller;
+use build_laws::Counters;
 use build_laws::Entry;
 use build_laws::Key;
 use build_laws::Kind;
@@ -34,7 +33,7 @@ fn continues(k: Key, c: usize, d: usize) -> bool
 // The branch of a key on level d, c the length of its cut key.
 fn branch(s: &[u8], k: Key, c: usize, d: usize) -> Entry
     requires { ⌜ (k .at + k .len ≤ length (now s)) × (d < c) × (c ≤ k .len) × (k .len ≤ 64) × (c ≡ cut-length (pred (k .first)) (k .next) (k .len)) ⌝ }
-    ensures { λ r. ⌜ r ≡ entry-at (k .first) (k .next) (key (now (s .entry)) (k .at) (k .len)) d ⌝ }
+    ensures { λ r. ⌜ r ≡ entry-at (k .first) (k .next) (key-bytes (now (s .entry)) k) d ⌝ }
 {
     let at = k.at + d;
     let more = continues(k, c, d);
@@ -66,12 +65,11 @@ pub fn has_exact(k: Key, l: Levels) -> bool
 }
 
 // What a body has of a key's entries on the levels goes to the levels' cursors.
-pub fn write_entries(out: &mut [u8], cur: &mut [u32; 65], s: &[u8], k: Key, l: Levels, kind: Kind)
-    requires { ⌜ (k .at + k .len ≤ length (now s)) × Key-numbers (pred (k .first)) (k .next) (k .len) × (length (now cur) ≡ 65) ⌝ }
-    requires { ⌜ Room (kind-step kind) (kind-ones kind) (capacity kind (length (now out))) 8600000 (key-entries (l .lo) (l .hi) (k .first) (k .next) (key (now s) (k .at) (k .len))) (now cur) ⌝ }
-    ensures { λ _. ⌜ byte-state (now (out .exit)) (now (cur .exit)) ≡ write-entries kind (key-entries (l .lo) (l .hi) (k .first) (k .next) (key (now (s .entry)) (k .at) (k .len))) (byte-state (now (out .entry)) (now (cur .entry))) ⌝ }
+pub fn write_entries(out: &mut [u8], cur: &mut Counters, s: &[u8], k: Key, l: Levels, kind: Kind)
+    requires { ⌜ Listed-key (now s) k × (length (now cur) ≡ counters) × Entries-room kind (listed-entries l k (key-bytes (now s) k)) (length (now out)) (now cur) ⌝ }
+    ensures { λ _. ⌜ byte-state (now (out .exit)) (now (cur .exit)) ≡ write-entries kind (listed-entries l k (key-bytes (now (s .entry)) k)) (byte-state (now (out .entry)) (now (cur .entry))) ⌝ }
 {
-    let b = less(k.first);
+    let b = one_less(k.first);
     let c = cut_length(b, k.next, k.len);
     let end = smaller(c, l.hi);
     let mut d = larger(b, l.lo);

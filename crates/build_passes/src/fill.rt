@@ -3,42 +3,48 @@ ghost use mathlib.Core.Path.{_≡_};
 ghost use Prim.Native.Nat.{_+_, _≤_};
 ghost use lib.ListN.{length};
 ghost use Rattle.spec.specs.Keys.{keys-of};
-ghost use Rattle.build_laws.specs.LevelItems.{pred};
+ghost use Rattle.build_laws.specs.LevelEntries.{pred};
 ghost use Rattle.build_laws.specs.BytePass.{byte-state};
 ghost use Rattle.build_laws.specs.PassEmissions.{Key-numbers};
 ghost use Rattle.bits_laws.specs.Bits.{key};
-ghost use Rattle.build_laws.specs.List.{Accepted};
-ghost use Rattle.build_laws.specs.Writes.{write-key, write-keys, Key-room, Keys-room};
+ghost use Rattle.build_laws.specs.KeyRecords.{Accepted-list};
+ghost use Rattle.build_laws.specs.Passes.{key-bytes, Listed-key, pass-key, pass-keys, Key-room-of, Pass-room};
+ghost use Rattle.build_laws.specs.Limits.{counters};
 use super::entries::write_entries;
 use super::slots::write_slot;
 use build_laws::Body;
+use build_laws::Counters;
 use build_laws::Key;
-use build_laws::Levels;
+use build_laws::Pass;
 use build_list::read::read_key;
 
-// What a body has of one key, n the suffix width.
-fn write_key(out: &mut [u8], cur: &mut [u32; 65], s: &[u8], k: Key, l: Levels, n: usize, body: Body)
-    requires { ⌜ (k .at + k .len ≤ length (now s)) × Key-numbers (pred (k .first)) (k .next) (k .len) × (length (now cur) ≡ 65) × (n ≤ 16) ⌝ }
-    requires { ⌜ Key-room body (l .lo) (l .hi) n (k .first) (k .next) (key (now s) (k .at) (k .len)) (length (now out)) (now cur) ⌝ }
-    ensures { λ _. ⌜ byte-state (now (out .exit)) (now (cur .exit)) ≡ write-key body (l .lo) (l .hi) n (k .first) (k .next) (key (now (s .entry)) (k .at) (k .len)) (byte-state (now (out .entry)) (now (cur .entry))) ⌝ }
+// What a pass has to write of one key goes to the body.
+fn write_key(out: &mut [u8], cur: &mut Counters, s: &[u8], k: Key, pass: Pass)
+    requires { ⌜ Listed-key (now s) k × (length (now cur) ≡ counters) × (pass .width ≤ 16) ⌝ }
+    requires { ⌜ Key-room-of pass k (key-bytes (now s) k) (length (now out)) (now cur) ⌝ }
+    ensures { λ _. ⌜ byte-state (now (out .exit)) (now (cur .exit)) ≡ pass-key pass k (key-bytes (now (s .entry)) k) (byte-state (now (out .entry)) (now (cur .entry))) ⌝ }
 {
+    let body = pass.body;
     match body {
-        Body::Entries(kind) => write_entries(out, cur, s, k, l, kind),
-        Body::Slots => write_slot(out, cur, s, k, n),
+        Body::Entries(kind) => {
+            let l = pass.levels;
+            write_entries(out, cur, s, k, l, kind)
+        }
+        Body::Slots => write_slot(out, cur, s, k, pass.width),
     }
 }
 
-// What a body has of all keys of the list, from cursors at the starts of the levels.
-pub fn write_keys(out: &mut [u8], cur: &mut [u32; 65], s: &[u8], l: Levels, n: usize, body: Body)
-    requires { ⌜ Accepted (now s) × (length (now cur) ≡ 65) × (n ≤ 16) ⌝ }
-    requires { ⌜ Keys-room body (l .lo) (l .hi) n 0 (keys-of (now s)) (length (now out)) (now cur) ⌝ }
-    ensures { λ _. ⌜ byte-state (now (out .exit)) (now (cur .exit)) ≡ write-keys body (l .lo) (l .hi) n 0 (keys-of (now (s .entry))) (byte-state (now (out .entry)) (now (cur .entry))) ⌝ }
+// What a pass has to write of all keys of the list goes to the body, from cursors at the starts of the levels.
+pub fn write_keys(out: &mut [u8], cur: &mut Counters, s: &[u8], pass: Pass)
+    requires { ⌜ Accepted-list (now s) × (length (now cur) ≡ counters) × (pass .width ≤ 16) ⌝ }
+    requires { ⌜ Pass-room pass 0 (keys-of (now s)) (length (now out)) (now cur) ⌝ }
+    ensures { λ _. ⌜ byte-state (now (out .exit)) (now (cur .exit)) ≡ pass-keys pass 0 (keys-of (now (s .entry))) (byte-state (now (out .entry)) (now (cur .entry))) ⌝ }
 {
     let mut at = 0usize;
     let mut first = 0usize;
     while at < s.len() {
         let k = read_key(s, at, first);
-        write_key(out, cur, s, k, l, n, body);
+        write_key(out, cur, s, k, pass);
         first = k.next + 1;
         at = k.at + k.len;
     }

@@ -1,47 +1,19 @@
-// Small functions on numbers, and those of a key.
+// The numbers of a key: how long its cut key is, and the level of its leaf.
 ghost use mathlib.Core.Path.{_≡_};
-ghost use Prim.Native.Nat.{_≤_, _<_, max, min};
-ghost use Rattle.spec.specs.Bytes.{bit};
-ghost use Rattle.build_laws.specs.LevelItems.{pred};
+ghost use Prim.Native.Nat.{_≤_, _<_};
+ghost use Rattle.build_laws.specs.LevelEntries.{pred};
 ghost use Rattle.build_laws.specs.NeighbourLeaves.{cut-length};
 ghost use Rattle.build_laws.specs.PassEmissions.{leaf-level, Key-numbers};
-
-// A u32 as a usize.
-pub fn wide32(x: u32) -> usize
-    ensures { λ r. ⌜ r ≡ x ⌝ }
-{
-    x as usize
-}
+use bits::numbers::larger;
 
 // One less, but 0 stays.
-pub fn less(p: usize) -> usize
+pub fn one_less(p: usize) -> usize
     ensures { λ r. ⌜ r ≡ pred p ⌝ }
 {
     if p == 0 {
         return 0;
     }
     p - 1
-}
-
-// The larger of two numbers.
-pub fn larger(a: usize, b: usize) -> usize
-    ensures { λ r. ⌜ r ≡ max a b ⌝ }
-{
-    if a < b { b } else { a }
-}
-
-// The smaller of two numbers.
-pub fn smaller(a: usize, b: usize) -> usize
-    ensures { λ r. ⌜ r ≡ min a b ⌝ }
-{
-    if a < b { a } else { b }
-}
-
-// A bit as a number.
-pub fn one_if(b: bool) -> usize
-    ensures { λ r. ⌜ (r ≡ bit b) × (r ≤ 1) ⌝ }
-{
-    if b { 1 } else { 0 }
 }
 
 // How long the cut key is of a key of n bytes that shares p bytes with the key before and q with the key behind.

@@ -5,24 +5,30 @@ ghost use Prim.Native.Nat.{_+_, _*_, _≤_, _<_};
 ghost use lib.ListN.{length};
 ghost use Rattle.build_laws.specs.Emissions.{emission};
 ghost use Rattle.build_laws.specs.BitPass.{Room};
-ghost use Rattle.build_laws.specs.BytePass.{byte-state, place, one-step, at-cursor};
-ghost use Rattle.build_laws.specs.DenseRows.{cell, cell-step, cell-ones};
+ghost use Rattle.build_laws.specs.BytePass.{byte-state, put-byte, one-step, at-cursor};
+ghost use Rattle.build_laws.specs.DenseRows.{cell-step, cell-ones};
 ghost use Rattle.build_laws.specs.BodyLaws.{bit-at};
-ghost use Rattle.build_laws.specs.Writes.{set-at-cursor, kind-step, kind-ones, capacity, write-entry};
-use super::numbers::less;
-use super::numbers::one_if;
-use super::numbers::wide32;
+ghost use Rattle.build_laws.specs.Passes.{set-at-cursor, Entries-room, write-entry};
+ghost use Rattle.build_laws.specs.Limits.{counter-max};
+use super::numbers::one_less;
+use bits::numbers::one_if;
 use bits::numbers::wide;
+use bits::numbers::wide32;
 use bits::ones::set_bit;
+use build_laws::Cell;
+use build_laws::Counters;
 use build_laws::Entry;
 use build_laws::Kind;
 use image_types::BitPos;
 use image_types::NodeNum;
 
+// The bits of a node's row in D-Labels and in D-HasChild.
+const ROW: usize = 256;
+
 // x goes to the cursor of level d, which goes on by one.
-fn place_byte(out: &mut [u8], cur: &mut [u32; 65], d: usize, x: u8)
-    requires { ⌜ Room one-step at-cursor (length (now out)) 8600000 (emission d x ∷ []) (now cur) ⌝ }
-    ensures { λ _. ⌜ byte-state (now (out .exit)) (now (cur .exit)) ≡ place (emission d x) (byte-state (now (out .entry)) (now (cur .entry))) ⌝ }
+fn put_byte(out: &mut [u8], cur: &mut Counters, d: usize, x: u8)
+    requires { ⌜ Room one-step at-cursor (length (now out)) counter-max (emission d x ∷ []) (now cur) ⌝ }
+    ensures { λ _. ⌜ byte-state (now (out .exit)) (now (cur .exit)) ≡ put-byte (emission d x) (byte-state (now (out .entry)) (now (cur .entry))) ⌝ }
 {
     let v = cur[d];
     let i = wide32(v);
@@ -31,8 +37,8 @@ fn place_byte(out: &mut [u8], cur: &mut [u32; 65], d: usize, x: u8)
 }
 
 // The bit at the cursor of level d is set if x, and the cursor goes on by one.
-fn put_bit(out: &mut [u8], cur: &mut [u32; 65], d: usize, x: bool)
-    requires { ⌜ Room one-step bit-at (8 * length (now out)) 8600000 (emission d x ∷ []) (now cur) ⌝ }
+fn put_bit(out: &mut [u8], cur: &mut Counters, d: usize, x: bool)
+    requires { ⌜ Room one-step bit-at (8 * length (now out)) counter-max (emission d x ∷ []) (now cur) ⌝ }
     ensures { λ _. ⌜ byte-state (now (out .exit)) (now (cur .exit)) ≡ set-at-cursor one-step bit-at (emission d x) (byte-state (now (out .entry)) (now (cur .entry))) ⌝ }
 {
     let v = cur[d];
@@ -43,51 +49,58 @@ fn put_bit(out: &mut [u8], cur: &mut [u32; 65], d: usize, x: bool)
     }
 }
 
-// The bit of a place in a node's row of w bits.
-fn row_bit(w: usize, node: NodeNum, place: usize) -> BitPos
-    requires { ⌜ (w ≤ 256) × (node .0 ≤ 8600000) × (place < 256) ⌝ }
-    ensures { λ r. ⌜ r .0 ≡ w * node .0 + place ⌝ }
+// The bit in a column of a node's row of w bits.
+fn row_bit(w: usize, node: NodeNum, column: usize) -> BitPos
+    requires { ⌜ (w ≤ 256) × (node .0 ≤ counter-max) × (column < 256) ⌝ }
+    ensures { λ r. ⌜ r .0 ≡ w * node .0 + column ⌝ }
 {
-    BitPos(w * node.0 + place)
+    BitPos(w * node.0 + column)
 }
 
-// The cursor of level d goes on if a node starts, and if `sets` the bit of a place is set in the last node's row of w bits.
-fn put_cell(
-    out: &mut [u8],
-    cur: &mut [u32; 65],
-    d: usize,
-    w: usize,
-    starts: bool,
-    sets: bool,
-    place: usize,
-)
-    requires { ⌜ (w ≤ 256) × (place < 256) × Room cell-step (cell-ones w) (8 * length (now out)) 8600000 (emission d (cell starts sets place) ∷ []) (now cur) ⌝ }
-    ensures { λ _. ⌜ byte-state (now (out .exit)) (now (cur .exit)) ≡ set-at-cursor cell-step (cell-ones w) (emission d (cell starts sets place)) (byte-state (now (out .entry)) (now (cur .entry))) ⌝ }
+// The cursor of level d goes on if the cell starts a node, and the cell's bit, if it is set, goes to the row of w bits of the node started last.
+fn put_cell(out: &mut [u8], cur: &mut Counters, d: usize, w: usize, x: Cell)
+    requires { ⌜ (w ≤ 256) × (x .column < 256) × Room cell-step (cell-ones w) (8 * length (now out)) counter-max (emission d x ∷ []) (now cur) ⌝ }
+    ensures { λ _. ⌜ byte-state (now (out .exit)) (now (cur .exit)) ≡ set-at-cursor cell-step (cell-ones w) (emission d x) (byte-state (now (out .entry)) (now (cur .entry))) ⌝ }
 {
-    let rows = wide32(cur[d]) + one_if(starts);
+    let rows = wide32(cur[d]) + one_if(x.start);
     cur[d] = rows as u32;
-    if sets {
-        let at = row_bit(w, NodeNum(less(rows)), place);
+    if x.set {
+        let at = row_bit(w, NodeNum(one_less(rows)), x.column);
         set_bit(out, at.0);
     }
 }
 
 // What a body has of an entry on level d goes to the level's cursor.
-pub fn write_entry(out: &mut [u8], cur: &mut [u32; 65], d: usize, e: Entry, kind: Kind)
-    requires { ⌜ Room (kind-step kind) (kind-ones kind) (capacity kind (length (now out))) 8600000 (emission d e ∷ []) (now cur) ⌝ }
+pub fn write_entry(out: &mut [u8], cur: &mut Counters, d: usize, e: Entry, kind: Kind)
+    requires { ⌜ Entries-room kind (emission d e ∷ []) (length (now out)) (now cur) ⌝ }
     ensures { λ _. ⌜ byte-state (now (out .exit)) (now (cur .exit)) ≡ write-entry kind (emission d e) (byte-state (now (out .entry)) (now (cur .entry))) ⌝ }
 {
     match kind {
         Kind::DL => {
-            let x = wide(e.label);
-            put_cell(out, cur, d, 256, e.start, !e.exact, x)
+            let x = Cell {
+                start: e.start,
+                set: !e.exact,
+                column: wide(e.label),
+            };
+            put_cell(out, cur, d, ROW, x)
         }
         Kind::DC => {
-            let x = wide(e.label);
-            put_cell(out, cur, d, 256, e.start, e.child, x)
+            let x = Cell {
+                start: e.start,
+                set: e.child,
+                column: wide(e.label),
+            };
+            put_cell(out, cur, d, ROW, x)
         }
-        Kind::DP => put_cell(out, cur, d, 1, e.start, e.exact, 0),
-        Kind::SL => place_byte(out, cur, d, e.label),
+        Kind::DP => {
+            let x = Cell {
+                start: e.start,
+                set: e.exact,
+                column: 0,
+            };
+            put_cell(out, cur, d, 1, x)
+        }
+        Kind::SL => put_byte(out, cur, d, e.label),
         Kind::SC => put_bit(out, cur, d, e.child),
         Kind::SB => put_bit(out, cur, d, e.start),
     }

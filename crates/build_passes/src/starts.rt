@@ -4,11 +4,14 @@ ghost use Prim.Native.Nat.{_+_, _≤_, _<_};
 ghost use lib.ListN.{length};
 ghost use Rattle.build_laws.specs.Cursors.{sums};
 ghost use Rattle.build_laws.specs.Counters.{Cursors-at};
-use super::numbers::wide32;
+ghost use Rattle.build_laws.specs.Limits.{counters, counter-max};
+use bits::numbers::wide32;
+use build_laws::COUNTERS;
+use build_laws::Counters;
 
 // The counter of level d if d is lo or above, else 0.
-fn count_from(cnt: &[u32; 65], lo: usize, d: usize) -> u32
-    requires { ⌜ d < 65 ⌝ }
+fn count_from(cnt: &Counters, lo: usize, d: usize) -> u32
+    requires { ⌜ d < counters ⌝ }
     ensures { λ r. ⌜ sums (now (cnt .entry)) lo (d + 1) ≡ sums (now (cnt .entry)) lo d + r ⌝ }
 {
     if lo <= d {
@@ -18,13 +21,13 @@ fn count_from(cnt: &[u32; 65], lo: usize, d: usize) -> u32
 }
 
 // Each level's cursor goes behind the counted of the levels from lo on that are before it.
-pub fn start_levels(cur: &mut [u32; 65], cnt: &[u32; 65], lo: usize)
-    requires { ⌜ (length (now cur) ≡ 65) × (sums (now cnt) lo 65 ≤ 8600000) ⌝ }
-    ensures { λ _. ⌜ Cursors-at (now (cnt .entry)) lo (now (cur .exit)) × (length (now (cur .exit)) ≡ 65) ⌝ }
+pub fn start_levels(cur: &mut Counters, cnt: &Counters, lo: usize)
+    requires { ⌜ (length (now cur) ≡ counters) × (sums (now cnt) lo counters ≤ counter-max) ⌝ }
+    ensures { λ _. ⌜ Cursors-at (now (cnt .entry)) lo (now (cur .exit)) × (length (now (cur .exit)) ≡ counters) ⌝ }
 {
     let mut sum = 0u32;
     let mut d = 0usize;
-    while d < 65 {
+    while d < COUNTERS {
         cur[d] = sum;
         sum = sum + count_from(cnt, lo, d);
         d = d + 1;
@@ -32,8 +35,8 @@ pub fn start_levels(cur: &mut [u32; 65], cnt: &[u32; 65], lo: usize)
 }
 
 // The counted of the levels from lo to below hi.
-pub fn total(cnt: &[u32; 65], lo: usize, hi: usize) -> usize
-    requires { ⌜ (hi ≤ 65) × (sums (now cnt) lo 65 ≤ 8600000) ⌝ }
+pub fn total(cnt: &Counters, lo: usize, hi: usize) -> usize
+    requires { ⌜ (hi ≤ counters) × (sums (now cnt) lo counters ≤ counter-max) ⌝ }
     ensures { λ r. ⌜ r ≡ sums (now (cnt .entry)) lo hi ⌝ }
 {
     let mut sum = 0u32;

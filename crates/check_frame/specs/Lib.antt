@@ -1,4 +1,1 @@
-pub mod Located
 pub mod Found
-pub mod Framed
-pub mod Groups

@@ -1,144 +1,113 @@
-// The frame of an image: the header and the twelve records behind it, by their offsets. Judges the numbers 11 and 12 of the check.
+// The frame of an image: the header and the records behind it, by their offsets. Judges the numbers 11 and 12 of the check.
 // Used by the check and by every call that reads an accepted image.
 ghost use mathlib.Core.Path.{_≡_};
-ghost use Prim.Native.Nat.{_+_, _-_, _*_, _^_, _≤_, _<_};
-ghost use mathlib.Core.List.{[], _∷_};
-ghost use lib.ListN.{length, getD, drop};
+ghost use Prim.Native.Nat.{_-_, _*_, _≤_, _<_};
+ghost use lib.ListN.{length, drop};
+ghost use Rattle.spec.specs.Image.{rows};
 ghost use Rattle.bits_laws.specs.Bits.{rank};
-ghost use Rattle.image_types.specs.Records.{ends};
-ghost use Rattle.check_frame.specs.Framed.{record-found, records-found, four-marks};
-ghost use Rattle.check_frame.specs.Located.{settings-valid, front-sized, middle-sized, back-sized};
-ghost use Rattle.check_frame.specs.Found.{Standing, Framed-valid};
+ghost use Rattle.image_types.specs.Header.{settings-of, counts-of, Short-fields};
+ghost use Rattle.image_types.specs.Records.{records-end, lengths-agree};
+ghost use Rattle.image_types.specs.FrameOf.{FrameOf};
+ghost use Rattle.check_frame_laws.specs.FrameLaws.{settings-valid, Records-stand, Laid-out, Dense-within, Totals};
+ghost use Rattle.check_frame.specs.Found.{Record-found, end-found, Framed-as};
 use bits::numbers::read32;
-use bits::numbers::wide;
 use bits::ones::rank_from;
-use image_types::Dense;
+use image_records::header::MOST_BITS;
+use image_records::header::MOST_LEAVES;
+use image_records::header::MOST_LEVELS;
+use image_records::header::VERSION;
+use image_records::header::read_header;
+use image_records::table::BEFORE_BODY;
+use image_records::table::HEADER;
+use image_records::table::RECORDS;
+use image_records::table::body_size;
+use image_records::table::mark;
+use image_records::table::record_starts;
+use image_types::DenseTotals;
 use image_types::Frame;
-use image_types::Sparse;
+use image_types::Framed;
+use image_types::Header;
 
-// What an image's frame is: read, or refused with 11 or 12.
-pub enum Framed {
-    At(Frame),
-    Refused(u32),
-}
+// The number of an image whose header or records do not stand.
+const FRAME_MISSING: u32 = 11;
+
+// The number of an image whose header or whose lengths are wrong.
+const HEADER_WRONG: u32 = 12;
 
 // Where the record at an offset ends, or that no such record stands there.
-pub enum Record {
-    Ends(usize),
-    Wrong,
+pub enum RecordEnd {
+    At(usize),
+    Missing,
 }
 
-// Where four records in a row end, or that one of them does not stand there.
-pub enum Records {
-    Ends(usize, usize, usize, usize),
-    Wrong,
-}
-
-// The record with this mark at an offset: its mark, its length and its body within the end.
-fn record_end(image: &[u8], mark: &[u8; 2], at: usize) -> Record
-    requires { ⌜ at ≤ length (now image) ⌝ }
-    ensures { λ r. ⌜ record-found r ≡ ends (getD (now (mark .entry)) 0 0 ∷ getD (now (mark .entry)) 1 0 ∷ []) (now (image .entry)) at ⌝ }
+// The record number i at an offset: its mark, its length and its body within the end.
+fn record_end(image: &[u8], i: usize, at: usize) -> RecordEnd
+    requires { ⌜ (i < 12) × (at ≤ length (now image)) ⌝ }
+    ensures { λ r. ⌜ Record-found (now (image .entry)) i at r ⌝ }
 {
+    let mark = mark(i);
     let left = image.len() - at;
-    if left < 6 {
-        return Record::Wrong;
+    if left < BEFORE_BODY {
+        return RecordEnd::Missing;
     }
     let len = read32(image, at + 2);
-    if left - 6 < len {
-        return Record::Wrong;
+    if left - BEFORE_BODY < len {
+        return RecordEnd::Missing;
     }
     if image[at] != mark[0] {
-        return Record::Wrong;
+        return RecordEnd::Missing;
     }
     if image[at + 1] != mark[1] {
-        return Record::Wrong;
+        return RecordEnd::Missing;
     }
-    Record::Ends(at + 6 + len)
+    RecordEnd::At(at + BEFORE_BODY + len)
 }
 
-// Four records in a row, the first one at an offset.
-fn four_records(
-    image: &[u8],
-    m1: &[u8; 2],
-    m2: &[u8; 2],
-    m3: &[u8; 2],
-    m4: &[u8; 2],
-    at: usize,
-) -> Records
-    requires { ⌜ at ≤ length (now image) ⌝ }
-    ensures { λ r. ⌜ records-found r ≡ ends (four-marks (now (m1 .entry)) (now (m2 .entry)) (now (m3 .entry)) (now (m4 .entry))) (now (image .entry)) at ⌝ }
+// Where the last record ends, if all stand behind the header.
+fn last_end(image: &[u8]) -> RecordEnd
+    requires { ⌜ 22 ≤ length (now image) ⌝ }
+    ensures { λ r. ⌜ end-found r ≡ records-end rows (now (image .entry)) 22 ⌝ }
 {
-    let Record::Ends(a) = record_end(image, m1, at) else {
-        return Records::Wrong;
-    };
-    let Record::Ends(b) = record_end(image, m2, a) else {
-        return Records::Wrong;
-    };
-    let Record::Ends(c) = record_end(image, m3, b) else {
-        return Records::Wrong;
-    };
-    let Record::Ends(d) = record_end(image, m4, c) else {
-        return Records::Wrong;
-    };
-    Records::Ends(a, b, c, d)
+    let mut at = HEADER;
+    let mut i = 0usize;
+    while i < RECORDS {
+        let RecordEnd::At(end) = record_end(image, i, at) else {
+            return RecordEnd::Missing;
+        };
+        at = end;
+        i = i + 1;
+    }
+    RecordEnd::At(at)
 }
 
 // The version, the settings, the zero byte and the leaf count are in range.
-fn settings_valid(image: &[u8], levels: usize, width: usize, leaves: usize) -> bool
+fn settings_valid(image: &[u8], h: Header) -> bool
     requires { ⌜ 22 ≤ length (now image) ⌝ }
-    ensures { λ r. ⌜ r ≡ settings-valid (now (image .entry)) levels width leaves ⌝ }
+    ensures { λ r. ⌜ r ≡ settings-valid (now (image .entry)) h ⌝ }
 {
-    (image[2] == 1) & (levels <= 4) & (width <= 16) & (image[5] == 0) & (leaves <= 65535)
+    (image[2] == VERSION)
+        & (h.dense.levels <= MOST_LEVELS)
+        & (h.width <= MOST_BITS)
+        & (image[5] == 0)
+        & (h.leaves <= MOST_LEAVES)
 }
 
-// DL, DC, DP, SL, SC and SB, which end at e0 to e5, have just the lengths that the counts give.
-fn front_sized(
-    dense: usize,
-    entries: usize,
-    e0: usize,
-    e1: usize,
-    e2: usize,
-    e3: usize,
-    e4: usize,
-    e5: usize,
-) -> bool
-    requires { ⌜ (dense < 4294967296) × (entries < 4294967296) × (e0 < 2 ^ 63) × (e1 < 2 ^ 63) × (e2 < 2 ^ 63) × (e3 < 2 ^ 63) × (e4 < 2 ^ 63) ⌝ }
-    ensures { λ r. ⌜ r ≡ front-sized dense entries e0 e1 e2 e3 e4 e5 ⌝ }
+// Each record has just the body length that the header gives.
+fn lengths_valid(image: &[u8], h: Header) -> bool
+    requires { ⌜ Short-fields h × Records-stand (now image) ⌝ }
+    ensures { λ r. ⌜ r ≡ lengths-agree (settings-of h) (counts-of h) rows (now (image .entry)) 22 ⌝ }
 {
-    (28 + 32 * dense == e0)
-        & (e0 + 6 + 32 * dense == e1)
-        & (e1 + 6 + (dense + 7) / 8 == e2)
-        & (e2 + 6 + entries == e3)
-        & (e3 + 6 + (entries + 7) / 8 == e4)
-        & (e4 + 6 + (entries + 7) / 8 == e5)
-}
-
-// SV, RL and RC, which end at e6 to e8 behind SB's end, have just the lengths that the counts give; the slots have so many bits.
-fn middle_sized(slots: usize, dense: usize, e5: usize, e6: usize, e7: usize, e8: usize) -> bool
-    requires { ⌜ (slots < 2 ^ 40) × (dense < 4294967296) × (e5 < 2 ^ 63) × (e6 < 2 ^ 63) × (e7 < 2 ^ 63) ⌝ }
-    ensures { λ r. ⌜ r ≡ middle-sized slots dense e5 e6 e7 e8 ⌝ }
-{
-    (e5 + 6 + (slots + 7) / 8 == e6)
-        & (e6 + 6 + 4 * ((256 * dense + 63) / 64) == e7)
-        & (e7 + 6 + 4 * ((256 * dense + 63) / 64) == e8)
-}
-
-// RP, RS and TS, which end at e9 to e11 behind RC's end, have just the lengths that the counts give.
-fn back_sized(
-    dense: usize,
-    entries: usize,
-    sparse: usize,
-    e8: usize,
-    e9: usize,
-    e10: usize,
-    e11: usize,
-) -> bool
-    requires { ⌜ (dense < 4294967296) × (entries < 4294967296) × (sparse < 4294967296) × (e8 < 2 ^ 63) × (e9 < 2 ^ 63) × (e10 < 2 ^ 63) ⌝ }
-    ensures { λ r. ⌜ r ≡ back-sized dense entries sparse e8 e9 e10 e11 ⌝ }
-{
-    (e8 + 6 + 4 * ((dense + 63) / 64) == e9)
-        & (e9 + 6 + 4 * ((entries + 511) / 512) == e10)
-        & (e10 + 6 + 4 * ((sparse + 63) / 64) == e11)
+    let mut at = HEADER;
+    let mut i = 0usize;
+    while i < RECORDS {
+        let len = read32(image, at + 2);
+        if len != body_size(h, i) {
+            return false;
+        }
+        at = at + BEFORE_BODY + len;
+        i = i + 1;
+    }
+    true
 }
 
 // The ones among the first n bits of the body at an offset.
@@ -149,90 +118,74 @@ fn count_ones(image: &[u8], at: usize, n: usize) -> usize
     rank_from(&image[at..], 0, 0, n)
 }
 
-// The frame of an image whose records end at e0 to e10 and at its own end, or 12.
-fn judge_header(
-    image: &[u8],
-    e0: usize,
-    e1: usize,
-    e2: usize,
-    e3: usize,
-    e4: usize,
-    e5: usize,
-    e6: usize,
-    e7: usize,
-    e8: usize,
-    e9: usize,
-    e10: usize,
-) -> Framed
-    requires { ⌜ Standing (now image) e0 e1 e2 e3 e4 e5 e6 e7 e8 e9 e10 ⌝ }
-    ensures { λ r. ⌜ Framed-valid (now (image .entry)) r ⌝ }
+// The continuing branches and the entries of the n dense nodes, whose bodies stand at these offsets.
+fn dense_totals(image: &[u8], dl: usize, dc: usize, dp: usize, n: usize) -> DenseTotals
+    requires { ⌜ Dense-within (now image) dl dc dp n ⌝ }
+    ensures { λ r. ⌜ Totals (now (image .entry)) dl dc dp n r ⌝ }
 {
-    let levels = wide(image[3]);
-    let width = wide(image[4]);
-    let leaves = read32(image, 6);
-    let dense = read32(image, 10);
-    let entries = read32(image, 14);
-    let sparse = read32(image, 18);
-    let valid = settings_valid(image, levels, width, leaves)
-        & front_sized(dense, entries, e0, e1, e2, e3, e4, e5)
-        & middle_sized(leaves * width, dense, e5, e6, e7, e8)
-        & back_sized(dense, entries, sparse, e8, e9, e10, image.len());
-    if valid {
-        Framed::At(Frame {
-            width,
-            leaves,
-            dl: 28,
-            dc: e0 + 6,
-            dp: e1 + 6,
-            sl: e2 + 6,
-            sc: e3 + 6,
-            sb: e4 + 6,
-            sv: e5 + 6,
-            rl: e6 + 6,
-            rc: e7 + 6,
-            rp: e8 + 6,
-            rs: e9 + 6,
-            ts: e10 + 6,
-            dense: Dense {
-                levels,
-                nodes: dense,
-                children: count_ones(image, e0 + 6, 256 * dense),
-                entries: count_ones(image, 28, 256 * dense) + count_ones(image, e1 + 6, dense),
-            },
-            sparse: Sparse {
-                nodes: sparse,
-                entries,
-            },
-        })
-    } else {
-        Framed::Refused(12)
+    DenseTotals {
+        children: count_ones(image, dc, 256 * n),
+        entries: count_ones(image, dl, 256 * n) + count_ones(image, dp, n),
+    }
+}
+
+// The frame of an image whose records stand where its header says.
+fn laid_out(image: &[u8], h: Header) -> Frame
+    requires { ⌜ Laid-out (now image) h ⌝ }
+    ensures { λ r. ⌜ FrameOf (now (image .entry)) r ⌝ }
+{
+    let starts = record_starts(h);
+    let dl = starts[0] + BEFORE_BODY;
+    let dc = starts[1] + BEFORE_BODY;
+    let dp = starts[2] + BEFORE_BODY;
+    let dense = h.dense;
+    let sparse = h.sparse;
+    Frame {
+        width: h.width,
+        leaves: h.leaves,
+        dense,
+        sparse,
+        totals: dense_totals(image, dl, dc, dp, dense.nodes),
+        dl,
+        dc,
+        dp,
+        sl: starts[3] + BEFORE_BODY,
+        sc: starts[4] + BEFORE_BODY,
+        sb: starts[5] + BEFORE_BODY,
+        sv: starts[6] + BEFORE_BODY,
+        rl: starts[7] + BEFORE_BODY,
+        rc: starts[8] + BEFORE_BODY,
+        rp: starts[9] + BEFORE_BODY,
+        rs: starts[10] + BEFORE_BODY,
+        ts: starts[11] + BEFORE_BODY,
     }
 }
 
 // The frame of an image, or 11 where a part of it does not stand there, or 12 where the header or a length is wrong.
 pub fn read_frame(image: &[u8]) -> Framed
-    ensures { λ r. ⌜ Framed-valid (now (image .entry)) r ⌝ }
+    ensures { λ r. ⌜ Framed-as (now (image .entry)) r ⌝ }
 {
-    if image.len() < 22 {
-        return Framed::Refused(11);
+    if image.len() < HEADER {
+        return Framed::Refused(FRAME_MISSING);
     }
     if image[0] != b'H' {
-        return Framed::Refused(11);
+        return Framed::Refused(FRAME_MISSING);
     }
     if image[1] != b'D' {
-        return Framed::Refused(11);
+        return Framed::Refused(FRAME_MISSING);
     }
-    let Records::Ends(e0, e1, e2, e3) = four_records(image, b"DL", b"DC", b"DP", b"SL", 22) else {
-        return Framed::Refused(11);
+    let RecordEnd::At(end) = last_end(image) else {
+        return Framed::Refused(FRAME_MISSING);
     };
-    let Records::Ends(e4, e5, e6, e7) = four_records(image, b"SC", b"SB", b"SV", b"RL", e3) else {
-        return Framed::Refused(11);
-    };
-    let Records::Ends(e8, e9, e10, e11) = four_records(image, b"RC", b"RP", b"RS", b"TS", e7) else {
-        return Framed::Refused(11);
-    };
-    if e11 != image.len() {
-        return Framed::Refused(11);
+    if end != image.len() {
+        return Framed::Refused(FRAME_MISSING);
     }
-    judge_header(image, e0, e1, e2, e3, e4, e5, e6, e7, e8, e9, e10)
+    let h = read_header(image);
+    if !settings_valid(image, h) {
+        return Framed::Refused(HEADER_WRONG);
+    }
+    if !lengths_valid(image, h) {
+        return Framed::Refused(HEADER_WRONG);
+    }
+    Framed::At(laid_out(image, h))
 }

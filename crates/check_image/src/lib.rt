@@ -1,19 +1,23 @@
 // The public call check, and the frame of an accepted image for the calls that read one.
 ghost use mathlib.Core.Path.{_≡_};
-ghost use Prim.Native.Nat.{_+_, _≤_};
-ghost use lib.ListN.{length};
 ghost use Rattle.spec.specs.Check.{check};
-ghost use Rattle.spec.specs.Trie.{builders-trie};
-ghost use Rattle.image_types.specs.FrameOf.{FrameOf, frame-parts};
-ghost use Rattle.bits_laws.specs.Bits.{part};
-ghost use Rattle.check_image.specs.Answers.{answer, Accepted-valid};
-use check_frame::Framed;
+ghost use Rattle.check_image.specs.Answers.{answer, Checked-as};
 use check_frame::read_frame;
 use check_slots::judge::slots_valid;
 use check_tables::judge::tables_valid;
 use check_tables::spare::spare_clear;
 use check_trie::trie::trie_valid;
 use image_types::Frame;
+use image_types::Framed;
+
+// The numbers of the stages behind the frame: a spare bit is set; the bits are not a builder's trie; a rank or sample is wrong; a slot has a bit that must be clear.
+const SPARE_SET: u32 = 13;
+
+const NO_TRIE: u32 = 14;
+
+const RANK_WRONG: u32 = 15;
+
+const SLOT_SET: u32 = 16;
 
 // What check says of an image: accepted, or refused with the first of 11 to 16 that applies.
 pub enum Checked {
@@ -21,69 +25,27 @@ pub enum Checked {
     Refused(u32),
 }
 
-// An accepted image's frame, or the refusal.
-pub enum Accepted {
-    At(Frame),
-    Refused(u32),
-}
-
-// The bytes of a body.
-fn body(image: &[u8], at: usize, len: usize) -> &[u8]
-    requires { ⌜ at + len ≤ length (now image) ⌝ }
-    ensures { λ r. ⌜ now r ≡ part (now (image .entry)) at len ⌝ }
-{
-    let end = at + len;
-    &image[at..end]
-}
-
-// Number 14 does not apply.
-fn nodes_valid(image: &[u8], f: Frame) -> bool
-    requires { ⌜ FrameOf (now image) f ⌝ }
-    ensures { λ r. ⌜ r ≡ builders-trie (frame-parts (now (image .entry)) f) ⌝ }
-{
-    let dl = body(image, f.dl, 32 * f.dense.nodes);
-    let dc = body(image, f.dc, 32 * f.dense.nodes);
-    let dp = body(image, f.dp, (f.dense.nodes + 7) / 8);
-    let sl = body(image, f.sl, f.sparse.entries);
-    let sc = body(image, f.sc, (f.sparse.entries + 7) / 8);
-    let sb = body(image, f.sb, (f.sparse.entries + 7) / 8);
-    trie_valid(
-        dl,
-        dc,
-        dp,
-        sl,
-        sc,
-        sb,
-        f.dense.levels,
-        f.leaves,
-        f.dense.nodes,
-        f.sparse.entries,
-        f.sparse.nodes,
-    )
-}
-
 // The frame of an accepted image, or the number of the refusal.
-pub fn accept(image: &[u8]) -> Accepted
-    ensures { λ r. ⌜ Accepted-valid (now (image .entry)) r ⌝ }
+pub fn accept(image: &[u8]) -> Framed
+    ensures { λ r. ⌜ Checked-as (now (image .entry)) r ⌝ }
 {
-    match read_frame(image) {
-        Framed::Refused(n) => Accepted::Refused(n),
-        Framed::At(f) => {
-            if !spare_clear(image, f) {
-                return Accepted::Refused(13);
-            }
-            if !nodes_valid(image, f) {
-                return Accepted::Refused(14);
-            }
-            if !tables_valid(image, f) {
-                return Accepted::Refused(15);
-            }
-            if !slots_valid(image, f) {
-                return Accepted::Refused(16);
-            }
-            Accepted::At(f)
-        }
+    let framed = read_frame(image);
+    let Framed::At(f) = framed else {
+        return framed;
+    };
+    if !spare_clear(image, f) {
+        return Framed::Refused(SPARE_SET);
     }
+    if !trie_valid(image, f) {
+        return Framed::Refused(NO_TRIE);
+    }
+    if !tables_valid(image, f) {
+        return Framed::Refused(RANK_WRONG);
+    }
+    if !slots_valid(image, f) {
+        return Framed::Refused(SLOT_SET);
+    }
+    Framed::At(f)
 }
 
 // What check says of an image.
@@ -91,7 +53,7 @@ pub fn check(image: &[u8]) -> Checked
     ensures { λ r. ⌜ answer r ≡ check (now (image .entry)) ⌝ }
 {
     match accept(image) {
-        Accepted::At(_) => Checked::Accepted,
-        Accepted::Refused(n) => Checked::Refused(n),
+        Framed::At(_) => Checked::Accepted,
+        Framed::Refused(n) => Checked::Refused(n),
     }
 }

@@ -1,87 +1,67 @@
-// The levels 62 and 63, the only ones with suffix bits past a key's 64th byte: found level by level, each start by the branches that continue before the last.
+// The levels 62 and 63, the only ones with suffix bits past a key's 64th byte.
 ghost use mathlib.Core.Path.{_≡_};
-ghost use Prim.Native.Nat.{_+_, _-_};
-ghost use Rattle.bits_laws.specs.Bits.{rank, select};
-ghost use Rattle.check_slots_laws.specs.Descent.{starts, Found, Step, Descends, Deep, two-clear};
-use super::runs::past_clear;
-use super::runs::run_clear;
-use bits::ones::ones_before;
-use bits::ones::rank_from;
-use bits::select::select_from;
+ghost use Prim.Native.Nat.{_+_, _≤_, _<_};
+ghost use Rattle.check_slots_laws.specs.Passed.{Passed-to-15};
+ghost use Rattle.check_slots_laws.specs.LastLevels.{Level-at, slot-of, Slot-room};
+ghost use Rattle.check_slots_laws.specs.SlotTests.{last-levels-clear};
+use super::clear::bits_clear;
+use super::clear::past_clear;
+use bits::numbers::bytes_for;
+use bits::parts::part;
+use check_levels::step::level_at;
+use check_trie_laws::Level;
+use image_types::BitPos;
+use image_types::Frame;
+use image_types::NodeNum;
+use image_types::ValuePos;
 
-// The counts of sparse entries, of dense nodes and of all nodes, and of the dense nodes' continuing branches.
-pub struct Totals {
-    pub entries: usize,
-    pub dense: usize,
-    pub nodes: usize,
-    pub children: usize,
-}
+// The level whose slots may have bits past the 64th byte behind their first byte; all bits of the slots on the level below it are past that byte.
+const LEVEL_BEFORE_LAST: usize = 62;
 
-// A level's first node, its first entry, and the entries that continue before that.
-pub struct Level {
-    pub start: usize,
-    pub at: usize,
-    pub ones: usize,
-}
-
-// The level below a level that has a node.
-fn next_level(sc: &[u8], sb: &[u8], t: Totals, l: Level) -> Level
-    requires { ⌜ Step (now sc) (now sb) (t .entries) (t .dense) (t .nodes) (t .children) (l .start) (l .at) (l .ones) ⌝ }
-    ensures { λ r. ⌜ (r .start ≡ t .children + l .ones + 1) × (r .at ≡ select (now (sb .entry)) (t .entries) (t .children + l .ones + 1 - t .dense)) × (r .ones ≡ rank (now (sc .entry)) (r .at)) ⌝ }
+// A sparse level by its number, found from the first sparse one on.
+fn find_level(image: &[u8], f: Frame, number: usize) -> Level
+    requires { ⌜ Passed-to-15 (now image) f × (0 < f .leaves) × (f .dense .levels ≤ number) × (number < 64) ⌝ }
+    ensures { λ r. ⌜ Level-at (now (image .entry)) f number r ⌝ }
 {
-    let start = t.children + l.ones + 1;
-    let at = select_from(sb, t.entries, l.at, l.start - t.dense, start - t.dense);
-    let q = l.at / 64;
-    let before = l.ones - ones_before(sc, q, l.at % 64);
-    let ones = rank_from(sc, q, before, at);
-    Level { start, at, ones }
-}
-
-// The level so many steps below the first sparse one, or behind the last node.
-fn descend(sc: &[u8], sb: &[u8], t: Totals, steps: usize) -> Level
-    requires { ⌜ Descends (now sc) (now sb) (t .entries) (t .dense) (t .nodes) (t .children) steps ⌝ }
-    ensures { λ r. ⌜ (r .start ≡ starts (now (sc .entry)) (now (sb .entry)) (t .entries) (t .dense) (t .nodes) (t .children) steps)
-        × Found (now (sc .entry)) (now (sb .entry)) (t .entries) (t .dense) (t .nodes) (t .children) (r .start) (r .at) (r .ones) ⌝ }
-{
-    let nodes = t.nodes;
-    let mut start = t.dense;
-    let mut at = 0usize;
-    let mut ones = 0usize;
-    let mut k = 0usize;
-    while k < steps {
-        if nodes <= start {
-            return Level { start, at, ones };
+    let nodes = f.dense.nodes + f.sparse.nodes;
+    let mut level = Level {
+        node: NodeNum(f.dense.nodes),
+        entry: BitPos(0),
+        branches: f.totals.children,
+    };
+    let mut depth = f.dense.levels;
+    while depth < number {
+        if nodes <= level.node.0 {
+            return level;
         }
-        let next = next_level(sc, sb, t, Level { start, at, ones });
-        start = next.start;
-        at = next.at;
-        ones = next.ones;
-        k = k + 1;
+        level = level_at(image, f, level, NodeNum(level.branches + 1));
+        depth = depth + 1;
     }
-    Level { start, at, ones }
+    level
 }
 
-// Whether the slots of the level so many steps below the first sparse one are clear behind their first byte, and those of the level below it are clear;
-// the dense nodes have `base` leaves.
-pub fn two_clear(
-    sc: &[u8],
-    sb: &[u8],
-    sv: &[u8],
-    t: Totals,
-    leaves: usize,
-    width: usize,
-    base: usize,
-    steps: usize,
-) -> bool
-    requires { ⌜ Deep (now sc) (now sb) (t .entries) (t .dense) (t .nodes) (t .children) (now sv) leaves width base steps ⌝ }
-    ensures { λ r. ⌜ r ≡ two-clear (now (sc .entry)) (now (sb .entry)) (t .entries) (t .dense) (t .nodes) (t .children) (now (sv .entry)) leaves width base steps ⌝ }
+// The first slot of a sparse level: the entries before it, less the branches that continue before it.
+fn first_slot(f: Frame, level: Level) -> ValuePos
+    requires { ⌜ Slot-room f level ⌝ }
+    ensures { λ r. ⌜ r .0 ≡ slot-of f level ⌝ }
 {
-    let a = descend(sc, sb, t, steps);
-    if t.nodes <= a.start {
+    ValuePos(f.totals.entries + level.entry.0 - level.branches)
+}
+
+// Whether no suffix bit is set past a key's 64th byte: the slots on level 62 are clear behind their first byte, and those on level 63 are clear.
+pub fn last_levels_clear(image: &[u8], f: Frame) -> bool
+    requires { ⌜ Passed-to-15 (now image) f × (0 < f .leaves) ⌝ }
+    ensures { λ r. ⌜ r ≡ last-levels-clear (now (image .entry)) f ⌝ }
+{
+    let level = find_level(image, f, LEVEL_BEFORE_LAST);
+    if f.dense.nodes + f.sparse.nodes <= level.node.0 {
         return true;
     }
-    let b = next_level(sc, sb, t, a);
-    let lo = base + (a.at - a.ones);
-    let hi = base + (b.at - b.ones);
-    past_clear(sv, leaves, width, lo, hi) & run_clear(sv, hi * width, leaves * width)
+    let below = level_at(image, f, level, NodeNum(level.branches + 1));
+    let from = first_slot(f, level);
+    let to = first_slot(f, below);
+    let bits = f.leaves * f.width;
+    let sv = part(image, f.sv, bytes_for(bits));
+    past_clear(sv, f.leaves, f.width, from, to)
+        & bits_clear(sv, BitPos(to.0 * f.width), BitPos(bits))
 }

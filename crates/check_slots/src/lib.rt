@@ -1,7 +1,7 @@
 // The part of the check that judges number 16 over an image and its frame: an exact leaf's slot is zero, and no suffix bit is set past a key's 64th byte.
 // Used by the public call check.
 
-pub mod runs; // runs.rt: runs of zero bits, and slots
+pub mod clear; // clear.rt: bits and suffix slots that are clear
 pub mod dense; // dense.rt: the exact leaves among the dense nodes
 pub mod sparse; // sparse.rt: those among the sparse nodes
 pub mod levels; // levels.rt: the levels 62 and 63

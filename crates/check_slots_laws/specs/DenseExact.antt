@@ -5,7 +5,7 @@ use mathlib.Core.Bool.{Bool, true, false, _&&_, _||_, not}
 use mathlib.Core.List.{[]}
 use native.Mathlib.Omega.{arith}
 use lib.ListN.{length, take, drop, length-drop}
-use lib.Seq.{drop-drop, drop-length, length-take-le}
+use lib.Seq.{drop-length, length-take-le}
 use lib.Dec.{eqb}
 use borrow.Author.Tests.{eqb-true, eqb-false}
 use Rattle.spec.specs.Bytes.{Bytes, Bits, bit, count, ones}
@@ -14,9 +14,9 @@ use Rattle.spec.specs.Trie.{covered}
 use Rattle.bits_laws.specs.Bits.{bit-at, rank}
 use Rattle.bits_laws.specs.RankLaws.{rank-next, rank-zero}
 use Rattle.check_trie_laws.specs.Shapes.{ends-here, leaves-at}
-use Rattle.check_trie_laws.specs.DenseNodes.{entries-end, covered-split, ones-take-parts}
+use Rattle.check_trie_laws.specs.DenseNodes.{entries-end, covered-split, ones-take-parts, next-node}
 use Rattle.check_trie_laws.specs.Positions.{bits, is-set, length-bits, bits-from, ones-bits}
-use Rattle.check_slots_laws.specs.Ranges.{all-from}
+use Rattle.check_trie_laws.specs.Ranges.{all-from}
 use Rattle.check_slots_laws.specs.NodeSlots.{exact-from}
 
 -- the leaves before dense node m: labels before it that do not continue, and exact leaves
@@ -34,9 +34,6 @@ bit-set s i = go (eqb (bit-at s i) 1) refl
     go : (t : Bool) → eqb (bit-at s i) 1 ≡ t → bit t ≡ bit-at s i
     go true e = sym (eqb-true (bit-at s i) 1 e)
     go false e = let n = eqb-false (bit-at s i) 1 e in omega arith
-
-next : (i : ℕ) (bs : Bits) → drop 256 (drop (256 * i) bs) ≡ drop (256 * suc i) bs
-next i bs = let e : 256 * i + 256 ≡ 256 * suc i = omega arith in drop-drop 256 (256 * i) bs ∙ ap (λ (k : ℕ). drop k bs) e
 
 module _ (dl dc dp : Bytes) (n : ℕ) (a : 256 * n ≤ 8 * length dl) (b : 256 * n ≤ 8 * length dc) (c : n ≤ 8 * length dp)
     (within : covered (bits dc (256 * n)) (bits dl (256 * n)) ≡ true) where
@@ -82,7 +79,7 @@ module _ (dl dc dp : Bytes) (n : ℕ) (a : 256 * n ≤ 8 * length dl) (b : 256 *
       let w = bit-set dp i in
       let u : rank dp (suc i) ≡ rank dp i + bit-at dp i = sym (ap (rank dp) g) ∙ rank-next dp i in
       let v : dense-slot dl dc dp i + leaves-at (shape (is-set dp i) (dense-entries 0 (take 256 (drop (256 * i) labels)) (take 256 (drop (256 * i) children)))) ≡ dense-slot dl dc dp (suc i) = omega arith in
-      rw (bits-from dp n i c l, next i labels, next i children, v)
+      rw (bits-from dp n i c l, next-node i labels, next-node i children, v)
       (ap (λ (t : Bool). dense-exact f dl dc dp i && t) (from-is f k (suc i) (omega arith) (omega arith)))
 
   -- the exact leaves among all dense nodes

@@ -9,8 +9,9 @@ use lib.Seq.{getD-drop, take-nil, take-at, drop-append-add}
 use Rattle.spec.specs.Bytes.{all, concat}
 use Rattle.spec.specs.Nodes.{Node, slot, branches-of, exact-slot}
 use Rattle.spec.specs.Check.{clear-behind, slot-valid, slots-valid}
-use Rattle.check_trie_laws.specs.Tests.{both, and, under, swap-middle, all-append, all-both}
+use Rattle.check_trie_laws.specs.Tests.{and, under, swap-middle, all-append, all-both}
 use Rattle.check_slots_laws.specs.NodeSlots.{exact-clear, open-clear, clear-more}
+use Rattle.theory.specs.Lists.{and-both}
 
 -- the slots of branches on the levels from level d on
 unfoldable open-valid : ℕ → List (List Node) → Bool
@@ -31,7 +32,7 @@ split-levels d (ns ∷ ls) =
 all-follow : {A : Type 0} (p q : A → Bool) → ((x : A) → p x ≡ true → q x ≡ true) → (xs : List A) → all p xs ≡ true → all q xs ≡ true
 unfolding all
 all-follow p q f [] h = refl
-all-follow p q f (x ∷ xs) h = let b = both (p x) (all p xs) h in and (q x) (all q xs) (f x (b .0)) (all-follow p q f xs (b .1))
+all-follow p q f (x ∷ xs) h = let b = and-both (p x) (all p xs) h in and (q x) (all q xs) (f x (b .0)) (all-follow p q f xs (b .1))
 
 -- ---- slots of at most two bytes
 
@@ -45,7 +46,7 @@ unfolding open-valid concat
 shallow zero d ls h s = let e : d + 0 ≡ d = omega arith in rw e
 shallow (suc k) d [] h s = refl
 shallow (suc k) d (ns ∷ ls) h s =
-    let p = both (all (open-clear 2) ns) (all (open-clear 2) (concat ls)) (sym (all-append (open-clear 2) ns (concat ls)) ∙ s) in
+    let p = and-both (all (open-clear 2) ns) (all (open-clear 2) (concat ls)) (sym (all-append (open-clear 2) ns (concat ls)) ∙ s) in
     let e : suc d + k ≡ d + suc k = omega arith in
     let f : 2 + (61 - d) ≡ 63 - d = omega arith in
     let t : all (open-clear (63 - d)) ns ≡ true = ap (λ (m : ℕ). all (open-clear m) ns) (sym f) ∙ more-clear (61 - d) ns (p .0) in
@@ -77,21 +78,21 @@ above-up (ns ∷ ls) zero = omega arith
 above-up (ns ∷ ls) (suc t) = omega (arith, above-up ls t, length-append ns (concat (take t ls)), length-append ns (concat (take (suc t) ls)))
 
 -- the nodes from number i to number e
-abbrev pub part : ℕ → ℕ → List Node → List Node
-part i e ns = take (e - i) (drop i ns)
+abbrev pub nodes-between : ℕ → ℕ → List Node → List Node
+nodes-between i e ns = take (e - i) (drop i ns)
 
-level-part : (t : ℕ) (ls : List (List Node)) → part (above ls t) (above ls (suc t)) (concat ls) ≡ getD ls t []
+level-between : (t : ℕ) (ls : List (List Node)) → nodes-between (above ls t) (above ls (suc t)) (concat ls) ≡ getD ls t []
 unfolding concat
-level-part t [] = rw (take-nil {A = List Node} t)
-level-part zero (ns ∷ ls) = take-at ns (concat ls) (length (ns ++ []) - 0) (omega (arith, length-append ns []))
-level-part (suc t) (ns ∷ ls) =
+level-between t [] = rw (take-nil {A = List Node} t)
+level-between zero (ns ∷ ls) = take-at ns (concat ls) (length (ns ++ []) - 0) (omega (arith, length-append ns []))
+level-between (suc t) (ns ∷ ls) =
     let x = length-append ns (concat (take (suc t) ls)) in
     let y = length-append ns (concat (take t ls)) in
     let e : length (ns ++ concat (take (suc t) ls)) - length (ns ++ concat (take t ls)) ≡ above ls (suc t) - above ls t = omega arith in
-    ap₂ (λ (a b : ℕ). take a (drop b (ns ++ concat ls))) e y ∙ ap (take (above ls (suc t) - above ls t)) (drop-append-add ns (concat ls) (above ls t)) ∙ level-part t ls
+    ap₂ (λ (a b : ℕ). take a (drop b (ns ++ concat ls))) e y ∙ ap (take (above ls (suc t) - above ls t)) (drop-append-add ns (concat ls) (above ls t)) ∙ level-between t ls
 
-all-part : (p : Node → Bool) (i e : ℕ) (ns : List Node) → all p ns ≡ true → all p (part i e ns) ≡ true
-all-part p i e ns h = both (all p (part i e ns)) (all p (drop (e - i) (drop i ns))) (apart (e - i) (drop i ns) (both (all p (take i ns)) (all p (drop i ns)) (apart i ns h) .1)) .0
+all-between : (p : Node → Bool) (i e : ℕ) (ns : List Node) → all p ns ≡ true → all p (nodes-between i e ns) ≡ true
+all-between p i e ns h = and-both (all p (nodes-between i e ns)) (all p (drop (e - i) (drop i ns))) (apart (e - i) (drop i ns) (and-both (all p (take i ns)) (all p (drop i ns)) (apart i ns h) .1)) .0
   where
     apart : (k : ℕ) (xs : List Node) → all p xs ≡ true → all p (take k xs) && all p (drop k xs) ≡ true
     apart k xs h = sym (all-append p (take k xs) (drop k xs)) ∙ ap (all p) (take-append-drop k xs) ∙ h
@@ -101,25 +102,25 @@ both-clear : (m : ℕ) (ns : List Node) → all (exact-clear 0) ns ≡ true → 
 unfolding all
 both-clear m [] h = refl
 both-clear m (n ∷ ns) h =
-    let p = both (exact-clear 0 n) (all (exact-clear 0) ns) h in
+    let p = and-both (exact-clear 0 n) (all (exact-clear 0) ns) h in
     let e : 0 + m ≡ m = omega arith in
     let c : exact-clear m n ≡ true = rw e at (clear-more 0 m (exact-slot n) (p .0)) in
     rw c (ap (λ (t : Bool). open-clear m n && t) (both-clear m ns (p .1)))
 
 -- the slots of the nodes from number i to number e, behind their first m bytes
-abbrev pub part-clear : ℕ → ℕ → ℕ → List Node → Bool
-part-clear m i e ns = all (λ x. exact-clear m x && open-clear m x) (part i e ns)
+abbrev pub between-clear : ℕ → ℕ → ℕ → List Node → Bool
+between-clear m i e ns = all (λ x. exact-clear m x && open-clear m x) (nodes-between i e ns)
 
 -- Number 16: the slots of exact leaves are clear, and on the levels 62 and 63 no bit is set past the 64th byte.
 pub levels-slots : (ls : List (List Node)) (ns : List Node) → concat ls ≡ ns → length ls ≤ 64 → all (open-clear 2) ns ≡ true
-    → slots-valid 0 ls ≡ all (exact-clear 0) ns && (part-clear 1 (above ls 62) (above ls 63) ns && part-clear 0 (above ls 63) (above ls 64) ns)
+    → slots-valid 0 ls ≡ all (exact-clear 0) ns && (between-clear 1 (above ls 62) (above ls 63) ns && between-clear 0 (above ls 63) (above ls 64) ns)
 levels-slots ls ns w h s =
     split-levels 0 ls
     ∙ ap₂ (λ (a : List Node) (t : Bool). all (exact-clear 0) a && t) w (shallow 62 0 ls (omega arith) (ap (all (open-clear 2)) w ∙ s) ∙ last-two ls h)
     ∙ under (all (exact-clear 0) ns) (all (open-clear 1) (getD ls 62 []) && all (open-clear 0) (getD ls 63 []))
-    (part-clear 1 (above ls 62) (above ls 63) ns && part-clear 0 (above ls 63) (above ls 64) ns) (λ c. ap₂ _&&_ (here 1 62 c) (here 0 63 c))
+    (between-clear 1 (above ls 62) (above ls 63) ns && between-clear 0 (above ls 63) (above ls 64) ns) (λ c. ap₂ _&&_ (here 1 62 c) (here 0 63 c))
   where
-    here : (m t : ℕ) → all (exact-clear 0) ns ≡ true → all (open-clear m) (getD ls t []) ≡ part-clear m (above ls t) (above ls (suc t)) ns
+    here : (m t : ℕ) → all (exact-clear 0) ns ≡ true → all (open-clear m) (getD ls t []) ≡ between-clear m (above ls t) (above ls (suc t)) ns
     here m t c =
-        ap (all (open-clear m)) (sym (level-part t ls) ∙ ap (part (above ls t) (above ls (suc t))) w)
-        ∙ both-clear m (part (above ls t) (above ls (suc t)) ns) (all-part (exact-clear 0) (above ls t) (above ls (suc t)) ns c)
+        ap (all (open-clear m)) (sym (level-between t ls) ∙ ap (nodes-between (above ls t) (above ls (suc t))) w)
+        ∙ both-clear m (nodes-between (above ls t) (above ls (suc t)) ns) (all-between (exact-clear 0) (above ls t) (above ls (suc t)) ns c)

@@ -1,7 +1,6 @@
-pub mod Ranges
 pub mod NodeSlots
 pub mod DenseExact
-pub mod Judged
+pub mod Passed
 pub mod LeavesBefore
 pub mod LevelSlots
 pub mod SparseExact
@@ -10,6 +9,6 @@ pub mod TableEntries
 pub mod DenseSlots
 pub mod SlotBits
 pub mod SlotTests
-pub mod Descent
-pub mod Words
+pub mod LastLevels
+pub mod WordDigits
 pub mod SparseWords

@@ -1,7 +1,7 @@
 -- The slots of nodes by their numbers: slot v is the n bits from bit v n on, an exact leaf's before its node's branches'.
 use Prim.Native.Nat.{ℕ, zero, suc, _+_, _*_, _≤_}
 use mathlib.Core.Path.{_≡_, refl, sym, ap, ap₂, _∙_}
-use mathlib.Core.Bool.{Bool, true, false, _&&_, _||_, not}
+use mathlib.Core.Bool.{Bool, true, false, _&&_, _||_, not, and-assoc}
 use mathlib.Core.List.{List, [], _∷_, _++_}
 use native.Mathlib.Omega.{arith}
 use native.Mathlib.Nat.{suc-mul}
@@ -10,9 +10,10 @@ use lib.Seq.{drop-drop}
 use Rattle.spec.specs.Bytes.{Bits, all, count, clear}
 use Rattle.spec.specs.Nodes.{Entry, entry, Shape, shape, Node, slot, branches-of, exact-slot, with-slots, past-slots, slotted, total}
 use Rattle.spec.specs.Check.{clear-behind}
-use Rattle.check_trie_laws.specs.Tests.{both, and}
+use Rattle.check_trie_laws.specs.Tests.{and}
 use Rattle.check_trie_laws.specs.Shapes.{ends-here, exact, leaves-at, node-of, bits-past, slotted-first}
-use Rattle.check_slots_laws.specs.Ranges.{all-from, from-none, from-parts}
+use Rattle.check_trie_laws.specs.Ranges.{all-from, from-none, from-parts}
+use Rattle.theory.specs.Lists.{and-both}
 
 -- ---- what number 16 asks of a node
 
@@ -34,7 +35,7 @@ clear-drop : (k : ℕ) (s : Bits) → clear s ≡ true → clear (drop k s) ≡ 
 unfolding clear
 clear-drop zero s h = h
 clear-drop (suc k) [] h = refl
-clear-drop (suc k) (b ∷ s) h = clear-drop k s (both (not b) (clear s) h .1)
+clear-drop (suc k) (b ∷ s) h = clear-drop k s (and-both (not b) (clear s) h .1)
 
 -- bits that are clear behind so many bytes are clear behind more
 pub clear-more : (m k : ℕ) (s : Bits) → clear-behind m s ≡ true → clear-behind (m + k) s ≡ true
@@ -120,11 +121,7 @@ exact-parts f v [] gs = let e : v + 0 ≡ v = omega arith in rw e
 exact-parts f v (h ∷ hs) gs =
     let e : v + leaves-at h + total leaves-at hs ≡ v + (leaves-at h + total leaves-at hs) = omega arith in
     ap (λ (t : Bool). (not (exact h) || f v) && t) (exact-parts f (v + leaves-at h) hs gs ∙ ap (λ (k : ℕ). exact-from f (v + leaves-at h) hs && exact-from f k gs) e)
-    ∙ sym (assoc (not (exact h) || f v) (exact-from f (v + leaves-at h) hs) (exact-from f (v + (leaves-at h + total leaves-at hs)) gs))
-  where
-    assoc : (a b c : Bool) → a && b && c ≡ a && (b && c)
-    assoc true b c = refl
-    assoc false b c = refl
+    ∙ sym (and-assoc (not (exact h) || f v) (exact-from f (v + leaves-at h) hs) (exact-from f (v + (leaves-at h + total leaves-at hs)) gs))
 
 module _ (n : ℕ) (bs : Bits) where
   node-exact : (v : ℕ) (h : Shape) → exact-clear 0 (node-of n h (drop (v * n) bs)) ≡ (not (exact h) || slot-clear 0 n bs v)

@@ -2,10 +2,10 @@
 use Prim.Native.Nat.{ℕ, zero, suc, _+_, _-_, _*_, _<_, _≤_}
 use mathlib.Core.Path.{_≡_, refl, sym, ap, ap₂, _∙_}
 use mathlib.Core.Bool.{Bool, true, false, _&&_}
-use mathlib.Core.List.{List, [], _∷_}
+use mathlib.Core.List.{[], _∷_}
 use native.Mathlib.Omega.{arith}
 use native.Mathlib.Nat.{suc-mul, mul-le-mul, mul-le-mul-right}
-use lib.ListN.{take, drop, length-take, drop-of-length-le}
+use lib.ListN.{length, take, drop, length-take, drop-of-length-le}
 use lib.Seq.{drop-drop, take-nil}
 use lib.Dec.{eqb}
 use borrow.Author.Tests.{eqb-true, eqb-false, eq-eqb, ne-eqb}
@@ -14,13 +14,23 @@ use Rattle.spec.specs.Check.{clear-behind}
 use Rattle.bits_laws.specs.Bits.{rank}
 use Rattle.bits_laws.specs.RankLaws.{rank-up}
 use Rattle.check_trie_laws.specs.DenseNodes.{ones-take-parts}
+use Rattle.check_trie_laws.specs.ListParts.{drop-take}
 use Rattle.check_trie_laws.specs.Positions.{bits, ones-bits}
-use Rattle.check_slots_laws.specs.Ranges.{all-from, from-none, from-first}
+use Rattle.check_trie_laws.specs.Ranges.{all-from, from-none, from-first}
 use Rattle.check_slots_laws.specs.NodeSlots.{clear-none, slot-clear}
 
 -- no bit from bit a to bit b is set
-abbrev pub run-clear : Bytes → ℕ → ℕ → Bool
-run-clear s a b = eqb (rank s a) (rank s b)
+abbrev pub bits-clear : Bytes → ℕ → ℕ → Bool
+bits-clear s a b = eqb (rank s a) (rank s b)
+
+-- so many slots of so many bits fit the bytes, and are few
+pub record Slots-sized (sv : Bytes) (leaves width : ℕ) : Type 0 where
+  -- at most 65,535 leaves
+  pub few-leaves : leaves ≤ 65535
+  -- at most 16 bits a slot
+  pub narrow : width ≤ 16
+  -- the bytes hold them all
+  pub room : leaves * width ≤ 8 * length sv
 
 eqb-apart : (x a b : ℕ) → x + a ≡ b → eqb x 0 ≡ eqb a b
 eqb-apart x a b h = go (eqb x 0) refl
@@ -36,17 +46,11 @@ clear-ones (true ∷ bs) = sym (ne-eqb (1 + ones bs) 0 (λ q. omega arith))
 clear-ones (false ∷ bs) = let e : 0 + ones bs ≡ ones bs = omega arith in rw e (clear-ones bs)
 
 -- k bits from bit a on
-clear-run : (s : Bytes) (n a k : ℕ) → a + k ≤ n → clear (take k (drop a (bits s n))) ≡ run-clear s a (a + k)
-clear-run s n a k h =
+clear-bits : (s : Bytes) (n a k : ℕ) → a + k ≤ n → clear (take k (drop a (bits s n))) ≡ bits-clear s a (a + k)
+clear-bits s n a k h =
     clear-ones (take k (drop a (bits s n)))
     ∙ eqb-apart (ones (take k (drop a (bits s n)))) (rank s a) (rank s (a + k))
     (omega (arith, ones-take-parts a k (bits s n), ones-bits s n a (omega arith), ones-bits s n (a + k) h))
-
--- a part of a part
-pub drop-take : {A : Type 0} (i w : ℕ) (bs : List A) → drop i (take (i + w) bs) ≡ take w (drop i bs)
-drop-take zero w bs = let e : 0 + w ≡ w = omega arith in ap (λ (n : ℕ). take n bs) e
-drop-take {A} (suc i) w [] = let e : suc i + w ≡ suc (i + w) = omega arith in rw (e, take-nil {A = A} w)
-drop-take (suc i) w (b ∷ bs) = let e : suc i + w ≡ suc (i + w) = omega arith in rw e (drop-take i w bs)
 
 behind : (m : ℕ) (bs : Bits) → clear-behind m bs ≡ clear (drop (8 * m) bs)
 unfolding clear-behind
@@ -57,51 +61,51 @@ behind (suc m) bs =
 
 module _ (s : Bytes) (n w : ℕ) where
   -- slot v of w bits, behind its first m bytes
-  pub slot-run : (m v : ℕ) → 8 * m ≤ w → v * w + w ≤ n → slot-clear m w (bits s n) v ≡ run-clear s (v * w + 8 * m) (v * w + w)
-  slot-run m v h l =
+  pub slot-bits : (m v : ℕ) → 8 * m ≤ w → v * w + w ≤ n → slot-clear m w (bits s n) v ≡ bits-clear s (v * w + 8 * m) (v * w + w)
+  slot-bits m v h l =
       let e : 8 * m + (w - 8 * m) ≡ w = omega arith in
       let f : v * w + 8 * m + (w - 8 * m) ≡ v * w + w = omega arith in
       behind m (take w (drop (v * w) (bits s n)))
       ∙ ap (λ (k : ℕ). clear (drop (8 * m) (take k (drop (v * w) (bits s n))))) (sym e)
       ∙ ap clear (drop-take (8 * m) (w - 8 * m) (drop (v * w) (bits s n)) ∙ ap (take (w - 8 * m)) (drop-drop (8 * m) (v * w) (bits s n)))
-      ∙ clear-run s n (v * w + 8 * m) (w - 8 * m) (omega arith)
-      ∙ ap (run-clear s (v * w + 8 * m)) f
+      ∙ clear-bits s n (v * w + 8 * m) (w - 8 * m) (omega arith)
+      ∙ ap (bits-clear s (v * w + 8 * m)) f
 
   -- a slot of at most so many bytes has nothing behind them
   pub slot-within : (m v : ℕ) → w ≤ 8 * m → slot-clear m w (bits s n) v ≡ true
   unfolding clear
   slot-within m v h = behind m (take w (drop (v * w) (bits s n))) ∙ ap clear (drop-of-length-le (take w (drop (v * w) (bits s n))) {i = 8 * m} (omega (arith, length-take w (drop (v * w) (bits s n)))))
 
-run-parts : (s : Bytes) (a b c : ℕ) → a ≤ b → b ≤ c → run-clear s a b && run-clear s b c ≡ run-clear s a c
-run-parts s a b c h l = go (eqb (rank s a) (rank s b)) refl
+bits-parts : (s : Bytes) (a b c : ℕ) → a ≤ b → b ≤ c → bits-clear s a b && bits-clear s b c ≡ bits-clear s a c
+bits-parts s a b c h l = go (eqb (rank s a) (rank s b)) refl
   where
-    go : (t : Bool) → eqb (rank s a) (rank s b) ≡ t → t && run-clear s b c ≡ run-clear s a c
+    go : (t : Bool) → eqb (rank s a) (rank s b) ≡ t → t && bits-clear s b c ≡ bits-clear s a c
     go true e = ap (λ (k : ℕ). eqb k (rank s c)) (sym (eqb-true (rank s a) (rank s b) e))
     go false e = sym (ne-eqb (rank s a) (rank s c) (λ q. eqb-false (rank s a) (rank s b) e (omega (arith, rank-up s a b h, rank-up s b c l))))
 
 -- slots in a row are a run
-pub slots-run : (s : Bytes) (n w k v : ℕ) → (v + k) * w ≤ n → all-from (slot-clear 0 w (bits s n)) v k ≡ run-clear s (v * w) ((v + k) * w)
-slots-run s n w zero v h = let e : v + 0 ≡ v = omega arith in from-none (slot-clear 0 w (bits s n)) v ∙ sym (rw e (eq-eqb (rank s (v * w)) (rank s (v * w)) refl))
-slots-run s n w (suc k) v h =
+pub slots-bits : (s : Bytes) (n w k v : ℕ) → (v + k) * w ≤ n → all-from (slot-clear 0 w (bits s n)) v k ≡ bits-clear s (v * w) ((v + k) * w)
+slots-bits s n w zero v h = let e : v + 0 ≡ v = omega arith in from-none (slot-clear 0 w (bits s n)) v ∙ sym (rw e (eq-eqb (rank s (v * w)) (rank s (v * w)) refl))
+slots-bits s n w (suc k) v h =
     let a : v + suc k ≡ suc v + k = omega arith in
     let b : suc v * w ≡ v * w + w = suc-mul v w in
     let c : suc v * w ≤ (suc v + k) * w = up (suc v) k in
     let d : (suc v + k) * w ≤ n = rw a at h in
     let e : v * w + 8 * 0 ≡ v * w = omega arith in
     from-first (slot-clear 0 w (bits s n)) v k
-    ∙ ap₂ _&&_ (slot-run s n w 0 v (omega arith) (omega arith) ∙ ap₂ (run-clear s) e (sym b)) (slots-run s n w k (suc v) d)
-    ∙ run-parts s (v * w) (suc v * w) ((suc v + k) * w) (omega arith) c
-    ∙ ap (λ (z : ℕ). run-clear s (v * w) (z * w)) (sym a)
+    ∙ ap₂ _&&_ (slot-bits s n w 0 v (omega arith) (omega arith) ∙ ap₂ (bits-clear s) e (sym b)) (slots-bits s n w k (suc v) d)
+    ∙ bits-parts s (v * w) (suc v * w) ((suc v + k) * w) (omega arith) c
+    ∙ ap (λ (z : ℕ). bits-clear s (v * w) (z * w)) (sym a)
   where
     up : (a k : ℕ) → a * w ≤ (a + k) * w
     up a zero = let e : a + 0 ≡ a = omega arith in rw e (omega arith)
     up a (suc k) = let e : a + suc k ≡ suc (a + k) = omega arith in rw e (omega (arith, up a k, suc-mul (a + k) w))
 
 -- a run is clear where as many ones stand before its end as before its start, both counted on from one place
-pub run-counted : (s : Bytes) (a b base low ones : ℕ) → rank s a ≡ base + low → rank s b ≡ base + ones → eqb ones low ≡ run-clear s a b
-run-counted s a b base low ones h l = go (eqb ones low) refl
+pub bits-counted : (s : Bytes) (a b base low ones : ℕ) → rank s a ≡ base + low → rank s b ≡ base + ones → eqb ones low ≡ bits-clear s a b
+bits-counted s a b base low ones h l = go (eqb ones low) refl
   where
-    go : (t : Bool) → eqb ones low ≡ t → t ≡ run-clear s a b
+    go : (t : Bool) → eqb ones low ≡ t → t ≡ bits-clear s a b
     go true e = sym (eq-eqb (rank s a) (rank s b) (omega (arith, eqb-true ones low e)))
     go false e = sym (ne-eqb (rank s a) (rank s b) (λ q. eqb-false ones low e (omega arith)))
 
@@ -119,11 +123,11 @@ slot-past s leaves w m v h =
 
 module _ (s : Bytes) (leaves w v : ℕ) (h : v < leaves) (l : leaves ≤ 65535) (k : w ≤ 16) where
   -- a whole slot
-  pub slot-whole : run-clear s (v * w) (v * w + w) ≡ slot-clear 0 w (bits s (leaves * w)) v
+  pub slot-whole : bits-clear s (v * w) (v * w + w) ≡ slot-clear 0 w (bits s (leaves * w)) v
   slot-whole =
       let e : v * w ≡ v * w + 8 * 0 = omega arith in
-      ap (λ (a : ℕ). run-clear s a (v * w + w)) e ∙ sym (slot-run s (leaves * w) w 0 v (omega arith) (slot-fits leaves w v h l k .0))
+      ap (λ (a : ℕ). bits-clear s a (v * w + w)) e ∙ sym (slot-bits s (leaves * w) w 0 v (omega arith) (slot-fits leaves w v h l k .0))
 
   -- what stands behind its first byte
-  pub slot-second : 8 < w → run-clear s (v * w + 8) (v * w + w) ≡ slot-clear 1 w (bits s (leaves * w)) v
-  slot-second g = sym (slot-run s (leaves * w) w 1 v (omega arith) (slot-fits leaves w v h l k .0))
+  pub slot-second : 8 < w → bits-clear s (v * w + 8) (v * w + w) ≡ slot-clear 1 w (bits s (leaves * w)) v
+  slot-second g = sym (slot-bits s (leaves * w) w 1 v (omega arith) (slot-fits leaves w v h l k .0))

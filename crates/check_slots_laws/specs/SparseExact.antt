@@ -12,14 +12,14 @@ use Rattle.spec.specs.Nodes.{Entry, entry, entry-label, shape, Sparse, sparse, 
 use Rattle.spec.specs.Trie.{first-set}
 use Rattle.bits_laws.specs.Bits.{bit-at, rank}
 use Rattle.bits_laws.specs.RankLaws.{rank-next, rank-le}
-use Rattle.check_trie_laws.specs.Tests.{both}
 use Rattle.check_trie_laws.specs.Shapes.{ends-here, exact}
 use Rattle.check_trie_laws.specs.SparseNodes.{First, first-node, entries-of, leaves-of}
 use Rattle.check_trie_laws.specs.Positions.{bits, is-set, bits-from}
 use Rattle.check_trie_laws.specs.EntryPositions.{entry-at, all-entries, zip-from, zip-end}
-use Rattle.check_slots_laws.specs.Ranges.{all-from}
+use Rattle.check_trie_laws.specs.Ranges.{all-from}
 use Rattle.check_slots_laws.specs.NodeSlots.{exact-from}
 use Rattle.check_slots_laws.specs.DenseExact.{bit-set}
+use Rattle.theory.specs.Lists.{and-both}
 
 -- ---- nodes by their entries
 
@@ -83,7 +83,7 @@ nodes-shapes : (f : ℕ → Bool) (v : ℕ) (cs : List Sparse) → all extra-end
 unfolding exact-nodes exact-from all
 nodes-shapes f v [] h = refl
 nodes-shapes f v (c ∷ cs) h =
-    let p = both (extra-ends c) (all extra-ends cs) h in
+    let p = and-both (extra-ends c) (all extra-ends cs) h in
     ap₂ _&&_ (ap (λ (b : Bool). not b || f v) (sym (shape-exact c)))
     (nodes-shapes f (v + count ends-here (entries-of c)) cs (p .1) ∙ ap (λ (k : ℕ). exact-from f (v + k) (map sparse-shape cs)) (sym (leaves-of c (p .0))))
 

@@ -14,17 +14,17 @@ use Rattle.spec.specs.Bytes.{Bytes, bit}
 use Rattle.bits_laws.specs.Bits.{bit-at, word}
 use Rattle.bits_laws.specs.ValueLaws.{Small, word-lt}
 use Rattle.check_trie_laws.specs.Positions.{is-set}
-use Rattle.check_slots_laws.specs.Ranges.{all-from, from-skip, from-fail, from-step}
+use Rattle.check_trie_laws.specs.Ranges.{all-from, from-skip, from-fail, from-step}
 use Rattle.check_slots_laws.specs.SparseExact.{sparse-slot, sparse-exact}
-use Rattle.check_slots_laws.specs.Words.{digit, trailing-clear, trailing-set, trailing-all, lone, lone-is}
+use Rattle.check_slots_laws.specs.WordDigits.{digit, trailing-clear, trailing-set, trailing-all, lone, lone-is}
 
 -- x has the starts of nodes with several entries in word q of S-LOUDS
-pub record Starts (sb : Bytes) (q x : ℕ) : Type 0 where
+pub record Several-starts (sb : Bytes) (q x : ℕ) : Type 0 where
   pub few : x < 2 ^ 64
   pub is : (j : ℕ) → j < 64 → digit x j ≡ bit (is-set sb (64 * q + j) && not (is-set sb (64 * q + j + 1)))
 
 -- so have the set digits of a word whose next is not set
-pub starts-are : (s : Bytes) → Small s → (q w next : ℕ) → w ≡ word s (q * 8) → next ≡ bit-at s (8 * (q * 8 + 8)) → Starts s q (lone w next)
+pub starts-are : (s : Bytes) → Small s → (q w next : ℕ) → w ≡ word s (q * 8) → next ≡ bit-at s (8 * (q * 8 + 8)) → Several-starts s q (lone w next)
 starts-are s small q w next e h =
     let k : 8 * (q * 8 + 8) ≡ 64 * q + 64 = omega arith in
     let l : w < 2 ^ 64 = rw e (word-lt s (q * 8)) in
@@ -34,11 +34,11 @@ starts-are s small q w next e h =
     }
 
 -- the numbers from i to k of those up to n were judged: all pass, or one of them fails
-pub record Judges (f : ℕ → Bool) (i k n : ℕ) (r : Bool) : Type 0 where
+pub record Range-judged (f : ℕ → Bool) (i k n : ℕ) (r : Bool) : Type 0 where
   pub passed : r ≡ true → all-from f i (n - i) ≡ all-from f k (n - k)
   pub failed : r ≡ false → all-from f i (n - i) ≡ false
 
-module _ (g : ℕ → Bool) (sl sc sb : Bytes) (n d q x : ℕ) (s : Starts sb q x) where
+module _ (g : ℕ → Bool) (sl sc sb : Bytes) (n d q x : ℕ) (s : Several-starts sb q x) where
   abbrev F : ℕ → Bool
   F = sparse-exact g sl sc sb n d
 

@@ -1,23 +1,23 @@
--- Entries of a judged image's rank tables: entry b is the ones before bit w b of its body.
+-- Table entries of the rank tables of an image that passed the numbers 11 to 15: entry b is the ones before bit w b of its body.
 use Prim.Native.Nat.{ℕ, zero, suc, _+_, _-_, _*_, _/_, _%_, _^_, _<_, _≤_}
-use mathlib.Core.Path.{_≡_, refl, sym, ap, ap₂, _∙_}
+use mathlib.Core.Path.{_≡_, sym, ap, ap₂, _∙_}
 use mathlib.Core.Bool.{true}
-use mathlib.Core.List.{List, [], _∷_, _++_, map}
+use mathlib.Core.List.{[], _∷_, _++_, map}
 use native.Mathlib.Omega.{arith}
 use lib.ListN.{length, getD, take, drop}
 use lib.Seq.{getD-drop, getD-take}
 use lib.Pow.{field, mod-mod-pow}
 use Rattle.spec.specs.Bytes.{Bytes, Bits, concat, iota, blocks, equal, ones, le32, from32}
-use Rattle.spec.specs.Image.{ranks, samples}
-use Rattle.spec.specs.Frame.{Parts, body}
+use Rattle.spec.specs.Image.{Bodies, ranks, samples}
+use Rattle.spec.specs.Frame.{Parts, named}
 use Rattle.spec.specs.Check.{ranks-valid}
 use Rattle.bits_laws.specs.Bits.{rank}
-use Rattle.bits_laws.specs.RankLaws.{rank-le}
 use Rattle.bits_laws.specs.Bits.{part}
-use Rattle.image_types.specs.FrameOf.{frame-bodies, frame-parts}
+use Rattle.image_types.specs.FrameOf.{frame-named, frame-parts}
 use Rattle.image_types.specs.declared.Frame.{Frame}
 use Rattle.check_trie_laws.specs.Positions.{bits, length-bits, ones-bits}
-use Rattle.check_slots_laws.specs.Judged.{dl-body, dc-body, sc-body, Judged, Inside, bodies-sized, bodies-inside}
+use Rattle.check_trie_laws.specs.Bodies.{dl-body, dc-body, bodies-sized}
+use Rattle.check_slots_laws.specs.Passed.{Passed-to-15}
 use Rattle.theory.specs.Order.{equal-true}
 use Rattle.theory.specs.Frame.{from32-le32}
 use Rattle.theory.specs.Lists.{every-true}
@@ -65,21 +65,20 @@ rank-entry w bs b h =
     let e : 0 + b ≡ b = omega arith in
     row (λ b. ones (take (w * b) bs)) (blocks w (length bs)) 0 b h ∙ ap (λ (k : ℕ). ones (take (w * k) bs) % 4294967296) e
 
-module _ (s : Bytes) (f : Frame) (j : Judged s f) where
+module _ (s : Bytes) (f : Frame) (j : Passed-to-15 s f) where
   -- the tables that entry numbers are read from
   record Tables : Type 0 where
     rl : part s (f .rl) (4 * blocks 64 (256 * f .dense .nodes)) ≡ ranks 64 (bits (dl-body s f) (256 * f .dense .nodes))
     rc : part s (f .rc) (4 * blocks 64 (256 * f .dense .nodes)) ≡ ranks 64 (bits (dc-body s f) (256 * f .dense .nodes))
-    rs : part s (f .rs) (4 * blocks 512 (f .sparse .entries)) ≡ ranks 512 (bits (sc-body s f) (f .sparse .entries))
 
   tables : Tables
-  unfolding ranks-valid
+  unfolding ranks-valid named
   tables =
-      let bs : List Bytes = frame-bodies s f in
+      let b : Bodies = frame-named s f in
       let p : Parts = frame-parts s f in
-      let r : ranks-valid (frame-parts s f) (frame-bodies s f) ≡ true = ap (λ (p : Parts). ranks-valid p (frame-bodies s f)) (sym (j .frame .parts-are)) ∙ j .ranks in
-      let q = every-true (equal (body bs 7) (ranks 64 (p .dl)) ∷ equal (body bs 8) (ranks 64 (p .dc)) ∷ equal (body bs 9) (ranks 64 (p .dp)) ∷ equal (body bs 10) (ranks 512 (p .sc)) ∷ equal (body bs 11) (samples (p .sb)) ∷ []) r in
-      record { rl = equal-true (body bs 7) (ranks 64 (p .dl)) (q .0); rc = equal-true (body bs 8) (ranks 64 (p .dc)) (q .1 .0); rs = equal-true (body bs 10) (ranks 512 (p .sc)) (q .1 .1 .1 .0) }
+      let r : ranks-valid (frame-parts s f) (frame-named s f) ≡ true = ap (λ (p : Parts). ranks-valid p (frame-named s f)) (sym (j .frame .parts-are)) ∙ j .ranks in
+      let q = every-true (equal (b .RL) (ranks 64 (p .dl)) ∷ equal (b .RC) (ranks 64 (p .dc)) ∷ equal (b .RP) (ranks 64 (p .dp)) ∷ equal (b .RS) (ranks 512 (p .sc)) ∷ equal (b .TS) (samples (p .sb)) ∷ []) r in
+      record { rl = equal-true (b .RL) (ranks 64 (p .dl)) (q .0); rc = equal-true (b .RC) (ranks 64 (p .dc)) (q .1 .0) }
 
   -- the entry for dense node m, which has four blocks of 64 bits
   node-entry : (at : ℕ) (d : Bytes) → length d ≡ 32 * f .dense .nodes → part s at (4 * blocks 64 (256 * f .dense .nodes)) ≡ ranks 64 (bits d (256 * f .dense .nodes)) → (m : ℕ) → m < f .dense .nodes
@@ -98,24 +97,3 @@ module _ (s : Bytes) (f : Frame) (j : Judged s f) where
 
   pub child-entry : (m : ℕ) → m < f .dense .nodes → from32 (drop (f .rc + 16 * m) s) ≡ rank (dc-body s f) (256 * m) % 4294967296
   child-entry = node-entry (f .rc) (dc-body s f) (bodies-sized s f (j .frame) .dc) (tables .rc)
-
-  -- the continuing entries before block b of 512
-  pub entry-entry : (b : ℕ) → 512 * b < f .sparse .entries → from32 (drop (f .rs + 4 * b) s) ≡ rank (sc-body s f) (512 * b)
-  entry-entry b h =
-      let z = bodies-sized s f (j .frame) .sc in
-      let o : ones (take (512 * b) (bits (sc-body s f) (f .sparse .entries))) ≡ rank (sc-body s f) (512 * b) = ones-bits (sc-body s f) (f .sparse .entries) (512 * b) (omega arith) in
-      let l = j .frame .entries in
-      sym (from-part s (f .rs) (4 * blocks 512 (f .sparse .entries)) (4 * b) (omega arith))
-      ∙ ap (λ (t : Bytes). from32 (drop (4 * b) t)) (tables .rs)
-      ∙ rank-entry 512 (bits (sc-body s f) (f .sparse .entries)) b (omega (arith, length-bits (sc-body s f) (f .sparse .entries) (omega arith))) ∙ omega (arith, o, rank-le (sc-body s f) (512 * b))
-
-  -- the last block of 512 entries, and its entry in the table
-  pub last-block : (f .sparse .entries ≡ 0 → ⊥) → Inside s (f .rs + 4 * ((f .sparse .entries - 1) / 512)) 4 × (512 * ((f .sparse .entries - 1) / 512) < f .sparse .entries)
-  last-block h = within (f .sparse .entries) (f .rs) (positive (f .sparse .entries) h) (bodies-inside s f (j .frame) .rs)
-    where
-      positive : (n : ℕ) → (n ≡ 0 → ⊥) → 0 < n
-      positive zero h = absurd (h refl)
-      positive (suc n) h = omega arith
-
-      within : (n at : ℕ) → 0 < n → Inside s at (4 * ((n + 511) / 512)) → Inside s (at + 4 * ((n - 1) / 512)) 4 × (512 * ((n - 1) / 512) < n)
-      within n at h i = ((omega (arith, i .0), omega (arith, i .1)), omega arith)

@@ -6,7 +6,7 @@ ghost use Rattle.spec.specs.Bytes.{blocks};
 ghost use Rattle.spec.specs.Frame.{parts};
 ghost use Rattle.spec.specs.Check.{no-spare, spare-clear};
 ghost use Rattle.bits_laws.specs.Bits.{part};
-ghost use Rattle.image_types.specs.FrameOf.{FrameOf, frame-bodies};
+ghost use Rattle.image_types.specs.FrameOf.{FrameOf, frame-named};
 use bits::numbers::wide;
 use image_types::Frame;
 
@@ -24,7 +24,7 @@ fn no_spare(image: &[u8], at: usize, n: usize) -> bool
 // Whether number 13 does not apply: no spare bit is set in DP, SC, SB and SV.
 pub fn spare_clear(image: &[u8], f: Frame) -> bool
     requires { ⌜ FrameOf (now image) f ⌝ }
-    ensures { λ r. ⌜ r ≡ spare-clear (parts (now (image .entry)) (frame-bodies (now (image .entry)) f)) (frame-bodies (now (image .entry)) f) ⌝ }
+    ensures { λ r. ⌜ r ≡ spare-clear (parts (now (image .entry)) (frame-named (now (image .entry)) f)) (frame-named (now (image .entry)) f) ⌝ }
 {
     no_spare(image, f.dp, f.dense.nodes)
         & no_spare(image, f.sc, f.sparse.entries)

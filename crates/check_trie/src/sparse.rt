@@ -7,19 +7,21 @@ ghost use lib.ListN.{length};
 ghost use Rattle.spec.specs.Nodes.{zip-entries};
 ghost use Rattle.check_trie_laws.specs.BitTests.{sparse-valid};
 ghost use Rattle.check_trie_laws.specs.Positions.{bits, is-set};
-ghost use Rattle.check_trie_laws.specs.EntryPositions.{entry-valid, entries-from};
-ghost use Rattle.check_trie_laws.specs.WordEntries.{run-valid, end-valid, next-bits};
+ghost use Rattle.check_trie_laws.specs.EntryPositions.{Entry-room, Entries-sized, entry-valid, entries-from};
+ghost use Rattle.check_trie_laws.specs.WordEntries.{range-valid, end-valid, next-bits};
 use super::labels::ascents;
 use super::labels::full_labels;
 use bits::numbers::read_word;
 use bits::numbers::read64;
 use bits::ones::bit_at;
+use image_types::BitPos;
 
-// What is asked of entry j, where the next one begins a node or not.
-fn entry_valid(sl: &[u8], sc: &[u8], j: usize, root: bool, start: bool, begins: bool) -> bool
-    requires { ⌜ (j + 1 < length (now sl)) × (j < 8 * length (now sc)) ⌝ }
-    ensures { λ r. ⌜ r ≡ entry-valid (now (sl .entry)) (now (sc .entry)) root start j begins ⌝ }
+// Whether the entry at a position, in the root or not, the first of its node or not, is valid, where the next one begins a node or not.
+fn entry_valid(sl: &[u8], sc: &[u8], at: BitPos, root: bool, start: bool, begins: bool) -> bool
+    requires { ⌜ (at .0 + 1 < length (now sl)) × (at .0 < 8 * length (now sc)) ⌝ }
+    ensures { λ r. ⌜ r ≡ entry-valid (now (sl .entry)) (now (sc .entry)) root start (at .0) begins ⌝ }
 {
+    let j = at.0;
     let continues = bit_at(sc, j) == 1;
     if begins {
         return !start | continues | root;
@@ -30,27 +32,26 @@ fn entry_valid(sl: &[u8], sc: &[u8], j: usize, root: bool, start: bool, begins: 
     sl[j] < sl[j + 1]
 }
 
-// What is asked of the last entry, which is number j and not in the root.
-fn last_valid(sc: &[u8], sb: &[u8], j: usize) -> bool
-    requires { ⌜ (j < 8 * length (now sc)) × (j < 8 * length (now sb)) ⌝ }
-    ensures { λ r. ⌜ r ≡ end-valid (now (sc .entry)) (now (sb .entry)) j ⌝ }
+// Whether the last entry, which stands at a position and is not in the root, is valid.
+fn last_valid(sc: &[u8], sb: &[u8], at: BitPos) -> bool
+    requires { ⌜ (at .0 < 8 * length (now sc)) × (at .0 < 8 * length (now sb)) ⌝ }
+    ensures { λ r. ⌜ r ≡ end-valid (now (sc .entry)) (now (sb .entry)) (at .0) ⌝ }
 {
-    let start = bit_at(sb, j) == 1;
-    let continues = bit_at(sc, j) == 1;
+    let start = bit_at(sb, at.0) == 1;
+    let continues = bit_at(sc, at.0) == 1;
     !start | continues
 }
 
-// The entries from one on and before another, one by one; none is in the root, and each has one behind it.
-fn run_valid(sl: &[u8], sc: &[u8], sb: &[u8], from: usize, to: usize) -> bool
-    requires { ⌜ (from ≤ to) × (to < length (now sl)) × (to < 8 * length (now sc)) × (to < 8 * length (now sb)) ⌝ }
-    ensures { λ r. ⌜ r ≡ run-valid (now (sl .entry)) (now (sc .entry)) (now (sb .entry)) from (to - from) ⌝ }
+// Whether the entries from one position on and before another are valid, one by one; none is in the root, and each has one behind it.
+fn range_valid(sl: &[u8], sc: &[u8], sb: &[u8], from: BitPos, to: BitPos) -> bool
+    requires { ⌜ (from .0 ≤ to .0) × Entry-room (now sl) (now sc) (now sb) (to .0) ⌝ }
+    ensures { λ r. ⌜ r ≡ range-valid (now (sl .entry)) (now (sc .entry)) (now (sb .entry)) (from .0) (to .0 - from .0) ⌝ }
 {
-    let mut j = from;
-    while j < to {
+    let mut j = from.0;
+    while j < to.0 {
         let start = bit_at(sb, j) == 1;
         let begins = bit_at(sb, j + 1) == 1;
-        let valid = entry_valid(sl, sc, j, false, start, begins);
-        if !valid {
+        if !entry_valid(sl, sc, BitPos(j), false, start, begins) {
             return false;
         }
         j = j + 1;
@@ -65,10 +66,10 @@ fn shift_in(x: u64, next: u64) -> u64
     (x >> 1) | ((next % 2) << 63)
 }
 
-// The 64 entries of word q, none of which is in the root, and each of which has one behind it.
+// Whether the 64 entries of word q are valid, none of which is in the root, and each of which has one behind it.
 fn word_valid(sl: &[u8], sc: &[u8], sb: &[u8], q: usize) -> bool
-    requires { ⌜ (64 * q + 64 < length (now sl)) × (64 * q + 64 < 8 * length (now sc)) × (64 * q + 64 < 8 * length (now sb)) ⌝ }
-    ensures { λ r. ⌜ r ≡ run-valid (now (sl .entry)) (now (sc .entry)) (now (sb .entry)) (64 * q) 64 ⌝ }
+    requires { ⌜ Entry-room (now sl) (now sc) (now sb) (64 * q + 64) ⌝ }
+    ensures { λ r. ⌜ r ≡ range-valid (now (sl .entry)) (now (sc .entry)) (now (sb .entry)) (64 * q) 64 ⌝ }
 {
     let x = read64(sb, q * 8);
     let y = shift_in(x, read_word(sb, q + 1));
@@ -85,10 +86,10 @@ fn word_valid(sl: &[u8], sc: &[u8], sb: &[u8], q: usize) -> bool
     sole_ends | (descents & no_mark) == 0
 }
 
-// The entries of the words from one on and before another.
+// Whether the entries of the words from one on and before another are valid.
 fn words_valid(sl: &[u8], sc: &[u8], sb: &[u8], from: usize, to: usize) -> bool
-    requires { ⌜ (from ≤ to) × (64 * to < length (now sl)) × (64 * to < 8 * length (now sc)) × (64 * to < 8 * length (now sb)) ⌝ }
-    ensures { λ r. ⌜ r ≡ run-valid (now (sl .entry)) (now (sc .entry)) (now (sb .entry)) (64 * from) (64 * (to - from)) ⌝ }
+    requires { ⌜ (from ≤ to) × Entry-room (now sl) (now sc) (now sb) (64 * to) ⌝ }
+    ensures { λ r. ⌜ r ≡ range-valid (now (sl .entry)) (now (sc .entry)) (now (sb .entry)) (64 * from) (64 * (to - from)) ⌝ }
 {
     let mut q = from;
     while q < to {
@@ -100,25 +101,25 @@ fn words_valid(sl: &[u8], sc: &[u8], sb: &[u8], from: usize, to: usize) -> bool
     true
 }
 
-// The entries from 1 on, where the last is number `last`.
-fn later_valid(sl: &[u8], sc: &[u8], sb: &[u8], last: usize) -> bool
-    requires { ⌜ (0 < last) × (last < length (now sl)) × (last < 8 * length (now sc)) × (last < 8 * length (now sb)) ⌝ }
-    ensures { λ r. ⌜ r ≡ entries-from (now (sl .entry)) (now (sc .entry)) (now (sb .entry)) false (is-set (now (sb .entry)) 1) 1 (last - 1) ⌝ }
+// Whether the entries from 1 on are valid, the last of which stands at a position.
+fn later_valid(sl: &[u8], sc: &[u8], sb: &[u8], last: BitPos) -> bool
+    requires { ⌜ (0 < last .0) × Entry-room (now sl) (now sc) (now sb) (last .0) ⌝ }
+    ensures { λ r. ⌜ r ≡ entries-from (now (sl .entry)) (now (sc .entry)) (now (sb .entry)) false (is-set (now (sb .entry)) 1) 1 (last .0 - 1) ⌝ }
 {
-    let words = last / 64;
+    let words = last.0 / 64;
     let end = last_valid(sc, sb, last);
     if words == 0 {
-        return run_valid(sl, sc, sb, 1, last) & end;
+        return range_valid(sl, sc, sb, BitPos(1), last) & end;
     }
-    let first = run_valid(sl, sc, sb, 1, 64);
+    let first = range_valid(sl, sc, sb, BitPos(1), BitPos(64));
     let middle = words_valid(sl, sc, sb, 1, words);
-    let rest = run_valid(sl, sc, sb, 64 * words, last);
+    let rest = range_valid(sl, sc, sb, BitPos(64 * words), last);
     first & middle & rest & end
 }
 
-// The n sparse entries, of which the first is in the root or not.
+// Whether the n sparse entries are valid, of which the first is in the root or not.
 pub fn sparse_valid(sl: &[u8], sc: &[u8], sb: &[u8], n: usize, root: bool) -> bool
-    requires { ⌜ (length (now sl) ≡ n) × (n ≤ 8 * length (now sc)) × (n ≤ 8 * length (now sb)) ⌝ }
+    requires { ⌜ Entries-sized (now sl) (now sc) (now sb) n ⌝ }
     ensures { λ r. ⌜ r ≡ sparse-valid root (zip-entries (now (sl .entry)) (bits (now (sc .entry)) n)) (bits (now (sb .entry)) n) ⌝ }
 {
     if n == 0 {
@@ -128,6 +129,6 @@ pub fn sparse_valid(sl: &[u8], sc: &[u8], sb: &[u8], n: usize, root: bool) -> bo
         return (bit_at(sc, 0) == 1) | root;
     }
     let begins = bit_at(sb, 1) == 1;
-    let valid = entry_valid(sl, sc, 0, root, true, begins);
-    valid & later_valid(sl, sc, sb, n - 1)
+    let valid = entry_valid(sl, sc, BitPos(0), root, true, begins);
+    valid & later_valid(sl, sc, sb, BitPos(n - 1))
 }

@@ -1,30 +1,26 @@
-// All tests of number 14 together.
+// All tests of number 14 together, over an image and its frame.
 ghost use mathlib.Core.Path.{_≡_};
 ghost use mathlib.Core.Bool.{_||_};
-ghost use Prim.Native.Nat.{_+_, _*_, _≤_, _<_};
+ghost use Prim.Native.Nat.{_*_, _≤_};
 ghost use lib.ListN.{length};
 ghost use lib.Dec.{eqb};
-ghost use mathlib.Core.List.{[]};
-ghost use Rattle.bits_laws.specs.Bits.{rank};
+ghost use Rattle.spec.specs.Trie.{builders-trie};
+ghost use Rattle.image_types.specs.FrameOf.{FrameOf, frame-parts};
 ghost use Rattle.check_trie_laws.specs.Positions.{is-set};
-ghost use Rattle.check_trie_laws.specs.BitTests.{counts-valid, bits-valid};
-ghost use Rattle.check_trie_laws.specs.BodyTests.{trie-parts};
+ghost use Rattle.check_trie_laws.specs.BitTests.{counts-valid};
+ghost use Rattle.check_trie_laws.specs.Levels.{Louds-valid};
+ghost use Rattle.check_trie_laws.specs.BodyTests.{louds-test, dense-test, sparse-test, sums-test, Counts-few};
 use super::cover::covered;
 use super::dense::dense_valid;
-use super::levels::levels_valid;
 use super::sparse::sparse_valid;
+use bits::numbers::bytes_for;
 use bits::ones::bit_at;
-use bits::ones::rank_from;
+use bits::ones::ones_of;
+use bits::parts::part;
+use check_levels::judge::levels_valid;
+use image_types::Frame;
 
-// All ones among the first n bits.
-fn ones_of(s: &[u8], n: usize) -> usize
-    requires { ⌜ n ≤ 8 * length (now s) ⌝ }
-    ensures { λ r. ⌜ r ≡ rank (now (s .entry)) n ⌝ }
-{
-    rank_from(s, 0, 0, n)
-}
-
-// The first of n bits is set, or there is none.
+// Whether the first of n bits is set, or there is none.
 fn first_set(s: &[u8], n: usize) -> bool
     requires { ⌜ n ≤ 8 * length (now s) ⌝ }
     ensures { λ r. ⌜ r ≡ (eqb n 0 || is-set (now (s .entry)) 0) ⌝ }
@@ -35,63 +31,75 @@ fn first_set(s: &[u8], n: usize) -> bool
     bit_at(s, 0) == 1
 }
 
-// The counts agree with the bits, and the levels are right.
-fn counts_valid(
-    dl: &[u8],
-    dc: &[u8],
-    dp: &[u8],
-    sc: &[u8],
-    sb: &[u8],
-    levels: usize,
-    leaves: usize,
-    n: usize,
-    entries: usize,
-    sparse: usize,
-) -> bool
-    requires { ⌜ (length (now dl) ≡ 32 * n) × (length (now dc) ≡ 32 * n) × (n ≤ 8 * length (now dp)) × (entries ≤ 8 * length (now sc)) × (entries ≤ 8 * length (now sb)) × (rank (now sb) entries ≡ sparse) × (leaves < 4294967296) × (n < 4294967296) × (entries < 4294967296) ⌝ }
-    ensures { λ r. ⌜ r ≡ counts-valid (trie-parts levels leaves n entries sparse (now (dl .entry)) (now (dc .entry)) (now (dp .entry)) [] (now (sc .entry)) (now (sb .entry))) ⌝ }
+// Whether S-LOUDS marks the first entry, and as many entries as there are sparse nodes.
+fn louds_valid(image: &[u8], f: Frame) -> bool
+    requires { ⌜ FrameOf (now image) f ⌝ }
+    ensures { λ r. ⌜ r ≡ louds-test (now (image .entry)) f ⌝ }
 {
-    let nodes = n + sparse;
-    if nodes == 0 {
-        return leaves == 0;
-    }
-    let labels = ones_of(dl, 256 * n);
-    let exact = ones_of(dp, n);
-    let dense_children = ones_of(dc, 256 * n);
-    let sparse_children = ones_of(sc, entries);
-    let sums = (labels + exact + entries == leaves + dense_children + sparse_children)
-        & (0 < leaves)
-        & (nodes == dense_children + sparse_children + 1);
-    if !sums {
-        return false;
-    }
-    levels_valid(dc, sc, sb, levels, n, entries, sparse)
+    let entries = f.sparse.entries;
+    let sb = part(image, f.sb, bytes_for(entries));
+    first_set(sb, entries) & (ones_of(sb, entries) == f.sparse.nodes)
 }
 
-// The bits and labels are a builder's trie.
-pub fn trie_valid(
-    dl: &[u8],
-    dc: &[u8],
-    dp: &[u8],
-    sl: &[u8],
-    sc: &[u8],
-    sb: &[u8],
-    levels: usize,
-    leaves: usize,
-    n: usize,
-    entries: usize,
-    sparse: usize,
-) -> bool
-    requires { ⌜ (length (now dl) ≡ 32 * n) × (length (now dc) ≡ 32 * n) × (n ≤ 8 * length (now dp)) × (length (now sl) ≡ entries) × (entries ≤ 8 * length (now sc)) × (entries ≤ 8 * length (now sb)) × (leaves < 4294967296) × (n < 4294967296) × (entries < 4294967296) ⌝ }
-    ensures { λ r. ⌜ r ≡ bits-valid (trie-parts levels leaves n entries sparse (now (dl .entry)) (now (dc .entry)) (now (dp .entry)) (now (sl .entry)) (now (sc .entry)) (now (sb .entry))) ⌝ }
+// Whether the dense nodes are valid: what continues is a label, and each node has the labels that it needs.
+fn dense_part_valid(image: &[u8], f: Frame) -> bool
+    requires { ⌜ FrameOf (now image) f ⌝ }
+    ensures { λ r. ⌜ r ≡ dense-test (now (image .entry)) f ⌝ }
 {
-    if ones_of(sb, entries) != sparse {
+    let nodes = f.dense.nodes;
+    let dl = part(image, f.dl, 32 * nodes);
+    let dc = part(image, f.dc, 32 * nodes);
+    let dp = part(image, f.dp, bytes_for(nodes));
+    covered(dc, dl, 4 * nodes) & dense_valid(dl, dc, dp, nodes)
+}
+
+// Whether the sparse entries are valid.
+fn sparse_part_valid(image: &[u8], f: Frame) -> bool
+    requires { ⌜ FrameOf (now image) f ⌝ }
+    ensures { λ r. ⌜ r ≡ sparse-test (now (image .entry)) f ⌝ }
+{
+    let entries = f.sparse.entries;
+    let sl = part(image, f.sl, entries);
+    let sc = part(image, f.sc, bytes_for(entries));
+    let sb = part(image, f.sb, bytes_for(entries));
+    sparse_valid(sl, sc, sb, entries, f.dense.nodes == 0)
+}
+
+// Whether the counts agree, of which so many branches continue: the entries are leaves and continuing branches, there is a leaf,
+// and the nodes are the root and one for each continuing branch.
+fn sums_valid(f: Frame, children: usize) -> bool
+    requires { ⌜ Counts-few f children ⌝ }
+    ensures { λ r. ⌜ r ≡ sums-test f children ⌝ }
+{
+    (f.totals.entries + f.sparse.entries == f.leaves + children)
+        & (0 < f.leaves)
+        & (f.dense.nodes + f.sparse.nodes == children + 1)
+}
+
+// Whether the counts agree with the bits, and the levels are valid.
+fn counts_valid(image: &[u8], f: Frame) -> bool
+    requires { ⌜ Louds-valid (now image) f ⌝ }
+    ensures { λ r. ⌜ r ≡ counts-valid (frame-parts (now (image .entry)) f) ⌝ }
+{
+    if f.dense.nodes + f.sparse.nodes == 0 {
+        return f.leaves == 0;
+    }
+    let entries = f.sparse.entries;
+    let sc = part(image, f.sc, bytes_for(entries));
+    let children = f.totals.children + ones_of(sc, entries);
+    if !sums_valid(f, children) {
         return false;
     }
-    let first = first_set(sb, entries);
-    let within = covered(dc, dl, 4 * n);
-    let entries_valid = sparse_valid(sl, sc, sb, entries, n == 0);
-    let nodes_valid = dense_valid(dl, dc, dp, n);
-    let counts = counts_valid(dl, dc, dp, sc, sb, levels, leaves, n, entries, sparse);
-    first & within & (entries_valid & nodes_valid & counts)
+    levels_valid(image, f)
+}
+
+// Whether number 14 does not apply: the bits and labels are a builder's trie.
+pub fn trie_valid(image: &[u8], f: Frame) -> bool
+    requires { ⌜ FrameOf (now image) f ⌝ }
+    ensures { λ r. ⌜ r ≡ builders-trie (frame-parts (now (image .entry)) f) ⌝ }
+{
+    if !louds_valid(image, f) {
+        return false;
+    }
+    dense_part_valid(image, f) & sparse_part_valid(image, f) & counts_valid(image, f)
 }

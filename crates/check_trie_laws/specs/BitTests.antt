@@ -12,21 +12,23 @@ use Rattle.spec.specs.Bytes.{Bytes, Bits, all, every, count, ones}
 use Rattle.spec.specs.Frame.{Parts}
 use Rattle.spec.specs.Nodes.{Entry, entry, continues, Shape, dense-shapes, zip-entries, split, sparse-shape, extra-ends, sparse-nodes, nodes-of, slotted, total}
 use Rattle.spec.specs.Trie.{first-set, covered, nodes-valid, builders-trie}
-use Rattle.check_trie_laws.specs.Tests.{both, under, all-append}
+use Rattle.check_trie_laws.specs.Tests.{under, all-append}
 use Rattle.check_trie_laws.specs.LevelEnds.{before, rise, nodes-above, rise-ext, nodes-above-ext, end-tests}
-use Rattle.check_trie_laws.specs.Shapes.{ends-here, branches, leaves-at, inner-valid, root-valid, nodes-from, shapes-valid, nodes-shapes}
-use Rattle.check_trie_laws.specs.SparseNodes.{entries-valid, entries-shapes, length-split, place-of, branches-before, leaves-among, leaves-before}
+use Rattle.check_trie_laws.specs.Shapes.{ends-here, branches, leaves-at, non-root-valid, root-valid, nodes-from, shapes-valid, nodes-shapes}
+use Rattle.check_trie_laws.specs.SparseNodes.{entries-valid, entries-shapes, length-split, position-of, branches-before, leaves-among, leaves-before}
 use Rattle.check_trie_laws.specs.DenseNodes.{dense-nodes-valid, dense-shapes-valid, length-dense, dense-before, dense-leaves}
+use Rattle.theory.specs.Lists.{and-both}
+use Rattle.theory.specs.Levels.{total-append}
 
 -- the lengths that number 12 gives the bits and labels
 pub record Sized (p : Parts) : Type 0 where
-  pub dl : length (p .dl) ≡ 256 * p .dense-count
-  pub dc : length (p .dc) ≡ 256 * p .dense-count
-  pub dp : length (p .dp) ≡ p .dense-count
-  pub sl : length (p .sl) ≡ p .entry-count
-  pub sc : length (p .sc) ≡ p .entry-count
-  pub sb : length (p .sb) ≡ p .entry-count
-  pub dense : p .dense ≤ 4
+  pub dl : length (p .dl) ≡ 256 * p .counts .dense-nodes
+  pub dc : length (p .dc) ≡ 256 * p .counts .dense-nodes
+  pub dp : length (p .dp) ≡ p .counts .dense-nodes
+  pub sl : length (p .sl) ≡ p .counts .sparse-entries
+  pub sc : length (p .sc) ≡ p .counts .sparse-entries
+  pub sb : length (p .sb) ≡ p .counts .sparse-entries
+  pub dense : p .settings .dense-levels ≤ 4
 
 -- the sparse entries, the first of which is in the root or not
 unfoldable pub sparse-valid : Bool → List Entry → Bits → Bool
@@ -36,27 +38,27 @@ sparse-valid root (e ∷ es) bs = entries-valid root true e es (drop 1 bs)
 
 -- the branches that continue before node i: D-HasChild bits before a dense node's own, and S-HasChild bits before a sparse node's first entry
 unfoldable pub branches-to : ℕ → Bits → Bits → Bits → ℕ → ℕ
-unfolding place-of
-branches-to n dc sc sb i = cond (leb i n) (ones (take (256 * i) dc)) (ones dc + ones (take (place-of (i - n) sb) sc))
+unfolding position-of
+branches-to n dc sc sb i = cond (leb i n) (ones (take (256 * i) dc)) (ones dc + ones (take (position-of (i - n) sb) sc))
 
 -- the counts agree: no leaves means no nodes; else the leaves are labels that do not continue and exact leaves, there is one, nodes are continuing branches plus one,
 -- and the ends of the levels rise to the node count in 64 levels, the dense nodes above
 unfoldable pub counts-valid : Parts → Bool
 unfolding ones rise nodes-above branches-to
 counts-valid p =
-    let n : ℕ = p .dense-count + p .sparse-count in
-    let k : ℕ → ℕ = branches-to (p .dense-count) (p .dc) (p .sc) (p .sb) in
-    cond (eqb n 0) (eqb (p .leaves) 0)
-    (eqb (ones (p .dl) + ones (p .dp) + p .entry-count) (p .leaves + ones (p .dc) + ones (p .sc))
-    && ltb 0 (p .leaves)
-    && (eqb n (ones (p .dc) + ones (p .sc) + 1) && (rise k n 63 1 && eqb (nodes-above k n (p .dense)) (p .dense-count))))
+    let n : ℕ = p .counts .dense-nodes + p .counts .sparse-nodes in
+    let k : ℕ → ℕ = branches-to (p .counts .dense-nodes) (p .dc) (p .sc) (p .sb) in
+    cond (eqb n 0) (eqb (p .counts .leaves) 0)
+    (eqb (ones (p .dl) + ones (p .dp) + p .counts .sparse-entries) (p .counts .leaves + ones (p .dc) + ones (p .sc))
+    && ltb 0 (p .counts .leaves)
+    && (eqb n (ones (p .dc) + ones (p .sc) + 1) && (rise k n 63 1 && eqb (nodes-above k n (p .settings .dense-levels)) (p .counts .dense-nodes))))
 
 -- number 14 by the bits
 unfoldable pub bits-valid : Parts → Bool
 unfolding first-set ones covered sparse-valid dense-nodes-valid counts-valid
 bits-valid p =
-    first-set (p .sb) && eqb (ones (p .sb)) (p .sparse-count) && covered (p .dc) (p .dl)
-    && (sparse-valid (eqb (p .dense-count) 0) (zip-entries (p .sl) (p .sc)) (p .sb)
+    first-set (p .sb) && eqb (ones (p .sb)) (p .counts .sparse-nodes) && covered (p .dc) (p .dl)
+    && (sparse-valid (eqb (p .counts .dense-nodes) 0) (zip-entries (p .sl) (p .sc)) (p .sb)
     && dense-nodes-valid true (p .dl) (p .dc) (p .dp)
     && counts-valid p)
 
@@ -67,17 +69,12 @@ from-append : (hs gs : List Shape) → nodes-from true (hs ++ gs) ≡ nodes-from
 unfolding nodes-from all
 from-append [] gs = refl
 from-append (h ∷ hs) gs =
-    rw (ne-eqb (suc (length hs)) 0 (λ q. omega arith), all-append inner-valid hs gs)
-    (sym (and-assoc (root-valid h) (all inner-valid hs) (all inner-valid gs)) ∙ ap (λ (t : Bool). root-valid h && all inner-valid hs && t) (from-false gs))
+    rw (ne-eqb (suc (length hs)) 0 (λ q. omega arith), all-append non-root-valid hs gs)
+    (sym (and-assoc (root-valid h) (all non-root-valid hs) (all non-root-valid gs)) ∙ ap (λ (t : Bool). root-valid h && all non-root-valid hs && t) (from-false gs))
   where
-    from-false : (gs : List Shape) → all inner-valid gs ≡ nodes-from false gs
+    from-false : (gs : List Shape) → all non-root-valid gs ≡ nodes-from false gs
     from-false [] = refl
     from-false (g ∷ gs) = refl
-
-pub total-append : (f : Shape → ℕ) (hs gs : List Shape) → total f (hs ++ gs) ≡ total f hs + total f gs
-unfolding total
-total-append f [] gs = omega arith
-total-append f (h ∷ hs) gs = omega (arith, total-append f hs gs)
 
 pub continues-zip : (xs : Bytes) (cs : Bits) → length xs ≡ length cs → map continues (zip-entries xs cs) ≡ cs
 unfolding zip-entries
@@ -98,19 +95,19 @@ count-both (entry x false ∷ es) = omega (arith, count-both es)
 
 -- ---- sparse nodes, of entries and S-LOUDS bits
 
-pub record Sparsely (es : List Entry) (bs : Bits) : Type 0 where
+pub record Sparse-counts (es : List Entry) (bs : Bits) : Type 0 where
   pub number : length (split es bs) ≡ ones bs
-  pub branches-are : (m : ℕ) → total branches (take m (map sparse-shape (split es bs))) ≡ ones (take (place-of m bs) (map continues es))
+  pub branches-are : (m : ℕ) → total branches (take m (map sparse-shape (split es bs))) ≡ ones (take (position-of m bs) (map continues es))
   pub leaves-are : total leaves-at (map sparse-shape (split es bs)) + ones (map continues es) ≡ length es
-  pub leaves-to : (m : ℕ) → total leaves-at (take m (map sparse-shape (split es bs))) + ones (take (place-of m bs) (map continues es)) ≡ place-of m bs
+  pub leaves-to : (m : ℕ) → total leaves-at (take m (map sparse-shape (split es bs))) + ones (take (position-of m bs) (map continues es)) ≡ position-of m bs
 
-sparsely : (es : List Entry) (bs : Bits) → length es ≡ length bs → first-set bs ≡ true → all extra-ends (split es bs) ≡ true → Sparsely es bs
-unfolding split first-set ones place-of total
-sparsely [] [] h f a = record { number = refl; branches-are = λ m. rw (take-nil m); leaves-are = refl; leaves-to = λ m. rw (take-nil m) }
-sparsely [] (b ∷ bs) h f a = absurd (omega arith)
-sparsely (e ∷ es) [] h f a = absurd (omega arith)
-sparsely (e ∷ es) (false ∷ bs) h f a = absurd (true≢false (sym f))
-sparsely (e ∷ es) (true ∷ bs) h f a = record {
+sparse-counts : (es : List Entry) (bs : Bits) → length es ≡ length bs → first-set bs ≡ true → all extra-ends (split es bs) ≡ true → Sparse-counts es bs
+unfolding split first-set ones position-of total
+sparse-counts [] [] h f a = record { number = refl; branches-are = λ m. rw (take-nil m); leaves-are = refl; leaves-to = λ m. rw (take-nil m) }
+sparse-counts [] (b ∷ bs) h f a = absurd (omega arith)
+sparse-counts (e ∷ es) [] h f a = absurd (omega arith)
+sparse-counts (e ∷ es) (false ∷ bs) h f a = absurd (true≢false (sym f))
+sparse-counts (e ∷ es) (true ∷ bs) h f a = record {
   number = length-split e es bs (omega arith) ∙ omega arith;
   branches-are = λ m. branches-before m e es bs (omega arith) a;
   leaves-are = ap (λ (k : ℕ). k + ones (map continues (e ∷ es))) (leaves-among e es bs (omega arith) a) ∙ count-both (e ∷ es);
@@ -131,11 +128,11 @@ eqb-sum x a b c l h = go (eqb x l) refl
     go true e = sym (eq-eqb a (l + b + c) (omega (arith, eqb-true x l e)))
     go false e = sym (ne-eqb a (l + b + c) (λ q. eqb-false x l e (omega arith)))
 
-place-all : (bs : Bits) → place-of (ones bs) bs ≡ length bs
-unfolding place-of ones
-place-all [] = refl
-place-all (true ∷ bs) = let e : 1 + ones bs ≡ suc (ones bs) = omega arith in rw e (ap suc (place-all bs))
-place-all (false ∷ bs) = let e : 0 + ones bs ≡ ones bs = omega arith in rw e (ap suc (place-all bs))
+position-all : (bs : Bits) → position-of (ones bs) bs ≡ length bs
+unfolding position-of ones
+position-all [] = refl
+position-all (true ∷ bs) = let e : 1 + ones bs ≡ suc (ones bs) = omega arith in rw e (ap suc (position-all bs))
+position-all (false ∷ bs) = let e : 0 + ones bs ≡ ones bs = omega arith in rw e (ap suc (position-all bs))
 
 shuffle : (x n d f : Bool) → x && (n && (d && f)) ≡ x && f && d && n
 shuffle true true true true = refl
@@ -159,15 +156,15 @@ module _ (p : Parts) (z : Sized p) where
   S = map sparse-shape (split es (p .sb))
 
   abbrev pub N : ℕ
-  N = p .dense-count + p .sparse-count
+  N = p .counts .dense-nodes + p .counts .sparse-nodes
 
   abbrev pub K : ℕ → ℕ
-  K = branches-to (p .dense-count) (p .dc) (p .sc) (p .sb)
+  K = branches-to (p .counts .dense-nodes) (p .dc) (p .sc) (p .sb)
 
   pub bits-of-entries : map continues es ≡ p .sc
   bits-of-entries = continues-zip (p .sl) (p .sc) (z .sl ∙ sym (z .sc))
 
-  pub number-of-entries : length es ≡ p .entry-count
+  pub number-of-entries : length es ≡ p .counts .sparse-entries
   number-of-entries = length-zip (p .sl) (p .sc) (z .sl ∙ sym (z .sc)) ∙ z .sc
 
   pub long-dl : length (p .dl) ≡ 256 * length (p .dp)
@@ -176,14 +173,14 @@ module _ (p : Parts) (z : Sized p) where
   pub long-dc : length (p .dc) ≡ 256 * length (p .dp)
   long-dc = omega (arith, z .dc, z .dp)
 
-  pub long-D : length D ≡ p .dense-count
+  pub long-D : length D ≡ p .counts .dense-nodes
   long-D = length-dense (p .dl) (p .dc) (p .dp) ∙ z .dp
 
-  module _ (first : first-set (p .sb) ≡ true) (set : ones (p .sb) ≡ p .sparse-count) (within : covered (p .dc) (p .dl) ≡ true) (extra : all extra-ends (split es (p .sb)) ≡ true) where
-    pub sparse : Sparsely es (p .sb)
-    sparse = sparsely es (p .sb) (number-of-entries ∙ sym (z .sb)) first extra
+  module _ (first : first-set (p .sb) ≡ true) (set : ones (p .sb) ≡ p .counts .sparse-nodes) (within : covered (p .dc) (p .dl) ≡ true) (extra : all extra-ends (split es (p .sb)) ≡ true) where
+    pub sparse : Sparse-counts es (p .sb)
+    sparse = sparse-counts es (p .sb) (number-of-entries ∙ sym (z .sb)) first extra
 
-    long-S : length S ≡ p .sparse-count
+    long-S : length S ≡ p .counts .sparse-nodes
     long-S = length-map (split es (p .sb)) sparse-shape ∙ sparse .number ∙ set
 
     pub long : length (D ++ S) ≡ N
@@ -191,33 +188,33 @@ module _ (p : Parts) (z : Sized p) where
 
     total-D : total branches D ≡ ones (p .dc)
     total-D =
-        ap (total branches) (sym (take-all (p .dense-count) D (omega (arith, long-D)))) ∙ dense-before (p .dense-count) (p .dl) (p .dc) (p .dp) long-dl long-dc within
-        ∙ ap ones (take-all (256 * p .dense-count) (p .dc) (omega (arith, z .dc)))
+        ap (total branches) (sym (take-all (p .counts .dense-nodes) D (omega (arith, long-D)))) ∙ dense-before (p .counts .dense-nodes) (p .dl) (p .dc) (p .dp) long-dl long-dc within
+        ∙ ap ones (take-all (256 * p .counts .dense-nodes) (p .dc) (omega (arith, z .dc)))
 
     total-S : total branches S ≡ ones (p .sc)
     total-S =
         ap (total branches) (sym (take-all (ones (p .sb)) S (omega (arith, long-S, set)))) ∙ sparse .branches-are (ones (p .sb))
-        ∙ ap₂ (λ (k : ℕ) (b : Bits). ones (take k b)) (place-all (p .sb) ∙ z .sb) bits-of-entries ∙ ap ones (take-all (p .entry-count) (p .sc) (omega (arith, z .sc)))
+        ∙ ap₂ (λ (k : ℕ) (b : Bits). ones (take k b)) (position-all (p .sb) ∙ z .sb) bits-of-entries ∙ ap ones (take-all (p .counts .sparse-entries) (p .sc) (omega (arith, z .sc)))
 
     pub total-all : total branches (D ++ S) ≡ ones (p .dc) + ones (p .sc)
     total-all = total-append branches D S ∙ ap₂ _+_ total-D total-S
 
     pub before-all : (i : ℕ) → before branches (D ++ S) i ≡ K i
     unfolding branches-to
-    before-all i = go (leb i (p .dense-count)) refl
+    before-all i = go (leb i (p .counts .dense-nodes)) refl
       where
-        go : (b : Bool) → leb i (p .dense-count) ≡ b
-            → total branches (take i (D ++ S)) ≡ cond b (ones (take (256 * i) (p .dc))) (ones (p .dc) + ones (take (place-of (i - p .dense-count) (p .sb)) (p .sc)))
+        go : (b : Bool) → leb i (p .counts .dense-nodes) ≡ b
+            → total branches (take i (D ++ S)) ≡ cond b (ones (take (256 * i) (p .dc))) (ones (p .dc) + ones (take (position-of (i - p .counts .dense-nodes) (p .sb)) (p .sc)))
         go true e =
-            ap (total branches) (take-append-le i D S (omega (arith, leb-true i (p .dense-count) e, long-D)))
+            ap (total branches) (take-append-le i D S (omega (arith, leb-true i (p .counts .dense-nodes) e, long-D)))
             ∙ dense-before i (p .dl) (p .dc) (p .dp) long-dl long-dc within
         go false e =
-            let m : ℕ = i - p .dense-count in
-            let q : length D + m ≡ i = omega (arith, leb-false i (p .dense-count) e, long-D) in
+            let m : ℕ = i - p .counts .dense-nodes in
+            let q : length D + m ≡ i = omega (arith, leb-false i (p .counts .dense-nodes) e, long-D) in
             ap (λ (k : ℕ). total branches (take k (D ++ S))) (sym q) ∙ ap (total branches) (take-append-add D S m) ∙ total-append branches D (take m S)
-            ∙ ap₂ _+_ total-D (sparse .branches-are m ∙ ap (λ (b : Bits). ones (take (place-of m (p .sb)) b)) bits-of-entries)
+            ∙ ap₂ _+_ total-D (sparse .branches-are m ∙ ap (λ (b : Bits). ones (take (position-of m (p .sb)) b)) bits-of-entries)
 
-    pub leaves-all : total leaves-at (D ++ S) + ones (p .dc) + ones (p .sc) ≡ ones (p .dl) + ones (p .dp) + p .entry-count
+    pub leaves-all : total leaves-at (D ++ S) + ones (p .dc) + ones (p .sc) ≡ ones (p .dl) + ones (p .dp) + p .counts .sparse-entries
     leaves-all =
         omega (
           arith,
@@ -228,43 +225,43 @@ module _ (p : Parts) (z : Sized p) where
           number-of-entries,
         )
 
-    ends-all : 0 < N → end-tests branches (D ++ S) (p .dense) (p .dense-count) ≡ (rise K N 63 1 && eqb (nodes-above K N (p .dense)) (p .dense-count))
+    ends-all : 0 < N → end-tests branches (D ++ S) (p .settings .dense-levels) (p .counts .dense-nodes) ≡ (rise K N 63 1 && eqb (nodes-above K N (p .settings .dense-levels)) (p .counts .dense-nodes))
     ends-all l =
         ap₂ _&&_ (ap (λ (n : ℕ). rise (before branches (D ++ S)) n 63 1) long ∙ rise-ext (before branches (D ++ S)) K N (λ e u. before-all e) 63 1 (omega arith))
-        (ap (λ (n : ℕ). eqb n (p .dense-count)) (ap (λ (n : ℕ). nodes-above (before branches (D ++ S)) n (p .dense)) long ∙ nodes-above-ext (before branches (D ++ S)) K N (λ e u. before-all e) (p .dense)))
+        (ap (λ (n : ℕ). eqb n (p .counts .dense-nodes)) (ap (λ (n : ℕ). nodes-above (before branches (D ++ S)) n (p .settings .dense-levels)) long ∙ nodes-above-ext (before branches (D ++ S)) K N (λ e u. before-all e) (p .settings .dense-levels)))
 
     -- the tests of the nodes, in two parts
-    in-parts : shapes-valid (p .dense) (p .dense-count) (p .leaves) (D ++ S) ≡ counts-valid p && nodes-from true (D ++ S)
+    in-parts : shapes-valid (p .settings .dense-levels) (p .counts .dense-nodes) (p .counts .leaves) (D ++ S) ≡ counts-valid p && nodes-from true (D ++ S)
     unfolding shapes-valid counts-valid nodes-from
     in-parts = go (D ++ S) refl
       where
-        go : (hs : List Shape) → D ++ S ≡ hs → shapes-valid (p .dense) (p .dense-count) (p .leaves) hs ≡ counts-valid p && nodes-from true hs
-        go [] q = rw (eq-eqb N 0 (sym long ∙ ap length q)) (sym (and-true (eqb (p .leaves) 0)))
+        go : (hs : List Shape) → D ++ S ≡ hs → shapes-valid (p .settings .dense-levels) (p .counts .dense-nodes) (p .counts .leaves) hs ≡ counts-valid p && nodes-from true hs
+        go [] q = rw (eq-eqb N 0 (sym long ∙ ap length q)) (sym (and-true (eqb (p .counts .leaves) 0)))
         go (h ∷ hs) q =
             let some : 0 < N = omega (arith, long, ap length q) in
             rw (ne-eqb N 0 (λ e. omega arith))
             (ap (λ (t : Bool). t && nodes-from true (h ∷ hs))
             (ap₂ _&&_
-            (ap (λ (t : Bool). t && ltb 0 (p .leaves)) (ap (λ (gs : List Shape). eqb (total leaves-at gs) (p .leaves)) (sym q) ∙ eqb-sum (total leaves-at (D ++ S)) (ones (p .dl) + ones (p .dp) + p .entry-count) (ones (p .dc)) (ones (p .sc)) (p .leaves) leaves-all))
+            (ap (λ (t : Bool). t && ltb 0 (p .counts .leaves)) (ap (λ (gs : List Shape). eqb (total leaves-at gs) (p .counts .leaves)) (sym q) ∙ eqb-sum (total leaves-at (D ++ S)) (ones (p .dl) + ones (p .dp) + p .counts .sparse-entries) (ones (p .dc)) (ones (p .sc)) (p .counts .leaves) leaves-all))
             (ap₂ _&&_ (ap₂ (λ (a b : ℕ). eqb a (b + 1)) (ap length (sym q) ∙ long) (ap (total branches) (sym q) ∙ total-all))
-            (ap (λ (gs : List Shape). end-tests branches gs (p .dense) (p .dense-count)) (sym q) ∙ ends-all some))))
+            (ap (λ (gs : List Shape). end-tests branches gs (p .settings .dense-levels) (p .counts .dense-nodes)) (sym q) ∙ ends-all some))))
 
-    dense-and-sparse : nodes-from true (D ++ S) ≡ dense-nodes-valid true (p .dl) (p .dc) (p .dp) && nodes-from (eqb (p .dense-count) 0) S
+    dense-and-sparse : nodes-from true (D ++ S) ≡ dense-nodes-valid true (p .dl) (p .dc) (p .dp) && nodes-from (eqb (p .counts .dense-nodes) 0) S
     dense-and-sparse =
         from-append D S ∙ ap₂ _&&_ (dense-shapes-valid true (p .dl) (p .dc) (p .dp) long-dl long-dc within) (ap (λ (n : ℕ). nodes-from (eqb n 0) S) long-D)
 
-    nodes-all : shapes-valid (p .dense) (p .dense-count) (p .leaves) (D ++ S) ≡ counts-valid p && (dense-nodes-valid true (p .dl) (p .dc) (p .dp) && nodes-from (eqb (p .dense-count) 0) S)
+    nodes-all : shapes-valid (p .settings .dense-levels) (p .counts .dense-nodes) (p .counts .leaves) (D ++ S) ≡ counts-valid p && (dense-nodes-valid true (p .dl) (p .dc) (p .dp) && nodes-from (eqb (p .counts .dense-nodes) 0) S)
     nodes-all = in-parts ∙ ap (λ (t : Bool). counts-valid p && t) dense-and-sparse
 
   -- Number 14 is judged by the bits as document 01 says it of the nodes.
   pub builders-trie-is : builders-trie p ≡ bits-valid p
   unfolding builders-trie bits-valid sparse-nodes nodes-of every
   builders-trie-is =
-      gather (first-set (p .sb)) (eqb (ones (p .sb)) (p .sparse-count)) (covered (p .dc) (p .dl)) (all extra-ends (split es (p .sb)))
-      (nodes-valid (p .dense) (p .dense-count) (p .leaves) (slotted (p .width) (D ++ S) (p .sv)))
-      ∙ under (first-set (p .sb) && eqb (ones (p .sb)) (p .sparse-count) && covered (p .dc) (p .dl))
-      (all extra-ends (split es (p .sb)) && nodes-valid (p .dense) (p .dense-count) (p .leaves) (slotted (p .width) (D ++ S) (p .sv)))
-      (sparse-valid (eqb (p .dense-count) 0) es (p .sb) && dense-nodes-valid true (p .dl) (p .dc) (p .dp) && counts-valid p) rest
+      gather (first-set (p .sb)) (eqb (ones (p .sb)) (p .counts .sparse-nodes)) (covered (p .dc) (p .dl)) (all extra-ends (split es (p .sb)))
+      (nodes-valid (p .settings .dense-levels) (p .counts .dense-nodes) (p .counts .leaves) (slotted (p .settings .width) (D ++ S) (p .sv)))
+      ∙ under (first-set (p .sb) && eqb (ones (p .sb)) (p .counts .sparse-nodes) && covered (p .dc) (p .dl))
+      (all extra-ends (split es (p .sb)) && nodes-valid (p .settings .dense-levels) (p .counts .dense-nodes) (p .counts .leaves) (slotted (p .settings .width) (D ++ S) (p .sv)))
+      (sparse-valid (eqb (p .counts .dense-nodes) 0) es (p .sb) && dense-nodes-valid true (p .dl) (p .dc) (p .dp) && counts-valid p) rest
     where
       gather : (a b c d e : Bool) → a && (b && (c && (d && (e && true)))) ≡ a && b && c && (d && e)
       gather true true true d e = ap (λ (t : Bool). d && t) (and-true e)
@@ -272,15 +269,15 @@ module _ (p : Parts) (z : Sized p) where
       gather true false c d e = refl
       gather false b c d e = refl
 
-      rest : first-set (p .sb) && eqb (ones (p .sb)) (p .sparse-count) && covered (p .dc) (p .dl) ≡ true
-          → all extra-ends (split es (p .sb)) && nodes-valid (p .dense) (p .dense-count) (p .leaves) (slotted (p .width) (D ++ S) (p .sv))
-          ≡ sparse-valid (eqb (p .dense-count) 0) es (p .sb) && dense-nodes-valid true (p .dl) (p .dc) (p .dp) && counts-valid p
+      rest : first-set (p .sb) && eqb (ones (p .sb)) (p .counts .sparse-nodes) && covered (p .dc) (p .dl) ≡ true
+          → all extra-ends (split es (p .sb)) && nodes-valid (p .settings .dense-levels) (p .counts .dense-nodes) (p .counts .leaves) (slotted (p .settings .width) (D ++ S) (p .sv))
+          ≡ sparse-valid (eqb (p .counts .dense-nodes) 0) es (p .sb) && dense-nodes-valid true (p .dl) (p .dc) (p .dp) && counts-valid p
       rest h =
-          let a = both (first-set (p .sb) && eqb (ones (p .sb)) (p .sparse-count)) (covered (p .dc) (p .dl)) h in
-          let b = both (first-set (p .sb)) (eqb (ones (p .sb)) (p .sparse-count)) (a .0) in
-          ap (λ (t : Bool). all extra-ends (split es (p .sb)) && t) (nodes-shapes (p .width) (p .dense) (p .dense-count) (p .leaves) (D ++ S) (p .sv) (omega (arith, z .dense)))
-          ∙ under (all extra-ends (split es (p .sb))) (shapes-valid (p .dense) (p .dense-count) (p .leaves) (D ++ S))
-          (counts-valid p && (dense-nodes-valid true (p .dl) (p .dc) (p .dp) && nodes-from (eqb (p .dense-count) 0) S))
-          (λ x. nodes-all (b .0) (eqb-true (ones (p .sb)) (p .sparse-count) (b .1)) (a .1) x)
-          ∙ shuffle (all extra-ends (split es (p .sb))) (counts-valid p) (dense-nodes-valid true (p .dl) (p .dc) (p .dp)) (nodes-from (eqb (p .dense-count) 0) S)
-          ∙ ap (λ (t : Bool). t && dense-nodes-valid true (p .dl) (p .dc) (p .dp) && counts-valid p) (sym (sparse-from (eqb (p .dense-count) 0) es (p .sb)))
+          let a = and-both (first-set (p .sb) && eqb (ones (p .sb)) (p .counts .sparse-nodes)) (covered (p .dc) (p .dl)) h in
+          let b = and-both (first-set (p .sb)) (eqb (ones (p .sb)) (p .counts .sparse-nodes)) (a .0) in
+          ap (λ (t : Bool). all extra-ends (split es (p .sb)) && t) (nodes-shapes (p .settings .width) (p .settings .dense-levels) (p .counts .dense-nodes) (p .counts .leaves) (D ++ S) (p .sv) (omega (arith, z .dense)))
+          ∙ under (all extra-ends (split es (p .sb))) (shapes-valid (p .settings .dense-levels) (p .counts .dense-nodes) (p .counts .leaves) (D ++ S))
+          (counts-valid p && (dense-nodes-valid true (p .dl) (p .dc) (p .dp) && nodes-from (eqb (p .counts .dense-nodes) 0) S))
+          (λ x. nodes-all (b .0) (eqb-true (ones (p .sb)) (p .counts .sparse-nodes) (b .1)) (a .1) x)
+          ∙ shuffle (all extra-ends (split es (p .sb))) (counts-valid p) (dense-nodes-valid true (p .dl) (p .dc) (p .dp)) (nodes-from (eqb (p .counts .dense-nodes) 0) S)
+          ∙ ap (λ (t : Bool). t && dense-nodes-valid true (p .dl) (p .dc) (p .dp) && counts-valid p) (sym (sparse-from (eqb (p .counts .dense-nodes) 0) es (p .sb)))

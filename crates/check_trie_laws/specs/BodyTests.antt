@@ -1,40 +1,29 @@
--- Number 14 by the bodies: what its tests come to in ranks and single bits.
-use Prim.Native.Nat.{ℕ, zero, suc, _+_, _*_, _≤_}
-use mathlib.Core.Path.{_≡_, refl, sym, ap, _∙_}
-use mathlib.Core.Bool.{Bool, true, false, cond, _&&_, _||_, and-true, and-false, and-assoc}
-use mathlib.Core.List.{[], _∷_}
+-- Number 14 by the bodies of an image: what its tests come to in ranks and single bits.
+use Prim.Native.Nat.{ℕ, zero, suc, _+_, _*_, _≤_, _<_}
+use mathlib.Core.Path.{_≡_, refl, sym, ap, ap₂, _∙_}
+use mathlib.Core.Bool.{Bool, true, false, _&&_, _||_, and-assoc}
+use mathlib.Core.List.{_∷_}
 use native.Mathlib.Omega.{arith}
 use lib.ListN.{length, drop}
 use lib.Dec.{ltb, eqb}
-use borrow.Author.Tests.{eq-eqb, ne-eqb}
-use Rattle.spec.specs.Bytes.{Bytes, Bits, ones}
+use borrow.Author.Tests.{eq-eqb, ne-eqb, eqb-true}
+use Rattle.spec.specs.Bytes.{Bytes, Bits}
 use Rattle.spec.specs.Frame.{Parts}
 use Rattle.spec.specs.Nodes.{zip-entries}
-use Rattle.spec.specs.Trie.{first-set, covered}
+use Rattle.spec.specs.Trie.{first-set, covered, builders-trie}
 use Rattle.bits_laws.specs.Bits.{rank}
+use Rattle.bits_laws.specs.RankLaws.{rank-le}
+use Rattle.bits_laws.specs.PartLaws.{bits-room}
+use Rattle.image_types.specs.FrameOf.{FrameOf, frame-parts}
+use Rattle.image_types.specs.declared.Frame.{Frame}
 use Rattle.check_trie_laws.specs.DenseNodes.{dense-nodes-valid}
-use Rattle.check_trie_laws.specs.BitTests.{sparse-valid, branches-to, counts-valid, bits-valid}
-use Rattle.check_trie_laws.specs.Climb.{climb}
-use Rattle.check_trie_laws.specs.NodeBranches.{node-branches, climb-bytes}
+use Rattle.check_trie_laws.specs.BitTests.{sparse-valid, branches-to, counts-valid, bits-valid, builders-trie-is}
+use Rattle.check_trie_laws.specs.LevelTests.{ends-valid}
+use Rattle.check_trie_laws.specs.NodeBranches.{ends-bytes}
 use Rattle.check_trie_laws.specs.Positions.{bits, is-set, bits-from, ones-all}
-
--- the parts that number 14 judges, of bodies and counts; the slots play no part in it
-abbrev pub trie-parts : ℕ → ℕ → ℕ → ℕ → ℕ → Bytes → Bytes → Bytes → Bytes → Bytes → Bytes → Parts
-trie-parts levels leaves n entries sparse dl dc dp sl sc sb = record {
-  dense = levels;
-  width = 0;
-  leaves = leaves;
-  dense-count = n;
-  entry-count = entries;
-  sparse-count = sparse;
-  dl = bits dl (256 * n);
-  dc = bits dc (256 * n);
-  dp = bits dp n;
-  sl = sl;
-  sc = bits sc entries;
-  sb = bits sb entries;
-  sv = [];
-}
+use Rattle.check_trie_laws.specs.Bodies.{dl-body, dc-body, dp-body, sl-body, sc-body, sb-body, bodies-sized, parts-sized, dense-children, dense-entries}
+use Rattle.check_trie_laws.specs.Levels.{node-count, levels-valid, Louds-valid}
+use Rattle.theory.specs.Lists.{and-both}
 
 first-is : (bs : Bits) (b : Bool) (cs : Bits) → bs ≡ b ∷ cs → first-set bs ≡ b
 unfolding first-set
@@ -51,85 +40,117 @@ first-bit sb (suc n) h =
     first-is (bits sb (suc n)) (is-set sb 0) (drop 1 (bits sb (suc n))) (bits-from sb (suc n) 0 h (omega arith))
     ∙ ap (λ (t : Bool). t || is-set sb 0) (sym (ne-eqb (suc n) 0 (λ q. omega arith)))
 
-same-counts : (m l n a a′ b b′ c c′ d d′ : ℕ) (t t′ : Bool) → a ≡ a′ → b ≡ b′ → c ≡ c′ → d ≡ d′ → t ≡ t′
-    → eqb (a + b + m) (l + c + d) && ltb 0 l && (eqb n (c + d + 1) && t) ≡ eqb (a′ + b′ + m) (l + c′ + d′) && ltb 0 l && eqb n (c′ + d′ + 1) && t′
-same-counts m l n a a′ b b′ c c′ d d′ t t′ e f g h i =
-    rw (e, f, g, h, i) (sym (and-assoc (eqb (a′ + b′ + m) (l + c′ + d′) && ltb 0 l) (eqb n (c′ + d′ + 1)) t′))
+-- S-LOUDS marks the first entry and as many as there are sparse nodes
+abbrev pub louds-test : Bytes → Frame → Bool
+louds-test s f = first-set (bits (sb-body s f) (f .sparse .entries)) && eqb (rank (sb-body s f) (f .sparse .entries)) (f .sparse .nodes)
 
-module _ (levels leaves n entries sparse : ℕ) (dl dc dp sl sc sb : Bytes) (b : entries ≤ 8 * length sb) where
+-- a dense node's continuing branches are among its labels, and each dense node is valid
+abbrev pub dense-test : Bytes → Frame → Bool
+dense-test s f =
+    covered (bits (dc-body s f) (256 * f .dense .nodes)) (bits (dl-body s f) (256 * f .dense .nodes))
+    && dense-nodes-valid true (bits (dl-body s f) (256 * f .dense .nodes)) (bits (dc-body s f) (256 * f .dense .nodes)) (bits (dp-body s f) (f .dense .nodes))
+
+-- each sparse entry is valid; the first one is in the root where there is no dense node
+abbrev pub sparse-test : Bytes → Frame → Bool
+sparse-test s f = sparse-valid (eqb (f .dense .nodes) 0) (zip-entries (sl-body s f) (bits (sc-body s f) (f .sparse .entries))) (bits (sb-body s f) (f .sparse .entries))
+
+-- with so many continuing branches: entries are leaves and continuing branches, there is a leaf, and nodes are the root and one for each continuing branch
+abbrev pub sums-test : Frame → ℕ → Bool
+sums-test f children = eqb (f .totals .entries + f .sparse .entries) (f .leaves + children) && ltb 0 (f .leaves) && eqb (node-count f) (children + 1)
+
+-- all continuing branches
+abbrev pub child-count : Bytes → Frame → ℕ
+child-count s f = f .totals .children + rank (sc-body s f) (f .sparse .entries)
+
+-- the counts are small enough for their sums
+pub record Counts-few (f : Frame) (branches : ℕ) : Type 0 where
+  pub leaves : f .leaves < 4294967296
+  pub dense-nodes : f .dense .nodes < 4294967296
+  pub sparse-nodes : f .sparse .nodes < 4294967296
+  pub sparse-entries : f .sparse .entries < 4294967296
+  -- at most 257 of each dense node
+  pub dense-entries : f .totals .entries < 1103806595072
+  -- at most 256 of each dense node, and the sparse entries
+  pub children : branches < 1103806595072
+
+-- what the first test says where it passes
+pub louds-valid : (s : Bytes) (f : Frame) → FrameOf s f → louds-test s f ≡ true → Louds-valid s f
+louds-valid s f o h =
+    let b = and-both (first-set (bits (sb-body s f) (f .sparse .entries))) (eqb (rank (sb-body s f) (f .sparse .entries)) (f .sparse .nodes)) h in
+    record { frame = o; first = b .0; count = eqb-true (rank (sb-body s f) (f .sparse .entries)) (f .sparse .nodes) (b .1) }
+
+module _ (s : Bytes) (f : Frame) (o : FrameOf s f) where
   abbrev p : Parts
-  p = trie-parts levels leaves n entries sparse dl dc dp sl sc sb
+  p = frame-parts s f
+
+  -- number 14 in the order in which it is judged
+  pub in-order : builders-trie p ≡ louds-test s f && (dense-test s f && sparse-test s f && counts-valid p)
+  unfolding bits-valid
+  in-order =
+      builders-trie-is p (parts-sized s f o)
+      ∙ ap (λ (n : ℕ). first-set (p .sb) && eqb n (f .sparse .nodes) && covered (p .dc) (p .dl) && (sparse-test s f && dense-nodes-valid true (p .dl) (p .dc) (p .dp) && counts-valid p)) (ones-all (sb-body s f) (f .sparse .entries))
+      ∙ shuffle (louds-test s f) (covered (p .dc) (p .dl)) (sparse-test s f) (dense-nodes-valid true (p .dl) (p .dc) (p .dp)) (counts-valid p)
+    where
+      shuffle : (a b c d e : Bool) → a && b && (c && d && e) ≡ a && (b && d && c && e)
+      shuffle true true true d e = ap (λ (t : Bool). t && e) (swap d)
+        where
+          swap : (d : Bool) → d ≡ d && true
+          swap true = refl
+          swap false = refl
+      shuffle true true false d e = ap (λ (t : Bool). t && e) (swap d)
+        where
+          swap : (d : Bool) → false ≡ d && false
+          swap true = refl
+          swap false = refl
+      shuffle true false c d e = refl
+      shuffle false b c d e = refl
+
+  -- the counts of an image are so small
+  pub counts-few : Counts-few f (child-count s f)
+  counts-few = few (o .dense) (o .entries) (dense-entries s f o) (rank-le (dl-body s f) (256 * f .dense .nodes)) (rank-le (dp-body s f) (f .dense .nodes)) (dense-children s f o) (rank-le (dc-body s f) (256 * f .dense .nodes)) (rank-le (sc-body s f) (f .sparse .entries))
+    where
+      few : {a b c d : ℕ} → f .dense .nodes < 4294967296 → f .sparse .entries < 4294967296 → f .totals .entries ≡ a + b → a ≤ 256 * f .dense .nodes → b ≤ f .dense .nodes
+          → f .totals .children ≡ c → c ≤ 256 * f .dense .nodes → d ≤ f .sparse .entries → Counts-few f (f .totals .children + d)
+      few h l p q r e g k = record { leaves = omega (arith, o .leaves); dense-nodes = h; sparse-nodes = o .sparse; sparse-entries = l; dense-entries = omega arith; children = omega arith }
+
+  -- S-LOUDS fails
+  pub louds-fails : louds-test s f ≡ false → builders-trie p ≡ false
+  louds-fails h = in-order ∙ ap (λ (t : Bool). t && (dense-test s f && sparse-test s f && counts-valid p)) h
+
+  -- it passes, and the other tests decide
+  pub louds-passes : louds-test s f ≡ true → builders-trie p ≡ dense-test s f && sparse-test s f && counts-valid p
+  louds-passes h = in-order ∙ ap (λ (t : Bool). t && (dense-test s f && sparse-test s f && counts-valid p)) h
 
   -- no node
-  pub counts-none : n + sparse ≡ 0 → counts-valid p ≡ eqb leaves 0
+  pub counts-none : node-count f ≡ 0 → counts-valid p ≡ eqb (f .leaves) 0
   unfolding counts-valid
-  counts-none e = rw (eq-eqb (n + sparse) 0 e)
+  counts-none e = rw (eq-eqb (node-count f) 0 e)
 
-  -- the sums of the counts
-  abbrev pub sums : Bool
-  sums =
-      eqb (rank dl (256 * n) + rank dp n + entries) (leaves + rank dc (256 * n) + rank sc entries)
-      && ltb 0 leaves
-      && eqb (n + sparse) (rank dc (256 * n) + rank sc entries + 1)
-
-  some-node : 1 ≤ n + sparse → counts-valid p
-      ≡ eqb (ones (p .dl) + ones (p .dp) + entries) (leaves + ones (p .dc) + ones (p .sc))
-      && ltb 0 leaves
-      && (eqb (n + sparse) (ones (p .dc) + ones (p .sc) + 1) && climb (branches-to n (p .dc) (p .sc) (p .sb)) (n + sparse) levels n)
+  -- the counts by the totals of the frame
+  pub by-sums : 0 < node-count f → counts-valid p ≡ sums-test f (child-count s f) && levels-valid s f
   unfolding counts-valid
-  some-node h = ap (λ (t : Bool). cond t (eqb leaves 0) (eqb (ones (p .dl) + ones (p .dp) + entries) (leaves + ones (p .dc) + ones (p .sc))
-      && ltb 0 leaves
-      && (eqb (n + sparse) (ones (p .dc) + ones (p .sc) + 1) && climb (branches-to n (p .dc) (p .sc) (p .sb)) (n + sparse) levels n))) (ne-eqb (n + sparse) 0 (λ e. omega arith))
-
-  by-ranks : 1 ≤ n + sparse → counts-valid p ≡ sums && climb (node-branches n entries dc sc sb) (n + sparse) levels n
-  by-ranks h =
-      some-node h
-      ∙ same-counts entries leaves (n + sparse) (ones (p .dl)) (rank dl (256 * n)) (ones (p .dp)) (rank dp n) (ones (p .dc)) (rank dc (256 * n)) (ones (p .sc)) (rank sc entries)
-      (climb (branches-to n (p .dc) (p .sc) (p .sb)) (n + sparse) levels n) (climb (node-branches n entries dc sc sb) (n + sparse) levels n)
-      (ones-all dl (256 * n)) (ones-all dp n) (ones-all dc (256 * n)) (ones-all sc entries) (climb-bytes n entries dc sc sb b (n + sparse) levels n h)
+  by-sums h =
+      rw (ne-eqb (node-count f) 0 (λ e. omega arith))
+      (same (f .leaves) (f .sparse .entries) (node-count f) _ _ _ _ _ _ (ends-valid (branches-to (f .dense .nodes) (p .dc) (p .sc) (p .sb)) (node-count f) (f .dense .levels) (f .dense .nodes)) (levels-valid s f)
+      (dense-entries s f o ∙ sym (ap₂ _+_ (ones-all (dl-body s f) (256 * f .dense .nodes)) (ones-all (dp-body s f) (f .dense .nodes))))
+      (dense-children s f o ∙ sym (ones-all (dc-body s f) (256 * f .dense .nodes)))
+      (sym (ones-all (sc-body s f) (f .sparse .entries)))
+      (ends-bytes (f .dense .nodes) (f .sparse .entries) (dc-body s f) (sc-body s f) (sb-body s f) (bits-room (f .sparse .entries) (sb-body s f) (bodies-sized s f o .sb)) (node-count f) (f .dense .levels) (f .dense .nodes) h))
+    where
+      same : (l m n x x′ c c′ r r′ : ℕ) (t t′ : Bool) → x ≡ x′ → c ≡ c′ → r ≡ r′ → t ≡ t′
+          → eqb (x′ + m) (l + c′ + r′) && ltb 0 l && (eqb n (c′ + r′ + 1) && t) ≡ eqb (x + m) (l + (c + r)) && ltb 0 l && eqb n (c + r + 1) && t′
+      same l m n x x′ c c′ r r′ t t′ a b d e =
+          let g : l + c′ + r′ ≡ l + (c′ + r′) = omega arith in
+          rw (a, b, d, e, g) (sym (and-assoc (eqb (x′ + m) (l + (c′ + r′)) && ltb 0 l) (eqb n (c′ + r′ + 1)) t′))
 
   -- the sums are wrong
-  pub counts-wrong : 1 ≤ n + sparse → sums ≡ false → counts-valid p ≡ false
-  counts-wrong h e = by-ranks h ∙ ap (λ (t : Bool). t && climb (node-branches n entries dc sc sb) (n + sparse) levels n) e
+  pub sums-fail : 0 < node-count f → sums-test f (child-count s f) ≡ false → counts-valid p ≡ false
+  sums-fail h e = by-sums h ∙ ap (λ (t : Bool). t && levels-valid s f) e
 
-  -- they are right, and the levels are to be judged
-  pub counts-levels : 1 ≤ n + sparse → sums ≡ true → counts-valid p ≡ climb (node-branches n entries dc sc sb) (n + sparse) levels n
-  counts-levels h e = by-ranks h ∙ ap (λ (t : Bool). t && climb (node-branches n entries dc sc sb) (n + sparse) levels n) e
-
-  -- the S-LOUDS bits do not agree with the count
-  pub starts-wrong : (rank sb entries ≡ sparse → ⊥) → bits-valid p ≡ false
-  unfolding bits-valid
-  starts-wrong h =
-      rw (ones-all sb entries, ne-eqb (rank sb entries) sparse h)
-      (ap (λ (t : Bool). t && covered (bits dc (256 * n)) (bits dl (256 * n)) && (sparse-valid (eqb n 0) (zip-entries sl (bits sc entries)) (bits sb entries) && dense-nodes-valid true (bits dl (256 * n)) (bits dc (256 * n)) (bits dp n) && counts-valid p))
-      (and-false (first-set (bits sb entries))))
-
-  -- they do, and the other tests are to be judged
-  pub starts-valid : rank sb entries ≡ sparse
-      → bits-valid p
-      ≡ (eqb entries 0 || is-set sb 0) && covered (bits dc (256 * n)) (bits dl (256 * n))
-      && (sparse-valid (eqb n 0) (zip-entries sl (bits sc entries)) (bits sb entries) && dense-nodes-valid true (bits dl (256 * n)) (bits dc (256 * n)) (bits dp n) && counts-valid p)
-  unfolding bits-valid
-  starts-valid h =
-      rw (ones-all sb entries, eq-eqb (rank sb entries) sparse h)
-      (ap (λ (t : Bool). t && covered (bits dc (256 * n)) (bits dl (256 * n)) && (sparse-valid (eqb n 0) (zip-entries sl (bits sc entries)) (bits sb entries) && dense-nodes-valid true (bits dl (256 * n)) (bits dc (256 * n)) (bits dp n) && counts-valid p))
-      (and-true (first-set (bits sb entries)) ∙ first-bit sb entries b))
-
--- the counts do not depend on the labels
-pub counts-labels : (levels leaves n entries sparse : ℕ) (dl dc dp sl sc sb : Bytes)
-    → counts-valid (trie-parts levels leaves n entries sparse dl dc dp [] sc sb) ≡ counts-valid (trie-parts levels leaves n entries sparse dl dc dp sl sc sb)
-unfolding counts-valid
-counts-labels levels leaves n entries sparse dl dc dp sl sc sb = refl
-
--- the sums, as they were counted
-pub same-sums : (m l n a a′ b b′ c c′ d d′ : ℕ) (v : Bool) → a ≡ a′ → b ≡ b′ → c ≡ c′ → d ≡ d′ → eqb (a + b + m) (l + c + d) && ltb 0 l && eqb n (c + d + 1) ≡ v
-    → eqb (a′ + b′ + m) (l + c′ + d′) && ltb 0 l && eqb n (c′ + d′ + 1) ≡ v
-same-sums m l n a a′ b b′ c c′ d d′ v e f g h r = rw (← e, ← f, ← g, ← h) r
+  -- the sums are correct, and the levels decide
+  pub sums-pass : 0 < node-count f → sums-test f (child-count s f) ≡ true → counts-valid p ≡ levels-valid s f
+  sums-pass h e = by-sums h ∙ ap (λ (t : Bool). t && levels-valid s f) e
 
 -- not none is some
-pub some-nodes : (n : ℕ) → (n ≡ 0 → ⊥) → 1 ≤ n
+pub some-nodes : (n : ℕ) → (n ≡ 0 → ⊥) → 0 < n
 some-nodes n h = omega arith
-
--- five tests at equal values
-pub five-tests : (a a′ b b′ c c′ d d′ e e′ : Bool) → a ≡ a′ → b ≡ b′ → c ≡ c′ → d ≡ d′ → e ≡ e′ → a && b && (c && d && e) ≡ a′ && b′ && (c′ && d′ && e′)
-five-tests a a′ b b′ c c′ d d′ e e′ f g h i j = rw (f, g, h, i, j)

@@ -5,14 +5,14 @@ use mathlib.Core.Bool.{Bool, true, false, cond, _&&_, _||_, not, and-true, true�
 use mathlib.Core.List.{List, [], _∷_}
 use native.Mathlib.Omega.{arith}
 use lib.ListN.{length, take, drop, length-drop}
-use lib.Seq.{length-take-le, take-nil}
+use lib.Seq.{length-take-le, take-nil, drop-drop}
 use lib.Dec.{ltb, eqb}
 use borrow.Author.Tests.{lt-ltb, ne-eqb}
 use Rattle.spec.specs.Bytes.{Bits, all, count, ones}
 use Rattle.spec.specs.Nodes.{Entry, entry, entry-label, continues, Shape, shape, dense-entries, dense-shapes, total}
 use Rattle.spec.specs.Trie.{covered}
-use Rattle.check_trie_laws.specs.Tests.{both}
-use Rattle.check_trie_laws.specs.Shapes.{ends-here, rising, branches, leaves-at, root-valid, inner-valid, nodes-from}
+use Rattle.check_trie_laws.specs.Shapes.{ends-here, rising, branches, leaves-at, root-valid, non-root-valid, nodes-from}
+use Rattle.theory.specs.Lists.{and-both}
 
 -- ---- one node
 
@@ -77,7 +77,7 @@ entries-rise i (false ∷ dl) (c ∷ dc) = entries-rise (suc i) dl dc
 abbrev pub dense-valid : Bool → Bool → ℕ → ℕ → Bool
 dense-valid root p labels kids = ltb 0 labels && cond root (not p) (p || not (eqb labels 1) || eqb kids 1)
 
-one-valid : (root p : Bool) (es : List Entry) → rising es ≡ true → cond root (root-valid (shape p es)) (inner-valid (shape p es)) ≡ dense-valid root p (length es) (count continues es)
+one-valid : (root p : Bool) (es : List Entry) → rising es ≡ true → cond root (root-valid (shape p es)) (non-root-valid (shape p es)) ≡ dense-valid root p (length es) (count continues es)
 unfolding count
 one-valid true p [] r = refl
 one-valid false true [] r = refl
@@ -107,7 +107,7 @@ covered-split (suc k) [] [] h w = (refl, refl)
 covered-split (suc k) [] (l ∷ dl) h w = absurd (omega arith)
 covered-split (suc k) (c ∷ dc) [] h w = absurd (omega arith)
 covered-split (suc k) (c ∷ dc) (l ∷ dl) h w =
-    let p = both (not c || l) (covered dc dl) w in
+    let p = and-both (not c || l) (covered dc dl) w in
     let q = covered-split k dc dl (omega arith) (p .1) in
     (rw (p .0) (q .0), q .1)
 
@@ -131,7 +131,7 @@ module _ (dl dc ps : Bits) (p : Bool) (a : length dl ≡ 256 * suc (length ps)) 
   behind = covered-split 256 dc dl (a ∙ sym b) w .1
 
   first-node : (root : Bool)
-      → cond root (root-valid (shape p (dense-entries 0 (take 256 dl) (take 256 dc)))) (inner-valid (shape p (dense-entries 0 (take 256 dl) (take 256 dc))))
+      → cond root (root-valid (shape p (dense-entries 0 (take 256 dl) (take 256 dc)))) (non-root-valid (shape p (dense-entries 0 (take 256 dl) (take 256 dc))))
       ≡ dense-valid root p (ones (take 256 dl)) (ones (take 256 dc))
   first-node root =
       one-valid root p (dense-entries 0 (take 256 dl) (take 256 dc)) (entries-rise 0 (take 256 dl) (take 256 dc))
@@ -146,7 +146,7 @@ dense-shapes-valid root dl dc [] a b w = refl
 dense-shapes-valid root dl dc (p ∷ ps) a b w = go root (first-node dl dc ps p a b w root)
     (dense-shapes-valid false (drop 256 dl) (drop 256 dc) ps (rest-labels dl dc ps p a b w) (rest-children dl dc ps p a b w) (behind dl dc ps p a b w))
   where
-    all-from : (hs : List Shape) → all inner-valid hs ≡ nodes-from false hs
+    all-from : (hs : List Shape) → all non-root-valid hs ≡ nodes-from false hs
     all-from [] = refl
     all-from (h ∷ hs) = refl
 
@@ -156,7 +156,7 @@ dense-shapes-valid root dl dc (p ∷ ps) a b w = go root (first-node dl dc ps p 
     hs : List Shape
     hs = dense-shapes (drop 256 dl) (drop 256 dc) ps
 
-    go : (r : Bool) → cond r (root-valid h) (inner-valid h) ≡ dense-valid r p (ones (take 256 dl)) (ones (take 256 dc))
+    go : (r : Bool) → cond r (root-valid h) (non-root-valid h) ≡ dense-valid r p (ones (take 256 dl)) (ones (take 256 dc))
         → nodes-from false hs ≡ dense-nodes-valid false (drop 256 dl) (drop 256 dc) ps
         → nodes-from r (h ∷ hs) ≡ dense-valid r p (ones (take 256 dl)) (ones (take 256 dc)) && dense-nodes-valid false (drop 256 dl) (drop 256 dc) ps
     go true f g = ap₂ _&&_ f (all-from hs ∙ g)
@@ -172,6 +172,10 @@ unfolding ones
 ones-parts zero bs = omega arith
 ones-parts (suc k) [] = refl
 ones-parts (suc k) (b ∷ bs) = omega (arith, ones-parts k bs)
+
+-- behind the bits of dense node i are those of the next one
+pub next-node : (i : ℕ) (bs : Bits) → drop 256 (drop (256 * i) bs) ≡ drop (256 * suc i) bs
+next-node i bs = let e : 256 * i + 256 ≡ 256 * suc i = omega arith in drop-drop 256 (256 * i) bs ∙ ap (λ (k : ℕ). drop k bs) e
 
 pub ones-take-parts : (k m : ℕ) (bs : Bits) → ones (take (k + m) bs) ≡ ones (take k bs) + ones (take m (drop k bs))
 unfolding ones

@@ -18,6 +18,21 @@ use Rattle.check_trie_laws.specs.Positions.{bits, is-set, length-bits, b
 abbrev pub entry-at : Bytes → Bytes → ℕ → Entry
 entry-at sl sc j = entry (getD sl j 0) (is-set sc j)
 
+-- position j is one of the labels, of the bits that tell which entries continue, and of the S-LOUDS bits
+pub record Entry-room (sl sc sb : Bytes) (j : ℕ) : Type 0 where
+  pub labels : j < length sl
+  pub children : j < 8 * length sc
+  pub starts : j < 8 * length sb
+
+-- the bodies of n sparse entries
+pub record Entries-sized (sl sc sb : Bytes) (n : ℕ) : Type 0 where
+  -- one label an entry
+  pub labels : length sl ≡ n
+  -- one bit an entry that tells whether it continues
+  pub children : n ≤ 8 * length sc
+  -- one bit an entry that tells whether it starts a node
+  pub starts : n ≤ 8 * length sb
+
 -- what is asked of entry j, where the next one begins a node or not
 abbrev pub entry-valid : Bytes → Bytes → Bool → Bool → ℕ → Bool → Bool
 entry-valid sl sc root start j begins = cond begins (last-valid root start (entry-at sl sc j)) (next-correct root start (entry-at sl sc j) (entry-at sl sc (suc j)))

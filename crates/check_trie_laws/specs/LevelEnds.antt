@@ -6,13 +6,15 @@ use mathlib.Core.Bool.{Bool, true, false, cond, _&&_, _||_}
 use mathlib.Core.List.{List, [], _∷_}
 use native.Mathlib.Omega.{arith}
 use lib.ListN.{length, take, drop, length-append, length-drop}
-use lib.Seq.{length-take-le, drop-drop, take-all, take-take, take-nil}
+use lib.Seq.{length-take-le, drop-drop, take-all}
 use lib.Dec.{leb, ltb, eqb}
 use borrow.Author.Tests.{leb-true, leb-false, ltb-true, ltb-false, eqb-true, le-leb, lt-leb, lt-ltb, eq-eqb, ne-eqb}
 use Rattle.spec.specs.Bytes.{concat}
 use Rattle.spec.specs.Nodes.{total, later, levels}
-use Rattle.check_trie_laws.specs.Tests.{both, and, same, under}
+use Rattle.check_trie_laws.specs.Tests.{and, same, under}
+use Rattle.check_trie_laws.specs.ListParts.{total-part}
 use Rattle.theory.specs.Levels.{total-split, later-drop, later-none}
+use Rattle.theory.specs.Lists.{and-both}
 
 -- K gives the branches that continue before a node, N is the node count
 module _ (K : ℕ → ℕ) (N : ℕ) where
@@ -45,7 +47,7 @@ module _ (K J : ℕ → ℕ) (N : ℕ) (f : (e : ℕ) → e ≤ N → K e ≡ J 
   rise-ext (suc d) e l =
       rw (f e l)
       (ap (λ (t : Bool). eqb e N || t)
-      (under (ltb e (J e + 1) && leb (J e + 1) N) (rise K N d (J e + 1)) (rise J N d (J e + 1)) (λ h. rise-ext d (J e + 1) (leb-true (J e + 1) N (both (ltb e (J e + 1)) (leb (J e + 1) N) h .1)))))
+      (under (ltb e (J e + 1) && leb (J e + 1) N) (rise K N d (J e + 1)) (rise J N d (J e + 1)) (λ h. rise-ext d (J e + 1) (leb-true (J e + 1) N (and-both (ltb e (J e + 1)) (leb (J e + 1) N) h .1)))))
 
   pub level-end-ext : (t e : ℕ) → level-end K N t e ≡ level-end J N t e
   unfolding level-end
@@ -68,103 +70,93 @@ leb-suc a b = go (leb a b) refl
     go true e = sym (le-leb (suc a) (suc b) (omega (arith, leb-true a b e)))
     go false e = sym (lt-leb (suc a) (suc b) (omega (arith, leb-false a b e)))
 
-drop-take : {A : Type 0} (i w : ℕ) (ys : List A) → drop i (take (i + w) ys) ≡ take w (drop i ys)
-drop-take zero w ys = let e : 0 + w ≡ w = omega arith in ap (λ (n : ℕ). take n ys) e
-drop-take (suc i) w [] = let e : suc i + w ≡ suc (i + w) = omega arith in rw (e, take-nil w)
-drop-take (suc i) w (y ∷ ys) = let e : suc i + w ≡ suc (i + w) = omega arith in rw e (drop-take i w ys)
-
-module _ {A : Type 0} (kids : A → ℕ) (xs : List A) where
+module _ {A : Type 0} (children : A → ℕ) (xs : List A) where
   -- the branches that continue before node i
   abbrev pub before : ℕ → ℕ
-  before i = total kids (take i xs)
+  before i = total children (take i xs)
 
-  before-split : (i : ℕ) → total kids xs ≡ before i + total kids (drop i xs)
-  before-split i = total-split kids i xs
+  before-split : (i : ℕ) → total children xs ≡ before i + total children (drop i xs)
+  before-split i = total-split children i xs
 
   -- they never get fewer
   pub before-up : (i j : ℕ) → i ≤ j → before i ≤ before j
   unfolding total
   before-up i j h = go xs i j h
     where
-      go : (ys : List A) (i j : ℕ) → i ≤ j → total kids (take i ys) ≤ total kids (take j ys)
+      go : (ys : List A) (i j : ℕ) → i ≤ j → total children (take i ys) ≤ total children (take j ys)
       go ys zero j h = omega arith
       go ys (suc i) zero h = absurd (omega arith)
       go [] (suc i) (suc j) h = omega arith
       go (y ∷ ys) (suc i) (suc j) h = omega (arith, go ys i j (omega arith))
 
-  pub before-part : (ys : List A) (i w : ℕ) → total kids (take (i + w) ys) ≡ total kids (take i ys) + total kids (take w (drop i ys))
-  before-part ys i w =
-      let e : i + w - i ≡ w = omega arith in
-      total-split kids i (take (i + w) ys) ∙ ap₂ _+_ (ap (total kids) (take-take i (i + w) ys (omega arith))) (ap (total kids) (drop-take i w ys))
-
-  levels-more : (f w : ℕ) (ys : List A) → levels kids (suc f) (suc w) ys ≡ take (suc w) ys ∷ levels kids f (total kids (take (suc w) ys)) (drop (suc w) ys)
+  levels-more : (f w : ℕ) (ys : List A) → levels children (suc f) (suc w) ys ≡ take (suc w) ys ∷ levels children f (total children (take (suc w) ys)) (drop (suc w) ys)
   unfolding levels
   levels-more f w ys = refl
 
-  pub levels-zero : (w : ℕ) (ys : List A) → levels kids 0 w ys ≡ []
+  pub levels-zero : (w : ℕ) (ys : List A) → levels children 0 w ys ≡ []
   unfolding levels
   levels-zero w ys = refl
 
-  levels-none : (f : ℕ) (ys : List A) → levels kids f 0 ys ≡ []
+  levels-none : (f : ℕ) (ys : List A) → levels children f 0 ys ≡ []
   unfolding levels
   levels-none zero ys = refl
   levels-none (suc f) ys = refl
 
-  before-all : before (length xs) ≡ total kids xs
-  before-all = ap (total kids) (take-all (length xs) xs (omega arith))
+  before-all : before (length xs) ≡ total children xs
+  before-all = ap (total children) (take-all (length xs) xs (omega arith))
 
   pub before-none : before 0 ≡ 0
   unfolding total
   before-none = refl
 
   -- Every node up to n has a branch before it that leads there.
-  abbrev pub Reached : ℕ → Type 0
-  Reached n = (i : ℕ) → i < n → i ≤ before i
+  abbrev pub Reachable : ℕ → Type 0
+  Reachable n = (i : ℕ) → i < n → i ≤ before i
 
   -- ---- each branch leads to a later node
 
-  pub later-reached : length xs ≡ total kids xs + 1 → later kids 0 0 xs ≡ true → Reached (length xs)
-  later-reached t h i l = go (leb i (before i)) refl
+  pub later-reachable : length xs ≡ total children xs + 1 → later children 0 0 xs ≡ true → Reachable (length xs)
+  later-reachable t h i l = go (leb i (before i)) refl
     where
-      here : later kids i (before i) (drop i xs) ≡ true
+      here : later children i (before i) (drop i xs) ≡ true
       here =
           let a : 0 + i ≡ i = omega arith in
           let b : 0 + before i ≡ before i = omega arith in
-          ap₂ (λ (m n : ℕ). later kids m n (drop i xs)) (sym a) (sym b) ∙ later-drop kids 0 0 i xs h (omega arith)
+          ap₂ (λ (m n : ℕ). later children m n (drop i xs)) (sym a) (sym b) ∙ later-drop children 0 0 i xs h (omega arith)
 
       go : (b : Bool) → leb i (before i) ≡ b → i ≤ before i
       go true e = leb-true i (before i) e
       go false e =
           let n = leb-false i (before i) e in
-          absurd (omega (arith, before-split i, later-none kids i (before i) (drop i xs) here n))
+          absurd (omega (arith, before-split i, later-none children i (before i) (drop i xs) here n))
 
   -- the same of a part
-  reached-part : (ys : List A) (i k : ℕ) → ((j : ℕ) → j < length ys → i + j ≤ k + total kids (take j ys)) → later kids i k ys ≡ true
+  reachable-part : (ys : List A) (i k : ℕ) → ((j : ℕ) → j < length ys → i + j ≤ k + total children (take j ys)) → later children i k ys ≡ true
   unfolding later total
-  reached-part [] i k f = refl
-  reached-part (y ∷ ys) i k f =
+  reachable-part [] i k f = refl
+  reachable-part (y ∷ ys) i k f =
       let first : i ≤ k = omega (arith, f 0 (omega arith)) in
-      rw (le-leb i k first) (either (eqb (kids y) 0) (reached-part ys (suc i) (k + kids y) (λ j l. omega (arith, f (suc j) (omega arith)))))
+      rw (le-leb i k first) (either (eqb (children y) 0) (reachable-part ys (suc i) (k + children y) (λ j l. omega (arith, f (suc j) (omega arith)))))
     where
-      either : (b : Bool) → later kids (suc i) (k + kids y) ys ≡ true → (b || true) && later kids (suc i) (k + kids y) ys ≡ true
+      either : (b : Bool) → later children (suc i) (k + children y) ys ≡ true → (b || true) && later children (suc i) (k + children y) ys ≡ true
       either true h = h
       either false h = h
 
-  reached-later : Reached (length xs) → later kids 0 0 xs ≡ true
-  reached-later r = reached-part xs 0 0 (λ j l. omega (arith, r j l))
+  reachable-later : Reachable (length xs) → later children 0 0 xs ≡ true
+  reachable-later r = reachable-part xs 0 0 (λ j l. omega (arith, r j l))
 
   -- ---- ends that rise
 
-  module _ (t : length xs ≡ total kids xs + 1) where
+  module _ (t : length xs ≡ total children xs + 1) where
     pub before-end : before (length xs) + 1 ≡ length xs
     before-end = omega (arith, before-all)
 
-    pub rise-reached : (f e : ℕ) → e ≤ length xs → Reached e → rise before (length xs) f e ≡ true → Reached (length xs)
+    pub rise-reachable : (f e : ℕ) → e ≤ length xs → Reachable e → rise before (length xs) f e ≡ true → Reachable (length xs)
     unfolding rise
-    rise-reached zero e l r h = let q : e ≡ length xs = eqb-true e (length xs) h in rw q at r
-    rise-reached (suc f) e l r h = go (eqb e (length xs)) refl h (λ u v w. rise-reached f (before e + 1) u v w)
+    rise-reachable zero e l r h = let q : e ≡ length xs = eqb-true e (length xs) h in rw q at r
+    rise-reachable (suc f) e l r h = go (eqb e (length xs)) refl h (λ u v w. rise-reachable f (before e + 1) u v w)
       where
-        more : e < before e + 1 → Reached (before e + 1)
+        more : e < before e + 1 → Reachable (before e + 1)
         more u i v = by-end (ltb i e) refl
           where
             by-end : (b : Bool) → ltb i e ≡ b → i ≤ before i
@@ -172,14 +164,14 @@ module _ {A : Type 0} (kids : A → ℕ) (xs : List A) where
             by-end false q = omega (arith, before-up e i (ltb-false i e q))
 
         go : (b : Bool) → eqb e (length xs) ≡ b → b || (ltb e (before e + 1) && leb (before e + 1) (length xs) && rise before (length xs) f (before e + 1)) ≡ true
-            → (before e + 1 ≤ length xs → Reached (before e + 1) → rise before (length xs) f (before e + 1) ≡ true → Reached (length xs)) → Reached (length xs)
+            → (before e + 1 ≤ length xs → Reachable (before e + 1) → rise before (length xs) f (before e + 1) ≡ true → Reachable (length xs)) → Reachable (length xs)
         go true q h ih = let p : e ≡ length xs = eqb-true e (length xs) q in rw p at r
         go false q h ih =
-            let a = both (ltb e (before e + 1) && leb (before e + 1) (length xs)) (rise before (length xs) f (before e + 1)) h in
-            let b = both (ltb e (before e + 1)) (leb (before e + 1) (length xs)) (a .0) in
+            let a = and-both (ltb e (before e + 1) && leb (before e + 1) (length xs)) (rise before (length xs) f (before e + 1)) h in
+            let b = and-both (ltb e (before e + 1)) (leb (before e + 1) (length xs)) (a .0) in
             ih (leb-true (before e + 1) (length xs) (b .1)) (more (ltb-true e (before e + 1) (b .0))) (a .1)
 
-    module _ (r : Reached (length xs)) where
+    module _ (r : Reachable (length xs)) where
       pub next-up : (e : ℕ) → e < length xs → e < before e + 1
       next-up e l = omega (arith, r e l)
 
@@ -205,33 +197,33 @@ module _ {A : Type 0} (kids : A → ℕ) (xs : List A) where
           go false q ih = rw (eq-eqb e (length xs) (omega (arith, ltb-false e (length xs) q))) (sym (le-leb 0 (suc f) (omega arith)))
 
       -- the levels from the one of the nodes from i to e, where e is one more than the branches before i
-      pub next-level : (f i e : ℕ) → i < e → e ≡ before i + 1 → levels kids (suc f) (e - i) (drop i xs) ≡ take (e - i) (drop i xs) ∷ levels kids f (before e + 1 - e) (drop e xs)
-      next-level f i e h q = first (e - i) (omega arith) ∙ ap₂ (λ (w : ℕ) (ys : List A). take (e - i) (drop i xs) ∷ levels kids f w ys) width (drop-drop (e - i) i xs ∙ ap (λ (n : ℕ). drop n xs) there)
+      pub next-level : (f i e : ℕ) → i < e → e ≡ before i + 1 → levels children (suc f) (e - i) (drop i xs) ≡ take (e - i) (drop i xs) ∷ levels children f (before e + 1 - e) (drop e xs)
+      next-level f i e h q = first (e - i) (omega arith) ∙ ap₂ (λ (w : ℕ) (ys : List A). take (e - i) (drop i xs) ∷ levels children f w ys) width (drop-drop (e - i) i xs ∙ ap (λ (n : ℕ). drop n xs) there)
         where
           there : i + (e - i) ≡ e
           there = omega arith
 
-          width : total kids (take (e - i) (drop i xs)) ≡ before e + 1 - e
-          width = omega (arith, before-part xs i (e - i), ap before there)
+          width : total children (take (e - i) (drop i xs)) ≡ before e + 1 - e
+          width = omega (arith, total-part children xs i (e - i), ap before there)
 
-          first : (w : ℕ) → 0 < w → levels kids (suc f) w (drop i xs) ≡ take w (drop i xs) ∷ levels kids f (total kids (take w (drop i xs))) (drop w (drop i xs))
+          first : (w : ℕ) → 0 < w → levels children (suc f) w (drop i xs) ≡ take w (drop i xs) ∷ levels children f (total children (take w (drop i xs))) (drop w (drop i xs))
           first zero p = absurd (omega arith)
           first (suc w) p = levels-more f w (drop i xs)
 
-      pub no-level : (f : ℕ) → levels kids f (before (length xs) + 1 - length xs) (drop (length xs) xs) ≡ []
+      pub no-level : (f : ℕ) → levels children f (before (length xs) + 1 - length xs) (drop (length xs) xs) ≡ []
       no-level f = let z : before (length xs) + 1 - length xs ≡ 0 = omega (arith, before-end) in rw z (none f)
         where
-          none : (f : ℕ) → levels kids f 0 (drop (length xs) xs) ≡ []
+          none : (f : ℕ) → levels children f 0 (drop (length xs) xs) ≡ []
           none f = levels-none f (drop (length xs) xs)
 
       -- how many levels there are
-      count-levels : (f i e : ℕ) → i < e → e ≤ length xs → e ≡ before i + 1 → length (levels kids (suc f) (e - i) (drop i xs)) ≡ suc (depth before (length xs) f e)
+      count-levels : (f i e : ℕ) → i < e → e ≤ length xs → e ≡ before i + 1 → length (levels children (suc f) (e - i) (drop i xs)) ≡ suc (depth before (length xs) f e)
       unfolding depth
       count-levels zero i e h l q = ap length (next-level zero i e h q) ∙ ap suc (ap length (levels-zero (before e + 1 - e) (drop e xs)))
       count-levels (suc f) i e h l q = ap length (next-level (suc f) i e h q) ∙ ap suc (go (ltb e (length xs)) refl (λ u. count-levels f e (before e + 1) u (next-within e l) refl))
         where
-          go : (b : Bool) → ltb e (length xs) ≡ b → (e < before e + 1 → length (levels kids (suc f) (before e + 1 - e) (drop e xs)) ≡ suc (depth before (length xs) f (before e + 1)))
-              → length (levels kids (suc f) (before e + 1 - e) (drop e xs)) ≡ cond b (suc (depth before (length xs) f (before e + 1))) 0
+          go : (b : Bool) → ltb e (length xs) ≡ b → (e < before e + 1 → length (levels children (suc f) (before e + 1 - e) (drop e xs)) ≡ suc (depth before (length xs) f (before e + 1)))
+              → length (levels children (suc f) (before e + 1 - e) (drop e xs)) ≡ cond b (suc (depth before (length xs) f (before e + 1))) 0
           go true p ih = ih (next-up e (ltb-true e (length xs) p))
           go false p ih = let z : e ≡ length xs = omega (arith, ltb-false e (length xs) p) in rw z (ap length (no-level (suc f)))
 
@@ -246,7 +238,7 @@ module _ {A : Type 0} (kids : A → ℕ) (xs : List A) where
 
       -- how many nodes the first levels have
       count-nodes : (k f i e : ℕ) → k ≤ f → i < e → e ≤ length xs → e ≡ before i + 1
-          → length (concat (take (suc k) (levels kids (suc f) (e - i) (drop i xs)))) ≡ level-end before (length xs) k e - i
+          → length (concat (take (suc k) (levels children (suc f) (e - i) (drop i xs)))) ≡ level-end before (length xs) k e - i
       unfolding level-end concat
       count-nodes zero f i e m h l q =
           ap (λ (ls : List (List A)). length (concat (take 1 ls))) (next-level f i e h q) ∙ length-append (take (e - i) (drop i xs)) [] ∙ omega (arith, wide)
@@ -256,41 +248,41 @@ module _ {A : Type 0} (kids : A → ℕ) (xs : List A) where
       count-nodes (suc k) zero i e m h l q = absurd (omega arith)
       count-nodes (suc k) (suc f) i e m h l q =
           ap (λ (ls : List (List A)). length (concat (take (suc (suc k)) ls))) (next-level (suc f) i e h q)
-          ∙ length-append (take (e - i) (drop i xs)) (concat (take (suc k) (levels kids (suc f) (before e + 1 - e) (drop e xs))))
+          ∙ length-append (take (e - i) (drop i xs)) (concat (take (suc k) (levels children (suc f) (before e + 1 - e) (drop e xs))))
           ∙ go (ltb e (length xs)) refl (λ u. count-nodes k f e (before e + 1) (omega arith) u (next-within e l) refl)
         where
           wide : length (take (e - i) (drop i xs)) ≡ e - i
           wide = length-take-le (e - i) (drop i xs) (omega (arith, length-drop i xs))
 
           go : (b : Bool) → ltb e (length xs) ≡ b
-              → (e < before e + 1 → length (concat (take (suc k) (levels kids (suc f) (before e + 1 - e) (drop e xs)))) ≡ level-end before (length xs) k (before e + 1) - e)
-              → length (take (e - i) (drop i xs)) + length (concat (take (suc k) (levels kids (suc f) (before e + 1 - e) (drop e xs))))
+              → (e < before e + 1 → length (concat (take (suc k) (levels children (suc f) (before e + 1 - e) (drop e xs)))) ≡ level-end before (length xs) k (before e + 1) - e)
+              → length (take (e - i) (drop i xs)) + length (concat (take (suc k) (levels children (suc f) (before e + 1 - e) (drop e xs))))
               ≡ cond b (level-end before (length xs) k (before e + 1)) e - i
           go true p ih =
               let u = next-up e (ltb-true e (length xs) p) in
               omega (arith, wide, ih u, level-end-up k (before e + 1) (next-within e l))
           go false p ih =
               let z : e ≡ length xs = omega (arith, ltb-false e (length xs) p) in
-              let none : levels kids (suc f) (before e + 1 - e) (drop e xs) ≡ [] = rw z (no-level (suc f)) in
+              let none : levels children (suc f) (before e + 1 - e) (drop e xs) ≡ [] = rw z (no-level (suc f)) in
               omega (arith, wide, ap (λ (ls : List (List A)). length (concat (take (suc k) ls))) none)
 
   -- ---- both forms
 
   -- document 01's tests of the levels
   abbrev pub level-tests : ℕ → ℕ → Bool
-  level-tests dense n = later kids 0 0 xs && leb (length (levels kids 65 1 xs)) 64 && eqb (length (concat (take dense (levels kids 65 1 xs)))) n
+  level-tests dense n = later children 0 0 xs && leb (length (levels children 65 1 xs)) 64 && eqb (length (concat (take dense (levels children 65 1 xs)))) n
 
   -- the tests of the ends
   abbrev pub end-tests : ℕ → ℕ → Bool
   end-tests dense n = rise before (length xs) 63 1 && eqb (nodes-above before (length xs) dense) n
 
-  module _ (t : length xs ≡ total kids xs + 1) (dense n : ℕ) (few : dense ≤ 64) where
-    all-levels : Reached (length xs) → leb (length (levels kids 65 1 xs)) 64 ≡ rise before (length xs) 63 1
+  module _ (t : length xs ≡ total children xs + 1) (dense n : ℕ) (few : dense ≤ 64) where
+    all-levels : Reachable (length xs) → leb (length (levels children 65 1 xs)) 64 ≡ rise before (length xs) 63 1
     all-levels r =
         let a = count-levels t r 64 0 1 (omega arith) (omega (arith, t)) (omega (arith, before-none)) in
         ap (λ (m : ℕ). leb m 64) a ∙ sym (leb-suc (depth before (length xs) 64 1) 63) ∙ sym (rise-depth t r 63 1 (omega (arith, t)))
 
-    dense-levels : (d : ℕ) → d ≤ 64 → Reached (length xs) → length (concat (take d (levels kids 65 1 xs))) ≡ nodes-above before (length xs) d
+    dense-levels : (d : ℕ) → d ≤ 64 → Reachable (length xs) → length (concat (take d (levels children 65 1 xs))) ≡ nodes-above before (length xs) d
     unfolding nodes-above concat
     dense-levels zero u r = refl
     dense-levels (suc k) u r = count-nodes t r k 64 0 1 (omega arith) (omega arith) (omega (arith, t)) (omega (arith, before-none)) ∙ omega arith
@@ -301,16 +293,16 @@ module _ {A : Type 0} (kids : A → ℕ) (xs : List A) where
       where
         forth : level-tests dense n ≡ true → end-tests dense n ≡ true
         forth h =
-            let a = both (later kids 0 0 xs && leb (length (levels kids 65 1 xs)) 64) (eqb (length (concat (take dense (levels kids 65 1 xs)))) n) h in
-            let b = both (later kids 0 0 xs) (leb (length (levels kids 65 1 xs)) 64) (a .0) in
-            let r = later-reached t (b .0) in
+            let a = and-both (later children 0 0 xs && leb (length (levels children 65 1 xs)) 64) (eqb (length (concat (take dense (levels children 65 1 xs)))) n) h in
+            let b = and-both (later children 0 0 xs) (leb (length (levels children 65 1 xs)) 64) (a .0) in
+            let r = later-reachable t (b .0) in
             and (rise before (length xs) 63 1) (eqb (nodes-above before (length xs) dense) n) (sym (all-levels r) ∙ b .1)
             (ap (λ (m : ℕ). eqb m n) (sym (dense-levels dense few r)) ∙ a .1)
 
         back : end-tests dense n ≡ true → level-tests dense n ≡ true
         back h =
-            let a = both (rise before (length xs) 63 1) (eqb (nodes-above before (length xs) dense) n) h in
-            let r = rise-reached t 63 1 (omega (arith, t)) (λ i l. omega arith) (a .0) in
-            and (later kids 0 0 xs && leb (length (levels kids 65 1 xs)) 64) (eqb (length (concat (take dense (levels kids 65 1 xs)))) n)
-            (and (later kids 0 0 xs) (leb (length (levels kids 65 1 xs)) 64) (reached-later r) (all-levels r ∙ a .0))
+            let a = and-both (rise before (length xs) 63 1) (eqb (nodes-above before (length xs) dense) n) h in
+            let r = rise-reachable t 63 1 (omega (arith, t)) (λ i l. omega arith) (a .0) in
+            and (later children 0 0 xs && leb (length (levels children 65 1 xs)) 64) (eqb (length (concat (take dense (levels children 65 1 xs)))) n)
+            (and (later children 0 0 xs) (leb (length (levels children 65 1 xs)) 64) (reachable-later r) (all-levels r ∙ a .0))
             (ap (λ (m : ℕ). eqb m n) (dense-levels dense few r) ∙ a .1)

@@ -8,6 +8,7 @@ use lib.Dec.{eqb}
 use borrow.Author.Tests.{eqb-true, eqb-false, eq-eqb, ne-eqb}
 use lib.Pow.{shr-shr, shl-shr, pow-mono}
 use lib.Bits.{bitAnd, bitOr, and-shr, and-mod, or-shr, or-mod, shifted-half, shifted-even}
+use Rattle.check_trie_laws.specs.Ranges.{all-from, from-ext, from-shift}
 use Rattle.spec.specs.Bytes.{bit}
 
 -- digit i of a number is set
@@ -174,25 +175,17 @@ mask-of p (suc n) x h f =
 
 -- ---- a number without digits
 
--- a test passes for each of n numbers from 0
-unfoldable pub each : (ℕ → Bool) → ℕ → Bool
-each p zero = true
-each p (suc n) = p zero && each (λ i. p (suc i)) n
-
--- tests that agree on each of them
-pub each-ext : (p q : ℕ → Bool) (n : ℕ) → ((i : ℕ) → i < n → p i ≡ q i) → each p n ≡ each q n
-unfolding each
-each-ext p q zero f = refl
-each-ext p q (suc n) f = ap₂ _&&_ (f 0 (omega arith)) (each-ext (λ i. p (suc i)) (λ i. q (suc i)) n (λ i h. f (suc i) (omega arith)))
-
 -- a number of n digits is 0 where none is set
-pub zero-digits : (n x : ℕ) → x < 2 ^ n → eqb x 0 ≡ each (λ i. not (digit x i)) n
-unfolding each digit
+pub zero-digits : (n x : ℕ) → x < 2 ^ n → eqb x 0 ≡ all-from (λ i. not (digit x i)) 0 n
+unfolding all-from digit
 zero-digits zero x h = eq-eqb x 0 (omega arith)
 zero-digits (suc n) x h =
     halves (x % 2) refl
-    ∙ ap (λ (t : Bool). not (digit x 0) && t) (zero-digits n (x / 2) (omega (arith, pow-succ' 2 n)) ∙ each-ext (λ i. not (digit (x / 2) i)) (λ i. not (digit x (suc i))) n (λ i l. ap not (digit-half x i)))
+    ∙ ap (λ (t : Bool). not (digit x 0) && t) (zero-digits n (x / 2) (omega (arith, pow-succ' 2 n)) ∙ from-ext (λ i. not (digit (x / 2) i)) (λ i. not (digit x (1 + i))) 0 n (λ i h l. ap not (digit-half x i ∙ next i)) ∙ sym (from-shift (λ i. not (digit x i)) 1 0 n))
   where
+    next : (i : ℕ) → digit x (suc i) ≡ digit x (1 + i)
+    next i = let e : suc i ≡ 1 + i = omega arith in ap (digit x) e
+
     halves : (d : ℕ) → x % 2 ≡ d → eqb x 0 ≡ not (digit x 0) && eqb (x / 2) 0
     halves zero e = let f : x / 2 ^ 0 % 2 ≡ 0 = omega arith in rw f (go (eqb (x / 2) 0) refl)
       where

@@ -12,7 +12,7 @@ use Rattle.spec.specs.Bytes.{Bytes, Bits, bit, ones, unpack}
 use Rattle.bits_laws.specs.Bits.{bit-at, rank, select}
 use Rattle.bits_laws.specs.UnpackLaws.{length-unpack, bit-unpack, rank-unpack}
 use Rattle.bits_laws.specs.SelectLaws.{select-here, select-all}
-use Rattle.check_trie_laws.specs.SparseNodes.{place-of}
+use Rattle.check_trie_laws.specs.SparseNodes.{position-of}
 
 -- the first n bits that bytes hold
 abbrev pub bits : Bytes → ℕ → Bits
@@ -50,19 +50,19 @@ pub ones-all : (s : Bytes) (n : ℕ) → ones (bits s n) ≡ rank s n
 ones-all s n = sym (rank-unpack s n)
 
 -- what tells where a one stands
-place-is : (m : ℕ) (bs : Bits) → (place-of m bs ≤ length bs) × (ones (take (place-of m bs) bs) ≤ m) × (place-of m bs < length bs → m < ones (take (suc (place-of m bs)) bs))
-unfolding place-of ones
-place-is m [] = (omega arith, omega arith, λ h. absurd (omega arith))
-place-is m (false ∷ bs) = let q = place-is m bs in (omega (arith, q .0), omega (arith, q .1), λ h. omega (arith, q .2 (omega arith)))
-place-is zero (true ∷ bs) = (omega arith, omega arith, λ h. omega arith)
-place-is (suc m) (true ∷ bs) = let q = place-is m bs in (omega (arith, q .0), omega (arith, q .1), λ h. omega (arith, q .2 (omega arith)))
+position-is : (m : ℕ) (bs : Bits) → (position-of m bs ≤ length bs) × (ones (take (position-of m bs) bs) ≤ m) × (position-of m bs < length bs → m < ones (take (suc (position-of m bs)) bs))
+unfolding position-of ones
+position-is m [] = (omega arith, omega arith, λ h. absurd (omega arith))
+position-is m (false ∷ bs) = let q = position-is m bs in (omega (arith, q .0), omega (arith, q .1), λ h. omega (arith, q .2 (omega arith)))
+position-is zero (true ∷ bs) = (omega arith, omega arith, λ h. omega arith)
+position-is (suc m) (true ∷ bs) = let q = position-is m bs in (omega (arith, q .0), omega (arith, q .1), λ h. omega (arith, q .2 (omega arith)))
 
 -- one number m stands at its select
-pub place-select : (s : Bytes) (n m : ℕ) → n ≤ 8 * length s → place-of m (bits s n) ≡ select s n m
-place-select s n m l = go (place-is m (bits s n)) (ltb (place-of m (bits s n)) n) refl
+pub position-select : (s : Bytes) (n m : ℕ) → n ≤ 8 * length s → position-of m (bits s n) ≡ select s n m
+position-select s n m l = go (position-is m (bits s n)) (ltb (position-of m (bits s n)) n) refl
   where
     q : ℕ
-    q = place-of m (bits s n)
+    q = position-of m (bits s n)
 
     long : length (bits s n) ≡ n
     long = length-bits s n l

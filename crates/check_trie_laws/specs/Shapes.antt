@@ -192,15 +192,15 @@ all-slotted p q f n (h ∷ hs) bs = ap (all p) (slotted-first n h hs bs) ∙ ap�
 abbrev pub root-valid : Shape → Bool
 root-valid h = labelled h && not (exact h) && ordered h
 
-abbrev pub inner-valid : Shape → Bool
-inner-valid h = labelled h && ordered h && sole h
+abbrev pub non-root-valid : Shape → Bool
+non-root-valid h = labelled h && ordered h && sole h
 
 -- nodes of which the first may be the root
 unfoldable pub nodes-from : Bool → List Shape → Bool
 unfolding all
 nodes-from r [] = true
-nodes-from true (h ∷ hs) = root-valid h && all inner-valid hs
-nodes-from false (h ∷ hs) = inner-valid h && all inner-valid hs
+nodes-from true (h ∷ hs) = root-valid h && all non-root-valid hs
+nodes-from false (h ∷ hs) = non-root-valid h && all non-root-valid hs
 
 -- the tests of shapes: the leaf count, some leaf, nodes are continuing branches plus one, the levels by their ends, each node
 unfoldable pub shapes-valid : ℕ → ℕ → ℕ → List Shape → Bool
@@ -221,7 +221,7 @@ ends-slotted w dense n hs bs l =
     (ap (λ (m : ℕ). rise (before children-of (slotted w hs bs)) m 63 1) long ∙ rise-ext (before children-of (slotted w hs bs)) (before branches hs) (length hs) same-before 63 1 (omega arith))
     (ap (λ (m : ℕ). eqb m n) (ap (λ (m : ℕ). nodes-above (before children-of (slotted w hs bs)) m dense) long ∙ nodes-above-ext (before children-of (slotted w hs bs)) (before branches hs) (length hs) same-before dense))
 
-all-inner : (hs : List Shape) → all inner-valid hs ≡ all labelled hs && all ordered hs && all sole hs
+all-inner : (hs : List Shape) → all non-root-valid hs ≡ all labelled hs && all ordered hs && all sole hs
 all-inner hs = all-both (λ h. labelled h && ordered h) sole hs ∙ ap (λ (t : Bool). t && all sole hs) (all-both labelled ordered hs)
 
 module _ (w dense n leaves : ℕ) (h : Shape) (hs : List Shape) (bs : Bits) (d : dense ≤ 64) where
@@ -252,7 +252,7 @@ module _ (w dense n leaves : ℕ) (h : Shape) (hs : List Shape) (bs : Bits) (d :
       (ap (λ (z : List Node). end-tests children-of z dense n) (sym whole) ∙ ends-slotted w dense n (h ∷ hs) bs (omega arith))
 
   same-nodes : has-label root && not (is-exact root) && ascending (branches-of root) && (all has-label rest && all (λ n. ascending (branches-of n)) rest && all sole-continues rest)
-      ≡ root-valid h && all inner-valid hs
+      ≡ root-valid h && all non-root-valid hs
   same-nodes =
       ap₂ _&&_ (ap₂ _&&_ (ap₂ _&&_ (node-label w h bs) (ap not (node-exact w h bs))) (node-ordered w h bs))
       (ap₂ _&&_ (ap₂ _&&_ (all-slotted has-label labelled node-label w hs (bits-past w h bs)) (all-slotted (λ n. ascending (branches-of n)) ordered node-ordered w hs (bits-past w h bs)))

@@ -10,8 +10,9 @@ use lib.Seq.{take-all, take-nil}
 use lib.Dec.{ltb, eqb}
 use Rattle.spec.specs.Bytes.{Bits, all, count, bit, ones}
 use Rattle.spec.specs.Nodes.{Entry, entry, entry-label, continues, Shape, shape, Sparse, sparse, prepend, split-behind, sparse-shape, extra-ends, total}
-use Rattle.check_trie_laws.specs.Tests.{both, swap-middle}
-use Rattle.check_trie_laws.specs.Shapes.{ends-here, rising, branches, leaves-at, root-valid, inner-valid, nodes-from}
+use Rattle.check_trie_laws.specs.Tests.{swap-middle}
+use Rattle.check_trie_laws.specs.Shapes.{ends-here, rising, branches, leaves-at, root-valid, non-root-valid, nodes-from}
+use Rattle.theory.specs.Lists.{and-both}
 
 -- an entry behind which its node ends: a sole entry continues, except at the root
 abbrev pub last-valid : Bool → Bool → Entry → Bool
@@ -80,7 +81,7 @@ entries-nodes root start e (f ∷ es) (false ∷ bs) = ap (λ (t : Bool). next-c
 
 -- ---- a node and its shape
 
-node-shape : (root : Bool) (c : Sparse) → node-valid root true c ≡ extra-ends c && cond root (root-valid (sparse-shape c)) (inner-valid (sparse-shape c))
+node-shape : (root : Bool) (c : Sparse) → node-valid root true c ≡ extra-ends c && cond root (root-valid (sparse-shape c)) (non-root-valid (sparse-shape c))
 unfolding node-valid extra-ends sparse-shape rising
 node-shape true (sparse (entry x true) []) = refl
 node-shape true (sparse (entry x false) []) = refl
@@ -89,7 +90,7 @@ node-shape false (sparse (entry x false) []) = refl
 node-shape root (sparse (entry x c) (f ∷ es)) = go root c (eqb x 255)
   where
     go : (root c b : Bool) → cond b (not c && not root) (ltb x (entry-label f)) && rising (f ∷ es)
-        ≡ not (b && c) && cond root (root-valid (cond b (shape true (f ∷ es)) (shape false (entry x c ∷ f ∷ es)))) (inner-valid (cond b (shape true (f ∷ es)) (shape false (entry x c ∷ f ∷ es))))
+        ≡ not (b && c) && cond root (root-valid (cond b (shape true (f ∷ es)) (shape false (entry x c ∷ f ∷ es)))) (non-root-valid (cond b (shape true (f ∷ es)) (shape false (entry x c ∷ f ∷ es))))
     go true true true = refl
     go true true false = refl
     go true false true = refl
@@ -99,10 +100,10 @@ node-shape root (sparse (entry x c) (f ∷ es)) = go root c (eqb x 255)
     go false false true = sym (and-true (rising (f ∷ es)))
     go false false false = sym (and-true (ltb x (entry-label f) && rising (f ∷ es)))
 
-all-shapes : (cs : List Sparse) → all (node-valid false true) cs ≡ all extra-ends cs && all inner-valid (map sparse-shape cs)
+all-shapes : (cs : List Sparse) → all (node-valid false true) cs ≡ all extra-ends cs && all non-root-valid (map sparse-shape cs)
 unfolding all
 all-shapes [] = refl
-all-shapes (c ∷ cs) = ap₂ _&&_ (node-shape false c) (all-shapes cs) ∙ swap-middle (extra-ends c) (inner-valid (sparse-shape c)) (all extra-ends cs) (all inner-valid (map sparse-shape cs))
+all-shapes (c ∷ cs) = ap₂ _&&_ (node-shape false c) (all-shapes cs) ∙ swap-middle (extra-ends c) (non-root-valid (sparse-shape c)) (all extra-ends cs) (all non-root-valid (map sparse-shape cs))
 
 -- the tests entry by entry are those of the nodes
 pub entries-shapes : (root : Bool) (e : Entry) (es : List Entry) (bs : Bits)
@@ -112,8 +113,8 @@ entries-shapes root e es bs = entries-nodes root true e es bs ∙ go root (split
   where
     go : (root : Bool) (cs : List Sparse) → nodes-valid root true cs ≡ all extra-ends cs && nodes-from root (map sparse-shape cs)
     go root [] = refl
-    go true (c ∷ cs) = ap₂ _&&_ (node-shape true c) (all-shapes cs) ∙ swap-middle (extra-ends c) (root-valid (sparse-shape c)) (all extra-ends cs) (all inner-valid (map sparse-shape cs))
-    go false (c ∷ cs) = ap₂ _&&_ (node-shape false c) (all-shapes cs) ∙ swap-middle (extra-ends c) (inner-valid (sparse-shape c)) (all extra-ends cs) (all inner-valid (map sparse-shape cs))
+    go true (c ∷ cs) = ap₂ _&&_ (node-shape true c) (all-shapes cs) ∙ swap-middle (extra-ends c) (root-valid (sparse-shape c)) (all extra-ends cs) (all non-root-valid (map sparse-shape cs))
+    go false (c ∷ cs) = ap₂ _&&_ (node-shape false c) (all-shapes cs) ∙ swap-middle (extra-ends c) (non-root-valid (sparse-shape c)) (all extra-ends cs) (all non-root-valid (map sparse-shape cs))
 
 -- ---- counts
 
@@ -130,11 +131,11 @@ length-split e (f ∷ es) (false ∷ bs) h = go (split-behind f es bs) (length-s
     go cs l n = rw (n .are) (sym (ap length (n .are)) ∙ omega arith)
 
 -- where one number m of some bits stands, from 0, or their length
-unfoldable pub place-of : ℕ → Bits → ℕ
-place-of m [] = 0
-place-of m (false ∷ bs) = suc (place-of m bs)
-place-of zero (true ∷ bs) = 0
-place-of (suc m) (true ∷ bs) = suc (place-of m bs)
+unfoldable pub position-of : ℕ → Bits → ℕ
+position-of m [] = 0
+position-of m (false ∷ bs) = suc (position-of m bs)
+position-of zero (true ∷ bs) = 0
+position-of (suc m) (true ∷ bs) = suc (position-of m bs)
 
 -- a node's entries
 abbrev pub entries-of : Sparse → List Entry
@@ -146,8 +147,8 @@ continuing c = count continues (entries-of c)
 
 -- the entries that continue before a node are the set bits before its first entry
 continuing-before : (m : ℕ) (e : Entry) (es : List Entry) (bs : Bits) → length bs ≡ length es
-    → total continuing (take m (split-behind e es bs)) ≡ ones (take (place-of m (true ∷ bs)) (map continues (e ∷ es)))
-unfolding split-behind prepend total place-of ones count
+    → total continuing (take m (split-behind e es bs)) ≡ ones (take (position-of m (true ∷ bs)) (map continues (e ∷ es)))
+unfolding split-behind prepend total position-of ones count
 continuing-before zero e es bs h = refl
 continuing-before (suc m) e [] [] h = rw (take-nil m) (one (continues e))
   where
@@ -167,8 +168,8 @@ continuing-before (suc m) e (f ∷ es) (false ∷ bs) h = go (split-behind f es 
     more true k r = omega arith
     more false k r = omega arith
 
-    go : (cs : List Sparse) → total continuing (take (suc m) cs) ≡ ones (take (suc (place-of m bs)) (map continues (f ∷ es))) → First f cs
-        → total continuing (take (suc m) (prepend e cs)) ≡ bit (continues e) + ones (take (suc (place-of m bs)) (map continues (f ∷ es)))
+    go : (cs : List Sparse) → total continuing (take (suc m) cs) ≡ ones (take (suc (position-of m bs)) (map continues (f ∷ es))) → First f cs
+        → total continuing (take (suc m) (prepend e cs)) ≡ bit (continues e) + ones (take (suc (position-of m bs)) (map continues (f ∷ es)))
     go cs h n =
         rw (n .are)
         (more (continues e) (count continues (f ∷ n .behind)) (total continuing (take m (n .others)))
@@ -205,11 +206,11 @@ pub total-shapes : (f : Shape → ℕ) (g : Sparse → ℕ) → ((c : Sparse) �
 unfolding total all
 total-shapes f g h zero cs a = refl
 total-shapes f g h (suc m) [] a = refl
-total-shapes f g h (suc m) (c ∷ cs) a = let b = both (extra-ends c) (all extra-ends cs) a in ap₂ _+_ (h c (b .0)) (total-shapes f g h m cs (b .1))
+total-shapes f g h (suc m) (c ∷ cs) a = let b = and-both (extra-ends c) (all extra-ends cs) a in ap₂ _+_ (h c (b .0)) (total-shapes f g h m cs (b .1))
 
 -- the branches before sparse node m are the S-HasChild bits before its first entry
 pub branches-before : (m : ℕ) (e : Entry) (es : List Entry) (bs : Bits) → length bs ≡ length es → all extra-ends (split-behind e es bs) ≡ true
-    → total branches (take m (map sparse-shape (split-behind e es bs))) ≡ ones (take (place-of m (true ∷ bs)) (map continues (e ∷ es)))
+    → total branches (take m (map sparse-shape (split-behind e es bs))) ≡ ones (take (position-of m (true ∷ bs)) (map continues (e ∷ es)))
 branches-before m e es bs h a = total-shapes branches continuing branches-of m (split-behind e es bs) a ∙ continuing-before m e es bs h
 
 -- the entries of the nodes are all the entries
@@ -248,8 +249,8 @@ leaves-among e es bs h a =
 
 -- as many entries stand before a node as bits before its first one's
 entries-before : (m : ℕ) (e : Entry) (es : List Entry) (bs : Bits) → length bs ≡ length es
-    → total (λ c. length (entries-of c)) (take m (split-behind e es bs)) ≡ place-of m (true ∷ bs)
-unfolding split-behind prepend total place-of
+    → total (λ c. length (entries-of c)) (take m (split-behind e es bs)) ≡ position-of m (true ∷ bs)
+unfolding split-behind prepend total position-of
 entries-before zero e es bs h = refl
 entries-before (suc m) e [] [] h = rw (take-nil m)
 entries-before (suc m) e [] (b ∷ bs) h = absurd (omega arith)
@@ -257,8 +258,8 @@ entries-before (suc m) e (f ∷ es) [] h = absurd (omega arith)
 entries-before (suc m) e (f ∷ es) (true ∷ bs) h = omega (arith, entries-before m f es bs (omega arith))
 entries-before (suc m) e (f ∷ es) (false ∷ bs) h = go (split-behind f es bs) (entries-before (suc m) f es bs (omega arith)) (first-node f es bs)
   where
-    go : (cs : List Sparse) → total (λ c. length (entries-of c)) (take (suc m) cs) ≡ suc (place-of m bs) → First f cs
-        → total (λ c. length (entries-of c)) (take (suc m) (prepend e cs)) ≡ suc (suc (place-of m bs))
+    go : (cs : List Sparse) → total (λ c. length (entries-of c)) (take (suc m) cs) ≡ suc (position-of m bs) → First f cs
+        → total (λ c. length (entries-of c)) (take (suc m) (prepend e cs)) ≡ suc (suc (position-of m bs))
     go cs h n = rw (n .are) (omega (arith, sym (ap (λ (z : List Sparse). total (λ c. length (entries-of c)) (take (suc m) z)) (n .are)) ∙ h))
 
 count-ends : (es : List Entry) → count ends-here es + count continues es ≡ length es
@@ -274,7 +275,7 @@ total-ends (c ∷ cs) = omega (arith, total-ends cs, count-ends (entries-of c))
 
 -- the leaves before sparse node m, and the branches before it, are the entries before its first one
 pub leaves-before : (m : ℕ) (e : Entry) (es : List Entry) (bs : Bits) → length bs ≡ length es → all extra-ends (split-behind e es bs) ≡ true
-    → total leaves-at (take m (map sparse-shape (split-behind e es bs))) + ones (take (place-of m (true ∷ bs)) (map continues (e ∷ es))) ≡ place-of m (true ∷ bs)
+    → total leaves-at (take m (map sparse-shape (split-behind e es bs))) + ones (take (position-of m (true ∷ bs)) (map continues (e ∷ es))) ≡ position-of m (true ∷ bs)
 leaves-before m e es bs h a =
     omega (
       arith,

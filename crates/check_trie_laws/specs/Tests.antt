@@ -1,14 +1,9 @@
 -- Tests and their conjunctions, as the laws of the check use them.
 use mathlib.Core.Path.{_≡_, refl, sym, ap, _∙_}
-use mathlib.Core.Bool.{Bool, true, false, _&&_, true≢false, and-assoc}
+use mathlib.Core.Bool.{Bool, true, false, _&&_, and-assoc}
 use mathlib.Core.List.{List, [], _∷_, _++_}
 use Rattle.spec.specs.Bytes.{all, every}
-use Rattle.theory.specs.Lists.{every-true, true-every}
-
--- both of two tests pass
-pub both : (a b : Bool) → a && b ≡ true → (a ≡ true) × (b ≡ true)
-both true b h = (refl, h)
-both false b h = absurd (true≢false (sym h))
+use Rattle.theory.specs.Lists.{and-both, every-true, true-every}
 
 -- two tests that pass
 pub and : (a b : Bool) → a ≡ true → b ≡ true → a && b ≡ true
@@ -55,22 +50,22 @@ regroup-ten a b c l h₁ h₂ x o₁ o₂ s d f =
     forth : every (a ∷ b ∷ c ∷ l ∷ (h₁ && h₂) ∷ x ∷ (o₁ && o₂) ∷ s ∷ d ∷ f ∷ []) ≡ true → a && b && (c && (l && f && d)) && (h₁ && x && o₁ && (h₂ && o₂ && s)) ≡ true
     forth p =
         let q = every-true (a ∷ b ∷ c ∷ l ∷ (h₁ && h₂) ∷ x ∷ (o₁ && o₂) ∷ s ∷ d ∷ f ∷ []) p in
-        let h = both h₁ h₂ (q .1 .1 .1 .1 .0) in
-        let o = both o₁ o₂ (q .1 .1 .1 .1 .1 .1 .0) in
+        let h = and-both h₁ h₂ (q .1 .1 .1 .1 .0) in
+        let o = and-both o₁ o₂ (q .1 .1 .1 .1 .1 .1 .0) in
         rw (q .0, q .1 .0, q .1 .1 .0, q .1 .1 .1 .0, h .0, h .1, q .1 .1 .1 .1 .1 .0, o .0, o .1, q .1 .1 .1 .1 .1 .1 .1 .0, q .1 .1 .1 .1 .1 .1 .1 .1 .0, q .1 .1 .1 .1 .1 .1 .1 .1 .1 .0)
 
     back : a && b && (c && (l && f && d)) && (h₁ && x && o₁ && (h₂ && o₂ && s)) ≡ true → every (a ∷ b ∷ c ∷ l ∷ (h₁ && h₂) ∷ x ∷ (o₁ && o₂) ∷ s ∷ d ∷ f ∷ []) ≡ true
     back p =
-        let u = both (a && b && (c && (l && f && d))) (h₁ && x && o₁ && (h₂ && o₂ && s)) p in
-        let v = both (a && b) (c && (l && f && d)) (u .0) in
-        let ab = both a b (v .0) in
-        let cl = both c (l && f && d) (v .1) in
-        let lf = both (l && f) d (cl .1) in
-        let l′ = both l f (lf .0) in
-        let w = both (h₁ && x && o₁) (h₂ && o₂ && s) (u .1) in
-        let hx = both (h₁ && x) o₁ (w .0) in
-        let h′ = both h₁ x (hx .0) in
-        let ho = both (h₂ && o₂) s (w .1) in
-        let o′ = both h₂ o₂ (ho .0) in
+        let u = and-both (a && b && (c && (l && f && d))) (h₁ && x && o₁ && (h₂ && o₂ && s)) p in
+        let v = and-both (a && b) (c && (l && f && d)) (u .0) in
+        let ab = and-both a b (v .0) in
+        let cl = and-both c (l && f && d) (v .1) in
+        let lf = and-both (l && f) d (cl .1) in
+        let l′ = and-both l f (lf .0) in
+        let w = and-both (h₁ && x && o₁) (h₂ && o₂ && s) (u .1) in
+        let hx = and-both (h₁ && x) o₁ (w .0) in
+        let h′ = and-both h₁ x (hx .0) in
+        let ho = and-both (h₂ && o₂) s (w .1) in
+        let o′ = and-both h₂ o₂ (ho .0) in
         true-every (a ∷ b ∷ c ∷ l ∷ (h₁ && h₂) ∷ x ∷ (o₁ && o₂) ∷ s ∷ d ∷ f ∷ [])
         (ab .0, (ab .1, (cl .0, (l′ .0, (and h₁ h₂ (h′ .0) (o′ .0), (h′ .1, (and o₁ o₂ (hx .1) (o′ .1), (ho .1, (lf .1, (l′ .1, tt))))))))))

@@ -11,81 +11,38 @@ use lib.Bits.{bitAnd, bitOr, or-lt, and-le-l, and-le-r, or-zero-r}
 use Rattle.bits_laws.specs.Bits.{bit-at, word}
 use Rattle.bits_laws.specs.ValueLaws.{Small, word-bit, word-lt}
 use Rattle.spec.specs.Bytes.{Bytes}
+use Rattle.check_trie_laws.specs.Ranges.{all-from, from-parts, from-ext, from-shift}
 use Rattle.check_trie_laws.specs.Positions.{is-set}
 use Rattle.check_trie_laws.specs.EntryPositions.{entry-valid, entries-from, entries-last, entries-more}
-use Rattle.check_trie_laws.specs.MaskLaws.{digit, digit-is, digit-half, digit-even, digit-and, digit-or, digit-not, digit-shl, digit-below, digit-behind, mask, mask-lt, digit-mask, each, each-ext, zero-digits}
+use Rattle.check_trie_laws.specs.MaskLaws.{digit, digit-is, digit-half, digit-even, digit-and, digit-or, digit-not, digit-shl, digit-below, digit-behind, mask, mask-lt, digit-mask, zero-digits}
 
 -- ---- entries that are not in the root
 
 -- what is asked of entry j, which has another behind it
-abbrev pub inner-valid : Bytes → Bytes → Bytes → ℕ → Bool
-inner-valid sl sc sb j = entry-valid sl sc false (is-set sb j) j (is-set sb (suc j))
+abbrev pub later-entry-valid : Bytes → Bytes → Bytes → ℕ → Bool
+later-entry-valid sl sc sb j = entry-valid sl sc false (is-set sb j) j (is-set sb (suc j))
 
--- what is asked of k entries from j on
-unfoldable pub run-valid : Bytes → Bytes → Bytes → ℕ → ℕ → Bool
-run-valid sl sc sb j zero = true
-run-valid sl sc sb j (suc k) = inner-valid sl sc sb j && run-valid sl sc sb (suc j) k
+-- what is asked of k such entries from j on
+abbrev pub range-valid : Bytes → Bytes → Bytes → ℕ → ℕ → Bool
+range-valid sl sc sb j k = all-from (later-entry-valid sl sc sb) j k
 
 -- what is asked of the last entry, number j
 abbrev pub end-valid : Bytes → Bytes → ℕ → Bool
 end-valid sc sb j = not (is-set sb j) || is-set sc j
 
-module _ (sl sc sb : Bytes) where
-  -- none
-  pub run-none : (j : ℕ) → run-valid sl sc sb j 0 ≡ true
-  unfolding run-valid
-  run-none j = refl
+-- the entries from j on are k with another behind them, and the last
+range-last : (sl sc sb : Bytes) (k j : ℕ) → entries-from sl sc sb false (is-set sb j) j k ≡ range-valid sl sc sb j k && end-valid sc sb (j + k)
+unfolding all-from
+range-last sl sc sb zero j = let f : j + zero ≡ j = omega arith in rw f (entries-last sl sc sb false (is-set sb j) j ∙ or-false (end-valid sc sb j))
+range-last sl sc sb (suc k) j =
+    let f : suc j + k ≡ j + suc k = omega arith in
+    entries-more sl sc sb false (is-set sb j) j k
+    ∙ ap (λ (t : Bool). later-entry-valid sl sc sb j && t) (range-last sl sc sb k (suc j) ∙ ap (λ (i : ℕ). range-valid sl sc sb (suc j) k && end-valid sc sb i) f)
+    ∙ sym (and-assoc (later-entry-valid sl sc sb j) (range-valid sl sc sb (suc j) k) (end-valid sc sb (j + suc k)))
 
-  -- one more
-  run-more : (j k : ℕ) → run-valid sl sc sb j (suc k) ≡ inner-valid sl sc sb j && run-valid sl sc sb (suc j) k
-  unfolding run-valid
-  run-more j k = refl
-
-  -- in two parts
-  run-parts : (k j m : ℕ) → run-valid sl sc sb j (k + m) ≡ run-valid sl sc sb j k && run-valid sl sc sb (j + k) m
-  unfolding run-valid
-  run-parts zero j m = let e : zero + m ≡ m = omega arith in let f : j + zero ≡ j = omega arith in rw (e, f)
-  run-parts (suc k) j m =
-      let e : suc k + m ≡ suc (k + m) = omega arith in
-      let f : suc j + k ≡ j + suc k = omega arith in
-      ap (run-valid sl sc sb j) e ∙ ap (λ (t : Bool). inner-valid sl sc sb j && t) (run-parts k (suc j) m ∙ ap (λ (i : ℕ). run-valid sl sc sb (suc j) k && run-valid sl sc sb i m) f)
-      ∙ sym (and-assoc (inner-valid sl sc sb j) (run-valid sl sc sb (suc j) k) (run-valid sl sc sb (j + suc k) m))
-
-  -- the entries from j on are k with another behind them, and the last
-  run-last : (k j : ℕ) → entries-from sl sc sb false (is-set sb j) j k ≡ run-valid sl sc sb j k && end-valid sc sb (j + k)
-  unfolding run-valid
-  run-last zero j = let f : j + zero ≡ j = omega arith in rw f (entries-last sl sc sb false (is-set sb j) j ∙ or-false (end-valid sc sb j))
-  run-last (suc k) j =
-      let f : suc j + k ≡ j + suc k = omega arith in
-      entries-more sl sc sb false (is-set sb j) j k
-      ∙ ap (λ (t : Bool). inner-valid sl sc sb j && t) (run-last k (suc j) ∙ ap (λ (i : ℕ). run-valid sl sc sb (suc j) k && end-valid sc sb i) f)
-      ∙ sym (and-assoc (inner-valid sl sc sb j) (run-valid sl sc sb (suc j) k) (end-valid sc sb (j + suc k)))
-
-  -- by the number of the entry in the run
-  run-each : (k j : ℕ) → run-valid sl sc sb j k ≡ each (λ i. inner-valid sl sc sb (j + i)) k
-  unfolding run-valid each
-  run-each zero j = refl
-  run-each (suc k) j =
-      let f : j + zero ≡ j = omega arith in
-      ap₂ _&&_ (ap (inner-valid sl sc sb) (sym f))
-      (run-each k (suc j) ∙ each-ext (λ i. inner-valid sl sc sb (suc j + i)) (λ i. inner-valid sl sc sb (j + suc i)) k (λ i h. let g : suc j + i ≡ j + suc i = omega arith in ap (inner-valid sl sc sb) g))
-
--- one turn: what was judged of entry j, before the entry `to`
-module _ (sl sc sb : Bytes) (j to b d : ℕ) (valid : Bool) (h : j < to) (p : b ≡ bit-at sb j) (q : d ≡ bit-at sb (j + 1)) (r : valid ≡ entry-valid sl sc false (eqb b 1) j (eqb d 1)) where
-  turn : run-valid sl sc sb j (to - j) ≡ valid && run-valid sl sc sb (j + 1) (to - (j + 1))
-  turn =
-      let e : to - j ≡ suc (to - (j + 1)) = omega arith in
-      let f : j + 1 ≡ suc j = omega arith in
-      ap (run-valid sl sc sb j) e ∙ run-more sl sc sb j (to - (j + 1))
-      ∙ ap₂ _&&_ (sym (r ∙ ap₂ (λ (x y : ℕ). entry-valid sl sc false (eqb x 1) j (eqb y 1)) p (q ∙ ap (bit-at sb) f))) (ap (λ (k : ℕ). run-valid sl sc sb k (to - (j + 1))) (sym f))
-
-  -- it is not right
-  pub run-wrong : valid ≡ false → run-valid sl sc sb j (to - j) ≡ false
-  run-wrong w = turn ∙ ap (λ (t : Bool). t && run-valid sl sc sb (j + 1) (to - (j + 1))) w
-
-  -- it is right, and those behind it are to be judged
-  pub run-next : valid ≡ true → run-valid sl sc sb j (to - j) ≡ run-valid sl sc sb (j + 1) (to - (j + 1))
-  run-next w = turn ∙ ap (λ (t : Bool). t && run-valid sl sc sb (j + 1) (to - (j + 1))) w
+-- what was judged of entry j by its bits
+pub entry-judged : (sl sc sb : Bytes) (j : ℕ) {b d : ℕ} {valid : Bool} → b ≡ bit-at sb j → d ≡ bit-at sb (j + 1) → valid ≡ entry-valid sl sc false (eqb b 1) j (eqb d 1) → later-entry-valid sl sc sb j ≡ valid
+entry-judged sl sc sb j p q r = let f : j + 1 ≡ suc j = omega arith in sym (r ∙ ap₂ (λ (x y : ℕ). entry-valid sl sc false (eqb x 1) j (eqb y 1)) p (q ∙ ap (bit-at sb) f))
 
 -- ---- a word of them
 
@@ -192,15 +149,18 @@ module _ (sl sc sb : Bytes) (small-l : Small sl) (small-c : Small sc) (small-b :
   no-full : (i : ℕ) → ascends sl (64 * q) i ≡ true → full sl (64 * q) i ≡ false
   no-full i h = ne-eqb (getD sl (64 * q + i) 0) 255 (λ e. absurd (omega (arith, ltb-true (getD sl (64 * q + i) 0) (getD sl (suc (64 * q + i)) 0) h, small-l (suc (64 * q + i)))))
 
-  -- they are right where the number of those that are wrong has no digit
-  word-valid : eqb (wrong starts behind goes-on (mask (ascends sl (64 * q)) 64) (mask (full sl (64 * q)) 64)) 0 ≡ run-valid sl sc sb (64 * q) 64
+  -- they are valid where the number of those that are not has no digit
+  word-valid : eqb (wrong starts behind goes-on (mask (ascends sl (64 * q)) 64) (mask (full sl (64 * q)) 64)) 0 ≡ range-valid sl sc sb (64 * q) 64
   word-valid =
       zero-digits 64 (wrong starts behind goes-on a m)
       (or-lt 64 (sole-ends starts behind goes-on) (bitAnd (descents behind a) (no-mark starts goes-on m)) (lt-of-le-of-lt (and-le-r (bitAnd starts behind) (complement goes-on)) (omega arith))
       (lt-of-le-of-lt (and-le-l (descents behind a) (no-mark starts goes-on m)) (lt-of-le-of-lt (and-le-l (complement behind) (complement a)) (omega arith))))
-      ∙ each-ext (λ i. not (digit (wrong starts behind goes-on a m) i)) (λ i. inner-valid sl sc sb (64 * q + i)) 64 each-one
-      ∙ sym (run-each sl sc sb 64 (64 * q))
+      ∙ from-ext (λ i. not (digit (wrong starts behind goes-on a m) i)) (λ i. later-entry-valid sl sc sb (64 * q + i)) 0 64 (λ i h l. each-one i (omega arith))
+      ∙ sym (from-shift (later-entry-valid sl sc sb) (64 * q) 0 64) ∙ ap (λ (k : ℕ). range-valid sl sc sb k 64) start
     where
+      start : 64 * q + 0 ≡ 64 * q
+      start = omega arith
+
       a : ℕ
       a = mask (ascends sl (64 * q)) 64
 
@@ -210,7 +170,7 @@ module _ (sl sc sb : Bytes) (small-l : Small sl) (small-c : Small sc) (small-b :
       few : behind < 2 ^ 64
       few = or-lt 64 (starts / 2) (word sb ((q + 1) * 8) % 2 * 2 ^ 63) (omega (arith, word-lt sb (q * 8))) (omega arith)
 
-      each-one : (i : ℕ) → i < 64 → not (digit (wrong starts behind goes-on a m) i) ≡ inner-valid sl sc sb (64 * q + i)
+      each-one : (i : ℕ) → i < 64 → not (digit (wrong starts behind goes-on a m) i) ≡ later-entry-valid sl sc sb (64 * q + i)
       each-one i l =
           ap not (digit-wrong starts behind goes-on a m i l (word-lt sb (q * 8)) few (word-lt sc (q * 8)) (mask-lt (ascends sl (64 * q)) 64) (mask-lt (full sl (64 * q)) 64) _ _ _ _ _
           (word-digit sb small-b q i l) (behind-digit i l) (word-digit sc small-c q i l) (digit-mask (ascends sl (64 * q)) 64 i l) (digit-mask (full sl (64 * q)) 64 i l))
@@ -219,58 +179,58 @@ module _ (sl sc sb : Bytes) (small-l : Small sl) (small-c : Small sc) (small-b :
   -- as the machine judges them: from the two words of S-LOUDS bits and the word of bits that tell which entries continue
   module _ (x n y c : ℕ) (ex : x ≡ starts) (en : n ≡ word sb ((q + 1) * 8)) (ey : y ≡ next-bits x n) (ec : c ≡ goes-on) where
     -- by all masks
-    pub word-judged : (a m : ℕ) → a ≡ mask (ascends sl (64 * q)) 64 → m ≡ mask (full sl (64 * q)) 64 → eqb (wrong x y c a m) 0 ≡ run-valid sl sc sb (64 * q) 64
+    pub word-judged : (a m : ℕ) → a ≡ mask (ascends sl (64 * q)) 64 → m ≡ mask (full sl (64 * q)) 64 → eqb (wrong x y c a m) 0 ≡ range-valid sl sc sb (64 * q) 64
     word-judged a m ea em =
         let e : y ≡ behind = ey ∙ ap₂ next-bits ex en in
         ap (λ (k : ℕ). eqb (wrong k y c a m) 0) ex ∙ ap₂ (λ (j k : ℕ). eqb (wrong starts j k a m) 0) e ec ∙ ap₂ (λ (j k : ℕ). eqb (wrong starts behind goes-on j k) 0) ea em ∙ word-valid
 
     -- no label descends in a node: all that is left is that no sole entry ends
-    pub word-ascends : (a : ℕ) → a ≡ mask (ascends sl (64 * q)) 64 → descents y a ≡ 0 → eqb (sole-ends x y c) 0 ≡ run-valid sl sc sb (64 * q) 64
+    pub word-ascends : (a : ℕ) → a ≡ mask (ascends sl (64 * q)) 64 → descents y a ≡ 0 → eqb (sole-ends x y c) 0 ≡ range-valid sl sc sb (64 * q) 64
     word-ascends a ea e =
         let m : ℕ = mask (full sl (64 * q)) 64 in
         ap (λ (k : ℕ). eqb k 0) (sym (ap (λ (k : ℕ). bitOr (sole-ends x y c) (bitAnd k (no-mark x c m))) e ∙ or-zero-r (sole-ends x y c))) ∙ word-judged a m ea refl
 
     -- so too where each entry is the last of its node
-    pub word-lasts : complement y ≡ 0 → eqb (sole-ends x y c) 0 ≡ run-valid sl sc sb (64 * q) 64
+    pub word-lasts : complement y ≡ 0 → eqb (sole-ends x y c) 0 ≡ range-valid sl sc sb (64 * q) 64
     word-lasts e = let a : ℕ = mask (ascends sl (64 * q)) 64 in word-ascends a refl (ap (λ (k : ℕ). bitAnd k (complement a)) e)
 
--- one turn: what was judged of word q, before the word `to`
-module _ (sl sc sb : Bytes) (q to : ℕ) (valid : Bool) (h : q < to) (r : valid ≡ run-valid sl sc sb (64 * q) 64) where
-  word-turn : run-valid sl sc sb (64 * q) (64 * (to - q)) ≡ valid && run-valid sl sc sb (64 * (q + 1)) (64 * (to - (q + 1)))
-  word-turn =
+-- what was judged of word q, before the word `to`
+module _ (sl sc sb : Bytes) (q to : ℕ) (valid : Bool) (h : q < to) (r : valid ≡ range-valid sl sc sb (64 * q) 64) where
+  word-step : range-valid sl sc sb (64 * q) (64 * (to - q)) ≡ valid && range-valid sl sc sb (64 * (q + 1)) (64 * (to - (q + 1)))
+  word-step =
       let e : 64 * (to - q) ≡ 64 + 64 * (to - (q + 1)) = omega arith in
       let f : 64 * q + 64 ≡ 64 * (q + 1) = omega arith in
-      ap (run-valid sl sc sb (64 * q)) e ∙ run-parts sl sc sb 64 (64 * q) (64 * (to - (q + 1))) ∙ ap₂ _&&_ (sym r) (ap (λ (k : ℕ). run-valid sl sc sb k (64 * (to - (q + 1)))) f)
+      ap (range-valid sl sc sb (64 * q)) e ∙ from-parts (later-entry-valid sl sc sb) 64 (64 * q) (64 * (to - (q + 1))) ∙ ap₂ _&&_ (sym r) (ap (λ (k : ℕ). range-valid sl sc sb k (64 * (to - (q + 1)))) f)
 
-  -- it is not right
-  pub word-wrong : valid ≡ false → run-valid sl sc sb (64 * q) (64 * (to - q)) ≡ false
-  word-wrong w = word-turn ∙ ap (λ (t : Bool). t && run-valid sl sc sb (64 * (q + 1)) (64 * (to - (q + 1)))) w
+  -- it is not valid
+  pub word-fails : valid ≡ false → range-valid sl sc sb (64 * q) (64 * (to - q)) ≡ false
+  word-fails w = word-step ∙ ap (λ (t : Bool). t && range-valid sl sc sb (64 * (q + 1)) (64 * (to - (q + 1)))) w
 
-  -- it is right, and those behind it are to be judged
-  pub word-next : valid ≡ true → run-valid sl sc sb (64 * q) (64 * (to - q)) ≡ run-valid sl sc sb (64 * (q + 1)) (64 * (to - (q + 1)))
-  word-next w = word-turn ∙ ap (λ (t : Bool). t && run-valid sl sc sb (64 * (q + 1)) (64 * (to - (q + 1)))) w
+  -- it is valid, and those behind it are to be judged
+  pub word-passes : valid ≡ true → range-valid sl sc sb (64 * q) (64 * (to - q)) ≡ range-valid sl sc sb (64 * (q + 1)) (64 * (to - (q + 1)))
+  word-passes w = word-step ∙ ap (λ (t : Bool). t && range-valid sl sc sb (64 * (q + 1)) (64 * (to - (q + 1)))) w
 
 -- ---- all of them
 
 module _ (sl sc sb : Bytes) (last : ℕ) (end : Bool) (h : 0 < last) (e : end ≡ end-valid sc sb last) where
-  later : entries-from sl sc sb false (is-set sb 1) 1 (last - 1) ≡ run-valid sl sc sb 1 (last - 1) && end
+  later : entries-from sl sc sb false (is-set sb 1) 1 (last - 1) ≡ range-valid sl sc sb 1 (last - 1) && end
   later =
       let f : 1 + (last - 1) ≡ last = omega arith in
-      run-last sl sc sb (last - 1) 1 ∙ ap (λ (b : Bool). run-valid sl sc sb 1 (last - 1) && b) (ap (end-valid sc sb) f ∙ sym e)
+      range-last sl sc sb (last - 1) 1 ∙ ap (λ (b : Bool). range-valid sl sc sb 1 (last - 1) && b) (ap (end-valid sc sb) f ∙ sym e)
 
   -- the entries from 1 on, where there is no whole word behind the first
-  pub later-few : (run : Bool) → run ≡ run-valid sl sc sb 1 (last - 1) → run && end ≡ entries-from sl sc sb false (is-set sb 1) 1 (last - 1)
-  later-few run r = sym (later ∙ ap (λ (b : Bool). b && end) (sym r))
+  pub later-few : (range : Bool) → range ≡ range-valid sl sc sb 1 (last - 1) → range && end ≡ entries-from sl sc sb false (is-set sb 1) 1 (last - 1)
+  later-few range r = sym (later ∙ ap (λ (b : Bool). b && end) (sym r))
 
   -- with whole words: the rest of the first word, the words behind it, and the rest
-  pub later-words : (words : ℕ) (first middle rest : Bool) → 0 < words → 64 * words ≤ last → first ≡ run-valid sl sc sb 1 (64 - 1) → middle ≡ run-valid sl sc sb (64 * 1) (64 * (words - 1))
-      → rest ≡ run-valid sl sc sb (64 * words) (last - 64 * words) → first && middle && rest && end ≡ entries-from sl sc sb false (is-set sb 1) 1 (last - 1)
+  pub later-words : (words : ℕ) (first middle rest : Bool) → 0 < words → 64 * words ≤ last → first ≡ range-valid sl sc sb 1 (64 - 1) → middle ≡ range-valid sl sc sb (64 * 1) (64 * (words - 1))
+      → rest ≡ range-valid sl sc sb (64 * words) (last - 64 * words) → first && middle && rest && end ≡ entries-from sl sc sb false (is-set sb 1) 1 (last - 1)
   later-words words first middle rest g l p q r =
       let m : last - 1 ≡ 63 + (64 * (words - 1) + (last - 64 * words)) = omega arith in
       let n : 64 + 64 * (words - 1) ≡ 64 * words = omega arith in
       sym (later ∙ ap (λ (b : Bool). b && end)
-      (ap (run-valid sl sc sb 1) m ∙ run-parts sl sc sb 63 1 (64 * (words - 1) + (last - 64 * words))
-      ∙ ap₂ _&&_ (sym p) (run-parts sl sc sb (64 * (words - 1)) 64 (last - 64 * words) ∙ ap₂ _&&_ (sym q) (ap (λ (k : ℕ). run-valid sl sc sb k (last - 64 * words)) n ∙ sym r))
+      (ap (range-valid sl sc sb 1) m ∙ from-parts (later-entry-valid sl sc sb) 63 1 (64 * (words - 1) + (last - 64 * words))
+      ∙ ap₂ _&&_ (sym p) (from-parts (later-entry-valid sl sc sb) (64 * (words - 1)) 64 (last - 64 * words) ∙ ap₂ _&&_ (sym q) (ap (λ (k : ℕ). range-valid sl sc sb k (last - 64 * words)) n ∙ sym r))
       ∙ sym (and-assoc first middle rest)))
 
 -- the first of several entries, and those from 1 on

@@ -1,4 +1,4 @@
-// Marks and body lengths of records, the header, and cleared bytes.
+// The header read and written, the beginning of a record, and cleared bytes.
 ghost use mathlib.Core.Path.{_≡_};
 ghost use mathlib.Core.List.{_++_};
 ghost use Prim.Native.Nat.{_+_, _≤_, _<_};
@@ -6,9 +6,23 @@ ghost use lib.ListN.{length, drop, replicate};
 ghost use Rattle.spec.specs.Bytes.{le32};
 ghost use Rattle.spec.specs.Image.{header};
 ghost use Rattle.bits_laws.specs.Bits.{placed};
-ghost use Rattle.image_types.specs.Header.{mark-bytes, settings, first-bytes};
+ghost use Rattle.image_types.specs.Header.{settings-of, counts-of, Short-fields, Reads-header, mark-bytes, first-bytes};
+use bits::numbers::read32;
+use bits::numbers::wide;
 use bits::numbers::write32;
-use image_types::Counts;
+use image_types::Dense;
+use image_types::Header;
+use image_types::Sparse;
+
+// The version of the format, which the header says.
+pub const VERSION: u8 = 1;
+
+// The most dense levels, bits of a suffix and leaves of an image.
+pub const MOST_LEVELS: usize = 4;
+
+pub const MOST_BITS: usize = 16;
+
+pub const MOST_LEAVES: usize = 65535;
 
 // The mark's two bytes go to out from at, and all else stays.
 fn write_mark(out: &mut [u8], at: usize, mark: &[u8; 2])
@@ -28,28 +42,47 @@ pub fn begin_record(out: &mut [u8], at: usize, mark: &[u8; 2], len: usize)
     write32(out, at + 2, len);
 }
 
-// The header's first six bytes: its mark, version 1, the settings and a zero byte.
+// The header's first six bytes: its mark, the version, the settings and a zero byte.
 fn write_settings(out: &mut [u8], dense: u8, n: u8)
     requires { ⌜ 6 ≤ length (now out) ⌝ }
     ensures { λ _. ⌜ now (out .exit) ≡ placed (now (out .entry)) 0 (first-bytes dense n) ⌝ }
 {
     write_mark(out, 0, b"HD");
-    out[2] = 1;
+    out[2] = VERSION;
     out[3] = dense;
     out[4] = n;
     out[5] = 0;
 }
 
 // The header.
-pub fn write_header(out: &mut [u8], dense: u8, n: u8, c: Counts)
-    requires { ⌜ 22 ≤ length (now out) ⌝ }
-    ensures { λ _. ⌜ now (out .exit) ≡ placed (now (out .entry)) 0 (header (settings dense n) (c .leaves) (c .dense) (c .entries) (c .sparse)) ⌝ }
+pub fn write_header(out: &mut [u8], h: Header)
+    requires { ⌜ Short-fields h × (22 ≤ length (now out)) ⌝ }
+    ensures { λ _. ⌜ now (out .exit) ≡ placed (now (out .entry)) 0 (header (settings-of h) (counts-of h)) ⌝ }
 {
-    write_settings(out, dense, n);
-    write32(out, 6, c.leaves);
-    write32(out, 10, c.dense);
-    write32(out, 14, c.entries);
-    write32(out, 18, c.sparse);
+    write_settings(out, h.dense.levels as u8, h.width as u8);
+    write32(out, 6, h.leaves);
+    write32(out, 10, h.dense.nodes);
+    write32(out, 14, h.sparse.entries);
+    write32(out, 18, h.sparse.nodes);
+}
+
+// What the first 22 bytes say as a header.
+pub fn read_header(image: &[u8]) -> Header
+    requires { ⌜ 22 ≤ length (now image) ⌝ }
+    ensures { λ r. ⌜ Reads-header (now (image .entry)) r ⌝ }
+{
+    Header {
+        width: wide(image[4]),
+        leaves: read32(image, 6),
+        dense: Dense {
+            levels: wide(image[3]),
+            nodes: read32(image, 10),
+        },
+        sparse: Sparse {
+            nodes: read32(image, 18),
+            entries: read32(image, 14),
+        },
+    }
 }
 
 // The first m bytes become zero, and all else stays.

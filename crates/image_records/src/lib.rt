@@ -1,3 +1,4 @@
-// The parts of an image that are not filled from the key list: marks and lengths of records, and the header.
+// The records of an image: the table of their marks and body lengths, which the builder and the check both go by, and the header before them.
 
-pub mod header; // header.rt: marks, lengths, the header, and cleared bytes
+pub mod table; // table.rt: marks, body lengths and starts of the records
+pub mod header; // header.rt: the header read and written, the beginning of a record, and cleared bytes

@@ -1,16 +1,25 @@
--- What is known of a frame that was read, for every reader of an accepted image: the settings and counts, the offset of each body, and that document 01's
--- reading of the image has just these bodies and parts.
-use Prim.Native.Nat.{ℕ, _+_, _*_, _≤_, _<_}
-use mathlib.Core.Path.{_≡_, refl, sym}
-use mathlib.Core.Bool.{Bool, true, false, true≢false}
+-- What is known of a frame that was read, for every reader of an image: the settings and counts, the offset of each body, and that document 01's
+-- reading of the image has just these bodies and parts. That each body lies within the image is one law, `within`.
+use Prim.Native.Nat.{_+_, _*_, _≤_, _<_}
+use mathlib.Core.Path.{_≡_}
+use mathlib.Core.Bool.{true}
 use mathlib.Core.List.{List, [], _∷_}
-use mathlib.Core.Option.{Option, none, some}
+use mathlib.Core.Option.{some}
+use native.Mathlib.Omega.{arith}
+use native.Mathlib.Nat.{mul-le-mul}
 use lib.ListN.{length, take, drop}
 use Rattle.spec.specs.Bytes.{Bytes, blocks, unpack}
-use Rattle.spec.specs.Frame.{marks, has-header, read-bodies, Parts, parts}
-use Rattle.spec.specs.Check.{header-valid, judge-bodies, verdict}
+use Rattle.spec.specs.Image.{rows, Bodies}
+use Rattle.spec.specs.Frame.{has-header, read-bodies, named, Parts, parts}
+use Rattle.spec.specs.Check.{header-valid}
 use Rattle.bits_laws.specs.Bits.{part, rank}
+use Rattle.image_types.specs.Header.{settings-of, counts-of}
+use Rattle.image_types.specs.declared.Header.{Header}
 use Rattle.image_types.specs.declared.Frame.{Frame}
+
+-- what a frame's header says
+abbrev pub header-of : Frame → Header
+header-of f = record { width = f .width; leaves = f .leaves; dense = f .dense; sparse = f .sparse }
 
 -- the bodies at a frame's offsets, of the lengths that its counts give
 abbrev pub frame-bodies : Bytes → Frame → List Bytes
@@ -29,15 +38,15 @@ frame-bodies s f =
     ∷ part s (f .ts) (4 * blocks 64 (f .sparse .nodes))
     ∷ []
 
+-- the same under their marks
+abbrev pub frame-named : Bytes → Frame → Bodies
+frame-named s f = named (frame-bodies s f)
+
 -- the settings, the counts and the bits and labels at a frame's offsets
 abbrev pub frame-parts : Bytes → Frame → Parts
 frame-parts s f = record {
-  dense = f .dense .levels;
-  width = f .width;
-  leaves = f .leaves;
-  dense-count = f .dense .nodes;
-  entry-count = f .sparse .entries;
-  sparse-count = f .sparse .nodes;
+  settings = settings-of (header-of f);
+  counts = counts-of (header-of f);
   dl = take (256 * f .dense .nodes) (unpack (part s (f .dl) (32 * f .dense .nodes)));
   dc = take (256 * f .dense .nodes) (unpack (part s (f .dc) (32 * f .dense .nodes)));
   dp = take (f .dense .nodes) (unpack (part s (f .dp) (blocks 8 (f .dense .nodes))));
@@ -47,19 +56,8 @@ frame-parts s f = record {
   sv = take (f .leaves * f .width) (unpack (part s (f .sv) (blocks 8 (f .leaves * f .width))));
 }
 
--- a frame of an image: each body stands at its offset with the length that the counts give, the last one up to the end, neither 11 nor 12 applies,
--- and the totals are the ones of DC, and those of DL and DP
-pub record FrameOf (s : Bytes) (f : Frame) : Type 0 where
-  pub header : has-header s ≡ true
-  pub bodies : read-bodies marks (drop 22 s) ≡ some (frame-bodies s f)
-  pub parts-are : parts s (frame-bodies s f) ≡ frame-parts s f
-  pub valid : header-valid s (parts s (frame-bodies s f)) (frame-bodies s f) ≡ true
-  pub levels : f .dense .levels ≤ 4
-  pub width : f .width ≤ 16
-  pub leaves : f .leaves ≤ 65535
-  pub dense : f .dense .nodes < 4294967296
-  pub entries : f .sparse .entries < 4294967296
-  pub sparse : f .sparse .nodes < 4294967296
+-- each body starts behind the one before it and the six bytes of its record
+pub record Chained (f : Frame) : Type 0 where
   pub dl : f .dl ≡ 28
   pub dc : f .dc ≡ f .dl + 32 * f .dense .nodes + 6
   pub dp : f .dp ≡ f .dc + 32 * f .dense .nodes + 6
@@ -72,36 +70,68 @@ pub record FrameOf (s : Bytes) (f : Frame) : Type 0 where
   pub rp : f .rp ≡ f .rc + 4 * blocks 64 (256 * f .dense .nodes) + 6
   pub rs : f .rs ≡ f .rp + 4 * blocks 64 (f .dense .nodes) + 6
   pub ts : f .ts ≡ f .rs + 4 * blocks 512 (f .sparse .entries) + 6
+
+-- a frame of an image: each body stands at its offset with the length that the counts give, the last one up to the end, neither 11 nor 12 applies,
+-- and the totals are the ones of DC, and those of DL and DP
+pub record FrameOf (s : Bytes) (f : Frame) : Type 0 where
+  pub header : has-header s ≡ true
+  pub bodies : read-bodies rows (drop 22 s) ≡ some (frame-bodies s f)
+  pub parts-are : parts s (frame-named s f) ≡ frame-parts s f
+  pub valid : header-valid s (parts s (frame-named s f)) (frame-bodies s f) ≡ true
+  pub levels : f .dense .levels ≤ 4
+  pub width : f .width ≤ 16
+  pub leaves : f .leaves ≤ 65535
+  pub dense : f .dense .nodes < 4294967296
+  pub entries : f .sparse .entries < 4294967296
+  pub sparse : f .sparse .nodes < 4294967296
+  pub chained : Chained f
   pub end : f .ts + 4 * blocks 64 (f .sparse .nodes) ≡ length s
-  pub children : f .dense .children ≡ rank (drop (f .dc) s) (256 * f .dense .nodes)
-  pub items : f .dense .entries ≡ rank (drop (f .dl) s) (256 * f .dense .nodes) + rank (drop (f .dp) s) (f .dense .nodes)
+  pub children : f .totals .children ≡ rank (drop (f .dc) s) (256 * f .dense .nodes)
+  pub dense-entries : f .totals .entries ≡ rank (drop (f .dl) s) (256 * f .dense .nodes) + rank (drop (f .dp) s) (f .dense .nodes)
 
--- ---- the verdict by stages
+-- each body lies within the image, and the slots have few bits
+pub record Within (s : Bytes) (f : Frame) : Type 0 where
+  pub dl : f .dl + 32 * f .dense .nodes ≤ length s
+  pub dc : f .dc + 32 * f .dense .nodes ≤ length s
+  pub dp : f .dp + blocks 8 (f .dense .nodes) ≤ length s
+  pub sl : f .sl + f .sparse .entries ≤ length s
+  pub sc : f .sc + blocks 8 (f .sparse .entries) ≤ length s
+  pub sb : f .sb + blocks 8 (f .sparse .entries) ≤ length s
+  pub sv : f .sv + blocks 8 (f .leaves * f .width) ≤ length s
+  pub rl : f .rl + 4 * blocks 64 (256 * f .dense .nodes) ≤ length s
+  pub rc : f .rc + 4 * blocks 64 (256 * f .dense .nodes) ≤ length s
+  pub rp : f .rp + 4 * blocks 64 (f .dense .nodes) ≤ length s
+  pub rs : f .rs + 4 * blocks 512 (f .sparse .entries) ≤ length s
+  pub ts : f .ts + 4 * blocks 64 (f .sparse .nodes) ≤ length s
+  pub slots : f .leaves * f .width ≤ 1048560
 
--- no header: 11
-pub no-header : (s : Bytes) → has-header s ≡ false → verdict s ≡ 11
-unfolding verdict
-no-header s h = rw (h, verdict)
-
--- a record missing, or bytes left over: 11
-pub no-bodies : (s : Bytes) → read-bodies marks (drop 22 s) ≡ none → verdict s ≡ 11
-unfolding verdict
-no-bodies s h = go (has-header s) (read-bodies marks (drop 22 s)) h
-  where
-    go : (t : Bool) (o : Option (List Bytes)) → o ≡ none → _≡_ {A = ℕ} (elim t [ false ↦ 11 | true ↦ elim o [ none ↦ 11 | some bs ↦ judge-bodies s bs ] ]) 11
-    go false o e = refl
-    go true o e = rw e
-
--- header and records stand: what is judged behind 11
-pub bodies-judged : (s : Bytes) (bs : List Bytes) → has-header s ≡ true → read-bodies marks (drop 22 s) ≡ some bs → verdict s ≡ judge-bodies s bs
-unfolding verdict
-bodies-judged s bs h e = go (has-header s) (read-bodies marks (drop 22 s)) h e
-  where
-    go : (t : Bool) (o : Option (List Bytes)) → t ≡ true → o ≡ some bs → _≡_ {A = ℕ} (elim t [ false ↦ 11 | true ↦ elim o [ none ↦ 11 | some bs ↦ judge-bodies s bs ] ]) (judge-bodies s bs)
-    go true o h e = rw e
-    go false o h e = absurd (true≢false (sym h))
-
--- the header or a length wrong: 12
-pub header-wrong : (s : Bytes) (bs : List Bytes) → header-valid s (parts s bs) bs ≡ false → judge-bodies s bs ≡ 12
-unfolding judge-bodies
-header-wrong s bs h = rw (h, judge-bodies)
+-- A frame of an image tells so of each body.
+pub within : (s : Bytes) (f : Frame) → FrameOf s f → Within s f
+within s f o =
+    let ts : f .ts + 4 * blocks 64 (f .sparse .nodes) ≤ length s = omega (arith, o .end) in
+    let rs : f .rs + 4 * blocks 512 (f .sparse .entries) ≤ length s = omega (arith, o .chained .ts) in
+    let rp : f .rp + 4 * blocks 64 (f .dense .nodes) ≤ length s = omega (arith, o .chained .rs) in
+    let rc : f .rc + 4 * blocks 64 (256 * f .dense .nodes) ≤ length s = omega (arith, o .chained .rp) in
+    let rl : f .rl + 4 * blocks 64 (256 * f .dense .nodes) ≤ length s = omega (arith, o .chained .rc) in
+    let sv : f .sv + blocks 8 (f .leaves * f .width) ≤ length s = omega (arith, o .chained .rl) in
+    let sb : f .sb + blocks 8 (f .sparse .entries) ≤ length s = omega (arith, o .chained .sv) in
+    let sc : f .sc + blocks 8 (f .sparse .entries) ≤ length s = omega (arith, o .chained .sb) in
+    let sl : f .sl + f .sparse .entries ≤ length s = omega (arith, o .chained .sc) in
+    let dp : f .dp + blocks 8 (f .dense .nodes) ≤ length s = omega (arith, o .chained .sl) in
+    let dc : f .dc + 32 * f .dense .nodes ≤ length s = omega (arith, o .chained .dp) in
+    let dl : f .dl + 32 * f .dense .nodes ≤ length s = omega (arith, o .chained .dc) in
+    record {
+      dl = dl;
+      dc = dc;
+      dp = dp;
+      sl = sl;
+      sc = sc;
+      sb = sb;
+      sv = sv;
+      rl = rl;
+      rc = rc;
+      rp = rp;
+      rs = rs;
+      ts = ts;
+      slots = mul-le-mul (o .leaves) (o .width);
+    }

@@ -1,17 +1,49 @@
--- Marks and settings as the header and the records have them.
-use Prim.Native.Nat.{ℕ}
+-- A header by value: the settings and counts of document 01 that it stands for, and a mark and settings as bytes.
+use Prim.Native.Nat.{ℕ, _*_, _≤_, _<_}
+use mathlib.Core.Path.{_≡_}
 use mathlib.Core.List.{[], _∷_}
+use native.Mathlib.Omega.{arith}
+use native.Mathlib.Nat.{mul-le-mul-left}
 use lib.ListN.{getD}
 use Rattle.spec.specs.Bytes.{Bytes, letter}
-use Rattle.spec.specs.Image.{Settings}
+use Rattle.spec.specs.Image.{Settings, Counts}
+use Rattle.spec.specs.Frame.{read-settings, read-counts}
+use Rattle.image_types.specs.declared.Header.{Header}
+
+-- dense levels and suffix width, as settings
+abbrev pub settings : ℕ → ℕ → Settings
+settings dense n = record { dense-levels = dense; width = n }
+
+-- the settings that a header says
+abbrev pub settings-of : Header → Settings
+settings-of h = settings (h .dense .levels) (h .width)
+
+-- the counts that a header says
+abbrev pub counts-of : Header → Counts
+counts-of h = record { leaves = h .leaves; dense-nodes = h .dense .nodes; sparse-entries = h .sparse .entries; sparse-nodes = h .sparse .nodes }
+
+-- the fields of a header fit the bytes that hold them: one byte for each setting, four for each count
+pub record Short-fields (h : Header) : Type 0 where
+  pub levels : h .dense .levels < 256
+  pub width : h .width < 256
+  pub leaves : h .leaves < 4294967296
+  pub dense-nodes : h .dense .nodes < 4294967296
+  pub sparse-entries : h .sparse .entries < 4294967296
+  pub sparse-nodes : h .sparse .nodes < 4294967296
+
+-- the bits of all slots
+pub slots-short : (h : Header) → Short-fields h → h .leaves * h .width < 1099511627776
+slots-short h f = let w : h .width ≤ 256 = omega (arith, f .width) in omega (arith, f .leaves, mul-le-mul-left (h .leaves) w)
+
+-- a header by value is what document 01 reads from the bytes
+pub record Reads-header (s : Bytes) (h : Header) : Type 0 where
+  pub settings : settings-of h ≡ read-settings s
+  pub counts : counts-of h ≡ read-counts s
+  pub short : Short-fields h
 
 -- the two bytes of a mark
 abbrev pub mark-bytes : Bytes → Bytes
 mark-bytes m = getD m 0 0 ∷ getD m 1 0 ∷ []
-
--- dense levels and suffix width
-abbrev pub settings : ℕ → ℕ → Settings
-settings dense n = record { dense = dense; width = n }
 
 -- the header's bytes before its counts
 abbrev pub first-bytes : ℕ → ℕ → Bytes

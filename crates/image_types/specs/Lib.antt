@@ -1,4 +1,5 @@
-pub mod FrameOf
 pub mod Header
+pub mod Outcomes
 pub mod Records
+pub mod FrameOf
 pub mod Value

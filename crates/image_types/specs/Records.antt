@@ -1,85 +1,108 @@
--- The records of an image by their offsets: where each ends, and that `read-bodies` of document 01 reads just these bodies. Used by the reader of the frame.
+-- The records of an image by their offsets: where each ends, that `read-bodies` of document 01 reads just these bodies, and where they stand if their lengths are those
+-- that the settings and the counts give. One induction over the table of records serves each law. Used by the reader of the frame and by the builder.
 use Prim.Native.Nat.{ℕ, suc, _+_, _-_, _<_, _≤_}
 use mathlib.Core.Path.{_≡_, refl, sym, ap, ap₂, _∙_}
-use mathlib.Core.Bool.{Bool, true, false, cond}
-use mathlib.Core.List.{List, [], _∷_, _++_}
+use mathlib.Core.Bool.{Bool, true, false, cond, _&&_, true≢false}
+use mathlib.Core.List.{List, [], _∷_, _++_, map, append-assoc}
 use mathlib.Core.Option.{Option, none, some}
 use mathlib.Core.Logic.{_⊎_, inl, inr, ⊎-elim}
 use native.Mathlib.Omega.{arith}
-use lib.ListN.{length, getD, take, drop, length-drop}
-use lib.Seq.{drop-drop, getD-drop, take-all}
+use lib.ListN.{length, getD, take, drop, set, length-drop, length-set, length-append}
+use lib.Seq.{take-all, take-suc-set, drop-cons, drop-drop, getD-drop, length-take-le}
 use lib.Dec.{leb, eqb}
 use borrow.Author.Tests.{leb-true, le-leb, lt-leb, eqb-true, eqb-false, eq-eqb, ne-eqb}
-use Rattle.spec.specs.Bytes.{Bytes, every, from32}
+use Rattle.spec.specs.Bytes.{Bytes, every, le32, from32}
+use Rattle.spec.specs.Image.{Settings, Counts, Row, rows, marked, write-records}
 use Rattle.spec.specs.Frame.{is-record, read-bodies}
+use Rattle.spec.specs.Check.{sized}
 use Rattle.bits_laws.specs.Bits.{part}
+
+-- ---- the table
+
+-- a row of no record, for numbers past the table
+abbrev no-row : Row
+no-row = record { first = 0; second = 0; size = λ st c. 0 }
+
+-- row number i, from 0
+unfoldable pub row-at : ℕ → Row
+unfolding rows
+row-at i = getD rows i no-row
+
+-- the two letters of its mark
+abbrev pub row-mark : ℕ → Bytes
+row-mark i = row-at i .first ∷ row-at i .second ∷ []
+
+-- twelve records
+pub twelve-rows : length rows ≡ 12
+unfolding rows
+twelve-rows = refl
+
+-- the rows from number i on: that one, and those behind it
+pub rows-from : (i : ℕ) → i < 12 → drop i rows ≡ row-at i ∷ drop (i + 1) rows
+unfolding row-at
+rows-from i h = let e : i + 1 ≡ suc i = omega arith in rw e (drop-cons rows i no-row (rw twelve-rows h))
+
+-- no row behind the last
+pub rows-end : drop 12 rows ≡ []
+unfolding rows
+rows-end = refl
+
+next-row : (i k : ℕ) → k ≤ i → (i ≡ k → ⊥) → suc k ≤ i
+next-row i k l n = omega arith
+
+none-below : (i : ℕ) → 0 ≤ i
+none-below i = omega arith
+
+eleventh : (i : ℕ) → 11 ≤ i → i < 12 → i ≡ 11
+eleventh i l h = omega arith
+
+-- the number of a row that is none of the first eleven
+pub last-row : (i : ℕ) → i < 12 → (((((((((((Unit {0} × (i ≡ 0 → ⊥)) × (i ≡ 1 → ⊥)) × (i ≡ 2 → ⊥)) × (i ≡ 3 → ⊥)) × (i ≡ 4 → ⊥)) × (i ≡ 5 → ⊥)) × (i ≡ 6 → ⊥)) × (i ≡ 7 → ⊥)) × (i ≡ 8 → ⊥)) × (i ≡ 9 → ⊥)) × (i ≡ 10 → ⊥)) → i ≡ 11
+last-row i h r = eleventh i (next-row i 10 (next-row i 9 (next-row i 8 (next-row i 7 (next-row i 6 (next-row i 5 (next-row i 4 (next-row i 3 (next-row i 2 (next-row i 1 (next-row i 0 (none-below i) (r .0 .0 .0 .0 .0 .0 .0 .0 .0 .0 .1)) (r .0 .0 .0 .0 .0 .0 .0 .0 .0 .1)) (r .0 .0 .0 .0 .0 .0 .0 .0 .1)) (r .0 .0 .0 .0 .0 .0 .0 .1)) (r .0 .0 .0 .0 .0 .0 .1)) (r .0 .0 .0 .0 .0 .1)) (r .0 .0 .0 .0 .1)) (r .0 .0 .0 .1)) (r .0 .0 .1)) (r .0 .1)) (r .1)) h
+
+-- ---- one record
 
 -- a part of s to its end
 pub tail-part : (s : Bytes) (at : ℕ) → take (length s - at) (drop at s) ≡ drop at s
 tail-part s at = take-all (length s - at) (drop at s) (omega (arith, length-drop at s))
 
+-- the length that the record at an offset says of its body
+abbrev pub body-length : Bytes → ℕ → ℕ
+body-length s at = from32 (drop (at + 2) s)
+
 -- where the record at an offset ends, by its length
 abbrev pub record-end : Bytes → ℕ → ℕ
-record-end s at = at + (from32 (drop 2 (drop at s)) + 6)
+record-end s at = at + 6 + body-length s at
 
--- an end before those behind it
-abbrev pub before : ℕ → Option (List ℕ) → Option (List ℕ)
-before e none = none
-before e (some es) = some (e ∷ es)
+-- the record of a row stands at an offset
+abbrev pub stands : Row → Bytes → ℕ → Bool
+stands r s at = is-record (r .first) (r .second) (drop at s)
 
--- where each of the records with these marks ends, the first one at an offset
-unfoldable pub ends : List ℕ → Bytes → ℕ → Option (List ℕ)
-unfolding is-record
-ends [] s at = some []
-ends (a ∷ []) s at = none
-ends (a ∷ b ∷ ms) s at = cond (is-record a b (drop at s)) (before (record-end s at) (ends ms s (record-end s at))) none
-
--- the last of some ends
-unfoldable pub last-end : ℕ → List ℕ → ℕ
-last-end at [] = at
-last-end at (e ∷ es) = last-end e es
-
--- the bodies of records with these ends
-unfoldable pub bodies : Bytes → ℕ → List ℕ → List Bytes
-bodies s at [] = []
-bodies s at (e ∷ es) = part s (at + 6) (e - (at + 6)) ∷ bodies s e es
-
--- records with these ends are the whole of what stands at an offset, where the last one ends with it
-unfoldable pub whole : Bytes → ℕ → Option (List ℕ) → Option (List Bytes)
-unfolding last-end bodies
-whole s at none = none
-whole s at (some es) = cond (eqb (last-end at es) (length s)) (some (bodies s at es)) none
-
--- a record at an offset ends within the bytes
-pub record-within : (a b : ℕ) (s : Bytes) (at : ℕ) → at ≤ length s → is-record a b (drop at s) ≡ true → record-end s at ≤ length s
-unfolding is-record every
-record-within a b s at h e = go (leb 6 (length (drop at s))) (leb (from32 (drop 2 (drop at s)) + 6) (length (drop at s))) refl e
-  where
-    go : (t u : Bool) → leb (from32 (drop 2 (drop at s)) + 6) (length (drop at s)) ≡ u → every (t ∷ u ∷ eqb (getD (drop at s) 0 0) a ∷ eqb (getD (drop at s) 1 0) b ∷ []) ≡ true → record-end s at ≤ length s
-    go true true f e = omega (arith, leb-true (from32 (drop 2 (drop at s)) + 6) (length (drop at s)) f, length-drop at s)
-    go true false f e = let z : _≡_ {A = ℕ} 0 1 = cc in absurd (omega arith)
-    go false u f e = let z : _≡_ {A = ℕ} 0 1 = cc in absurd (omega arith)
-
--- the tests of a record at an offset
-abbrev pub record-tests : ℕ → ℕ → Bytes → ℕ → List Bool
-record-tests a b s at =
+-- its tests by position
+abbrev record-tests : Row → Bytes → ℕ → List Bool
+record-tests r s at =
     leb 6 (length s - at)
-    ∷ leb (from32 (drop (at + 2) s) + 6) (length s - at)
-    ∷ eqb (getD s at 0) a
-    ∷ eqb (getD s (at + 1) 0) b
+    ∷ leb (body-length s at + 6) (length s - at)
+    ∷ eqb (getD s at 0) (r .first)
+    ∷ eqb (getD s (at + 1) 0) (r .second)
     ∷ []
 
--- a record by its tests
-pub record-is : (a b : ℕ) (s : Bytes) (at : ℕ) → is-record a b (drop at s) ≡ every (record-tests a b s at)
+record-is : (r : Row) (s : Bytes) (at : ℕ) → stands r s at ≡ every (record-tests r s at)
 unfolding is-record
-record-is a b s at =
+record-is r s at =
     let z : at + 0 ≡ at = omega arith in
     rw (length-drop at s, drop-drop 2 at s, getD-drop at s 0 0, getD-drop at s 1 0, z)
 
--- the end of one record
-pub one-end : (a b : ℕ) (s : Bytes) (at : ℕ) → ends (a ∷ b ∷ []) s at ≡ cond (every (record-tests a b s at)) (some ((at + (from32 (drop (at + 2) s) + 6)) ∷ [])) none
-unfolding ends
-one-end a b s at = rw (record-is a b s at, drop-drop 2 at s)
+-- a record that stands there has six bytes before its body, and ends within the bytes
+pub record-within : (r : Row) (s : Bytes) (at : ℕ) → at ≤ length s → stands r s at ≡ true → (at + 6 ≤ length s) × (record-end s at ≤ length s)
+unfolding every
+record-within r s at h e = go (leb 6 (length s - at)) (leb (body-length s at + 6) (length s - at)) refl (sym (record-is r s at) ∙ e)
+  where
+    go : (t u : Bool) → leb (body-length s at + 6) (length s - at) ≡ u → every (t ∷ u ∷ eqb (getD s at 0) (r .first) ∷ eqb (getD s (at + 1) 0) (r .second) ∷ []) ≡ true
+        → (at + 6 ≤ length s) × (record-end s at ≤ length s)
+    go true true f e = let l = leb-true (body-length s at + 6) (length s - at) f in (omega arith, omega arith)
+    go true false f e = absurd (true≢false (sym e))
+    go false u f e = absurd (true≢false (sym e))
 
 -- one test that fails
 fails : (t u v w : Bool) → (t ≡ false) ⊎ ((u ≡ false) ⊎ ((v ≡ false) ⊎ (w ≡ false))) → every (t ∷ u ∷ v ∷ w ∷ []) ≡ false
@@ -90,152 +113,209 @@ fails true false v w h = refl
 fails true true false w h = refl
 fails true true true false h = refl
 
-module _ (a b : ℕ) (s : Bytes) (at : ℕ) where
-  missing : every (record-tests a b s at) ≡ false → ends (a ∷ b ∷ []) s at ≡ none
-  missing e = one-end a b s at ∙ rw e
-
+module _ (r : Row) (s : Bytes) (at : ℕ) where
   -- fewer than six bytes are left
-  pub end-short : length s - at < 6 → ends (a ∷ b ∷ []) s at ≡ none
-  end-short h = missing (fails _ _ _ _ (inl (lt-leb 6 (length s - at) h)))
+  pub record-short : length s - at < 6 → stands r s at ≡ false
+  record-short h = record-is r s at ∙ fails _ _ _ _ (inl (lt-leb 6 (length s - at) h))
 
   -- the body runs past the end
-  pub end-past : (n : ℕ) → n ≡ from32 (drop (at + 2) s) → length s - at - 6 < n → ends (a ∷ b ∷ []) s at ≡ none
-  end-past n e h = missing (fails _ _ _ _ (inr (inl (lt-leb (from32 (drop (at + 2) s) + 6) (length s - at) (omega arith)))))
+  pub record-past : length s - at - 6 < body-length s at → stands r s at ≡ false
+  record-past h = record-is r s at ∙ fails _ _ _ _ (inr (inl (lt-leb (body-length s at + 6) (length s - at) (omega arith))))
 
   -- the mark's first letter is another
-  pub end-first : (getD s at 0 ≡ a → ⊥) → ends (a ∷ b ∷ []) s at ≡ none
-  end-first h = missing (fails _ _ _ _ (inr (inr (inl (ne-eqb (getD s at 0) a h)))))
+  pub record-first : (getD s at 0 ≡ r .first → ⊥) → stands r s at ≡ false
+  record-first h = record-is r s at ∙ fails _ _ _ _ (inr (inr (inl (ne-eqb (getD s at 0) (r .first) h))))
 
   -- the mark's second letter is another
-  pub end-second : (getD s (at + 1) 0 ≡ b → ⊥) → ends (a ∷ b ∷ []) s at ≡ none
-  end-second h = missing (fails _ _ _ _ (inr (inr (inr (ne-eqb (getD s (at + 1) 0) b h)))))
+  pub record-second : (getD s (at + 1) 0 ≡ r .second → ⊥) → stands r s at ≡ false
+  record-second h = record-is r s at ∙ fails _ _ _ _ (inr (inr (inr (ne-eqb (getD s (at + 1) 0) (r .second) h))))
 
-  -- a record stands there
-  pub end-found : (n : ℕ) → n ≡ from32 (drop (at + 2) s) → 6 ≤ length s - at → n ≤ length s - at - 6 → getD s at 0 ≡ a → getD s (at + 1) 0 ≡ b
-      → ends (a ∷ b ∷ []) s at ≡ some ((at + 6 + n) ∷ [])
+  -- the record stands there
+  pub record-stands : 6 ≤ length s - at → body-length s at ≤ length s - at - 6 → getD s at 0 ≡ r .first → getD s (at + 1) 0 ≡ r .second → stands r s at ≡ true
   unfolding every
-  end-found n e h l p q =
-      let z : at + (from32 (drop (at + 2) s) + 6) ≡ at + 6 + n = omega arith in
-      one-end a b s at
-      ∙ rw (le-leb 6 (length s - at) h, le-leb (from32 (drop (at + 2) s) + 6) (length s - at) (omega arith), eq-eqb (getD s at 0) a p, eq-eqb (getD s (at + 1) 0) b q, z)
+  record-stands h l p q =
+      record-is r s at
+      ∙ rw (le-leb 6 (length s - at) h, le-leb (body-length s at + 6) (length s - at) (omega arith), eq-eqb (getD s at 0) (r .first) p, eq-eqb (getD s (at + 1) 0) (r .second) q)
+
+pub length-marked : (a b : ℕ) (body : Bytes) → length (marked a b body) ≡ 6 + length body
+unfolding marked le32
+length-marked a b body = omega arith
+
+-- ---- records in a row
+
+-- where records in a row end, the first one at an offset, if each stands
+unfoldable pub records-end : List Row → Bytes → ℕ → Option ℕ
+records-end [] s at = some at
+records-end (r ∷ rs) s at = cond (stands r s at) (records-end rs s (record-end s at)) none
+
+-- their bodies, by their lengths
+unfoldable pub bodies-at : List Row → Bytes → ℕ → List Bytes
+bodies-at [] s at = []
+bodies-at (r ∷ rs) s at = part s (at + 6) (body-length s at) ∷ bodies-at rs s (record-end s at)
+
+-- the bodies, where the records end with the bytes
+abbrev whole : List Row → Bytes → ℕ → Option ℕ → Option (List Bytes)
+whole rs s at none = none
+whole rs s at (some e) = cond (eqb e (length s)) (some (bodies-at rs s at)) none
+
+-- one record stands, and those behind it
+pub end-more : (r : Row) (rs : List Row) (s : Bytes) (at : ℕ) → stands r s at ≡ true → records-end (r ∷ rs) s at ≡ records-end rs s (record-end s at)
+unfolding records-end
+end-more r rs s at h = rw h
+
+-- one record is missing
+pub end-none : (r : Row) (rs : List Row) (s : Bytes) (at : ℕ) → stands r s at ≡ false → records-end (r ∷ rs) s at ≡ none
+unfolding records-end
+end-none r rs s at h = rw h
+
+-- where records end, the first of them stands
+pub first-stands : (r : Row) (rs : List Row) (s : Bytes) (at e : ℕ) → records-end (r ∷ rs) s at ≡ some e → stands r s at ≡ true
+unfolding records-end
+first-stands r rs s at e h = go (stands r s at) h
+  where
+    go : (t : Bool) → cond t (records-end rs s (record-end s at)) none ≡ some e → t ≡ true
+    go true h = refl
+    go false h = let z : _≡_ {A = ℕ} 0 1 = cc in absurd (omega arith)
 
 -- a body before those behind it
 abbrev body-before : Bytes → Option (List Bytes) → Option (List Bytes)
 body-before b none = none
 body-before b (some bs) = some (b ∷ bs)
 
--- the bodies of no record
 read-none : (s : Bytes) → read-bodies [] s ≡ cond (eqb (length s) 0) (some []) none
 unfolding read-bodies
 read-none [] = refl
 read-none (x ∷ s) = rw (ne-eqb (suc (length s)) 0 (λ q. omega arith))
 
--- half a mark
-read-half : (a : ℕ) (s : Bytes) → read-bodies (a ∷ []) s ≡ none
+read-more : (r : Row) (rs : List Row) (s : Bytes)
+    → read-bodies (r ∷ rs) s ≡ cond (is-record (r .first) (r .second) s) (body-before (take (from32 (drop 2 s)) (drop 6 s)) (read-bodies rs (drop (from32 (drop 2 s) + 6) s))) none
 unfolding read-bodies
-read-half a [] = refl
-read-half a (x ∷ s) = refl
-
--- one record, and those behind it
-read-more : (a b : ℕ) (ms : List ℕ) (s : Bytes)
-    → read-bodies (a ∷ b ∷ ms) s
-    ≡ cond (is-record a b s) (body-before (take (from32 (drop 2 s)) (drop 6 s)) (read-bodies ms (drop (from32 (drop 2 s) + 6) s))) none
-unfolding read-bodies
-read-more a b ms s = go (is-record a b s) (read-bodies ms (drop (from32 (drop 2 s) + 6) s))
+read-more r rs s = go (is-record (r .first) (r .second) s) (read-bodies rs (drop (from32 (drop 2 s) + 6) s))
   where
-    go : (t : Bool) (r : Option (List Bytes))
-        → elim t [ true ↦ elim r [ none ↦ none | some bs ↦ some (take (from32 (drop 2 s)) (drop 6 s) ∷ bs) ] | false ↦ none ]
-        ≡ cond t (body-before (take (from32 (drop 2 s)) (drop 6 s)) r) none
+    go : (t : Bool) (o : Option (List Bytes))
+        → elim t [ true ↦ elim o [ none ↦ none | some bs ↦ some (take (from32 (drop 2 s)) (drop 6 s) ∷ bs) ] | false ↦ none ]
+        ≡ cond t (body-before (take (from32 (drop 2 s)) (drop 6 s)) o) none
     go true none = refl
     go true (some bs) = refl
     go false none = refl
     go false (some bs) = refl
 
--- a record before others that are the whole of what stands behind it
-whole-more : (s : Bytes) (at e : ℕ) (o : Option (List ℕ)) → body-before (part s (at + 6) (e - (at + 6))) (whole s e o) ≡ whole s at (before e o)
-unfolding whole last-end bodies
-whole-more s at e none = refl
-whole-more s at e (some es) = go (eqb (last-end e es) (length s))
+whole-more : (r : Row) (rs : List Row) (s : Bytes) (at : ℕ) (o : Option ℕ) → body-before (part s (at + 6) (body-length s at)) (whole rs s (record-end s at) o) ≡ whole (r ∷ rs) s at o
+unfolding bodies-at
+whole-more r rs s at none = refl
+whole-more r rs s at (some e) = go (eqb e (length s))
   where
-    go : (t : Bool) → body-before (part s (at + 6) (e - (at + 6))) (cond t (some (bodies s e es)) none)
-        ≡ cond t (some (part s (at + 6) (e - (at + 6)) ∷ bodies s e es)) none
+    go : (t : Bool) → body-before (part s (at + 6) (body-length s at)) (cond t (some (bodies-at rs s (record-end s at))) none)
+        ≡ cond t (some (part s (at + 6) (body-length s at) ∷ bodies-at rs s (record-end s at))) none
     go true = refl
     go false = refl
 
 -- the bodies that document 01 reads are those of the records by their offsets
-pub read-ends : (ms : List ℕ) (s : Bytes) (at : ℕ) → at ≤ length s → read-bodies ms (drop at s) ≡ whole s at (ends ms s at)
-unfolding ends whole last-end bodies
-read-ends [] s at h = read-none (drop at s) ∙ ap (λ (t : Bool). cond t (some []) none) (at-end (eqb at (length s)) refl)
+pub read-is : (rs : List Row) (s : Bytes) (at : ℕ) → at ≤ length s → read-bodies rs (drop at s) ≡ whole rs s at (records-end rs s at)
+unfolding records-end bodies-at
+read-is [] s at h = read-none (drop at s) ∙ ap (λ (t : Bool). cond t (some []) none) (at-end (eqb at (length s)) refl)
   where
     at-end : (t : Bool) → eqb at (length s) ≡ t → eqb (length (drop at s)) 0 ≡ t
     at-end true e = eq-eqb (length (drop at s)) 0 (omega (arith, eqb-true at (length s) e, length-drop at s))
     at-end false e = ne-eqb (length (drop at s)) 0 (λ q. eqb-false at (length s) e (omega (arith, length-drop at s)))
-read-ends (a ∷ []) s at h = read-half a (drop at s)
-read-ends (a ∷ b ∷ ms) s at h = read-more a b ms (drop at s) ∙ go (is-record a b (drop at s)) refl (λ l. read-ends ms s (record-end s at) l)
+read-is (r ∷ rs) s at h = read-more r rs (drop at s) ∙ go (stands r s at) refl (λ l. read-is rs s (record-end s at) l)
   where
-    go : (t : Bool) → is-record a b (drop at s) ≡ t → (record-end s at ≤ length s → read-bodies ms (drop (record-end s at) s) ≡ whole s (record-end s at) (ends ms s (record-end s at)))
-        → cond t (body-before (take (from32 (drop 2 (drop at s))) (drop 6 (drop at s))) (read-bodies ms (drop (from32 (drop 2 (drop at s)) + 6) (drop at s)))) none
-        ≡ whole s at (cond t (before (record-end s at) (ends ms s (record-end s at))) none)
+    go : (t : Bool) → stands r s at ≡ t → (record-end s at ≤ length s → read-bodies rs (drop (record-end s at) s) ≡ whole rs s (record-end s at) (records-end rs s (record-end s at)))
+        → cond t (body-before (take (from32 (drop 2 (drop at s))) (drop 6 (drop at s))) (read-bodies rs (drop (from32 (drop 2 (drop at s)) + 6) (drop at s)))) none
+        ≡ whole (r ∷ rs) s at (cond t (records-end rs s (record-end s at)) none)
     go true p ih =
-        let n : ℕ = from32 (drop 2 (drop at s)) in
-        let size : record-end s at - (at + 6) ≡ n = omega arith in
-        ap₂ body-before (ap (take n) (drop-drop 6 at s) ∙ ap (λ (k : ℕ). take k (drop (at + 6) s)) (sym size))
-        (ap (read-bodies ms) (drop-drop (n + 6) at s) ∙ ih (record-within a b s at h p))
-        ∙ whole-more s at (record-end s at) (ends ms s (record-end s at))
+        let n : from32 (drop 2 (drop at s)) ≡ body-length s at = ap from32 (drop-drop 2 at s) in
+        let e : at + (body-length s at + 6) ≡ record-end s at = omega arith in
+        ap₂ body-before (ap₂ take n (drop-drop 6 at s))
+        (ap (λ (k : ℕ). read-bodies rs (drop (k + 6) (drop at s))) n ∙ ap (read-bodies rs) (drop-drop (body-length s at + 6) at s ∙ ap (λ (k : ℕ). drop k s) e) ∙ ih (record-within r s at h p .1))
+        ∙ whole-more r rs s at (records-end rs s (record-end s at))
     go false p ih = refl
 
--- ---- records in groups
+-- ---- lengths as the settings and the counts give
 
--- marks of two letters each
-abbrev pub Whole-marks : List ℕ → Type 0
-Whole-marks [] = Unit
-Whole-marks (a ∷ []) = ⊥
-Whole-marks (a ∷ b ∷ ms) = Whole-marks ms
+module _ (st : Settings) (c : Counts) where
+  -- each record says the length of its row
+  unfoldable pub lengths-agree : List Row → Bytes → ℕ → Bool
+  lengths-agree [] s at = true
+  lengths-agree (r ∷ rs) s at = eqb (body-length s at) (r .size st c) && lengths-agree rs s (record-end s at)
 
--- ends before others
-abbrev pub all-before : List ℕ → Option (List ℕ) → Option (List ℕ)
-all-before es none = none
-all-before es (some fs) = some (es ++ fs)
+  -- where each record starts, and where the last one ends
+  unfoldable pub starts : List Row → ℕ → List ℕ
+  starts [] at = at ∷ []
+  starts (r ∷ rs) at = at ∷ starts rs (at + 6 + r .size st c)
 
--- the ends of the records behind some others
-abbrev pub behind : List ℕ → Bytes → ℕ → Option (List ℕ) → Option (List ℕ)
-behind ms s at none = none
-behind ms s at (some es) = all-before es (ends ms s (last-end at es))
+  -- where the last record ends
+  unfoldable pub rows-end-at : List Row → ℕ → ℕ
+  rows-end-at [] at = at
+  rows-end-at (r ∷ rs) at = rows-end-at rs (at + 6 + r .size st c)
 
--- the ends of two groups of records
-pub ends-append : (ms ks : List ℕ) → Whole-marks ms → (s : Bytes) (at : ℕ) → ends (ms ++ ks) s at ≡ behind ks s at (ends ms s at)
-unfolding ends last-end
-ends-append [] ks w s at = none-before (ends ks s at)
-  where
-    none-before : (o : Option (List ℕ)) → o ≡ all-before [] o
-    none-before none = refl
-    none-before (some es) = refl
-ends-append (a ∷ []) ks w s at = absurd w
-ends-append (a ∷ b ∷ ms) ks w s at =
-    rw (ends-append ms ks w s (record-end s at)) (go (is-record a b (drop at s)) (ends ms s (record-end s at)))
-  where
-    one : (es : List ℕ) (o : Option (List ℕ)) → before (record-end s at) (all-before es o) ≡ all-before (record-end s at ∷ es) o
-    one es none = refl
-    one es (some fs) = refl
+  -- the bodies at these starts
+  unfoldable pub laid-bodies : List Row → Bytes → ℕ → List Bytes
+  laid-bodies [] s at = []
+  laid-bodies (r ∷ rs) s at = part s (at + 6) (r .size st c) ∷ laid-bodies rs s (at + 6 + r .size st c)
 
-    go : (t : Bool) (o : Option (List ℕ)) → cond t (before (record-end s at) (behind ks s (record-end s at) o)) none ≡ behind ks s at (cond t (before (record-end s at) o) none)
-    go false o = refl
-    go true none = refl
-    go true (some es) = one es (ends ks s (last-end (record-end s at) es))
+  -- that bodies have just the lengths of their rows, by the lengths that the records say
+  pub sized-is : (rs : List Row) (s : Bytes) (at e : ℕ) → at ≤ length s → records-end rs s at ≡ some e → sized (map (λ r. r .size st c) rs) (bodies-at rs s at) ≡ lengths-agree rs s at
+  unfolding sized bodies-at lengths-agree
+  sized-is [] s at e h f = refl
+  sized-is (r ∷ rs) s at e h f =
+      let p = first-stands r rs s at e f in
+      let w = record-within r s at h p in
+      let l : length (part s (at + 6) (body-length s at)) ≡ body-length s at = length-take-le (body-length s at) (drop (at + 6) s) (omega (arith, length-drop (at + 6) s)) in
+      ap₂ (λ (n : ℕ) (t : Bool). eqb n (r .size st c) && t) l (sized-is rs s (record-end s at) e (w .1) (sym (end-more r rs s at p) ∙ f))
 
--- records that stand there end within the bytes
-pub ends-within : (ms : List ℕ) (s : Bytes) (at : ℕ) (es : List ℕ) → at ≤ length s → ends ms s at ≡ some es → last-end at es ≤ length s
-unfolding ends last-end
-ends-within [] s at [] h e = h
-ends-within [] s at (x ∷ es) h e = let z : _≡_ {A = ℕ} 0 1 = cc in absurd (omega arith)
-ends-within (a ∷ []) s at es h e = let z : _≡_ {A = ℕ} 0 1 = cc in absurd (omega arith)
-ends-within (a ∷ b ∷ ms) s at es h e =
-    go (is-record a b (drop at s)) refl (ends ms s (record-end s at)) refl e (λ fs l f. ends-within ms s (record-end s at) fs l f)
-  where
-    go : (t : Bool) → is-record a b (drop at s) ≡ t → (o : Option (List ℕ)) → ends ms s (record-end s at) ≡ o → cond t (before (record-end s at) o) none ≡ some es
-        → ((fs : List ℕ) → record-end s at ≤ length s → ends ms s (record-end s at) ≡ some fs → last-end (record-end s at) fs ≤ length s) → last-end at es ≤ length s
-    go true p (some fs) q e ih =
-        let f : es ≡ record-end s at ∷ fs = cc in
-        rw f (ih fs (record-within a b s at h p) q)
-    go true p none q e ih = let z : _≡_ {A = ℕ} 0 1 = cc in absurd (omega arith)
-    go false p o q e ih = let z : _≡_ {A = ℕ} 0 1 = cc in absurd (omega arith)
+  -- the first length agrees, and those behind it
+  agree-first : (r : Row) (rs : List Row) (s : Bytes) (at : ℕ) → lengths-agree (r ∷ rs) s at ≡ true → (body-length s at ≡ r .size st c) × (lengths-agree rs s (record-end s at) ≡ true)
+  unfolding lengths-agree
+  agree-first r rs s at h = go (eqb (body-length s at) (r .size st c)) refl h
+    where
+      go : (t : Bool) → eqb (body-length s at) (r .size st c) ≡ t → t && lengths-agree rs s (record-end s at) ≡ true → (body-length s at ≡ r .size st c) × (lengths-agree rs s (record-end s at) ≡ true)
+      go true e h = (eqb-true (body-length s at) (r .size st c) e, h)
+      go false e h = absurd (true≢false (sym h))
+
+  -- records whose lengths agree stand where the rows say
+  pub bodies-laid : (rs : List Row) (s : Bytes) (at e : ℕ) → lengths-agree rs s at ≡ true → records-end rs s at ≡ some e → (bodies-at rs s at ≡ laid-bodies rs s at) × (e ≡ rows-end-at rs at)
+  unfolding bodies-at laid-bodies rows-end-at records-end
+  bodies-laid [] s at e h f = let z : e ≡ at = cc in (refl, z)
+  bodies-laid (r ∷ rs) s at e h f =
+      let a = agree-first r rs s at h in
+      let n : record-end s at ≡ at + 6 + r .size st c = ap (λ (k : ℕ). at + 6 + k) (a .0) in
+      let g : records-end rs s (record-end s at) ≡ some e = sym (end-more r rs s at (first-stands r rs s at e f)) ∙ f in
+      let i = bodies-laid rs s (at + 6 + r .size st c) e (rw n at (a .1)) (rw n at g) in
+      (ap₂ (λ (k : ℕ) (bs : List Bytes). part s (at + 6) k ∷ bs) (a .0) (ap (bodies-at rs s) n ∙ i .0), i .1)
+
+  -- one length more agrees, or not
+  pub agree-more : (r : Row) (rs : List Row) (s : Bytes) (at : ℕ) → body-length s at ≡ r .size st c → lengths-agree (r ∷ rs) s at ≡ lengths-agree rs s (record-end s at)
+  unfolding lengths-agree
+  agree-more r rs s at e = rw (eq-eqb (body-length s at) (r .size st c) e)
+
+  pub agree-not : (r : Row) (rs : List Row) (s : Bytes) (at : ℕ) → (body-length s at ≡ r .size st c → ⊥) → lengths-agree (r ∷ rs) s at ≡ false
+  unfolding lengths-agree
+  agree-not r rs s at e = rw (ne-eqb (body-length s at) (r .size st c) e)
+
+  -- the start of one record more is written
+  pub starts-written : (i at : ℕ) (out : List ℕ) → i < 12 → length out ≡ 13 → take i out ++ starts (drop i rows) at ≡ starts rows 22
+      → take (i + 1) (set out i at) ++ starts (drop (i + 1) rows) (at + 6 + row-at i .size st c) ≡ starts rows 22
+  unfolding starts
+  starts-written i at out h l e =
+      let n : i + 1 ≡ suc i = omega arith in
+      ap (λ (z : List ℕ). z ++ starts (drop (i + 1) rows) (at + 6 + row-at i .size st c)) (ap (λ (k : ℕ). take k (set out i at)) n ∙ take-suc-set out i at (omega arith))
+      ∙ append-assoc (take i out) (at ∷ []) (starts (drop (i + 1) rows) (at + 6 + row-at i .size st c))
+      ∙ ap (λ (z : List Row). take i out ++ starts z at) (sym (rows-from i h)) ∙ e
+
+  -- the end of the last record is written behind all starts
+  pub starts-whole : (at : ℕ) (out : List ℕ) → length out ≡ 13 → take 12 out ++ starts (drop 12 rows) at ≡ starts rows 22 → set out 12 at ≡ starts rows 22
+  unfolding starts
+  starts-whole at out l e =
+      let n : length (set out 12 at) ≤ 13 = omega (arith, length-set out 12 at) in
+      sym (take-all 13 (set out 12 at) n) ∙ take-suc-set out 12 at (omega arith) ∙ ap (λ (z : List Row). take 12 out ++ starts z at) (sym rows-end) ∙ e
+
+  -- records whose bodies have the lengths of their rows, one behind the other, end where the rows say
+  pub records-length : (rs : List Row) (bs : List Bytes) (at : ℕ) → map length bs ≡ map (λ r. r .size st c) rs → at + length (write-records rs bs) ≡ rows-end-at rs at
+  unfolding write-records rows-end-at
+  records-length [] bs at e = omega arith
+  records-length (r ∷ rs) [] at e = let z : _≡_ {A = ℕ} 0 1 = cc in absurd (omega arith)
+  records-length (r ∷ rs) (b ∷ bs) at e =
+      let n : length b ≡ r .size st c = cc in
+      let m : map length bs ≡ map (λ r. r .size st c) rs = cc in
+      omega (arith, length-append (marked (r .first) (r .second) b) (write-records rs bs), length-marked (r .first) (r .second) b, records-length rs bs (at + 6 + r .size st c) m)

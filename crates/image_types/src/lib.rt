@@ -1,4 +1,4 @@
-// The types of an image: the three kinds of positions, the header's counts, the frame, and a leaf by value. No function is declared here, so that laws may rest on them.
+// The types of an image: the three kinds of positions, what a header says, the frame, the answers of a call that reads one and of a call that writes, and a leaf by value. No function is declared here, so that laws may rest on them.
 
 // A bit position.
 pub struct BitPos(pub usize);
@@ -9,34 +9,39 @@ pub struct NodeNum(pub usize);
 // A value position: a suffix slot's number in level order.
 pub struct ValuePos(pub usize);
 
-// The four counts of the header: leaves, dense nodes, sparse entries and sparse nodes.
-pub struct Counts {
-    pub leaves: usize,
-    pub dense: usize,
-    pub entries: usize,
-    pub sparse: usize,
-}
-
-// The dense nodes of an image: on how many levels they are, how many there are, and how many continuing branches and entries (branches and exact leaves) they have.
+// The dense nodes by the header: on how many levels they are, and how many there are.
 pub struct Dense {
     pub levels: usize,
     pub nodes: usize,
-    pub children: usize,
-    pub entries: usize,
 }
 
-// The sparse nodes of an image, and their entries.
+// The sparse nodes by the header: how many there are, and how many entries they have.
 pub struct Sparse {
     pub nodes: usize,
     pub entries: usize,
 }
 
-// The settings, the counts and the offset of each record's body.
-pub struct Frame {
-    pub width: usize, // a suffix slot's bits
+// What a header says: the suffix width, the leaves, and the dense and sparse nodes.
+pub struct Header {
+    pub width: usize,
     pub leaves: usize,
     pub dense: Dense,
     pub sparse: Sparse,
+}
+
+// The continuing branches of all dense nodes, and their entries: branches and exact leaves together.
+pub struct DenseTotals {
+    pub children: usize,
+    pub entries: usize,
+}
+
+// The frame of an image: what its header says, the totals of its dense nodes, and the offset of each record's body.
+pub struct Frame {
+    pub width: usize,
+    pub leaves: usize,
+    pub dense: Dense,
+    pub sparse: Sparse,
+    pub totals: DenseTotals,
     pub dl: usize,
     pub dc: usize,
     pub dp: usize,
@@ -51,11 +56,23 @@ pub struct Frame {
     pub ts: usize,
 }
 
-// The cut key is the first len bytes of cut. The suffix bits are the low width bits of suffix, the first one lowest, as the suffix slots hold them.
+// What reading an image gives: its frame, or the number with which it is refused.
+pub enum Framed {
+    At(Frame),
+    Refused(u32),
+}
+
+// A leaf by value: the cut key is the first len bytes of cut; the suffix bits are the low width bits of suffix, the first one lowest, as the suffix slots hold them.
 pub struct Leaf {
     pub cut: [u8; 64],
     pub len: usize,
     pub exact: bool,
     pub suffix: usize,
     pub width: usize,
+}
+
+// The answer of a call that writes into a buffer: so many bytes written, or a refusal's number.
+pub enum Written {
+    Bytes(usize),
+    Refused(u32),
 }

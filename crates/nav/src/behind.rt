@@ -34,7 +34,7 @@ pub fn child_and_slot(image: &[u8], f: Frame, m: NodeNum, at: BitPos) -> Behind
     }
     let children = entry_rank(image, f, at);
     Behind {
-        child: NodeNum(f.dense.children + children + 1),
-        slot: ValuePos(f.dense.entries - f.dense.children + (at.0 - children)),
+        child: NodeNum(f.totals.children + children + 1),
+        slot: ValuePos(f.totals.entries - f.totals.children + (at.0 - children)),
     }
 }

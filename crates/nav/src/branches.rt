@@ -29,7 +29,7 @@ pub fn child(image: &[u8], f: Frame, m: NodeNum, at: BitPos) -> NodeNum
     if m.0 < f.dense.nodes {
         return NodeNum(child_rank(image, f, at) + 1);
     }
-    NodeNum(f.dense.children + entry_rank(image, f, at) + 1)
+    NodeNum(f.totals.children + entry_rank(image, f, at) + 1)
 }
 
 // The slot of the leaf behind a branch: an exact leaf stands before its node's branches.
@@ -42,7 +42,7 @@ pub fn slot(image: &[u8], f: Frame, m: NodeNum, at: BitPos) -> ValuePos
         let children = child_rank(image, f, at);
         return ValuePos(labels - children + exact_rank(image, f, NodeNum(m.0 + 1)));
     }
-    ValuePos(f.dense.entries - f.dense.children + (at.0 - entry_rank(image, f, at)))
+    ValuePos(f.totals.entries - f.totals.children + (at.0 - entry_rank(image, f, at)))
 }
 
 // The first of the labels from `from` to `to`, which ascend, that is not below y, or the end.

@@ -49,8 +49,8 @@ fn sparse_before(image: &[u8], f: Frame, m: NodeNum) -> Passed
     let start = node_start(image, f, m);
     let children = entry_rank(image, f, start);
     Passed {
-        children: f.dense.children + children,
-        leaves: f.dense.entries - f.dense.children + (start.0 - children),
+        children: f.totals.children + children,
+        leaves: f.totals.entries - f.totals.children + (start.0 - children),
     }
 }
 

@@ -54,8 +54,8 @@ pub record Holds (s : Bytes) (f : Frame) (ds ss : List Node) (ls : List Leaf) : 
   pub RP : Body (ranks 64 (map is-exact ds)) s (f .rp)
   pub RS : Body (ranks 512 (concat (map sparse-has-child ss))) s (f .rs)
   pub TS : Body (samples (concat (map louds ss))) s (f .ts)
-  pub children : f .dense .children ≡ rank (drop (f .dc) s) (256 * f .dense .nodes)
-  pub items : f .dense .entries ≡ rank (drop (f .dl) s) (256 * f .dense .nodes) + rank (drop (f .dp) s) (f .dense .nodes)
+  pub children : f .totals .children ≡ rank (drop (f .dc) s) (256 * f .dense .nodes)
+  pub items : f .totals .entries ≡ rank (drop (f .dl) s) (256 * f .dense .nodes) + rank (drop (f .dp) s) (f .dense .nodes)
 
 -- The image with this frame is accepted: it holds the nodes and the leaf list that are read from it.
 abbrev pub Accepted : Bytes → Frame → Type 0

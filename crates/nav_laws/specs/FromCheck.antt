@@ -8,20 +8,20 @@ use lib.ListN.{length, getD, take, drop, length-append, take-append-drop}
 use lib.Seq.{take-at, drop-at}
 use Rattle.spec.specs.Bytes.{Bytes, blocks, concat}
 use Rattle.spec.specs.Leaves.{Leaf}
-use Rattle.spec.specs.Image.{Settings}
-use Rattle.spec.specs.Frame.{read-bodies, marks, Parts, parts}
+use Rattle.spec.specs.Image.{Settings, rows, in-order}
+use Rattle.spec.specs.Frame.{read-bodies, Parts, parts, named}
 use Rattle.spec.specs.Nodes.{Node, is-exact, nodes-of, read-nodes, read-leaves}
 use Rattle.spec.specs.Check.{verdict}
 use Rattle.image_types.specs.declared.Frame.{Frame}
 use Rattle.bits_laws.specs.Bits.{part}
-use Rattle.image_types.specs.FrameOf.{FrameOf, frame-bodies, frame-parts}
+use Rattle.image_types.specs.FrameOf.{FrameOf, Within, within, frame-bodies, frame-parts}
 use Rattle.nav_laws.specs.NumberBounds.{node-total}
 use Rattle.nav_laws.specs.Accepted.{Body, Holds, Accepted, dense-nodes, sparse-nodes}
 use Rattle.theory.specs.LeafLists.{Realizable, All-well-sized}
 use Rattle.theory.specs.Terms.{Is-bytes}
 use Rattle.theory.specs.ReadBack.{read-back}
 use Rattle.theory.specs.ImageParts.{Writable, node-image-bodies, parts-of-nodes, parts-back, nodes-back, image-holds}
-use Rattle.theory.specs.NodeBits.{node-image, layout, bodies, bodies-of, dense-labels, dense-has-child, sparse-labels, sparse-has-child, louds, slots, bodies-bits}
+use Rattle.theory.specs.NodeBits.{node-image, bodies, bodies-of, dense-labels, dense-has-child, sparse-labels, sparse-has-child, louds, slots, bodies-bits}
 use Rattle.theory.specs.LevelTrie.{trie}
 use Rattle.theory.specs.Accept.{accepted-is-image}
 
@@ -29,9 +29,9 @@ use Rattle.theory.specs.Accept.{accepted-is-image}
 body-at : (s b : Bytes) (at n : ℕ) → at ≤ length s → part s at n ≡ b → Body b s at
 body-at s b at n h e = (h, (drop n (drop at s), sym (take-append-drop n (drop at s)) ∙ ap (λ (z : Bytes). z ++ drop n (drop at s)) e))
 
-framed-nodes : (s : Bytes) (bs : List Bytes) → read-bodies marks (drop 22 s) ≡ some bs → read-nodes s ≡ nodes-of (parts s bs)
+framed-nodes : (s : Bytes) (bs : List Bytes) → read-bodies rows (drop 22 s) ≡ some bs → read-nodes s ≡ nodes-of (parts s (named bs))
 unfolding read-nodes
-framed-nodes s bs h = ap {B = List Node} (λ (f : Option (List Bytes)). elim f [ none ↦ [] | some bs ↦ nodes-of (parts s bs) ]) h
+framed-nodes s bs h = ap {B = List Node} (λ (f : Option (List Bytes)). elim f [ none ↦ [] | some bs ↦ nodes-of (parts s (named bs)) ]) h
 
 some-same : {A : Type 0} (a b : A) → some a ≡ some b → a ≡ b
 some-same a b h = cc
@@ -42,53 +42,40 @@ body-same cs bs e i = ap (λ (z : List Bytes). getD z i []) e
 
 module _ (s : Bytes) (f : Frame) (fr : FrameOf s f) (st : Settings) (ls : List Leaf) (ds ss : List Node) (w : Writable (st .width) (length ls) ds ss) (is : s ≡ node-image st (length ls) ds ss)
     (whole : ds ++ ss ≡ concat (trie ls)) (good : Realizable (st .width) ls) (ok : All-well-sized (st .width) ls) where
-  framed : read-bodies marks (drop 22 s) ≡ some (layout (bodies ds ss))
+  framed : read-bodies rows (drop 22 s) ≡ some (in-order (bodies ds ss))
   framed = rw is (node-image-bodies st (length ls) ds ss w)
 
-  bodies-same : frame-bodies s f ≡ layout (bodies-of (concat (map dense-labels ds)) (concat (map dense-has-child ds)) (map is-exact ds) (concat (map sparse-labels ss)) (concat (map sparse-has-child ss)) (concat (map louds ss)) (concat (map slots (ds ++ ss))))
-  bodies-same = some-same (frame-bodies s f) (layout (bodies ds ss)) (sym (fr .bodies) ∙ framed) ∙ ap layout (bodies-bits ds ss)
+  bodies-same : frame-bodies s f ≡ in-order (bodies-of (concat (map dense-labels ds)) (concat (map dense-has-child ds)) (map is-exact ds) (concat (map sparse-labels ss)) (concat (map sparse-has-child ss)) (concat (map louds ss)) (concat (map slots (ds ++ ss))))
+  bodies-same = some-same (frame-bodies s f) (in-order (bodies ds ss)) (sym (fr .bodies) ∙ framed) ∙ ap in-order (bodies-bits ds ss)
 
   parts-same : frame-parts s f ≡ parts-of-nodes st (length ls) ds ss
   parts-same =
-      sym (fr .parts-are) ∙ ap (parts s) (some-same (frame-bodies s f) (layout (bodies ds ss)) (sym (fr .bodies) ∙ framed))
-      ∙ ap (λ (z : Bytes). parts z (layout (bodies ds ss))) is ∙ parts-back st (length ls) ds ss w
+      sym (fr .parts-are) ∙ ap (λ (bs : List Bytes). parts s (named bs)) (some-same (frame-bodies s f) (in-order (bodies ds ss)) (sym (fr .bodies) ∙ framed))
+      ∙ ap (λ (z : Bytes). parts z (named (in-order (bodies ds ss)))) is ∙ parts-back st (length ls) ds ss w
 
   width-same : f .width ≡ st .width
-  width-same = ap (λ (p : Parts). p .width) parts-same
+  width-same = ap (λ (p : Parts). p .settings .width) parts-same
 
   leaves-same : f .leaves ≡ length ls
-  leaves-same = ap (λ (p : Parts). p .leaves) parts-same
+  leaves-same = ap (λ (p : Parts). p .counts .leaves) parts-same
 
   dense-same : f .dense .nodes ≡ length ds
-  dense-same = ap (λ (p : Parts). p .dense-count) parts-same
+  dense-same = ap (λ (p : Parts). p .counts .dense-nodes) parts-same
 
   entries-same : f .sparse .entries ≡ length (concat (map sparse-labels ss))
-  entries-same = ap (λ (p : Parts). p .entry-count) parts-same
+  entries-same = ap (λ (p : Parts). p .counts .sparse-entries) parts-same
 
   sparse-same : f .sparse .nodes ≡ length ss
-  sparse-same = ap (λ (p : Parts). p .sparse-count) parts-same
+  sparse-same = ap (λ (p : Parts). p .counts .sparse-nodes) parts-same
 
   nodes-same : read-nodes s ≡ ds ++ ss
-  nodes-same = framed-nodes s (layout (bodies ds ss)) framed ∙ ap (λ (z : Bytes). nodes-of (parts z (layout (bodies ds ss)))) is ∙ ap nodes-of (parts-back st (length ls) ds ss w) ∙ nodes-back st (length ls) ds ss w
+  nodes-same = framed-nodes s (in-order (bodies ds ss)) framed ∙ ap (λ (z : Bytes). nodes-of (parts z (named (in-order (bodies ds ss))))) is ∙ ap nodes-of (parts-back st (length ls) ds ss w) ∙ nodes-back st (length ls) ds ss w
 
-  body : (i : ℕ) → getD (frame-bodies s f) i [] ≡ getD (layout (bodies-of (concat (map dense-labels ds)) (concat (map dense-has-child ds)) (map is-exact ds) (concat (map sparse-labels ss)) (concat (map sparse-has-child ss)) (concat (map louds ss)) (concat (map slots (ds ++ ss))))) i []
+  body : (i : ℕ) → getD (frame-bodies s f) i [] ≡ getD (in-order (bodies-of (concat (map dense-labels ds)) (concat (map dense-has-child ds)) (map is-exact ds) (concat (map sparse-labels ss)) (concat (map sparse-has-child ss)) (concat (map louds ss)) (concat (map slots (ds ++ ss))))) i []
   body i = body-same _ _ bodies-same i
 
-  -- the offsets lie within the image
-  starts : (f .dl ≤ length s) × (f .dc ≤ length s) × (f .dp ≤ length s) × (f .sl ≤ length s) × (f .sc ≤ length s) × (f .sb ≤ length s) × (f .sv ≤ length s) × (f .rl ≤ length s) × (f .rc ≤ length s) × (f .rp ≤ length s) × (f .rs ≤ length s) × (f .ts ≤ length s)
-  starts =
-      let t : f .ts ≤ length s = omega (arith, fr .end) in
-      let rs : f .rs ≤ length s = omega (arith, fr .ts) in
-      let rp : f .rp ≤ length s = omega (arith, fr .rs) in
-      let rc : f .rc ≤ length s = omega (arith, fr .rp) in
-      let rl : f .rl ≤ length s = omega (arith, fr .rc) in
-      let sv : f .sv ≤ length s = omega (arith, fr .rl) in
-      let sb : f .sb ≤ length s = omega (arith, fr .sv) in
-      let sc : f .sc ≤ length s = omega (arith, fr .sb) in
-      let sl : f .sl ≤ length s = omega (arith, fr .sc) in
-      let dp : f .dp ≤ length s = omega (arith, fr .sl) in
-      let dc : f .dc ≤ length s = omega (arith, fr .dp) in
-      (omega (arith, fr .dc), dc, dp, sl, sc, sb, sv, rl, rc, rp, rs, t)
+  inside : Within s f
+  inside = within s f fr
 
   holds : Holds s f ds ss ls
   holds = record {
@@ -100,20 +87,20 @@ module _ (s : Bytes) (f : Frame) (fr : FrameOf s f) (st : Settings) (ls : List L
     realizable = rw width-same good;
     well-sized = rw width-same ok;
     trie-is = whole;
-    DL = body-at s _ (f .dl) (32 * f .dense .nodes) (starts .0) (body 0);
-    DC = body-at s _ (f .dc) (32 * f .dense .nodes) (starts .1) (body 1);
-    DP = body-at s _ (f .dp) (blocks 8 (f .dense .nodes)) (starts .2) (body 2);
-    SL = body-at s _ (f .sl) (f .sparse .entries) (starts .3) (body 3);
-    SC = body-at s _ (f .sc) (blocks 8 (f .sparse .entries)) (starts .4) (body 4);
-    SB = body-at s _ (f .sb) (blocks 8 (f .sparse .entries)) (starts .5) (body 5);
-    SV = body-at s _ (f .sv) (blocks 8 (f .leaves * f .width)) (starts .6) (body 6);
-    RL = body-at s _ (f .rl) (4 * blocks 64 (256 * f .dense .nodes)) (starts .7) (body 7);
-    RC = body-at s _ (f .rc) (4 * blocks 64 (256 * f .dense .nodes)) (starts .8) (body 8);
-    RP = body-at s _ (f .rp) (4 * blocks 64 (f .dense .nodes)) (starts .9) (body 9);
-    RS = body-at s _ (f .rs) (4 * blocks 512 (f .sparse .entries)) (starts .10) (body 10);
-    TS = body-at s _ (f .ts) (4 * blocks 64 (f .sparse .nodes)) (starts .11) (body 11);
+    DL = body-at s _ (f .dl) (32 * f .dense .nodes) (omega (arith, inside .dl)) (body 0);
+    DC = body-at s _ (f .dc) (32 * f .dense .nodes) (omega (arith, inside .dc)) (body 1);
+    DP = body-at s _ (f .dp) (blocks 8 (f .dense .nodes)) (omega (arith, inside .dp)) (body 2);
+    SL = body-at s _ (f .sl) (f .sparse .entries) (omega (arith, inside .sl)) (body 3);
+    SC = body-at s _ (f .sc) (blocks 8 (f .sparse .entries)) (omega (arith, inside .sc)) (body 4);
+    SB = body-at s _ (f .sb) (blocks 8 (f .sparse .entries)) (omega (arith, inside .sb)) (body 5);
+    SV = body-at s _ (f .sv) (blocks 8 (f .leaves * f .width)) (omega (arith, inside .sv)) (body 6);
+    RL = body-at s _ (f .rl) (4 * blocks 64 (256 * f .dense .nodes)) (omega (arith, inside .rl)) (body 7);
+    RC = body-at s _ (f .rc) (4 * blocks 64 (256 * f .dense .nodes)) (omega (arith, inside .rc)) (body 8);
+    RP = body-at s _ (f .rp) (4 * blocks 64 (f .dense .nodes)) (omega (arith, inside .rp)) (body 9);
+    RS = body-at s _ (f .rs) (4 * blocks 512 (f .sparse .entries)) (omega (arith, inside .rs)) (body 10);
+    TS = body-at s _ (f .ts) (4 * blocks 64 (f .sparse .nodes)) (omega (arith, inside .ts)) (body 11);
     children = fr .children;
-    items = fr .items;
+    items = fr .dense-entries;
   }
 
   is-dense : ds ≡ dense-nodes s f

@@ -88,7 +88,7 @@ module _ (s : Bytes) (f : Frame) (a : Accepted s f) where
       (k, l .0, l .1)
 
   -- the frame's totals are what stands before the first sparse node
-  pub dense-totals : (f .dense .children ≡ children-before (nodes s f) (f .dense .nodes)) × (f .dense .entries ≡ leaves-before (nodes s f) (f .dense .nodes) + f .dense .children)
+  pub dense-totals : (f .totals .children ≡ children-before (nodes s f) (f .dense .nodes)) × (f .totals .entries ≡ leaves-before (nodes s f) (f .dense .nodes) + f .totals .children)
   dense-totals = let d = before-dense (f .dense .nodes) (omega arith) in (omega (arith, a .children, d .0), omega (arith, a .items, a .children, d .1, d .2))
 
   module _ (m y : ℕ) (h : m < f .dense .nodes) where

@@ -7,15 +7,16 @@ use mathlib.Core.Logic.{_⊎_, inl, inr}
 use native.Mathlib.Omega.{arith}
 use borrow.Author.Tests.{eqb-true, eqb-false, lt-ltb, le-ltb, ltb-true, ltb-false, eq-eqb, ne-eqb}
 use lib.ListN.{length, getD, take, drop, length-append, length-drop}
-use lib.Seq.{take-suc, length-take-le, getD-drop}
+use lib.Seq.{take-suc, take-all, length-take-le, getD-drop}
 use lib.Dec.{ltb, eqb}
 use lib.Pow.{shr-shr}
 use native.Mathlib.Nat.{pow-succ'}
-use Rattle.spec.specs.Bytes.{Bytes, Bits, ascii, letter, bit, low-bits}
+use Rattle.spec.specs.Bytes.{Bytes, Bits, ascii, ascii-from, letter, bit, low-bits}
 use Rattle.spec.specs.Leaves.{Leaf}
 use Rattle.spec.specs.Nodes.{read-leaves}
 use Rattle.spec.specs.Check.{verdict}
-use Rattle.spec.specs.Print.{digits, decimal, hex-digit, hex, suffix-text, line, lines, listing, print}
+use Rattle.bits_laws.specs.UnpackLaws.{length-low-bits}
+use Rattle.spec.specs.Print.{longest-input, digits, decimal, hex-digit, hex, suffix-text, line, lines, listing, print}
 
 -- ---- numbers in decimal figures
 
@@ -186,12 +187,6 @@ bit-digits-more k x =
     ap (map bit-digit) (low-bits-more k x) ∙ map-append bit-digit (low-bits k x) (eqb (x / 2 ^ k % 2) 1 ∷ [])
     ∙ ap (λ (n : ℕ). map bit-digit (low-bits k x) ++ n ∷ []) (digit-mod (x / 2 ^ k))
 
--- as many bits as asked for
-pub length-low-bits : (k x : ℕ) → length (low-bits k x) ≡ k
-unfolding low-bits
-length-low-bits zero x = refl
-length-low-bits (suc k) x = ap suc (length-low-bits k (x / 2))
-
 -- as many numbers as there were members
 pub length-map : {A : Type 0} (f : A → ℕ) (s : List A) → length (map f s) ≡ length s
 length-map f [] = refl
@@ -254,6 +249,11 @@ refused-text v = ascii "refused " ++ decimal v ++ (10 ∷ [])
 abbrev pub too-long-text : Bytes
 too-long-text = ascii "too long" ++ (10 ∷ [])
 
+-- the first line is no longer than a leaf's
+pub length-head : (n : ℕ) → n < 10 ^ 10 → length (head-text n) ≤ longest-line
+unfolding ascii ascii-from
+length-head n h = omega (arith, length-append (ascii "leaves " ++ decimal n) (10 ∷ []), length-append (ascii "leaves ") (decimal n), length-decimal 9 n h)
+
 -- a listing is its first line, and then the lines
 pub listing-is : (ls : List Leaf) → listing ls ≡ head-text (length ls) ++ lines 0 ls
 unfolding listing
@@ -294,9 +294,9 @@ by-tests false true b = listing (read-leaves b)
 by-tests false false b = refused-text (verdict b)
 
 -- the printer's text is that
-print-is : (b : Bytes) → print b ≡ by-tests (ltb 65536 (length b)) (eqb (verdict b) 0) b
+print-is : (b : Bytes) → print b ≡ by-tests (ltb longest-input (length b)) (eqb (verdict b) 0) b
 unfolding print by-tests
-print-is b = go (ltb 65536 (length b)) (eqb (verdict b) 0)
+print-is b = go (ltb longest-input (length b)) (eqb (verdict b) 0)
   where
     go : (long ok : Bool) →
         _≡_ {A = Bytes} (elim long [ true ↦ too-long-text | false ↦ elim ok [ false ↦ refused-text (verdict b) | true ↦ listing (read-leaves b) ] ]) (by-tests long ok b)
@@ -305,16 +305,26 @@ print-is b = go (ltb 65536 (length b)) (eqb (verdict b) 0)
     go false false = refl
 
 -- a longer input
-pub print-too-long : (b : Bytes) → 65536 < length b → print b ≡ too-long-text
+pub print-too-long : (b : Bytes) → longest-input < length b → print b ≡ too-long-text
 unfolding by-tests
-print-too-long b h = print-is b ∙ ap (λ (long : Bool). by-tests long (eqb (verdict b) 0) b) (lt-ltb 65536 (length b) h)
+print-too-long b h = print-is b ∙ ap (λ (long : Bool). by-tests long (eqb (verdict b) 0) b) (lt-ltb longest-input (length b) h)
 
 -- a refused image
-pub print-refused : (b : Bytes) → length b ≤ 65536 → (verdict b ≡ 0 → ⊥) → print b ≡ refused-text (verdict b)
+pub print-refused : (b : Bytes) → length b ≤ longest-input → (verdict b ≡ 0 → ⊥) → print b ≡ refused-text (verdict b)
 unfolding by-tests
-print-refused b h n = print-is b ∙ ap₂ (λ (long ok : Bool). by-tests long ok b) (le-ltb 65536 (length b) h) (ne-eqb (verdict b) 0 n)
+print-refused b h n = print-is b ∙ ap₂ (λ (long ok : Bool). by-tests long ok b) (le-ltb longest-input (length b) h) (ne-eqb (verdict b) 0 n)
 
 -- an accepted image
-pub print-accepted : (b : Bytes) → length b ≤ 65536 → verdict b ≡ 0 → print b ≡ listing (read-leaves b)
+pub print-accepted : (b : Bytes) → length b ≤ longest-input → verdict b ≡ 0 → print b ≡ listing (read-leaves b)
 unfolding by-tests
-print-accepted b h e = print-is b ∙ ap₂ (λ (long ok : Bool). by-tests long ok b) (le-ltb 65536 (length b) h) (eq-eqb (verdict b) 0 e)
+print-accepted b h e = print-is b ∙ ap₂ (λ (long ok : Bool). by-tests long ok b) (le-ltb longest-input (length b) h) (eq-eqb (verdict b) 0 e)
+
+-- THE FIRST 65,537 BYTES OF AN INPUT DECIDE ITS TEXT, so that the printer need not read more.
+pub start-decides : (s : Bytes) → print (take (suc longest-input) s) ≡ print s
+start-decides s = by-length (ltb (suc longest-input) (length s)) refl
+  where
+    by-length : (b : Bool) → ltb (suc longest-input) (length s) ≡ b → print (take (suc longest-input) s) ≡ print s
+    by-length true e =
+        let l = ltb-true (suc longest-input) (length s) e in
+        print-too-long (take (suc longest-input) s) (omega (arith, length-take-le (suc longest-input) s (omega arith))) ∙ sym (print-too-long s (omega arith))
+    by-length false e = ap print (take-all (suc longest-input) s (ltb-false (suc longest-input) (length s) e))

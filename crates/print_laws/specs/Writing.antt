@@ -7,7 +7,7 @@ use lib.ListN.{length, take, drop, set, length-append, length-set}
 use lib.Seq.{sets-eq, take-at}
 use Rattle.spec.specs.Bytes.{Bytes}
 use Rattle.bits_laws.specs.Bits.{placed}
-use Rattle.bits_laws.specs.Placing.{placed-placed}
+use Rattle.bits_laws.specs.Placing.{length-placed, placed-placed}
 
 -- `after` is `out` with xs from `at` on, and r is the place behind xs, at its end at most
 pub record Written (out : Bytes) (at : ℕ) (xs after : Bytes) (r : ℕ) : Type 0 where
@@ -18,6 +18,10 @@ pub record Written (out : Bytes) (at : ℕ) (xs after : Bytes) (r : ℕ) : Type 
 -- nothing is written
 pub written-none : (out : Bytes) (at : ℕ) → at ≤ length out → Written out at [] out at
 written-none out at h = record { text = sets-eq [] out at (omega arith); next = omega arith; within = h }
+
+-- bytes are placed
+pub written-placed : (out : Bytes) (at : ℕ) (xs after : Bytes) → at + length xs ≤ length out → after ≡ placed out at xs → Written out at xs after (at + length xs)
+written-placed out at xs after h e = record { text = e; next = refl; within = omega (arith, ap length e, length-placed out at xs h) }
 
 -- one byte is stored
 pub written-byte : (out : Bytes) (at x : ℕ) → at < length out → Written out at (x ∷ []) (set out at x) (at + 1)

@@ -1,4 +1,2 @@
-pub mod Openings
-pub mod OpeningLaws
-pub mod Pages
-pub mod PageLaws
+pub mod Printing
+pub mod PrintLaws

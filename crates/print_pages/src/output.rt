@@ -1,15 +1,14 @@
-// Reading the input, and writing its text. No contract can say which bytes are read or written; what goes out is what `open` and `write_page` promise,
-// and the law `printed` says that it is the whole text.
+// Reading the input, and writing its text. No contract can say which bytes a system call reads or writes;
+// what is handed on is, page after page, the text of the input, which the loop that writes the pages keeps as its invariant.
 ghost use Prim.Native.Nat.{_≤_};
 ghost use lib.ListN.{length};
-ghost use Rattle.nav_laws.specs.Accepted.{Accepted};
 ghost use Rattle.print_laws.specs.Texts.{longest-line};
-use super::opening::Opening;
+ghost use Rattle.print_pages.specs.Printing.{Progress, Handed};
+use super::opening::Follows;
 use super::opening::open;
 use super::pages::write_page;
-use image_types::Frame;
 use libc::STDOUT_FILENO;
-use walk_cursor::first;
+use walk::states::State;
 
 // The bytes of a page.
 const PAGE: usize = 16384;
@@ -17,33 +16,54 @@ const PAGE: usize = 16384;
 // One byte more than the longest image, so that a longer input shows.
 const INPUT: usize = 65537;
 
-// The lines of an accepted image, page after page, until all are written or a page cannot be.
-fn write_pages(image: &[u8], f: Frame, page: &mut [u8])
-    requires { ⌜ Accepted (now image) f × (longest-line ≤ length (now page)) ⌝ }
+// How much of a text has been handed on: its first bytes, and whether they are all.
+pub struct Sent {
+    pub bytes: usize,
+    pub all: bool,
+}
+
+// The lines of an image's leaves from a state's on, page after page, until all are written or a page cannot be. The first bytes of the text, `sent` of them, have been written before.
+fn write_pages(image: &[u8], from: State, sent: usize, page: &mut [u8]) -> Sent
+    requires { ⌜ Progress (now image) from sent × (longest-line ≤ length (now page)) ⌝ }
+    ensures { λ r. ⌜ Handed (now (image .entry)) r ⌝ }
 {
-    let mut at = first(image, f);
-    while at.place < f.leaves {
-        let written = write_page(image, f, at, page);
+    let mut at = from;
+    let mut bytes = sent;
+    loop {
+        let written = write_page(image, at, page);
         let len = written.len;
-        if !io::write_all(STDOUT_FILENO, &page[..len]) {
-            return;
+        if len == 0 {
+            return Sent { bytes, all: true };
         }
+        if !io::write_all(STDOUT_FILENO, &page[..len]) {
+            return Sent { bytes, all: false };
+        }
+        bytes = bytes + len;
         at = written.next;
     }
 }
 
 // The text of an input.
-fn write_text(input: &[u8]) {
+fn write_text(input: &[u8]) -> Sent
+    ensures { λ r. ⌜ Handed (now (input .entry)) r ⌝ }
+{
     let mut page = [0u8; PAGE];
-    match open(input, &mut page) {
-        Opening::Whole(len) => {
-            io::write_all(STDOUT_FILENO, &page[..len]);
-        }
-        Opening::Listing(len, f) => {
-            if io::write_all(STDOUT_FILENO, &page[..len]) {
-                write_pages(input, f, &mut page);
-            }
-        }
+    let opening = open(input, &mut page);
+    let len = opening.len;
+    let follows = opening.follows;
+    let at = opening.at;
+    if !io::write_all(STDOUT_FILENO, &page[..len]) {
+        return Sent {
+            bytes: 0,
+            all: false,
+        };
+    }
+    match follows {
+        Follows::Nothing => Sent {
+            bytes: len,
+            all: true,
+        },
+        Follows::Lines => write_pages(input, at, len, &mut page),
     }
 }
 

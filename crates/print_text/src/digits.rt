@@ -6,6 +6,7 @@ ghost use lib.ListN.{length};
 ghost use Rattle.spec.specs.Bytes.{letter};
 ghost use Rattle.spec.specs.Print.{decimal, hex-digit, hex};
 ghost use Rattle.print_laws.specs.Writing.{Written};
+use bits::copy::write_bytes;
 
 // The byte x goes to out at `at`.
 pub fn write_byte(out: &mut [u8], at: usize, x: u8) -> usize
@@ -21,13 +22,8 @@ pub fn write_text(out: &mut [u8], at: usize, text: &[u8]) -> usize
     requires { ⌜ at + length (now text) ≤ length (now out) ⌝ }
     ensures { λ r. ⌜ Written (now (out .entry)) at (now (text .entry)) (now (out .exit)) r ⌝ }
 {
-    let mut next = at;
-    let mut i = 0usize;
-    while i < text.len() {
-        next = write_byte(out, next, text[i]);
-        i = i + 1;
-    }
-    next
+    write_bytes(out, at, text);
+    at + text.len()
 }
 
 // The decimal figure of a number below ten.

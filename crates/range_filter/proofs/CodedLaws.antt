@@ -1,31 +1,21 @@
--- An answer as one number, by its cases: what the calls that write into a buffer rest on.
-use Prim.Native.Nat.{ℕ, _+_, _*_}
-use mathlib.Core.Path.{_≡_, sym, ap, _∙_}
+-- An answer as one number decodes, because no call writes 2^32 bytes.
+use Prim.Native.Nat.{ℕ, _<_}
+use mathlib.Core.Path.{_≡_, refl, ap, subst, _∙_}
 use native.Mathlib.Omega.{arith}
 use Rattle.spec.specs.Bytes.{Bytes}
-use Rattle.spec.specs.Answer.{Answer, Outcome, number, bytes-written}
-use Rattle.range_filter.specs.Filter.{coded}
+use Rattle.spec.specs.Answer.{Answer, Outcome, written, refused, number, bytes-written, refusal-weight, answer-code}
+use Rattle.image_types.specs.declared.Written.{Written}
+use Rattle.image_types.specs.Outcomes.{answer-of, outcome}
+use Rattle.range_filter.specs.Filter.{Coded}
 
--- the number of an answer
-code : Answer → ℕ
-code a = number a * 4294967296 + bytes-written a
+-- the bytes of an answer are few, where those of a success are
+few-bytes : (a : Answer) → ((n : ℕ) → a ≡ written n → n < refusal-weight) → bytes-written a < refusal-weight
+few-bytes (written n) h = h n refl
+few-bytes (refused r) h = omega arith
 
--- an answer with a buffer's final bytes
-abbrev outcome : Answer → Bytes → Outcome
-outcome a out = record { answer = a; final = out }
-
--- the enum b that a call gives is j, and answer-of gives its number and values
-module _ {E : Type 0} (answer-of : E → Answer) {b j : E} (out : Bytes) (o : Outcome) (e : b ≡ j) (f : outcome (answer-of b) out ≡ o) where
-  coded-as : (r : ℕ) → r ≡ code (answer-of j) → coded r out o
-  unfolding code
-  coded-as r g = (g ∙ ap code (ap answer-of (sym e) ∙ ap (λ (z : Outcome). z .answer) f), ap (λ (z : Outcome). z .final) f)
-
-  -- a success: its bytes
-  pub coded-written : (n : ℕ) → answer-of j ≡ Answer.written n → coded n out o
-  unfolding code
-  coded-written n h = let z : n ≡ code (Answer.written n) = omega arith in coded-as n (z ∙ ap code (sym h))
-
-  -- a refusal: its number times 2^32
-  pub coded-refused : (r : ℕ) → answer-of j ≡ Answer.refused r → coded (r * 4294967296) out o
-  unfolding code
-  coded-refused r h = let z : r * 4294967296 ≡ code (Answer.refused r) = omega arith in coded-as (r * 4294967296) (z ∙ ap code (sym h))
+-- The number of an outcome whose bytes are few decodes.
+pub coded : (w : Written) (final : Bytes) (o : Outcome) (r : ℕ) → outcome w final ≡ o → r ≡ answer-code (answer-of w) → ((n : ℕ) → o .answer ≡ written n → n < refusal-weight) → Coded r final o
+coded w final o r e f h =
+    let c : r ≡ answer-code (o .answer) = f ∙ ap (λ (p : Outcome). answer-code (p .answer)) e in
+    let few = few-bytes (o .answer) h in
+    record { code = c; refusal = omega arith; written = omega arith; buffer = ap (λ (p : Outcome). p .final) e }

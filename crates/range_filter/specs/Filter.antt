@@ -1,13 +1,18 @@
 -- How the calls for programs in other languages give an answer as one number.
-use Prim.Native.Nat.{ℕ, _+_, _*_}
+use Prim.Native.Nat.{ℕ, _/_, _%_}
 use mathlib.Core.Path.{_≡_}
 use Rattle.spec.specs.Bytes.{Bytes}
-use Rattle.spec.specs.Answer.{Outcome, number, bytes-written}
+use Rattle.spec.specs.Answer.{Outcome, number, bytes-written, refusal-weight, answer-code}
 use Rattle.spec.specs.Check.{Checked, accepted, refused}
 
--- the number of a refusal, 0 for success, times 2^32, plus the bytes written; and the buffer's final bytes
-abbrev pub coded : ℕ → Bytes → Outcome → Type 0
-coded r out o = (r ≡ number (o .answer) * 4294967296 + bytes-written (o .answer)) × (out ≡ o .final)
+-- The number r and the buffer's final bytes are those of the outcome, and r decodes.
+pub record Coded (r : ℕ) (final : Bytes) (o : Outcome) : Type 0 where
+  pub code : r ≡ answer-code (o .answer)
+  -- the quotient by 2^32 is the number of the refusal, 0 for success
+  pub refusal : r / refusal-weight ≡ number (o .answer)
+  -- the rest is the bytes written, 0 for a refusal
+  pub written : r % refusal-weight ≡ bytes-written (o .answer)
+  pub buffer : final ≡ o .final
 
 -- the number of what check says, 0 for an accepted image
 abbrev pub number-of : Checked → ℕ

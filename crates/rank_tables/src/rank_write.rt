@@ -1,25 +1,28 @@
 // Ranks of a finished body, counted by words.
 ghost use mathlib.Core.Path.{_≡_};
-ghost use Prim.Native.Nat.{ℕ, _+_, _*_, _≤_, _<_};
-ghost use lib.ListN.{length, take};
+ghost use Prim.Native.Nat.{_*_};
 ghost use Rattle.bits_laws.specs.Bits.{placed};
 ghost use Rattle.rank_tables_laws.specs.Entries.{rank-entries};
+ghost use Rattle.rank_tables_laws.specs.Tables.{spanned, Ranks-room};
 use bits::numbers::write32;
 use bits::ones::rank_from;
+use rank_tables_laws::Span;
 
-// Entry b, for each b below n, is the ones before the block b of so many words of the body in the first m bytes; the entries go to out from `to`.
-// The slice starts at the body that is counted, since two parts of one output can't be lent at once.
-pub fn fill_ranks(out: &mut [u8], m: usize, to: usize, n: usize, words: usize)
-    requires { ⌜ (m < 4294967296) × (m ≤ to) × (to + 4 * n ≤ length (now out)) × ((b : ℕ) → b < n → 64 * (words * b) ≤ 8 * m) ⌝ }
-    ensures { λ _. ⌜ now (out .exit) ≡ placed (now (out .entry)) to (rank-entries (64 * words) (take m (now (out .entry))) n) ⌝ }
+// The table of n ranks goes to out from `table`: entry b is the ones before block b, of so many words, of the finished body.
+// The ones are counted in a shared part, the body; then the part from the table's start is lent to write the entry.
+pub fn fill_ranks(out: &mut [u8], body: Span, table: usize, n: usize, words: usize)
+    requires { ⌜ Ranks-room (now out) body table n words ⌝ }
+    ensures { λ _. ⌜ now (out .exit) ≡ placed (now (out .entry)) table (rank-entries (64 * words) (spanned (now (out .entry)) body) n) ⌝ }
 {
-    let mut q = 0usize;
-    let mut r = 0usize;
-    let mut b = 0usize;
+    let from = body.at;
+    let end = from + body.len;
+    let mut q = 0usize; // the first word that is not counted yet
+    let mut r = 0usize; // the ones before it
+    let mut b = 0usize; // the next entry
     while b < n {
-        r = rank_from(&out[..m], q, r, 64 * (words * b));
+        r = rank_from(&out[from..end], q, r, 64 * (words * b));
         q = words * b;
-        write32(out, to + 4 * b, r);
+        write32(&mut out[table..], 4 * b, r);
         b = b + 1;
     }
 }

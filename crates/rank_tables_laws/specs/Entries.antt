@@ -2,7 +2,7 @@
 use Prim.Native.Nat.{ℕ, zero, suc, _+_, _*_, _%_, _/_, _≤_, _<_}
 use mathlib.Core.Path.{_≡_, refl, sym, ap, ap₂, _∙_}
 use mathlib.Core.Bool.{Bool, true, false, _&&_, and-false}
-use mathlib.Core.List.{[], _∷_, _++_, map, append-assoc, append-nil}
+use mathlib.Core.List.{List, [], _∷_, _++_, map, append-assoc, append-nil}
 use native.Mathlib.Omega.{arith}
 use native.Mathlib.Nat.{mod-lt, add-zero}
 use native.Mathlib.Numerals.{add-one}
@@ -183,11 +183,12 @@ module _ (f : ℕ → ℕ) (n : ℕ) (t : Bytes) where
 
 -- ---- a table written entry by entry
 
-iota-snoc : (f : ℕ → Bytes) (k a : ℕ) → concat (map f (iota a (suc k))) ≡ concat (map f (iota a k)) ++ f (a + k)
+-- what stands at one number more goes behind
+pub iota-snoc : {A : Type 0} (f : ℕ → List A) (k a : ℕ) → concat (map f (iota a (suc k))) ≡ concat (map f (iota a k)) ++ f (a + k)
 unfolding concat iota
 iota-snoc f zero a = append-nil (f a) ∙ ap f (sym (add-zero a))
 iota-snoc f (suc k) a =
-    ap (λ (z : Bytes). f a ++ z) (iota-snoc f k (suc a) ∙ ap (λ (m : ℕ). concat (map f (iota (suc a) k)) ++ f m) (omega arith))
+    ap (λ z. f a ++ z) (iota-snoc f k (suc a) ∙ ap (λ (m : ℕ). concat (map f (iota (suc a) k)) ++ f m) (omega arith))
     ∙ sym (append-assoc (f a) (concat (map f (iota (suc a) k))) (f (a + suc k)))
 
 -- no entry

@@ -3,3 +3,4 @@ pub mod Ranks
 pub mod Samples
 pub mod Spare
 pub mod Tables
+pub mod Filling

@@ -12,6 +12,7 @@ use borrow.Author.Tests.{leb-false, ltb-true, ltb-false, eqb-true, eqb-false}
 use lib.Seq.{take-all}
 use Rattle.spec.specs.Bytes.{Bytes, Bits, blocks, equal, ones, unpack}
 use Rattle.spec.specs.Image.{positions, samples}
+use Rattle.theory.specs.Bits.{length-positions}
 use Rattle.bits_laws.specs.Bits.{bit-at, rank, select}
 use Rattle.bits_laws.specs.ValueLaws.{Small}
 use Rattle.bits_laws.specs.RankLaws.{rank-next, rank-up, rank-slow}
@@ -20,13 +21,6 @@ use Rattle.rank_tables_laws.specs.Entries.{entries, entries-same, entry,
 use Rattle.rank_tables_laws.specs.Ranks.{length-first, rank-first}
 
 -- ---- positions of ones
-
--- as many positions as ones
-length-positions : (i : ℕ) (bs : Bits) → length (positions i bs) ≡ ones bs
-unfolding positions ones
-length-positions i [] = refl
-length-positions i (true ∷ bs) = omega (arith, length-positions (suc i) bs)
-length-positions i (false ∷ bs) = omega (arith, length-positions (suc i) bs)
 
 -- the one at j is the one behind those before it
 position-at : (i : ℕ) (bs : Bits) (j : ℕ) → ones (take (suc j) bs) ≡ suc (ones (take j bs)) → getD (positions i bs) (ones (take j bs)) 0 ≡ i + j

@@ -1,16 +1,39 @@
--- What the functions of this crate ask of a body and its table.
+-- What the functions of rank_tables ask of a body and its table.
 use Prim.Native.Nat.{ℕ, _+_, _-_, _*_, _≤_, _<_, min}
 use mathlib.Core.Path.{_≡_, refl, sym, ap, ap₂, _∙_}
 use mathlib.Core.Bool.{Bool, true, false, _&&_, and-false}
 use lib.ListN.{length}
 use lib.Dec.{leb, eqb}
 use borrow.Author.Tests.{le-leb, lt-leb, eq-eqb, ne-eqb, eqb-true, eqb-false}
-use Rattle.spec.specs.Bytes.{Bytes}
+use Rattle.spec.specs.Bytes.{Bytes, blocks}
 use native.Mathlib.Omega.{arith}
-use Rattle.bits_laws.specs.Bits.{bit-at, rank, select}
+use Rattle.bits_laws.specs.Bits.{bit-at, rank, select, part}
 use Rattle.bits_laws.specs.RankLaws.{rank-up}
 use Rattle.rank_tables_laws.specs.Entries.{entry}
 use Rattle.rank_tables_laws.specs.Samples.{One-at, select-one, one-select, select-within, sampled}
+use Rattle.rank_tables_laws.specs.declared.Span.{Span}
+
+-- ---- a table written behind a finished body
+
+-- the bytes of a span
+abbrev pub spanned : Bytes → Span → Bytes
+spanned s b = part s (b .at) (b .len)
+
+-- n ranks of the body in a span, for blocks of so many words, have room in `out` from an offset on
+pub record Ranks-room (out : Bytes) (body : Span) (table n words : ℕ) : Type 0 where
+  pub behind : body .at + body .len ≤ table  -- the table starts behind the body
+  pub room : table + 4 * n ≤ length out  -- it ends within the output
+  pub short : body .len < 4294967296  -- no rank is longer than 32 bits
+  pub starts : (b : ℕ) → b < n → 64 * (words * b) ≤ 8 * body .len  -- every block starts within the body
+
+-- the samples of the first so many bits of the body in a span have room in `out` from an offset on
+pub record Samples-room (out : Bytes) (body : Span) (bits table : ℕ) : Type 0 where
+  pub behind : body .at + body .len ≤ table  -- the table starts behind the body
+  pub within : bits ≤ 8 * body .len  -- the bits are in the body
+  pub short : bits < 4294967296  -- no position is longer than 32 bits
+  pub room : table + 4 * blocks 64 (rank (spanned out body) bits) ≤ length out  -- the table ends within the output
+
+-- ---- a table compared
 
 -- a body, and a table of n entries, one for each block of so many words that starts within the body
 pub record Ranked (body table : Bytes) (n words : ℕ) : Type 0 where

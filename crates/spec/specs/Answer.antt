@@ -1,5 +1,5 @@
--- Document 01, "Turning a file down": what build and ask answer, and what they leave in the buffer lent to them.
-use Prim.Native.Nat.{ℕ}
+-- Document 01, "Turning a file down": what build, ask and the walk that writes records answer, and what they leave in the buffer lent to them.
+use Prim.Native.Nat.{ℕ, _+_, _*_}
 use mathlib.Core.Bool.{true, false}
 use mathlib.Core.List.{_++_}
 use lib.ListN.{length, drop}
@@ -20,6 +20,14 @@ number (refused r) = r
 abbrev pub bytes-written : Answer → ℕ
 bytes-written (written n) = n
 bytes-written (refused r) = 0
+
+-- 2^32: what a refusal's number is multiplied with where an answer is given as one number
+abbrev pub refusal-weight : ℕ
+refusal-weight = 4294967296
+
+-- An answer as one number, for programs in other languages: the number of a refusal, 0 for success, times 2^32, plus the bytes written.
+abbrev pub answer-code : Answer → ℕ
+answer-code a = number a * refusal-weight + bytes-written a
 
 -- the answer, and the buffer's final bytes
 pub record Outcome : Type 0 where

@@ -12,7 +12,7 @@ use Rattle.spec.specs.Answer.{Outcome, refuse, write}
 
 -- dense levels 0 to 4, suffix width 0 to 16
 unfoldable pub in-range : Settings → Bool
-in-range st = leb (st .dense) 4 && leb (st .width) 16
+in-range st = leb (st .dense-levels) 4 && leb (st .width) 16
 
 -- the trie's entries: branches and exact leaves together
 unfoldable pub trie-entries : List Leaf → ℕ

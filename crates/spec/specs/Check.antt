@@ -6,23 +6,12 @@ use mathlib.Core.Option.{Option, none, some}
 use lib.ListN.{length, getD, drop}
 use lib.Dec.{leb, eqb}
 use Rattle.spec.specs.Bytes.{Bytes, Bits, all, every, blocks, equal, from32, clear, unpack}
-use Rattle.spec.specs.Image.{ranks, samples}
-use Rattle.spec.specs.Frame.{marks, has-header, read-bodies, body, Parts, parts}
+use Rattle.spec.specs.Image.{rows, sizes, Bodies, ranks, samples}
+use Rattle.spec.specs.Frame.{has-header, read-bodies, named, read-settings, read-counts, Parts, parts}
 use Rattle.spec.specs.Nodes.{Node, slot, branches-of, exact-slot, levels-of, nodes-of}
 use Rattle.spec.specs.Trie.{builders-trie}
 
 -- ---- 12
-
--- the body lengths that the counts give
-unfoldable pub sizes : Parts → List ℕ
-sizes p =
-    let dn : ℕ = p .dense-count in
-    let se : ℕ = p .entry-count in
-    32 * dn ∷ 32 * dn ∷ blocks 8 dn
-    ∷ se ∷ blocks 8 se ∷ blocks 8 se
-    ∷ blocks 8 (p .leaves * p .width)
-    ∷ 4 * blocks 64 (256 * dn) ∷ 4 * blocks 64 (256 * dn) ∷ 4 * blocks 64 dn ∷ 4 * blocks 512 se
-    ∷ 4 * blocks 64 (p .sparse-count) ∷ []
 
 -- bodies of just these lengths
 unfoldable pub sized : List ℕ → List Bytes → Bool
@@ -36,11 +25,11 @@ unfoldable pub header-valid : Bytes → Parts → List Bytes → Bool
 unfolding every sizes sized
 header-valid s p bs = every (
     eqb (getD s 2 0) 1
-    ∷ leb (p .dense) 4
-    ∷ leb (p .width) 16
+    ∷ leb (p .settings .dense-levels) 4
+    ∷ leb (p .settings .width) 16
     ∷ eqb (getD s 5 0) 0
-    ∷ leb (p .leaves) 65535
-    ∷ sized (sizes p) bs
+    ∷ leb (p .counts .leaves) 65535
+    ∷ sized (sizes (p .settings) (p .counts)) bs
     ∷ [])
 
 -- ---- 13
@@ -51,26 +40,26 @@ unfolding clear unpack
 no-spare n body = clear (drop n (unpack body))
 
 -- 13 does not apply: no spare bit is set in DP, SC, SB or SV; the other bodies end with their last byte
-unfoldable pub spare-clear : Parts → List Bytes → Bool
+unfoldable pub spare-clear : Parts → Bodies → Bool
 unfolding every no-spare
-spare-clear p bs = every (
-    no-spare (p .dense-count) (body bs 2)
-    ∷ no-spare (p .entry-count) (body bs 4)
-    ∷ no-spare (p .entry-count) (body bs 5)
-    ∷ no-spare (p .leaves * p .width) (body bs 6)
+spare-clear p b = every (
+    no-spare (p .counts .dense-nodes) (b .DP)
+    ∷ no-spare (p .counts .sparse-entries) (b .SC)
+    ∷ no-spare (p .counts .sparse-entries) (b .SB)
+    ∷ no-spare (p .counts .leaves * p .settings .width) (b .SV)
     ∷ [])
 
 -- ---- 15
 
 -- 15 does not apply: RL, RC, RP and RS are the ranks of DL, DC, DP and SC, and TS the samples of SB
-unfoldable pub ranks-valid : Parts → List Bytes → Bool
+unfoldable pub ranks-valid : Parts → Bodies → Bool
 unfolding every equal ranks samples
-ranks-valid p bs = every (
-    equal (body bs 7) (ranks 64 (p .dl))
-    ∷ equal (body bs 8) (ranks 64 (p .dc))
-    ∷ equal (body bs 9) (ranks 64 (p .dp))
-    ∷ equal (body bs 10) (ranks 512 (p .sc))
-    ∷ equal (body bs 11) (samples (p .sb))
+ranks-valid p b = every (
+    equal (b .RL) (ranks 64 (p .dl))
+    ∷ equal (b .RC) (ranks 64 (p .dc))
+    ∷ equal (b .RP) (ranks 64 (p .dp))
+    ∷ equal (b .RS) (ranks 512 (p .sc))
+    ∷ equal (b .TS) (samples (p .sb))
     ∷ [])
 
 -- ---- 16
@@ -97,19 +86,20 @@ slots-valid d (ns ∷ ls) = all (slot-valid d) ns && slots-valid (suc d) ls
 
 -- the first of 12 to 16 that applies to a header and bodies, or 0
 unfoldable pub judge-bodies : Bytes → List Bytes → ℕ
-unfolding from32 unpack parts header-valid spare-clear builders-trie ranks-valid slots-valid levels-of nodes-of
+unfolding from32 unpack read-settings read-counts named parts header-valid spare-clear builders-trie ranks-valid slots-valid levels-of nodes-of
 judge-bodies s bs =
-    let p : Parts = parts s bs in
+    let b : Bodies = named bs in
+    let p : Parts = parts s b in
     elim (header-valid s p bs) [
       | false ↦ 12
       | true ↦
-          elim (spare-clear p bs) [
+          elim (spare-clear p b) [
             | false ↦ 13
             | true ↦
                 elim (builders-trie p) [
                   | false ↦ 14
                   | true ↦
-                      elim (ranks-valid p bs) [
+                      elim (ranks-valid p b) [
                         | false ↦ 15
                         | true ↦
                             elim (slots-valid 0 (levels-of (nodes-of p))) [ false ↦ 16 | true ↦ 0 ]
@@ -120,9 +110,9 @@ judge-bodies s bs =
 
 -- the first of 11 to 16 that applies, or 0
 unfoldable pub verdict : Bytes → ℕ
-unfolding read-bodies judge-bodies has-header
+unfolding rows read-bodies judge-bodies has-header
 verdict s =
-    let f : Option (List Bytes) = read-bodies marks (drop 22 s) in
+    let f : Option (List Bytes) = read-bodies rows (drop 22 s) in
     elim (has-header s) [ false ↦ 11 | true ↦ elim f [ none ↦ 11 | some bs ↦ judge-bodies s bs ] ]
 
 -- what check answers: accepted, or a refusal's number

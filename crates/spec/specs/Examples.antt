@@ -41,7 +41,7 @@ bodies-of dense n ks = bodies dense (leaves n ks)
 -- a list's image, by dense levels and n
 unfoldable pub image-of : ℕ → ℕ → List Bytes → Bytes
 unfolding image leaves
-image-of dense n ks = image (record { dense = dense; width = n }) (leaves n ks)
+image-of dense n ks = image (record { dense-levels = dense; width = n }) (leaves n ks)
 
 -- the leaves read back from a list's image without dense levels
 unfoldable pub leaves-read : ℕ → List Bytes → List Leaf

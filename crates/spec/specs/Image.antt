@@ -1,5 +1,6 @@
 -- Document 01, "Records of an image": the trie's nodes in level order, the twelve bodies, the header and the image.
 use Prim.Native.Nat.{ℕ, suc, _+_, _-_, _*_}
+use Prim.Native.Char.{Char}
 use mathlib.Core.Bool.{Bool, true, false, cond, not, _&&_}
 use mathlib.Core.List.{List, [], _∷_, _++_, map}
 use lib.ListN.{length, getD, take, replicate}
@@ -9,8 +10,15 @@ use Rattle.spec.specs.Leaves.{Leaf}
 
 -- dense levels, and the suffix width n
 pub record Settings : Type 0 where
-  pub dense : ℕ
+  pub dense-levels : ℕ
   pub width : ℕ
+
+-- the header's four counts
+pub record Counts : Type 0 where
+  pub leaves : ℕ
+  pub dense-nodes : ℕ
+  pub sparse-entries : ℕ
+  pub sparse-nodes : ℕ
 
 -- ---- the trie
 
@@ -110,7 +118,39 @@ samples bs =
     let xs : List ℕ = positions 0 bs in
     concat (map (λ t. le32 (getD xs (64 * t) 0)) (iota 0 (blocks 64 (length xs))))
 
--- ---- the image
+-- ---- the records
+
+-- a record of an image: the two letters of its mark, and the length of its body by the settings and the counts
+pub record Row : Type 0 where
+  pub first : ℕ
+  pub second : ℕ
+  pub size : Settings → Counts → ℕ
+
+-- a row of the table below
+abbrev row : Char → Char → (Settings → Counts → ℕ) → Row
+row a b size = record { first = letter a; second = letter b; size = size }
+
+-- The twelve records behind the header, in their order. The builder lays an image out by this table, and the check finds the bodies and their lengths by it.
+unfoldable pub rows : List Row
+rows =
+    row "D" "L" (λ st c. 32 * c .dense-nodes)
+    ∷ row "D" "C" (λ st c. 32 * c .dense-nodes)
+    ∷ row "D" "P" (λ st c. blocks 8 (c .dense-nodes))
+    ∷ row "S" "L" (λ st c. c .sparse-entries)
+    ∷ row "S" "C" (λ st c. blocks 8 (c .sparse-entries))
+    ∷ row "S" "B" (λ st c. blocks 8 (c .sparse-entries))
+    ∷ row "S" "V" (λ st c. blocks 8 (c .leaves * st .width))
+    ∷ row "R" "L" (λ st c. 4 * blocks 64 (256 * c .dense-nodes))
+    ∷ row "R" "C" (λ st c. 4 * blocks 64 (256 * c .dense-nodes))
+    ∷ row "R" "P" (λ st c. 4 * blocks 64 (c .dense-nodes))
+    ∷ row "R" "S" (λ st c. 4 * blocks 512 (c .sparse-entries))
+    ∷ row "T" "S" (λ st c. 4 * blocks 64 (c .sparse-nodes))
+    ∷ []
+
+-- the body lengths that the settings and the counts give
+unfoldable pub sizes : Settings → Counts → List ℕ
+unfolding rows
+sizes st c = map (λ r. r .size st c) rows
 
 -- the twelve bodies, under their marks
 pub record Bodies : Type 0 where
@@ -127,7 +167,25 @@ pub record Bodies : Type 0 where
   pub RS : Bytes
   pub TS : Bytes
 
--- the bodies of a leaf list: nodes on levels below the dense setting are dense, the rest sparse
+-- the bodies in the order of their records
+abbrev pub in-order : Bodies → List Bytes
+in-order b = b .DL ∷ b .DC ∷ b .DP ∷ b .SL ∷ b .SC ∷ b .SB ∷ b .SV ∷ b .RL ∷ b .RC ∷ b .RP ∷ b .RS ∷ b .TS ∷ []
+
+-- a record's bytes: a two-byte mark, a 32-bit body length and a body
+unfoldable pub marked : ℕ → ℕ → Bytes → Bytes
+unfolding le32
+marked a b body = a ∷ b ∷ le32 (length body) ++ body
+
+-- records one behind the other, each with its body
+unfoldable pub write-records : List Row → List Bytes → Bytes
+unfolding marked
+write-records [] bs = []
+write-records (r ∷ rs) [] = []
+write-records (r ∷ rs) (b ∷ bs) = marked (r .first) (r .second) b ++ write-records rs bs
+
+-- ---- the image
+
+-- the bodies of a leaf list by the dense levels: nodes on levels below them are dense, the rest sparse
 unfoldable pub bodies : ℕ → List Leaf → Bodies
 unfolding concat nodes dense-labels dense-has-child is-leaf sparse-labels sparse-has-child louds slots pack ranks samples
 bodies dense ls =
@@ -153,32 +211,24 @@ bodies dense ls =
       TS = samples sb;
     }
 
--- a record: a two-byte mark, a 32-bit body length and a body
-unfoldable pub marked : ℕ → ℕ → Bytes → Bytes
-unfolding le32
-marked a b body = a ∷ b ∷ le32 (length body) ++ body
+-- the counts of a leaf list by the dense levels
+unfoldable pub counts : ℕ → List Leaf → Counts
+unfolding nodes concat sparse-labels
+counts dense ls = record {
+  leaves = length ls;
+  dense-nodes = length (nodes ls 0 dense);
+  sparse-entries = length (concat (map (sparse-labels ls) (nodes ls dense 64)));
+  sparse-nodes = length (nodes ls dense 64);
+}
 
 -- the header, 22 bytes: "HD", version 1, dense levels, n, a zero byte, then the counts of leaves, dense nodes, sparse entries and sparse nodes
-unfoldable pub header : Settings → ℕ → ℕ → ℕ → ℕ → Bytes
+unfoldable pub header : Settings → Counts → Bytes
 unfolding le32
-header st leaf-count dense-nodes entries sparse-nodes =
-    letter "H" ∷ letter "D" ∷ 1 ∷ st .dense ∷ st .width ∷ 0 ∷ le32 leaf-count ++ (le32 dense-nodes ++ (le32 entries ++ le32 sparse-nodes))
+header st c =
+    letter "H" ∷ letter "D" ∷ 1 ∷ st .dense-levels ∷ st .width ∷ 0
+    ∷ le32 (c .leaves) ++ (le32 (c .dense-nodes) ++ (le32 (c .sparse-entries) ++ le32 (c .sparse-nodes)))
 
--- the image of a leaf list: header and twelve records
+-- the image of a leaf list: the header and the twelve records
 unfoldable pub image : Settings → List Leaf → Bytes
-unfolding header nodes bodies marked
-image st ls =
-    let b : Bodies = bodies (st .dense) ls in
-    header st (length ls) (length (nodes ls 0 (st .dense))) (length (b .SL)) (length (nodes ls (st .dense) 64)) ++ (
-    marked (letter "D") (letter "L") (b .DL) ++ (
-    marked (letter "D") (letter "C") (b .DC) ++ (
-    marked (letter "D") (letter "P") (b .DP) ++ (
-    marked (letter "S") (letter "L") (b .SL) ++ (
-    marked (letter "S") (letter "C") (b .SC) ++ (
-    marked (letter "S") (letter "B") (b .SB) ++ (
-    marked (letter "S") (letter "V") (b .SV) ++ (
-    marked (letter "R") (letter "L") (b .RL) ++ (
-    marked (letter "R") (letter "C") (b .RC) ++ (
-    marked (letter "R") (letter "P") (b .RP) ++ (
-    marked (letter "R") (letter "S") (b .RS) ++
-    marked (letter "T") (letter "S") (b .TS))))))))))))
+unfolding counts header bodies rows write-records
+image st ls = header st (counts (st .dense-levels) ls) ++ write-records rows (in-order (bodies (st .dense-levels) ls))

@@ -11,5 +11,6 @@ pub mod Trie
 pub mod Check
 pub mod Ask
 pub mod Walk
+pub mod WalkRecords
 pub mod Print
 pub mod Examples

@@ -7,7 +7,8 @@ use lib.ListN.{take, drop}
 use lib.Dec.{leb, eqb}
 use Rattle.spec.specs.Bytes.{Bytes, Bits, concat, from32, unpack}
 use Rattle.spec.specs.Leaves.{Leaf}
-use Rattle.spec.specs.Frame.{Parts, parts, read-bodies, marks}
+use Rattle.spec.specs.Image.{rows}
+use Rattle.spec.specs.Frame.{read-settings, read-counts, Parts, parts, named, read-bodies}
 
 -- ---- entries
 
@@ -156,7 +157,7 @@ sparse-nodes p = split (zip-entries (p .sl) (p .sc)) (p .sb)
 -- the nodes in level order, the dense ones first
 unfoldable pub nodes-of : Parts → List Node
 unfolding slotted dense-shapes sparse-shape sparse-nodes
-nodes-of p = slotted (p .width) (dense-shapes (p .dl) (p .dc) (p .dp) ++ map sparse-shape (sparse-nodes p)) (p .sv)
+nodes-of p = slotted (p .settings .width) (dense-shapes (p .dl) (p .dc) (p .dp) ++ map sparse-shape (sparse-nodes p)) (p .sv)
 
 -- ---- levels
 
@@ -225,8 +226,8 @@ leaves-of t = concat (groups t)
 
 -- the nodes in level order, from the records behind the header; none where the records do not stand
 unfoldable pub read-nodes : Bytes → List Node
-unfolding read-bodies from32 unpack parts nodes-of
-read-nodes s = elim (read-bodies marks (drop 22 s)) [ none ↦ [] | some bs ↦ nodes-of (parts s bs) ]
+unfolding rows read-bodies from32 unpack read-settings read-counts named parts nodes-of
+read-nodes s = elim (read-bodies rows (drop 22 s)) [ none ↦ [] | some bs ↦ nodes-of (parts s (named bs)) ]
 
 -- the leaf list: cut keys, kinds and suffixes in key order
 unfoldable pub read-leaves : Bytes → List Leaf

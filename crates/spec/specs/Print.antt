@@ -51,12 +51,16 @@ unfoldable pub listing : List Leaf → Bytes
 unfolding ascii decimal lines
 listing ls = ascii "leaves " ++ decimal (length ls) ++ 10 ∷ lines 0 ls
 
+-- the bytes of the longest input that is taken for an image
+abbrev pub longest-input : ℕ
+longest-input = 65536
+
 -- an image of at most 65,536 bytes: its leaves; a longer input: `too long`; a refused one: `refused` and the number
 unfoldable pub print : Bytes → Bytes
 unfolding verdict read-leaves ascii decimal listing
 print b =
     let v : ℕ = verdict b in
-    elim (ltb 65536 (length b)) [
+    elim (ltb longest-input (length b)) [
       | true ↦ ascii "too long" ++ (10 ∷ [])
       | false ↦
           elim (eqb v 0) [ false ↦ ascii "refused " ++ decimal v ++ (10 ∷ []) | true ↦ listing (read-leaves b) ]

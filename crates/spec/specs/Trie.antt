@@ -74,8 +74,8 @@ unfoldable pub builders-trie : Parts → Bool
 unfolding every first-set ones covered all extra-ends sparse-nodes nodes-valid nodes-of
 builders-trie p = every (
     first-set (p .sb)
-    ∷ eqb (ones (p .sb)) (p .sparse-count)
+    ∷ eqb (ones (p .sb)) (p .counts .sparse-nodes)
     ∷ covered (p .dc) (p .dl)
     ∷ all extra-ends (sparse-nodes p)
-    ∷ nodes-valid (p .dense) (p .dense-count) (p .leaves) (nodes-of p)
+    ∷ nodes-valid (p .settings .dense-levels) (p .counts .dense-nodes) (p .counts .leaves) (nodes-of p)
     ∷ [])

@@ -2,64 +2,37 @@
 -- Used by the buyer's demands.
 use Prim.Native.Nat.{ℕ, _*_, _+_, _-_, _/_, _≤_, _<_}
 use mathlib.Core.Path.{_≡_, sym, ap, refl, _∙_}
-use mathlib.Core.Bool.{true, Bool, false, true≢false}
+use mathlib.Core.Bool.{true}
 use mathlib.Core.List.{List, [], _∷_, map, _++_}
-use mathlib.Core.Option.{some, Option, none}
 use native.Mathlib.Omega.{arith}
-use lib.ListN.{drop, length, length-map, getD}
+use lib.ListN.{length, length-map, getD}
 use lib.Dec.{leb, eqb}
 use borrow.Author.Tests.{eq-eqb, le-leb}
 use Rattle.spec.specs.Bytes.{Bytes, Bits, pack, blocks, concat, ones, all, equal}
 use Rattle.spec.specs.Leaves.{Leaf}
-use Rattle.spec.specs.Image.{ranks, Settings, samples, image}
-use Rattle.spec.specs.Frame.{has-header, read-bodies, marks, parts, Parts}
+use Rattle.spec.specs.Image.{ranks, Settings, samples, image, rows, in-order, write-records, sizes}
+use Rattle.spec.specs.Frame.{has-header, parts, Parts, named}
 use Rattle.spec.specs.Nodes.{levels-of, nodes-of, Node, is-exact, extra-ends, sparse-nodes, total}
 use Rattle.spec.specs.Trie.{builders-trie, nodes-valid, first-set, covered}
-use Rattle.spec.specs.Check.{verdict, judge-bodies, header-valid, spare-clear, ranks-valid, slots-valid, sized, no-spare, sizes}
+use Rattle.spec.specs.Check.{verdict, header-valid, spare-clear, ranks-valid, slots-valid, sized, no-spare}
 use Rattle.theory.specs.Terms.{All}
+use Rattle.theory.specs.Demands.{Passes-11, Passes-12, Passes-13, Passes-14, Passes-15}
+use Rattle.theory.specs.CheckStages.{passes-verdict}
 use Rattle.theory.specs.Order.{equal-self}
 use Rattle.theory.specs.Lists.{true-every, concat-split}
-use Rattle.theory.specs.Frame.{drop-header, write-records}
+use Rattle.theory.specs.Frame.{drop-header}
 use Rattle.theory.specs.Bits.{length-pack, unpack-pack, length-ranks, length-samples}
 use Rattle.theory.specs.LevelTrie.{Node-group, trie, trie-dense, trie-sparse}
 use Rattle.theory.specs.LinkedLevels.{levels-back}
 use Rattle.theory.specs.Levels.{levels-of-concat, node-group-leaf}
 use Rattle.theory.specs.TrieTests.{Trie-valid, root-nodes-valid, root-first-width, nodes-valid-none, realizable-trie, Empty-or-valid, empty-list, valid-trie}
-use Rattle.theory.specs.NodeBits.{layout, bodies, bodies-bits, bodies-of, dense-labels, dense-has-child, sparse-labels, sparse-has-child, louds, slots, node-image}
+use Rattle.theory.specs.NodeBits.{bodies, bodies-bits, bodies-of, dense-labels, dense-has-child, sparse-labels, sparse-has-child, louds, slots, node-image, node-counts}
 use Rattle.theory.specs.LiteralImage.{Buildable, image-of-trie}
 use Rattle.theory.specs.DenseBits.{length-dl, length-dc, dense-covered}
 use Rattle.theory.specs.SparseBits.{length-sc, length-sb, louds-ones, sparse-shapes-back}
-use Rattle.theory.specs.ImageParts.{Writable, parts-of-nodes, sv-size, node-image-header, node-image-is, sparse-nodes-back, nodes-back, parts-back, node-image-bodies, trie-leaf-count, trie-writable, trie-levels-valid, empty-image, no-nodes-writable}
+use Rattle.theory.specs.ImageParts.{Writable, parts-of-nodes, sv-size, node-image-header, sparse-nodes-back, nodes-back, parts-back, node-image-bodies, trie-leaf-count, trie-writable, trie-levels-valid, empty-image, no-nodes-writable}
 
 -- ---- the tests, on what an image holds
-
-verdict-of-bodies : (s : Bytes) (bs : List Bytes) → has-header s ≡ true → read-bodies marks (drop 22 s) ≡ some bs → verdict s ≡ judge-bodies s bs
-unfolding verdict
-verdict-of-bodies s bs h f = go (has-header s) h (read-bodies marks (drop 22 s)) f
-  where
-    go : (a : Bool) → a ≡ true → (f : Option (List Bytes)) → f ≡ some bs → _≡_ {A = ℕ} (elim a [ false ↦ 11 | true ↦ elim f [ none ↦ 11 | some bs ↦ judge-bodies s bs ] ]) (judge-bodies s bs)
-    go false p f q = absurd (true≢false (sym p))
-    go true p none q = let z : _≡_ {A = ℕ} 0 1 = cc in absurd (omega arith)
-    go true p (some cs) q = let e : cs ≡ bs = cc in ap (judge-bodies s) e
-
-tests-accept : (s : Bytes) (bs : List Bytes) → header-valid s (parts s bs) bs ≡ true → spare-clear (parts s bs) bs ≡ true → builders-trie (parts s bs) ≡ true → ranks-valid (parts s bs) bs ≡ true
-    → slots-valid 0 (levels-of (nodes-of (parts s bs))) ≡ true → judge-bodies s bs ≡ 0
-unfolding judge-bodies
-tests-accept s bs a b c d e = go (header-valid s (parts s bs) bs) a (spare-clear (parts s bs) bs) b (builders-trie (parts s bs)) c (ranks-valid (parts s bs) bs) d (slots-valid 0 (levels-of (nodes-of (parts s bs)))) e
-  where
-    go : (a : Bool) → a ≡ true → (b : Bool) → b ≡ true → (c : Bool) → c ≡ true → (d : Bool) → d ≡ true → (e : Bool) → e ≡ true
-        → _≡_ {A = ℕ} (elim a [ false ↦ 12 | true ↦ elim b [ false ↦ 13 | true ↦ elim c [ false ↦ 14 | true ↦ elim d [ false ↦ 15 | true ↦ elim e [ false ↦ 16 | true ↦ 0 ] ] ] ] ]) 0
-    go false p b q c r d u e v = absurd (true≢false (sym p))
-    go true p false q c r d u e v = absurd (true≢false (sym q))
-    go true p true q false r d u e v = absurd (true≢false (sym r))
-    go true p true q true r false u e v = absurd (true≢false (sym u))
-    go true p true q true r true u false v = absurd (true≢false (sym v))
-    go true p true q true r true u true v = refl
-
--- Bytes that pass every test are accepted.
-tests-verdict : (s : Bytes) (bs : List Bytes) → has-header s ≡ true → read-bodies marks (drop 22 s) ≡ some bs → header-valid s (parts s bs) bs ≡ true → spare-clear (parts s bs) bs ≡ true
-    → builders-trie (parts s bs) ≡ true → ranks-valid (parts s bs) bs ≡ true → slots-valid 0 (levels-of (nodes-of (parts s bs))) ≡ true → verdict s ≡ 0
-tests-verdict s bs h f a b c d e = verdict-of-bodies s bs h f ∙ tests-accept s bs a b c d e
 
 -- bodies of these lengths
 abbrev Body-sizes : List ℕ → List Bytes → Type 0
@@ -87,8 +60,8 @@ no-spare-at k bs e = ap (λ (z : ℕ). no-spare z (pack bs)) (sym e) ∙ unpack-
 rank-size : (w k : ℕ) (bs : Bits) → length bs ≡ k → length (ranks w bs) ≡ 4 * ((k + (w - 1)) / w)
 rank-size w k bs e = length-ranks w bs ∙ ap (λ (z : ℕ). 4 * ((z + (w - 1)) / w)) e
 
-node-image-sized : (st : Settings) (count : ℕ) (ds ss : List Node) → Writable (st .width) count ds ss → sized (sizes (parts-of-nodes st count ds ss)) (layout (bodies ds ss)) ≡ true
-unfolding sizes
+node-image-sized : (st : Settings) (count : ℕ) (ds ss : List Node) → Writable (st .width) count ds ss → sized (sizes st (node-counts count ds ss)) (in-order (bodies ds ss)) ≡ true
+unfolding sizes rows
 node-image-sized st count ds ss w =
     let dl = length-dl ds in
     let dc = length-dc ds in
@@ -96,7 +69,7 @@ node-image-sized st count ds ss w =
     let sc = length-sc ss (w .sparse-labelled) in
     let sb = length-sb ss (w .sparse-labelled) in
     rw (bodies-bits ds ss)
-    (sized-true (sizes (parts-of-nodes st count ds ss)) (layout (bodies-of (concat (map dense-labels ds)) (concat (map dense-has-child ds)) (map is-exact ds) (concat (map sparse-labels ss)) (concat (map sparse-has-child ss)) (concat (map louds ss)) (concat (map slots (ds ++ ss))))) (
+    (sized-true (sizes st (node-counts count ds ss)) (in-order (bodies-of (concat (map dense-labels ds)) (concat (map dense-has-child ds)) (map is-exact ds) (concat (map sparse-labels ss)) (concat (map sparse-has-child ss)) (concat (map louds ss)) (concat (map slots (ds ++ ss))))) (
       (dense-size (length ds) (concat (map dense-labels ds)) dl),
       (
         (dense-size (length ds) (concat (map dense-has-child ds)) dc),
@@ -139,19 +112,19 @@ unfolding has-header
 node-image-has-header st count ds ss w =
     let h = node-image-header st count ds ss w in
     let s : Bytes = node-image st count ds ss in
-    let l : 22 ≤ length s = rw (node-image-is st count ds ss) (drop-header st count (length ds) (length (concat (map sparse-labels ss))) (length ss) (write-records marks (layout (bodies ds ss))) .5) in
+    let l : 22 ≤ length s = drop-header st (node-counts count ds ss) (write-records rows (in-order (bodies ds ss))) .5 in
     true-every (leb 22 (length s) ∷ eqb (getD s 0 0) 72 ∷ eqb (getD s 1 0) 68 ∷ []) (le-leb 22 (length s) l, (eq-eqb (getD s 0 0) 72 (h .mark-one), (eq-eqb (getD s 1 0) 68 (h .mark-two), tt)))
 
-node-image-header-valid : (st : Settings) (count : ℕ) (ds ss : List Node) → Writable (st .width) count ds ss → st .dense ≤ 4 → header-valid (node-image st count ds ss) (parts-of-nodes st count ds ss) (layout (bodies ds ss)) ≡ true
+node-image-header-valid : (st : Settings) (count : ℕ) (ds ss : List Node) → Writable (st .width) count ds ss → st .dense-levels ≤ 4 → header-valid (node-image st count ds ss) (parts-of-nodes st count ds ss) (in-order (bodies ds ss)) ≡ true
 unfolding header-valid
 node-image-header-valid st count ds ss w d =
     let h = node-image-header st count ds ss w in
     let s : Bytes = node-image st count ds ss in
-    true-every (eqb (getD s 2 0) 1 ∷ leb (st .dense) 4 ∷ leb (st .width) 16 ∷ eqb (getD s 5 0) 0 ∷ leb count 65535 ∷ sized (sizes (parts-of-nodes st count ds ss)) (layout (bodies ds ss)) ∷ [])
-    (eq-eqb (getD s 2 0) 1 (h .version), (le-leb (st .dense) 4 d, (le-leb (st .width) 16 (w .width-range), (eq-eqb (getD s 5 0) 0 (h .zero-byte), (le-leb count 65535 (w .few), (node-image-sized st count ds ss w, tt))))))
+    true-every (eqb (getD s 2 0) 1 ∷ leb (st .dense-levels) 4 ∷ leb (st .width) 16 ∷ eqb (getD s 5 0) 0 ∷ leb count 65535 ∷ sized (sizes st (node-counts count ds ss)) (in-order (bodies ds ss)) ∷ [])
+    (eq-eqb (getD s 2 0) 1 (h .version), (le-leb (st .dense-levels) 4 d, (le-leb (st .width) 16 (w .width-range), (eq-eqb (getD s 5 0) 0 (h .zero-byte), (le-leb count 65535 (w .few), (node-image-sized st count ds ss w, tt))))))
 
-node-image-spare-clear : (st : Settings) (count : ℕ) (ds ss : List Node) → Writable (st .width) count ds ss → spare-clear (parts-of-nodes st count ds ss) (layout (bodies ds ss)) ≡ true
-unfolding spare-clear
+node-image-spare-clear : (st : Settings) (count : ℕ) (ds ss : List Node) → Writable (st .width) count ds ss → spare-clear (parts-of-nodes st count ds ss) (named (in-order (bodies ds ss))) ≡ true
+unfolding spare-clear named
 node-image-spare-clear st count ds ss w =
     rw (bodies-bits ds ss) (true-every
     (no-spare (length ds) (pack (map is-exact ds)) ∷ no-spare (length (concat (map sparse-labels ss))) (pack (concat (map sparse-has-child ss))) ∷ no-spare (length (concat (map sparse-labels ss))) (pack (concat (map louds ss))) ∷ no-spare (count * st .width) (pack (concat (map slots (ds ++ ss)))) ∷ []) (
@@ -162,16 +135,16 @@ node-image-spare-clear st count ds ss w =
       ),
     ))
 
-node-image-builders-trie : (st : Settings) (count : ℕ) (ds ss : List Node) → Writable (st .width) count ds ss → nodes-valid (st .dense) (length ds) count (ds ++ ss) ≡ true → builders-trie (parts-of-nodes st count ds ss) ≡ true
+node-image-builders-trie : (st : Settings) (count : ℕ) (ds ss : List Node) → Writable (st .width) count ds ss → nodes-valid (st .dense-levels) (length ds) count (ds ++ ss) ≡ true → builders-trie (parts-of-nodes st count ds ss) ≡ true
 unfolding builders-trie
 node-image-builders-trie st count ds ss w b =
     let o = louds-ones ss (w .sparse-labelled) in
     let p : Parts = parts-of-nodes st count ds ss in
-    true-every (first-set (p .sb) ∷ eqb (ones (p .sb)) (p .sparse-count) ∷ covered (p .dc) (p .dl) ∷ all extra-ends (sparse-nodes p) ∷ nodes-valid (p .dense) (p .dense-count) (p .leaves) (nodes-of p) ∷ [])
-    (o .1, (eq-eqb (ones (p .sb)) (length ss) (o .0), (dense-covered ds, (ap (all extra-ends) (sparse-nodes-back st count ds ss w) ∙ sparse-shapes-back ss (w .sparse-labelled) (w .sparse-bytes) .1, (ap (nodes-valid (st .dense) (length ds) count) (nodes-back st count ds ss w) ∙ b, tt)))))
+    true-every (first-set (p .sb) ∷ eqb (ones (p .sb)) (p .counts .sparse-nodes) ∷ covered (p .dc) (p .dl) ∷ all extra-ends (sparse-nodes p) ∷ nodes-valid (p .settings .dense-levels) (p .counts .dense-nodes) (p .counts .leaves) (nodes-of p) ∷ [])
+    (o .1, (eq-eqb (ones (p .sb)) (length ss) (o .0), (dense-covered ds, (ap (all extra-ends) (sparse-nodes-back st count ds ss w) ∙ sparse-shapes-back ss (w .sparse-labelled) (w .sparse-bytes) .1, (ap (nodes-valid (st .dense-levels) (length ds) count) (nodes-back st count ds ss w) ∙ b, tt)))))
 
-node-image-ranks-valid : (st : Settings) (count : ℕ) (ds ss : List Node) → ranks-valid (parts-of-nodes st count ds ss) (layout (bodies ds ss)) ≡ true
-unfolding ranks-valid
+node-image-ranks-valid : (st : Settings) (count : ℕ) (ds ss : List Node) → ranks-valid (parts-of-nodes st count ds ss) (named (in-order (bodies ds ss))) ≡ true
+unfolding ranks-valid named
 node-image-ranks-valid st count ds ss =
     let p : Parts = parts-of-nodes st count ds ss in
     rw (bodies-bits ds ss) (true-every
@@ -179,14 +152,18 @@ node-image-ranks-valid st count ds ss =
     (equal-self (ranks 64 (p .dl)), (equal-self (ranks 64 (p .dc)), (equal-self (ranks 64 (p .dp)), (equal-self (ranks 512 (p .sc)), (equal-self (samples (p .sb)), tt))))))
 
 -- The image of nodes that pass the tests of a builder's trie and of its slots is accepted.
-pub node-image-accepted : (st : Settings) (count : ℕ) (ds ss : List Node) → Writable (st .width) count ds ss → st .dense ≤ 4 → nodes-valid (st .dense) (length ds) count (ds ++ ss) ≡ true
+pub node-image-accepted : (st : Settings) (count : ℕ) (ds ss : List Node) → Writable (st .width) count ds ss → st .dense-levels ≤ 4 → nodes-valid (st .dense-levels) (length ds) count (ds ++ ss) ≡ true
     → slots-valid 0 (levels-of (ds ++ ss)) ≡ true → verdict (node-image st count ds ss) ≡ 0
 node-image-accepted st count ds ss w d b c =
     let s : Bytes = node-image st count ds ss in
-    let bs : List Bytes = layout (bodies ds ss) in
-    let p : parts s bs ≡ parts-of-nodes st count ds ss = parts-back st count ds ss w in
-    tests-verdict s bs (node-image-has-header st count ds ss w) (node-image-bodies st count ds ss w)
-    (rw p (node-image-header-valid st count ds ss w d)) (rw p (node-image-spare-clear st count ds ss w)) (rw p (node-image-builders-trie st count ds ss w b)) (rw p (node-image-ranks-valid st count ds ss)) (rw (p, nodes-back st count ds ss w) c)
+    let bs : List Bytes = in-order (bodies ds ss) in
+    let p : parts s (named bs) ≡ parts-of-nodes st count ds ss = parts-back st count ds ss w in
+    let p11 : Passes-11 s bs = record { header = node-image-has-header st count ds ss w; bodies = node-image-bodies st count ds ss w } in
+    let p12 : Passes-12 s bs = record { before = p11; header = rw p (node-image-header-valid st count ds ss w d) } in
+    let p13 : Passes-13 s bs = record { before = p12; spare = rw p (node-image-spare-clear st count ds ss w) } in
+    let p14 : Passes-14 s bs = record { before = p13; trie = rw p (node-image-builders-trie st count ds ss w b) } in
+    let p15 : Passes-15 s bs = record { before = p14; ranks = rw p (node-image-ranks-valid st count ds ss) } in
+    passes-verdict s bs (record { before = p15; slots = rw (p, nodes-back st count ds ss w) c })
 
 -- The image of a buildable leaf list that is not empty is accepted.
 module _ (st : Settings) (ls : List Leaf) (v : Buildable st ls) (t : Trie-valid ls) where
@@ -195,19 +172,19 @@ module _ (st : Settings) (ls : List Leaf) (v : Buildable st ls) (t : Trie-valid 
 
   list-accepted : verdict (image st ls) ≡ 0
   list-accepted =
-      let b : nodes-valid (st .dense) (length (trie-dense (st .dense) ls)) (length ls) (concat (trie ls)) ≡ true
-      = root-nodes-valid (st .dense) (length ls) (st .width) (trie ls) ls (t .linked) (root-first-width t) (t .shallow) (t .root) (v .well-sized) (t .soles) (trie-leaf-count st ls v t) some-leaf in
+      let b : nodes-valid (st .dense-levels) (length (trie-dense (st .dense-levels) ls)) (length ls) (concat (trie ls)) ≡ true
+      = root-nodes-valid (st .dense-levels) (length ls) (st .width) (trie ls) ls (t .linked) (root-first-width t) (t .shallow) (t .root) (v .well-sized) (t .soles) (trie-leaf-count st ls v t) some-leaf in
       let c : levels-of (concat (trie ls)) ≡ trie ls = levels-of-concat (trie ls) (t .linked) (root-first-width t) (t .shallow) in
-      let whole = concat-split (st .dense) (trie ls) in
+      let whole = concat-split (st .dense-levels) (trie ls) in
       ap verdict (image-of-trie st ls v)
-      ∙ node-image-accepted st (length ls) (trie-dense (st .dense) ls) (trie-sparse (st .dense) ls) (trie-writable st ls v t) (v .dense-range) (rw whole b) (rw (whole, c) (trie-levels-valid st ls v t .valid))
+      ∙ node-image-accepted st (length ls) (trie-dense (st .dense-levels) ls) (trie-sparse (st .dense-levels) ls) (trie-writable st ls v t) (v .dense-range) (rw whole b) (rw (whole, c) (trie-levels-valid st ls v t .valid))
 
 empty-slots : slots-valid 0 (levels-of []) ≡ true
 unfolding slots-valid levels-of total
 empty-slots = refl
 
 empty-accepted : (st : Settings) → Buildable st [] → verdict (image st []) ≡ 0
-empty-accepted st v = ap verdict (empty-image st v) ∙ node-image-accepted st 0 [] [] (no-nodes-writable st (v .width-range)) (v .dense-range) (nodes-valid-none (st .dense) 0 0) empty-slots
+empty-accepted st v = ap verdict (empty-image st v) ∙ node-image-accepted st 0 [] [] (no-nodes-writable st (v .width-range)) (v .dense-range) (nodes-valid-none (st .dense-levels) 0 0) empty-slots
 
 -- The check accepts the image of every buildable leaf list.
 pub image-accepted : (st : Settings) (ls : List Leaf) → Buildable st ls → verdict (image st ls) ≡ 0

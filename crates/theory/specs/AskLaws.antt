@@ -19,7 +19,7 @@ use Rattle.spec.specs.Answer.{Outcome, refuse, success, write}
 use Rattle.spec.specs.Check.{verdict}
 use Rattle.spec.specs.Ask.{ask}
 use Rattle.spec.specs.Walk.{Stand, done, stand-at, open-walk, next-place, next}
-use Rattle.spec.specs.Print.{decimal, listing, print}
+use Rattle.spec.specs.Print.{longest-input, decimal, listing, print}
 use Rattle.theory.specs.Terms.{Is-bytes, Bound, Proper, All, Walk-correct, Taken}
 use Rattle.theory.specs.Lists.{count-bound, bytes-append, bytes-le32}
 use Rattle.theory.specs.LeafLists.{All-well-sized}
@@ -189,12 +189,12 @@ module _ (b : Bytes) (ls : List Leaf) (v : verdict b ≡ 0) (e : read-leaves b �
 -- ---- the printer
 
 -- the printer's text, by what its tests say
-print-is : (b : Bytes) (t : Bool) (v : ℕ) → ltb 65536 (length b) ≡ t → verdict b ≡ v
+print-is : (b : Bytes) (t : Bool) (v : ℕ) → ltb longest-input (length b) ≡ t → verdict b ≡ v
     → print b ≡ elim t [ true ↦ ascii "too long" ++ (10 ∷ []) | false ↦ elim (eqb v 0) [ false ↦ ascii "refused " ++ decimal v ++ (10 ∷ []) | true ↦ listing (read-leaves b) ] ]
 unfolding print
 print-is b t v e f =
     ap₂ {C = Bytes} (λ (t : Bool) (v : ℕ). elim t [ true ↦ ascii "too long" ++ (10 ∷ []) | false ↦ elim (eqb v 0) [ false ↦ ascii "refused " ++ decimal v ++ (10 ∷ []) | true ↦ listing (read-leaves b) ] ]) e f
 
 -- over an accepted image of at most 65,536 bytes
-pub print-correct : (b : Bytes) (ls : List Leaf) → verdict b ≡ 0 → read-leaves b ≡ ls → length b ≤ 65536 → print b ≡ listing ls
-print-correct b ls v e h = print-is b false 0 (le-ltb 65536 (length b) h) v ∙ ap listing e
+pub print-correct : (b : Bytes) (ls : List Leaf) → verdict b ≡ 0 → read-leaves b ≡ ls → length b ≤ longest-input → print b ≡ listing ls
+print-correct b ls v e h = print-is b false 0 (le-ltb longest-input (length b) h) v ∙ ap listing e

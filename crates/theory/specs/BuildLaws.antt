@@ -32,11 +32,11 @@ keys-of-list list ks h = rw (h, keys-of)
 -- ---- build
 
 -- settings in range
-pub in-range-exactly : (st : Settings) → (in-range st ≡ true) ↔ ((st .dense ≤ 4) × (st .width ≤ 16))
+pub in-range-exactly : (st : Settings) → (in-range st ≡ true) ↔ ((st .dense-levels ≤ 4) × (st .width ≤ 16))
 unfolding in-range
 in-range-exactly st = (
-  λ h. let p = and-both (leb (st .dense) 4) (leb (st .width) 16) h in (leb-true (st .dense) 4 (p .0), leb-true (st .width) 16 (p .1)),
-  λ p. rw (le-leb (st .dense) 4 (p .0), le-leb (st .width) 16 (p .1)),
+  λ h. let p = and-both (leb (st .dense-levels) 4) (leb (st .width) 16) h in (leb-true (st .dense-levels) 4 (p .0), leb-true (st .width) 16 (p .1)),
+  λ p. rw (le-leb (st .dense-levels) 4 (p .0), le-leb (st .width) 16 (p .1)),
 )
 
 -- 6 is never met
@@ -65,7 +65,7 @@ build-writes list st ks out r p k = build-is list st out true (keys ks) r p ∙ 
 
 -- settings in range, and at most 65,535 keys that ascend: what build reads from a key list
 pub record Built-from (st : Settings) (ks : List Bytes) : Type 0 where
-  pub dense-range : st .dense ≤ 4
+  pub dense-range : st .dense-levels ≤ 4
   pub width-range : st .width ≤ 16
   pub few : length ks ≤ 65535
   pub keys : Keys ks

@@ -1,25 +1,27 @@
 -- The buyer's demands 1, 2 and 3, on bytes, in the words of the sheet and of document 01 ("Words of demand 3").
 -- A reader needs this file, Terms and crate `spec`. DemandsMet proves them; the contracts of the public calls equate each call with its definition here.
-use Prim.Native.Nat.{ℕ, _+_, _<_, _≤_}
+use Prim.Native.Nat.{ℕ, _+_, _/_, _<_, _≤_}
 use mathlib.Core.Path.{_≡_}
 use mathlib.Core.Bool.{true, false}
 use mathlib.Core.List.{List, [], _∷_}
-use mathlib.Core.Option.{some}
+use mathlib.Core.Option.{none, some}
 use mathlib.Core.Logic.{_↔_}
 use lib.ListN.{length, getD, take, drop}
 use Rattle.spec.specs.Bytes.{Bytes, count}
 use Rattle.spec.specs.Keys.{below, within, keys, parse-keys, keys-of}
 use Rattle.spec.specs.Leaves.{Leaf, leaves}
-use Rattle.spec.specs.Image.{Settings, image}
-use Rattle.spec.specs.Frame.{read-settings}
-use Rattle.spec.specs.Nodes.{read-leaves}
+use Rattle.spec.specs.Image.{Settings, rows, image}
+use Rattle.spec.specs.Frame.{has-header, read-bodies, named, parts, read-settings}
+use Rattle.spec.specs.Nodes.{nodes-of, levels-of, read-leaves}
+use Rattle.spec.specs.Trie.{builders-trie}
 use Rattle.spec.specs.Questions.{stem-end, Question, QP, QS, QB, QR, QC, Reply, reply, replies, reply-at, taken, parse-questions, questions-of, question-at}
-use Rattle.spec.specs.Answer.{written, refused, Outcome, success}
+use Rattle.spec.specs.Answer.{written, refused, refusal-weight, Outcome, success}
 use Rattle.spec.specs.Build.{in-range, build}
-use Rattle.spec.specs.Check.{accepted, check}
+use Rattle.spec.specs.Check.{header-valid, spare-clear, ranks-valid, slots-valid, accepted, check}
 use Rattle.spec.specs.Ask.{ask}
 use Rattle.spec.specs.Walk.{open-walk, next}
-use Rattle.spec.specs.Print.{listing, print}
+use Rattle.spec.specs.WalkRecords.{record-size, records-from, walk-records}
+use Rattle.spec.specs.Print.{longest-input, listing, print}
 use Rattle.theory.specs.Terms.{In, Is-bytes, Key-list, Question-file, Taken, Walk-correct, From, Judged-alike}
 use Rattle.spec.specs.Check as Check
 use Rattle.spec.specs.Keys as Keys
@@ -96,6 +98,49 @@ pub data Build-refusal (list : Bytes) (st : Settings) (out : Bytes) : ℕ → Ty
   record-refused : {r : ℕ} → in-range st ≡ true → parse-keys list ≡ Keys.refused r → From 1 4 r → Build-refusal list st out r
   image-too-long : in-range st ≡ true → (ks : List Bytes) → parse-keys list ≡ keys ks → length out < length (image st (leaves (st .width) ks)) → Build-refusal list st out 7
 
+-- The stages of the check: the bodies of the image's records are bs, and none of the numbers from 11 up to the stage's own applies. What a number asks is its test in crate `spec`.
+module _ (b : Bytes) (bs : List Bytes) where
+  pub record Passes-11 : Type 0 where
+    pub header : has-header b ≡ true
+    pub bodies : read-bodies rows (drop 22 b) ≡ some bs
+
+  pub record Passes-12 : Type 0 where
+    pub before : Passes-11
+    pub header : header-valid b (parts b (named bs)) bs ≡ true
+
+  pub record Passes-13 : Type 0 where
+    pub before : Passes-12
+    pub spare : spare-clear (parts b (named bs)) (named bs) ≡ true
+
+  pub record Passes-14 : Type 0 where
+    pub before : Passes-13
+    pub trie : builders-trie (parts b (named bs)) ≡ true
+
+  pub record Passes-15 : Type 0 where
+    pub before : Passes-14
+    pub ranks : ranks-valid (parts b (named bs)) (named bs) ≡ true
+
+  pub record Passes-16 : Type 0 where
+    pub before : Passes-15
+    pub slots : slots-valid 0 (levels-of (nodes-of (parts b (named bs)))) ≡ true
+
+-- for check, each number over the whole image before the next
+pub data Check-refusal (b : Bytes) : ℕ → Type 0 where
+  -- "11, header short or unmarked,
+  header-missing : has-header b ≡ false → Check-refusal b 11
+  -- a mark wrong, a record running past the end, or bytes left over.
+  records-missing : read-bodies rows (drop 22 b) ≡ none → Check-refusal b 11
+  -- 12, version, settings or zero byte wrong, over 65,535 leaves, or a body length not as the counts give.
+  header-wrong : (bs : List Bytes) → Passes-11 b bs → header-valid b (parts b (named bs)) bs ≡ false → Check-refusal b 12
+  -- 13, a spare bit set, that is, one behind a body's last bit in its last byte.
+  spare-set : (bs : List Bytes) → Passes-12 b bs → spare-clear (parts b (named bs)) (named bs) ≡ false → Check-refusal b 13
+  -- 14, not a builder's trie.
+  no-trie : (bs : List Bytes) → Passes-13 b bs → builders-trie (parts b (named bs)) ≡ false → Check-refusal b 14
+  -- 15, a rank or sample wrong.
+  rank-wrong : (bs : List Bytes) → Passes-14 b bs → ranks-valid (parts b (named bs)) (named bs) ≡ false → Check-refusal b 15
+  -- 16, an exact leaf's slot not zero, or a suffix bit set past a key's 64th byte."
+  slot-set : (bs : List Bytes) → Passes-15 b bs → slots-valid 0 (levels-of (nodes-of (parts b (named bs)))) ≡ false → Check-refusal b 16
+
 -- for ask: the check's 11 to 16; then the questions' 21 to 24; then 25, replies longer than the reply buffer
 pub data Ask-refusal (b file out : Bytes) : ℕ → Type 0 where
   image-refused : {r : ℕ} → check b ≡ Check.refused r → From 11 16 r → Ask-refusal b file out r
@@ -114,7 +159,7 @@ pub record Kept (out : Bytes) (o : Outcome) : Type 0 where
   -- it "stays inside its buffers": the bytes written are within the buffer, which keeps its length and the bytes behind them
   pub success : (n : ℕ) → o .answer ≡ written n → (n ≤ length out) × (length (o .final) ≡ length out) × (drop n (o .final) ≡ drop n out)
 
--- The check and the walk are lent no buffer that they write. That every call ends is in its contract: each call gives what its definition gives, for every input.
+-- That every call ends is in its contract: each call gives what its definition gives, for every input.
 pub record Demand-1 : Type 0 where
   -- "A key list, an image or a question file, of any bytes and any length, handed to a public call gets its work done or the one refusal number that the order of checks names."
   -- Build: 1 to 5 and 7,
@@ -122,25 +167,33 @@ pub record Demand-1 : Type 0 where
   -- and never 6.
   pub never-six : (list : Bytes) → Is-bytes list → (st : Settings) (out : Bytes) → build list st out .answer ≡ refused 6 → ⊥
   -- Check: 11 to 16.
-  pub check-refuses : (b : Bytes) (r : ℕ) → check b ≡ Check.refused r → From 11 16 r
+  pub check-refuses : (b : Bytes) (r : ℕ) → (check b ≡ Check.refused r) ↔ Check-refusal b r
   -- Ask: those and 21 to 25.
   pub ask-refuses : (b file out : Bytes) (r : ℕ) → (ask b file out .answer ≡ refused r) ↔ Ask-refusal b file out r
   -- Walk: the check's and 17, where it is opened and where it goes on.
   pub walk-refuses : (b : Bytes) (place r : ℕ) → (open-walk b place ≡ Walk.refused r) ↔ Walk-refusal b place r
   pub next-refuses : (b : Bytes) (place r : ℕ) → (next b place ≡ Walk.refused r) ↔ Walk-refusal b place r
+  -- The walk that writes records: the same.
+  pub walk-records-refuses : (b : Bytes) (place : ℕ) (out : Bytes) (r : ℕ) → (walk-records b place out .answer ≡ refused r) ↔ Walk-refusal b place r
   -- "The call always ends and stays inside its buffers; after a refusal no lent byte has changed."
   pub build-kept : (list : Bytes) (st : Settings) (out : Bytes) → Kept out (build list st out)
   pub ask-kept : (b file out : Bytes) → Kept out (ask b file out)
-  -- What is written are bytes: of a list of bytes, and of an image and a question file of bytes.
+  pub walk-records-kept : (b : Bytes) (place : ℕ) (out : Bytes) → Kept out (walk-records b place out)
+  -- What is written are bytes: of a list of bytes, of an image and a question file of bytes, and of an image of bytes.
   pub build-bytes : (list : Bytes) → Is-bytes list → (st : Settings) (out : Bytes) (n : ℕ) → build list st out .answer ≡ written n → Is-bytes (take n (build list st out .final))
   pub ask-bytes : (b file : Bytes) → Is-bytes b → Is-bytes file → (out : Bytes) (n : ℕ) → ask b file out .answer ≡ written n → Is-bytes (take n (ask b file out .final))
+  pub walk-records-bytes : (b : Bytes) → Is-bytes b → (place : ℕ) (out : Bytes) (n : ℕ) → walk-records b place out .answer ≡ written n → Is-bytes (take n (walk-records b place out .final))
+  -- They are fewer than 2^32, so that an answer that is given as one number decodes.
+  pub build-short : (list : Bytes) → Is-bytes list → (st : Settings) (out : Bytes) (n : ℕ) → build list st out .answer ≡ written n → n < refusal-weight
+  pub ask-short : (b file : Bytes) → Is-bytes b → Is-bytes file → (out : Bytes) (n : ℕ) → ask b file out .answer ≡ written n → n < refusal-weight
+  pub walk-records-short : (b : Bytes) → Is-bytes b → (place : ℕ) (out : Bytes) (n : ℕ) → walk-records b place out .answer ≡ written n → n < refusal-weight
 
 -- ---- demand 2
 
 -- of an image that a list builds with settings st
 pub record Demand-2 : Type 0 where
-  -- "An image built from a key list is, byte for byte, the dense and sparse layout of that list's shortest distinguishing prefixes, their kinds and suffix bits."
-  pub layout : (st : Settings) (list b : Bytes) → Builds-with st list b → b ≡ image st (leaves (st .width) (keys-of list))
+  -- "An image built from a key list is, byte for byte, the dense and sparse in-order of that list's shortest distinguishing prefixes, their kinds and suffix bits."
+  pub in-order : (st : Settings) (list b : Bytes) → Builds-with st list b → b ≡ image st (leaves (st .width) (keys-of list))
   -- It is written from every key list, with settings in range, into every output that holds it.
   pub built : (st : Settings) (list : Bytes) (ks : List Bytes) → Is-bytes list → in-range st ≡ true → Key-list list ks
       → (out : Bytes) → length (image st (leaves (st .width) ks)) ≤ length out → build list st out ≡ success (image st (leaves (st .width) ks)) out
@@ -151,9 +204,11 @@ pub record Demand-2 : Type 0 where
       → ask b file out ≡ success (replies (leaves (st .width) (keys-of list)) (questions-of file)) out
   pub each-reply : (st : Settings) (list b : Bytes) → Builds-with st list b → (file out : Bytes) → Taken b file out
       → (i : ℕ) (q : Question) → question-at file i ≡ some q → reply-at i (ask b file out .final) ≡ reply (leaves (st .width) (keys-of list)) q
-  -- a walk gives them leaf by leaf, and the leaf printer prints them.
+  -- a walk gives them leaf by leaf, or writes the records of those from a place on, of as many as the buffer holds whole; and the leaf printer prints them.
   pub walk : (st : Settings) (list b : Bytes) → Builds-with st list b → Walk-correct b (leaves (st .width) (keys-of list))
-  pub print : (st : Settings) (list b : Bytes) → Builds-with st list b → length b ≤ 65536 → print b ≡ listing (leaves (st .width) (keys-of list))
+  pub records : (st : Settings) (list b : Bytes) → Builds-with st list b → (place : ℕ) → place ≤ length (leaves (st .width) (keys-of list)) → (out : Bytes)
+      → walk-records b place out ≡ success (records-from (leaves (st .width) (keys-of list)) place (length out / record-size)) out
+  pub print : (st : Settings) (list b : Bytes) → Builds-with st list b → length b ≤ longest-input → print b ≡ listing (leaves (st .width) (keys-of list))
 
 -- ---- demand 3
 

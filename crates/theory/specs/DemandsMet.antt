@@ -1,5 +1,5 @@
 -- The three demands hold.
-use Prim.Native.Nat.{ℕ, _+_, _<_, _≤_}
+use Prim.Native.Nat.{ℕ, _/_, _+_, _<_, _≤_}
 use mathlib.Core.Path.{_≡_, refl, sym, ap, ap₂, subst, _∙_}
 use mathlib.Core.Bool.{true, false}
 use mathlib.Core.List.{List, [], _∷_, _++_}
@@ -33,6 +33,9 @@ use Rattle.theory.specs.BuildLaws.{built-from, built-fits, keys-of-list,
 use Rattle.theory.specs.AskLaws.{bytes-replies, reply-written, Answered, ask-answers, ask-takes, walk-correct, print-correct}
 use Rattle.theory.specs.ImageBytes.{image-bytes}
 use Rattle.theory.specs.RefusalNumbers.{check-accepts, check-refuses}
+use Rattle.spec.specs.WalkRecords.{record-size, records-from, walk-records}
+use Rattle.theory.specs.WalkRecordLaws.{bytes-records-from, records-written, records-answered, walk-records-refuses, walk-records-kept}
+use Rattle.theory.specs.LengthBounds.{leaves-are, build-short, ask-short, walk-records-short}
 use Rattle.theory.specs.RefusalLaws.{build-refuses, never-six, ask-refuses, ask-writes-replies, walk-refuses, next-refuses, judged-alike, build-kept, ask-kept}
 use Rattle.theory.specs.LiteralImage.{Buildable}
 use Rattle.theory.specs.AcceptImage.{image-accepted}
@@ -130,10 +133,6 @@ sought-found : (j : ℕ) (r : Bytes) → sought (found j r) ≡ record { letter 
 unfolding sought
 sought-found j r = refl
 
--- an accepted image's leaves are read back
-leaves-are : (b : Bytes) (o : Accept.Image-of-leaves b) → read-leaves b ≡ o .leaves
-leaves-are b o = ap read-leaves (o .image-is) ∙ read-back (o .settings) (o .leaves) (o .fits)
-
 -- ---- demand 1
 
 build-bytes : (list : Bytes) → Is-bytes list → (st : Settings) (out : Bytes) (n : ℕ) → build list st out .answer ≡ Answer.written n → Is-bytes (take n (build list st out .final))
@@ -148,6 +147,12 @@ ask-bytes b file s w out n h =
     let q = questions-exactly file (questions-of file) w .0 (r .1) in
     rw (r .2, leaves-are b o) (bytes-replies (o .settings .width) (o .leaves) (o .fits .well-sized) (questions-of file) (q .each))
 
+walk-records-bytes : (b : Bytes) → Is-bytes b → (place : ℕ) (out : Bytes) (n : ℕ) → walk-records b place out .answer ≡ Answer.written n → Is-bytes (take n (walk-records b place out .final))
+walk-records-bytes b s place out n h =
+    let w = records-answered b place out n h in
+    let o = Accept.accepted-is-image b s (w .0) in
+    rw (w .1, leaves-are b o) (bytes-records-from (o .settings .width) (o .fits .width-range) (o .leaves) (o .fits .well-sized) place (length out / record-size))
+
 -- Demand 1.
 pub demand-1 : Demand-1
 demand-1 = record {
@@ -157,10 +162,16 @@ demand-1 = record {
   ask-refuses = ask-refuses;
   walk-refuses = walk-refuses;
   next-refuses = next-refuses;
+  walk-records-refuses = walk-records-refuses;
   build-kept = build-kept;
   ask-kept = ask-kept;
+  walk-records-kept = walk-records-kept;
   build-bytes = build-bytes;
   ask-bytes = ask-bytes;
+  walk-records-bytes = walk-records-bytes;
+  build-short = build-short;
+  ask-short = ask-short;
+  walk-records-short = walk-records-short;
 }
 
 -- ---- demand 2
@@ -168,7 +179,7 @@ demand-1 = record {
 -- Demand 2.
 pub demand-2 : Demand-2
 demand-2 = record {
-  layout = λ st list b w. list-image st list b w;
+  in-order = λ st list b w. list-image st list b w;
   built = key-list-builds;
   read-back = λ st list b w. (list-read st list b w, list-settings st list b w);
   all-replies = λ st list b w file out t.
@@ -176,6 +187,9 @@ demand-2 = record {
   each-reply = λ st list b w file out t i q e.
       reply-is b file out (leaves (st .width) (keys-of list)) (ask-answers b file out (list-accepted st list b w) t) (list-read st list b w) (list-fits st list b w .few) i q e;
   walk = λ st list b w. walk-correct b (leaves (st .width) (keys-of list)) (list-accepted st list b w) (list-read st list b w);
+  records = λ st list b w place h out.
+      let e = list-read st list b w in
+      records-written b place out (list-accepted st list b w) (omega (arith, ap length e)) ∙ ap (λ (z : List Leaf). success (records-from z place (length out / record-size)) out) e;
   print = λ st list b w h. print-correct b (leaves (st .width) (keys-of list)) (list-accepted st list b w) (list-read st list b w) h;
 }
 

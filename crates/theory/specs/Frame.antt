@@ -1,4 +1,4 @@
--- 32-bit numbers, records behind their marks and the header, written and read back.
+-- 32-bit numbers, records behind their rows and the header, written and read back.
 -- Used where an image is written or read: the parts of an image, acceptance, and the replies of questions.
 use Prim.Native.Nat.{ℕ, _<_, _+_, _*_, _%_, _/_, _≤_, suc, zero}
 use mathlib.Core.Path.{_≡_, sym, refl, ap, _∙_}
@@ -12,8 +12,8 @@ use lib.Seq.{length-take-le, drop-append-seam, take-append-seam, getD-drop}
 use lib.Dec.{leb, eqb}
 use borrow.Author.Tests.{leb-true, eqb-true, le-leb, eq-eqb}
 use Rattle.spec.specs.Bytes.{Bytes, le32, from32, iota}
-use Rattle.spec.specs.Image.{marked, Settings, header}
-use Rattle.spec.specs.Frame.{body, is-record, read-bodies}
+use Rattle.spec.specs.Image.{Row, marked, write-records, Settings, Counts, header}
+use Rattle.spec.specs.Frame.{is-record, read-bodies, read-settings, read-counts}
 use Rattle.theory.specs.Lists.{bytes-drop, every-true, true-every, first-members}
 use Rattle.theory.specs.Terms.{Is-bytes, All}
 
@@ -46,14 +46,6 @@ from32-le32 n r h =
     (sym (div-add-mod' n 256)) (rw (← f₂) (sym (div-add-mod' (n / 256) 256))) (rw (← f₃) (sym (div-add-mod' (n / 65536) 256))) (mod-eq-of-lt top)
 
 -- ---- records
-
--- the records of bodies in order, each behind its mark
-unfoldable pub write-records : List ℕ → List Bytes → Bytes
-unfolding marked
-write-records [] bs = []
-write-records (a ∷ []) bs = []
-write-records (a ∷ b ∷ ms) [] = []
-write-records (a ∷ b ∷ ms) (body ∷ bs) = marked a b body ++ write-records ms bs
 
 record-six-bytes : (a b : ℕ) (s : Bytes) → is-record a b s ≡ true → length s < 6 → ⊥
 unfolding is-record
@@ -90,34 +82,32 @@ record-split a b (x₀ ∷ x₁ ∷ x₂ ∷ x₃ ∷ x₄ ∷ x₅ ∷ s) w h =
         rw (marked-is a b (take n s), six-on, size, four, take-append-drop n s, p .1, p .2)
 
 -- Bytes whose bodies are read are the records of these bodies.
-pub read-bodies-some : (ms : List ℕ) (s : Bytes) (bs : List Bytes) → Is-bytes s → read-bodies ms s ≡ some bs → s ≡ write-records ms bs
+pub read-bodies-some : (rs : List Row) (s : Bytes) (bs : List Bytes) → Is-bytes s → read-bodies rs s ≡ some bs → s ≡ write-records rs bs
 unfolding read-bodies write-records
 read-bodies-some [] [] bs w h = refl
 read-bodies-some [] (x ∷ s) bs w h = let z : _≡_ {A = ℕ} 0 1 = cc in absurd (omega arith)
-read-bodies-some (a ∷ []) s bs w h = let z : _≡_ {A = ℕ} 0 1 = cc in absurd (omega arith)
-read-bodies-some (a ∷ b ∷ ms) s bs w h = go (is-record a b s) refl (read-bodies ms (drop (from32 (drop 2 s) + 6) s)) refl h
-    (λ cs f. read-bodies-some ms (drop (from32 (drop 2 s) + 6) s) cs (bytes-drop (from32 (drop 2 s) + 6) s w) f)
+read-bodies-some (r ∷ rs) s bs w h = go (is-record (r .first) (r .second) s) refl (read-bodies rs (drop (from32 (drop 2 s) + 6) s)) refl h
+    (λ cs f. read-bodies-some rs (drop (from32 (drop 2 s) + 6) s) cs (bytes-drop (from32 (drop 2 s) + 6) s w) f)
   where
-    go : (t : Bool) → is-record a b s ≡ t → (r : Option (List Bytes)) → read-bodies ms (drop (from32 (drop 2 s) + 6) s) ≡ r
-        → elim t [ true ↦ elim r [ none ↦ none | some bs ↦ some (take (from32 (drop 2 s)) (drop 6 s) ∷ bs) ] | false ↦ none ] ≡ some bs
-        → ((cs : List Bytes) → read-bodies ms (drop (from32 (drop 2 s) + 6) s) ≡ some cs → drop (from32 (drop 2 s) + 6) s ≡ write-records ms cs) → s ≡ write-records (a ∷ b ∷ ms) bs
+    go : (t : Bool) → is-record (r .first) (r .second) s ≡ t → (o : Option (List Bytes)) → read-bodies rs (drop (from32 (drop 2 s) + 6) s) ≡ o
+        → elim t [ true ↦ elim o [ none ↦ none | some bs ↦ some (take (from32 (drop 2 s)) (drop 6 s) ∷ bs) ] | false ↦ none ] ≡ some bs
+        → ((cs : List Bytes) → read-bodies rs (drop (from32 (drop 2 s) + 6) s) ≡ some cs → drop (from32 (drop 2 s) + 6) s ≡ write-records rs cs) → s ≡ write-records (r ∷ rs) bs
     go true e none f h ih = let z : _≡_ {A = ℕ} 0 1 = cc in absurd (omega arith)
     go true e (some cs) f h ih =
         let q : bs ≡ take (from32 (drop 2 s)) (drop 6 s) ∷ cs = cc in
-        rw q (record-split a b s w e ∙ ap (λ (z : Bytes). marked a b (take (from32 (drop 2 s)) (drop 6 s)) ++ z) (ih cs f))
-    go false e r f h ih = let z : _≡_ {A = ℕ} 0 1 = cc in absurd (omega arith)
+        rw q (record-split (r .first) (r .second) s w e ∙ ap (λ (z : Bytes). marked (r .first) (r .second) (take (from32 (drop 2 s)) (drop 6 s)) ++ z) (ih cs f))
+    go false e o f h ih = let z : _≡_ {A = ℕ} 0 1 = cc in absurd (omega arith)
 
 -- every body's length fits 32 bits
 abbrev pub Short-bodies : List Bytes → Type 0
 Short-bodies bs = All (λ b. length b < 4294967296) bs
 
--- two marks for each body
-abbrev pub Paired : List ℕ → List Bytes → Type 0
+-- as many records as bodies
+abbrev pub Paired : List Row → List Bytes → Type 0
 Paired [] [] = Unit
-Paired [] (body ∷ bs) = ⊥
-Paired (a ∷ []) bs = ⊥
-Paired (a ∷ b ∷ ms) [] = ⊥
-Paired (a ∷ b ∷ ms) (body ∷ bs) = Paired ms bs
+Paired [] (b ∷ bs) = ⊥
+Paired (r ∷ rs) [] = ⊥
+Paired (r ∷ rs) (b ∷ bs) = Paired rs bs
 
 first-mark : (a b : ℕ) (body r : Bytes) → getD (marked a b body ++ r) 0 0 ≡ a
 unfolding marked
@@ -161,29 +151,29 @@ read-bodies-end : read-bodies [] [] ≡ some []
 unfolding read-bodies
 read-bodies-end = refl
 
-read-bodies-step : (a b : ℕ) (ms : List ℕ) (s : Bytes) (cs : List Bytes) → is-record a b s ≡ true → read-bodies ms (drop (from32 (drop 2 s) + 6) s) ≡ some cs
-    → read-bodies (a ∷ b ∷ ms) s ≡ some (take (from32 (drop 2 s)) (drop 6 s) ∷ cs)
+read-bodies-step : (r : Row) (rs : List Row) (s : Bytes) (cs : List Bytes) → is-record (r .first) (r .second) s ≡ true → read-bodies rs (drop (from32 (drop 2 s) + 6) s) ≡ some cs
+    → read-bodies (r ∷ rs) s ≡ some (take (from32 (drop 2 s)) (drop 6 s) ∷ cs)
 unfolding read-bodies
-read-bodies-step a b ms s cs e f = go (is-record a b s) e (read-bodies ms (drop (from32 (drop 2 s) + 6) s)) f
+read-bodies-step r rs s cs e f = go (is-record (r .first) (r .second) s) e (read-bodies rs (drop (from32 (drop 2 s) + 6) s)) f
   where
-    go : (t : Bool) → t ≡ true → (r : Option (List Bytes)) → r ≡ some cs
-        → elim t [ true ↦ elim r [ none ↦ none | some bs ↦ some (take (from32 (drop 2 s)) (drop 6 s) ∷ bs) ] | false ↦ none ] ≡ some (take (from32 (drop 2 s)) (drop 6 s) ∷ cs)
+    go : (t : Bool) → t ≡ true → (o : Option (List Bytes)) → o ≡ some cs
+        → elim t [ true ↦ elim o [ none ↦ none | some bs ↦ some (take (from32 (drop 2 s)) (drop 6 s) ∷ bs) ] | false ↦ none ] ≡ some (take (from32 (drop 2 s)) (drop 6 s) ∷ cs)
     go true e none f = let z : _≡_ {A = ℕ} 0 1 = cc in absurd (omega arith)
     go true e (some bs) f = let q : bs ≡ cs = cc in rw q
-    go false e r f = let z : _≡_ {A = ℕ} 0 1 = cc in absurd (omega arith)
+    go false e o f = let z : _≡_ {A = ℕ} 0 1 = cc in absurd (omega arith)
 
 -- The bodies of written records are read back.
-pub read-bodies-write : (ms : List ℕ) (bs : List Bytes) → Paired ms bs → Short-bodies bs → read-bodies ms (write-records ms bs) ≡ some bs
+pub read-bodies-write : (rs : List Row) (bs : List Bytes) → Paired rs bs → Short-bodies bs → read-bodies rs (write-records rs bs) ≡ some bs
 unfolding write-records
 read-bodies-write [] [] p h = read-bodies-end
 read-bodies-write [] (x ∷ bs) p h = absurd p
-read-bodies-write (a ∷ []) bs p h = absurd p
-read-bodies-write (a ∷ b ∷ ms) [] p h = absurd p
-read-bodies-write (a ∷ b ∷ ms) (body ∷ bs) p h =
-    let q = record-front a b body (write-records ms bs) (h .0) in
-    let behind : drop (from32 (drop 2 (marked a b body ++ write-records ms bs)) + 6) (marked a b body ++ write-records ms bs) ≡ write-records ms bs = ap (λ (n : ℕ). drop (n + 6) (marked a b body ++ write-records ms bs)) (q .1) ∙ drop-record a b body (write-records ms bs) in
-    let inside : take (from32 (drop 2 (marked a b body ++ write-records ms bs))) (drop 6 (marked a b body ++ write-records ms bs)) ≡ body = ap (λ (n : ℕ). take n (drop 6 (marked a b body ++ write-records ms bs))) (q .1) ∙ record-body a b body (write-records ms bs) in
-    read-bodies-step a b ms (marked a b body ++ write-records ms bs) bs (q .0) (ap (read-bodies ms) behind ∙ read-bodies-write ms bs p (h .1)) ∙ ap (λ (z : Bytes). some (z ∷ bs)) inside
+read-bodies-write (r ∷ rs) [] p h = absurd p
+read-bodies-write (r ∷ rs) (body ∷ bs) p h =
+    let s : Bytes = marked (r .first) (r .second) body ++ write-records rs bs in
+    let q = record-front (r .first) (r .second) body (write-records rs bs) (h .0) in
+    let behind : drop (from32 (drop 2 s) + 6) s ≡ write-records rs bs = ap (λ (n : ℕ). drop (n + 6) s) (q .1) ∙ drop-record (r .first) (r .second) body (write-records rs bs) in
+    let inside : take (from32 (drop 2 s)) (drop 6 s) ≡ body = ap (λ (n : ℕ). take n (drop 6 s)) (q .1) ∙ record-body (r .first) (r .second) body (write-records rs bs) in
+    read-bodies-step r rs s bs (q .0) (ap (read-bodies rs) behind ∙ read-bodies-write rs bs p (h .1)) ∙ ap (λ (z : Bytes). some (z ∷ bs)) inside
 
 -- A byte string of two parts has bytes in each.
 pub bytes-split : (a b : Bytes) → Is-bytes (a ++ b) → Is-bytes a × Is-bytes b
@@ -195,14 +185,13 @@ unfolding marked
 bytes-body a b body s = bytes-split (a ∷ b ∷ le32 (length body)) body s .1
 
 -- The bodies of records that are bytes are bytes.
-pub bytes-bodies : (ms : List ℕ) (bs : List Bytes) → Paired ms bs → Is-bytes (write-records ms bs) → All Is-bytes bs
+pub bytes-bodies : (rs : List Row) (bs : List Bytes) → Paired rs bs → Is-bytes (write-records rs bs) → All Is-bytes bs
 unfolding write-records
 bytes-bodies [] [] p s = tt
 bytes-bodies [] (b ∷ bs) p s = absurd p
-bytes-bodies (a ∷ []) bs p s = absurd p
-bytes-bodies (a ∷ b ∷ ms) [] p s = absurd p
-bytes-bodies (a ∷ b ∷ ms) (body ∷ bs) p s =
-    let q = bytes-split (marked a b body) (write-records ms bs) s in (bytes-body a b body (q .0), bytes-bodies ms bs p (q .1))
+bytes-bodies (r ∷ rs) [] p s = absurd p
+bytes-bodies (r ∷ rs) (body ∷ bs) p s =
+    let q = bytes-split (marked (r .first) (r .second) body) (write-records rs bs) s in (bytes-body (r .first) (r .second) body (q .0), bytes-bodies rs bs p (q .1))
 
 -- ---- the header
 
@@ -220,58 +209,66 @@ from32-at k s = rw (getD-drop k s 0 0, getD-drop k s 1 0, getD-drop k s 2 0, get
 le32-at : (k : ℕ) (s : Bytes) → Is-bytes s → le32 (from32 (drop k s)) ≡ getD s (k + 0) 0 ∷ getD s (k + 1) 0 ∷ getD s (k + 2) 0 ∷ getD s (k + 3) 0 ∷ []
 le32-at k s w = ap le32 (from32-at k s) ∙ le32-from32 (getD s (k + 0) 0) (getD s (k + 1) 0) (getD s (k + 2) 0) (getD s (k + 3) 0) [] (bytes-getD (k + 0) s w) (bytes-getD (k + 1) s w) (bytes-getD (k + 2) s w) (bytes-getD (k + 3) s w)
 
-header-is : (st : Settings) (a b c d : ℕ) → header st a b c d ≡ 72 ∷ 68 ∷ 1 ∷ st .dense ∷ st .width ∷ 0 ∷ le32 a ++ (le32 b ++ (le32 c ++ le32 d))
+header-is : (st : Settings) (c : Counts)
+    → header st c ≡ 72 ∷ 68 ∷ 1 ∷ st .dense-levels ∷ st .width ∷ 0 ∷ le32 (c .leaves) ++ (le32 (c .dense-nodes) ++ (le32 (c .sparse-entries) ++ le32 (c .sparse-nodes)))
 unfolding header
-header-is st a b c d = refl
+header-is st c = refl
 
--- 22 bytes that are marked as a header, of this version and with its zero byte, are the header of the fields read from them.
-pub header-from-fields : (s : Bytes) → Is-bytes s → 22 ≤ length s → getD s 0 0 ≡ 72 → getD s 1 0 ≡ 68 → getD s 2 0 ≡ 1 → getD s 5 0 ≡ 0
-    → take 22 s ≡ header (record { dense = getD s 3 0; width = getD s 4 0 }) (from32 (drop 6 s)) (from32 (drop 10 s)) (from32 (drop 14 s)) (from32 (drop 18 s))
-unfolding iota
+-- 22 bytes that are marked as a header, of this version and with its zero byte, are the header of the settings and counts read from them.
+pub header-from-fields : (s : Bytes) → Is-bytes s → 22 ≤ length s → getD s 0 0 ≡ 72 → getD s 1 0 ≡ 68 → getD s 2 0 ≡ 1 → getD s 5 0 ≡ 0 → take 22 s ≡ header (read-settings s) (read-counts s)
+unfolding iota read-settings read-counts
 header-from-fields s w h a b c d =
-    first-members 0 22 s h
-    ∙ rw (header-is (record { dense = getD s 3 0; width = getD s 4 0 }) (from32 (drop 6 s)) (from32 (drop 10 s)) (from32 (drop 14 s)) (from32 (drop 18 s)), le32-at 6 s w, le32-at 10 s w, le32-at 14 s w, le32-at 18 s w, a, b, c, d)
+    first-members 0 22 s h ∙ rw (header-is (read-settings s) (read-counts s), le32-at 6 s w, le32-at 10 s w, le32-at 14 s w, le32-at 18 s w, a, b, c, d)
 
 -- the fields that are read from a byte string with a header
-pub record Header-fields (st : Settings) (a b c d : ℕ) (s : Bytes) : Type 0 where
+pub record Header-fields (st : Settings) (c : Counts) (s : Bytes) : Type 0 where
   pub mark-one : getD s 0 0 ≡ 72
   pub mark-two : getD s 1 0 ≡ 68
   pub version : getD s 2 0 ≡ 1
-  pub dense : getD s 3 0 ≡ st .dense
-  pub width : getD s 4 0 ≡ st .width
   pub zero-byte : getD s 5 0 ≡ 0
-  pub count₀ : from32 (drop 6 s) ≡ a
-  pub count₁ : from32 (drop 10 s) ≡ b
-  pub count₂ : from32 (drop 14 s) ≡ c
-  pub count₃ : from32 (drop 18 s) ≡ d
+  pub settings : read-settings s ≡ st
+  pub counts : read-counts s ≡ c
 
 -- What stands behind each field of a header, and that it has 22 bytes.
-pub drop-header : (st : Settings) (a b c d : ℕ) (r : Bytes)
-    → (drop 6 (header st a b c d ++ r) ≡ le32 a ++ (le32 b ++ (le32 c ++ (le32 d ++ r)))) × (drop 10 (header st a b c d ++ r) ≡ le32 b ++ (le32 c ++ (le32 d ++ r)))
-    × (drop 14 (header st a b c d ++ r) ≡ le32 c ++ (le32 d ++ r)) × (drop 18 (header st a b c d ++ r) ≡ le32 d ++ r) × (drop 22 (header st a b c d ++ r) ≡ r) × (22 ≤ length (header st a b c d ++ r))
+pub drop-header : (st : Settings) (c : Counts) (r : Bytes)
+    → (drop 6 (header st c ++ r) ≡ le32 (c .leaves) ++ (le32 (c .dense-nodes) ++ (le32 (c .sparse-entries) ++ (le32 (c .sparse-nodes) ++ r))))
+    × (drop 10 (header st c ++ r) ≡ le32 (c .dense-nodes) ++ (le32 (c .sparse-entries) ++ (le32 (c .sparse-nodes) ++ r)))
+    × (drop 14 (header st c ++ r) ≡ le32 (c .sparse-entries) ++ (le32 (c .sparse-nodes) ++ r)) × (drop 18 (header st c ++ r) ≡ le32 (c .sparse-nodes) ++ r)
+    × (drop 22 (header st c ++ r) ≡ r) × (22 ≤ length (header st c ++ r))
 unfolding header
-drop-header st a b c d r = (refl, refl, refl, refl, refl, omega arith)
+drop-header st c r = (refl, refl, refl, refl, refl, omega arith)
 
-first-fields : (st : Settings) (a b c d : ℕ) (r : Bytes)
-    → (getD (header st a b c d ++ r) 0 0 ≡ 72) × (getD (header st a b c d ++ r) 1 0 ≡ 68) × (getD (header st a b c d ++ r) 2 0 ≡ 1)
-    × (getD (header st a b c d ++ r) 3 0 ≡ st .dense) × (getD (header st a b c d ++ r) 4 0 ≡ st .width) × (getD (header st a b c d ++ r) 5 0 ≡ 0)
-unfolding header
-first-fields st a b c d r = (refl, refl, refl, refl, refl, refl)
+first-fields : (st : Settings) (c : Counts) (r : Bytes)
+    → (getD (header st c ++ r) 0 0 ≡ 72) × (getD (header st c ++ r) 1 0 ≡ 68) × (getD (header st c ++ r) 2 0 ≡ 1) × (getD (header st c ++ r) 5 0 ≡ 0) × (read-settings (header st c ++ r) ≡ st)
+unfolding header read-settings
+first-fields st c r = (refl, refl, refl, refl, refl)
+
+-- each count fits 32 bits
+pub record Short-counts (c : Counts) : Type 0 where
+  pub leaves : c .leaves < 4294967296
+  pub dense-nodes : c .dense-nodes < 4294967296
+  pub sparse-entries : c .sparse-entries < 4294967296
+  pub sparse-nodes : c .sparse-nodes < 4294967296
+
+counts-back : (st : Settings) (c : Counts) (r : Bytes) → Short-counts c → read-counts (header st c ++ r) ≡ c
+unfolding read-counts
+counts-back st c r k =
+    let z = drop-header st c r in
+    let e₀ : from32 (drop 6 (header st c ++ r)) ≡ c .leaves = ap from32 (z .0) ∙ from32-le32 (c .leaves) _ (k .leaves) in
+    let e₁ : from32 (drop 10 (header st c ++ r)) ≡ c .dense-nodes = ap from32 (z .1) ∙ from32-le32 (c .dense-nodes) _ (k .dense-nodes) in
+    let e₂ : from32 (drop 14 (header st c ++ r)) ≡ c .sparse-entries = ap from32 (z .2) ∙ from32-le32 (c .sparse-entries) _ (k .sparse-entries) in
+    let e₃ : from32 (drop 18 (header st c ++ r)) ≡ c .sparse-nodes = ap from32 (z .3) ∙ from32-le32 (c .sparse-nodes) _ (k .sparse-nodes) in
+    rw (e₀, e₁, e₂, e₃)
 
 -- A header's fields are read back.
-pub header-back : (st : Settings) (a b c d : ℕ) (r : Bytes) → a < 4294967296 → b < 4294967296 → c < 4294967296 → d < 4294967296 → Header-fields st a b c d (header st a b c d ++ r)
-header-back st a b c d r p q u v =
-    let z = drop-header st a b c d r in
-    let y = first-fields st a b c d r in
+pub header-back : (st : Settings) (c : Counts) (r : Bytes) → Short-counts c → Header-fields st c (header st c ++ r)
+header-back st c r k =
+    let y = first-fields st c r in
     record {
       mark-one = y .0;
       mark-two = y .1;
       version = y .2;
-      dense = y .3;
-      width = y .4;
-      zero-byte = y .5;
-      count₀ = ap from32 (z .0) ∙ from32-le32 a (le32 b ++ (le32 c ++ (le32 d ++ r))) p;
-      count₁ = ap from32 (z .1) ∙ from32-le32 b (le32 c ++ (le32 d ++ r)) q;
-      count₂ = ap from32 (z .2) ∙ from32-le32 c (le32 d ++ r) u;
-      count₃ = ap from32 (z .3) ∙ from32-le32 d r v;
+      zero-byte = y .3;
+      settings = y .4;
+      counts = counts-back st c r k;
     }

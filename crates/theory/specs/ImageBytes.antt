@@ -6,13 +6,11 @@ use native.Mathlib.Omega.{arith}
 use lib.ListN.{length, getD, take, drop}
 use Rattle.spec.specs.Bytes.{Bytes, Bits, concat, iota, ones, low-first, packed, pack, le32}
 use Rattle.spec.specs.Leaves.{Leaf}
-use Rattle.spec.specs.Image.{Settings, image, header, marked, ranks, samples, positions}
-use Rattle.spec.specs.Frame.{marks}
+use Rattle.spec.specs.Image.{Settings, image, header, marked, ranks, samples, positions, rows, in-order, write-records, Row, Counts}
 use Rattle.spec.specs.Nodes.{Node, label-of, branches-of, is-exact}
 use Rattle.theory.specs.Terms.{All, Is-bytes}
 use Rattle.theory.specs.Lists.{bytes-append, bytes-le32}
-use Rattle.theory.specs.NodeBits.{Byte-labels, sparse-labels, layout, bodies, bodies-bits, dense-labels, dense-has-child, sparse-has-child, louds, slots}
-use Rattle.theory.specs.Frame.{write-records}
+use Rattle.theory.specs.NodeBits.{Byte-labels, sparse-labels, bodies, bodies-bits, dense-labels, dense-has-child, sparse-has-child, louds, slots, node-counts}
 use Rattle.theory.specs.ImageParts.{Writable, image-holds}
 use Rattle.theory.specs.LiteralImage.{Buildable}
 
@@ -31,7 +29,8 @@ bytes-samples : (bs : Bits) → Is-bytes (samples bs)
 unfolding samples
 bytes-samples bs = bytes-le32s (λ t. getD (positions 0 bs) (64 * t) 0) (iota 0 ((length (positions 0 bs) + 63) / 64))
 
-low-bound : (k : ℕ) (bs : Bits) → low-first (take k bs) < 2 ^ k
+-- a number of k bits is below 2^k
+pub low-bound : (k : ℕ) (bs : Bits) → low-first (take k bs) < 2 ^ k
 unfolding low-first
 low-bound zero bs = omega arith
 low-bound (suc k) [] = omega (arith, low-bound k [])
@@ -64,16 +63,20 @@ bytes-marked : (a b : ℕ) (body : Bytes) → a < 256 → b < 256 → Is-bytes b
 unfolding marked
 bytes-marked a b body p q s = (p, (q, bytes-append (le32 (length body)) body (bytes-le32 (length body)) s))
 
-bytes-frames : (ms : List ℕ) (bs : List Bytes) → Is-bytes ms → All Is-bytes bs → Is-bytes (write-records ms bs)
-unfolding write-records
-bytes-frames [] bs m s = tt
-bytes-frames (a ∷ []) bs m s = tt
-bytes-frames (a ∷ b ∷ ms) [] m s = tt
-bytes-frames (a ∷ b ∷ ms) (body ∷ bs) m s = bytes-append (marked a b body) (write-records ms bs) (bytes-marked a b body (m .0) (m .1 .0) (s .0)) (bytes-frames ms bs (m .1 .1) (s .1))
+-- the letters of a record's mark are bytes
+abbrev Byte-mark : Row → Type 0
+Byte-mark r = (r .first < 256) × (r .second < 256)
 
-bytes-header : (st : Settings) (a b c d : ℕ) → st .dense ≤ 4 → st .width ≤ 16 → Is-bytes (header st a b c d)
+bytes-records : (rs : List Row) (bs : List Bytes) → All Byte-mark rs → All Is-bytes bs → Is-bytes (write-records rs bs)
+unfolding write-records
+bytes-records [] bs m s = tt
+bytes-records (r ∷ rs) [] m s = tt
+bytes-records (r ∷ rs) (body ∷ bs) m s =
+    bytes-append (marked (r .first) (r .second) body) (write-records rs bs) (bytes-marked (r .first) (r .second) body (m .0 .0) (m .0 .1) (s .0)) (bytes-records rs bs (m .1) (s .1))
+
+bytes-header : (st : Settings) (c : Counts) → st .dense-levels ≤ 4 → st .width ≤ 16 → Is-bytes (header st c)
 unfolding header
-bytes-header st a b c d p q = (
+bytes-header st c p q = (
   omega arith,
   (
     omega arith,
@@ -85,7 +88,9 @@ bytes-header st a b c d p q = (
           omega arith,
           (
             omega arith,
-            bytes-append (le32 a) (le32 b ++ (le32 c ++ le32 d)) (bytes-le32 a) (bytes-append (le32 b) (le32 c ++ le32 d) (bytes-le32 b) (bytes-append (le32 c) (le32 d) (bytes-le32 c) (bytes-le32 d))),
+            bytes-append (le32 (c .leaves)) (le32 (c .dense-nodes) ++ (le32 (c .sparse-entries) ++ le32 (c .sparse-nodes))) (bytes-le32 (c .leaves))
+                (bytes-append (le32 (c .dense-nodes)) (le32 (c .sparse-entries) ++ le32 (c .sparse-nodes)) (bytes-le32 (c .dense-nodes))
+                (bytes-append (le32 (c .sparse-entries)) (le32 (c .sparse-nodes)) (bytes-le32 (c .sparse-entries)) (bytes-le32 (c .sparse-nodes)))),
           ),
         ),
       ),
@@ -93,10 +98,12 @@ bytes-header st a b c d p q = (
   ),
 )
 
-bytes-marks : Is-bytes marks
-bytes-marks = (omega arith, (omega arith, (omega arith, (omega arith, (omega arith, (omega arith, (omega arith, (omega arith, (omega arith, (omega arith, (omega arith, (omega arith, (omega arith, (omega arith, (omega arith, (omega arith, (omega arith, (omega arith, (omega arith, (omega arith, (omega arith, (omega arith, (omega arith, (omega arith, tt))))))))))))))))))))))))
+byte-marks : All Byte-mark rows
+unfolding rows
+byte-marks =
+    ((omega arith, omega arith), ((omega arith, omega arith), ((omega arith, omega arith), ((omega arith, omega arith), ((omega arith, omega arith), ((omega arith, omega arith), ((omega arith, omega arith), ((omega arith, omega arith), ((omega arith, omega arith), ((omega arith, omega arith), ((omega arith, omega arith), ((omega arith, omega arith), tt))))))))))))
 
-bytes-bodies : (n count : ℕ) (ds ss : List Node) → Writable n count ds ss → All Is-bytes (layout (bodies ds ss))
+bytes-bodies : (n count : ℕ) (ds ss : List Node) → Writable n count ds ss → All Is-bytes (in-order (bodies ds ss))
 bytes-bodies n count ds ss w =
     rw (bodies-bits ds ss) (
       bytes-pack (concat (map dense-labels ds)),
@@ -125,5 +132,5 @@ image-bytes st ls v =
     let ds : List Node = h .dense-nodes in
     let ss : List Node = h .sparse-nodes in
     rw (h .image-is)
-    (bytes-append (header st (length ls) (length ds) (length (bodies ds ss .SL)) (length ss)) (write-records marks (layout (bodies ds ss)))
-    (bytes-header st (length ls) (length ds) (length (bodies ds ss .SL)) (length ss) (v .dense-range) (v .width-range)) (bytes-frames marks (layout (bodies ds ss)) bytes-marks (bytes-bodies (st .width) (length ls) ds ss (h .writable))))
+    (bytes-append (header st (node-counts (length ls) ds ss)) (write-records rows (in-order (bodies ds ss)))
+    (bytes-header st (node-counts (length ls) ds ss) (v .dense-range) (v .width-range)) (bytes-records rows (in-order (bodies ds ss)) byte-marks (bytes-bodies (st .width) (length ls) ds ss (h .writable))))

@@ -10,20 +10,20 @@ use lib.ListN.{length, length-map, drop, length-append, take}
 use lib.Seq.{take-all, take-nil, drop-nil}
 use Rattle.spec.specs.Bytes.{concat, Bytes, Bits, blocks, pack}
 use Rattle.spec.specs.Leaves.{Leaf}
-use Rattle.spec.specs.Image.{Settings, header, Bodies, image}
-use Rattle.spec.specs.Frame.{Parts, parts, marks, read-bodies}
+use Rattle.spec.specs.Image.{Settings, Bodies, image, rows, in-order, write-records, Counts}
+use Rattle.spec.specs.Frame.{Parts, parts, read-bodies, named}
 use Rattle.spec.specs.Nodes.{Node, is-exact, sparse-nodes, nodes-of, Shape, slotted, sparse-shape, total, children-of}
 use Rattle.spec.specs.Trie.{leaf-count}
 use Rattle.theory.specs.Terms.{All}
-use Rattle.theory.specs.Lists.{concat-split, all-split}
-use Rattle.theory.specs.Frame.{Header-fields, write-records, header-back, Short-bodies, drop-header, read-bodies-write}
+use Rattle.theory.specs.Lists.{concat-split, all-split, all-weaken}
+use Rattle.theory.specs.Frame.{Header-fields, header-back, Short-bodies, drop-header, read-bodies-write, Paired}
 use Rattle.theory.specs.Bits.{unpack-at, length-pack, length-ranks, length-samples}
 use Rattle.theory.specs.LevelTrie.{trie, trie-dense, trie-sparse}
 use Rattle.theory.specs.LinkedLevels.{Labelled}
 use Rattle.theory.specs.Levels.{leaf-count-root, nodes-bound, linked-labelled, linked-count, sparse-labels-count, leaf-count-append, total-append}
 use Rattle.theory.specs.TrieTests.{Trie-valid, root-first-width, realizable-trie, Empty-or-valid, empty-list, valid-trie}
 use Rattle.theory.specs.LevelSlots.{Levels-valid, levels-valid, realizable-leaf-valid}
-use Rattle.theory.specs.NodeBits.{sparse-labels, dense-labels, dense-has-child, sparse-has-child, louds, slots, Byte-labels, Slots-width, layout, bodies-of, node-image, bodies, bodies-bits, length-sv, shape-of, slotted-back}
+use Rattle.theory.specs.NodeBits.{sparse-labels, dense-labels, dense-has-child, sparse-has-child, louds, slots, Byte-labels, Slots-width, bodies-of, node-image, bodies, bodies-bits, length-sv, shape-of, slotted-back, node-counts}
 use Rattle.theory.specs.LiteralImage.{Buildable, image-of-trie}
 use Rattle.theory.specs.DenseBits.{length-dl, length-dc, dense-shapes-back}
 use Rattle.theory.specs.SparseBits.{length-sc, length-sb, sparse-of, split-nodes, sparse-shapes-back, louds-ones}
@@ -31,12 +31,8 @@ use Rattle.theory.specs.SparseBits.{length-sc, length-sb, sparse-of, spl
 -- the parts of the image of these nodes
 abbrev pub parts-of-nodes : Settings → ℕ → List Node → List Node → Parts
 parts-of-nodes st count ds ss = record {
-  dense = st .dense;
-  width = st .width;
-  leaves = count;
-  dense-count = length ds;
-  entry-count = length (concat (map sparse-labels ss));
-  sparse-count = length ss;
+  settings = st;
+  counts = node-counts count ds ss;
   dl = concat (map dense-labels ds);
   dc = concat (map dense-has-child ds);
   dp = map is-exact ds;
@@ -62,36 +58,28 @@ pub record Writable (n count : ℕ) (ds ss : List Node) : Type 0 where
 
 -- ---- the header and the parts
 
-parts-of-bits : (s : Bytes) (st : Settings) (a b c d : ℕ) (dl dc dp : Bits) (sl : Bytes) (sc sb sv : Bits) → Header-fields st a b c d s
-    → length dl ≡ 256 * b → length dc ≡ 256 * b → length dp ≡ b → length sc ≡ c → length sb ≡ c → length sv ≡ a * st .width
-    → parts s (layout (bodies-of dl dc dp sl sc sb sv)) ≡ record { dense = st .dense; width = st .width; leaves = a; dense-count = b; entry-count = c; sparse-count = d; dl = dl; dc = dc; dp = dp; sl = sl; sc = sc; sb = sb; sv = sv }
-unfolding parts
-parts-of-bits s st a b c d dl dc dp sl sc sb sv h e₀ e₁ e₂ e₄ e₅ e₆ =
-    rw (h .dense, h .width, h .count₀, h .count₁, h .count₂, h .count₃, unpack-at (256 * b) dl e₀, unpack-at (256 * b) dc e₁, unpack-at b dp e₂, unpack-at c sc e₄, unpack-at c sb e₅, unpack-at (a * st .width) sv e₆)
-
--- the header of the image of these nodes
-abbrev pub header-of-nodes : Settings → ℕ → List Node → List Node → Bytes
-header-of-nodes st count ds ss = header st count (length ds) (length (concat (map sparse-labels ss))) (length ss)
-
--- The image of nodes is this header and its records.
-pub node-image-is : (st : Settings) (count : ℕ) (ds ss : List Node) → node-image st count ds ss ≡ header-of-nodes st count ds ss ++ write-records marks (layout (bodies ds ss))
-node-image-is st count ds ss = ap (λ (b : Bodies). header st count (length ds) (length (b .SL)) (length ss) ++ write-records marks (layout (bodies ds ss))) (bodies-bits ds ss)
+parts-of-bits : (s : Bytes) (st : Settings) (c : Counts) (dl dc dp : Bits) (sl : Bytes) (sc sb sv : Bits) → Header-fields st c s
+    → length dl ≡ 256 * c .dense-nodes → length dc ≡ 256 * c .dense-nodes → length dp ≡ c .dense-nodes → length sc ≡ c .sparse-entries → length sb ≡ c .sparse-entries → length sv ≡ c .leaves * st .width
+    → parts s (named (in-order (bodies-of dl dc dp sl sc sb sv))) ≡ record { settings = st; counts = c; dl = dl; dc = dc; dp = dp; sl = sl; sc = sc; sb = sb; sv = sv }
+unfolding parts named
+parts-of-bits s st c dl dc dp sl sc sb sv h e₀ e₁ e₂ e₄ e₅ e₆ =
+    rw (h .settings, h .counts, unpack-at (256 * c .dense-nodes) dl e₀, unpack-at (256 * c .dense-nodes) dc e₁, unpack-at (c .dense-nodes) dp e₂, unpack-at (c .sparse-entries) sc e₄, unpack-at (c .sparse-entries) sb e₅, unpack-at (c .leaves * st .width) sv e₆)
 
 -- The header of the image of nodes is read back.
-pub node-image-header : (st : Settings) (count : ℕ) (ds ss : List Node) → Writable (st .width) count ds ss → Header-fields st count (length ds) (length (concat (map sparse-labels ss))) (length ss) (node-image st count ds ss)
+pub node-image-header : (st : Settings) (count : ℕ) (ds ss : List Node) → Writable (st .width) count ds ss → Header-fields st (node-counts count ds ss) (node-image st count ds ss)
 node-image-header st count ds ss w =
-    rw (node-image-is st count ds ss)
-    (header-back st count (length ds) (length (concat (map sparse-labels ss))) (length ss) (write-records marks (layout (bodies ds ss))) (omega (arith, w .few)) (omega (arith, w .few-dense)) (omega (arith, w .few-entries)) (omega (arith, w .few-sparse)))
+    header-back st (node-counts count ds ss) (write-records rows (in-order (bodies ds ss)))
+    (record { leaves = omega (arith, w .few); dense-nodes = omega (arith, w .few-dense); sparse-entries = omega (arith, w .few-entries); sparse-nodes = omega (arith, w .few-sparse) })
 
 -- The slots of an image have n bits a leaf.
 pub sv-size : (n count : ℕ) (ds ss : List Node) → Writable n count ds ss → length (concat (map slots (ds ++ ss))) ≡ count * n
 sv-size n count ds ss w = length-sv n (ds ++ ss) (w .wide) ∙ ap (λ (k : ℕ). k * n) (w .leaf-total)
 
 -- The parts of the image of nodes are read back.
-pub parts-back : (st : Settings) (count : ℕ) (ds ss : List Node) → Writable (st .width) count ds ss → parts (node-image st count ds ss) (layout (bodies ds ss)) ≡ parts-of-nodes st count ds ss
+pub parts-back : (st : Settings) (count : ℕ) (ds ss : List Node) → Writable (st .width) count ds ss → parts (node-image st count ds ss) (named (in-order (bodies ds ss))) ≡ parts-of-nodes st count ds ss
 parts-back st count ds ss w =
-    ap (λ (b : Bodies). parts (node-image st count ds ss) (layout b)) (bodies-bits ds ss)
-    ∙ parts-of-bits (node-image st count ds ss) st count (length ds) (length (concat (map sparse-labels ss))) (length ss) (concat (map dense-labels ds)) (concat (map dense-has-child ds)) (map is-exact ds)
+    ap (λ (b : Bodies). parts (node-image st count ds ss) (named (in-order b))) (bodies-bits ds ss)
+    ∙ parts-of-bits (node-image st count ds ss) st (node-counts count ds ss) (concat (map dense-labels ds)) (concat (map dense-has-child ds)) (map is-exact ds)
     (concat (map sparse-labels ss)) (concat (map sparse-has-child ss)) (concat (map louds ss)) (concat (map slots (ds ++ ss))) (node-image-header st count ds ss w)
     (length-dl ds) (length-dc ds) (length-map ds is-exact) (length-sc ss (w .sparse-labelled)) (length-sb ss (w .sparse-labelled)) (sv-size (st .width) count ds ss w)
 
@@ -113,18 +101,18 @@ nodes-back st count ds ss w =
 
 -- ---- the bodies
 
-blocks-short : (n : ℕ) → n < 34359738360 → blocks 8 n < 4294967296
+blocks-short : (n : ℕ) → n < 134217720 → blocks 8 n < 16777216
 blocks-short n h = omega arith
 
-pack-short : (bs : Bits) → length bs < 34359738360 → length (pack bs) < 4294967296
+pack-short : (bs : Bits) → length bs < 134217720 → length (pack bs) < 16777216
 pack-short bs h = rw (length-pack bs) (blocks-short (length bs) h)
 
-slots-short : (n count : ℕ) → n ≤ 16 → count ≤ 65535 → count * n < 34359738360
+slots-short : (n count : ℕ) → n ≤ 16 → count ≤ 65535 → count * n < 134217720
 slots-short n count h k = let m : count * n ≤ 65535 * 16 = mul-le-mul k h in omega arith
 
--- The bodies' lengths fit 32 bits.
-bodies-short : (n count : ℕ) (ds ss : List Node) → Writable n count ds ss → Short-bodies (layout (bodies ds ss))
-bodies-short n count ds ss w =
+-- Each body is shorter than 2^24 bytes.
+pub bodies-small : (n count : ℕ) (ds ss : List Node) → Writable n count ds ss → All (λ b. length b < 16777216) (in-order (bodies ds ss))
+bodies-small n count ds ss w =
     rw (bodies-bits ds ss) (
       pack-short (concat (map dense-labels ds)) (omega (arith, length-dl ds, w .few-dense)),
       (
@@ -160,12 +148,20 @@ bodies-short n count ds ss w =
       ),
     )
 
+-- so that their lengths fit 32 bits
+bodies-short : (n count : ℕ) (ds ss : List Node) → Writable n count ds ss → Short-bodies (in-order (bodies ds ss))
+bodies-short n count ds ss w = all-weaken (λ b. length b < 16777216) (λ b. length b < 4294967296) (λ b h. omega arith) (in-order (bodies ds ss)) (bodies-small n count ds ss w)
+
+-- as many records as bodies
+pub twelve-paired : (b : Bodies) → Paired rows (in-order b)
+unfolding rows
+twelve-paired b = tt
+
 -- The bodies of the image of nodes are read back.
-pub node-image-bodies : (st : Settings) (count : ℕ) (ds ss : List Node) → Writable (st .width) count ds ss → read-bodies marks (drop 22 (node-image st count ds ss)) ≡ some (layout (bodies ds ss))
+pub node-image-bodies : (st : Settings) (count : ℕ) (ds ss : List Node) → Writable (st .width) count ds ss → read-bodies rows (drop 22 (node-image st count ds ss)) ≡ some (in-order (bodies ds ss))
 node-image-bodies st count ds ss w =
-    ap (λ (z : Bytes). read-bodies marks (drop 22 z)) (node-image-is st count ds ss)
-    ∙ ap (read-bodies marks) (drop-header st count (length ds) (length (concat (map sparse-labels ss))) (length ss) (write-records marks (layout (bodies ds ss))) .4)
-    ∙ read-bodies-write marks (layout (bodies ds ss)) tt (bodies-short (st .width) count ds ss w)
+    ap (read-bodies rows) (drop-header st (node-counts count ds ss) (write-records rows (in-order (bodies ds ss))) .4)
+    ∙ read-bodies-write rows (in-order (bodies ds ss)) (twelve-paired (bodies ds ss)) (bodies-short (st .width) count ds ss w)
 
 -- ---- the nodes of a buildable leaf list
 
@@ -182,11 +178,11 @@ module _ (st : Settings) (ls : List Leaf) (v : Buildable st ls) (t : Trie-valid 
   all-nodes = let e = ap (λ (z : List (List Node)). length (concat z)) (take-all 64 (trie ls) (t .shallow)) in omega (arith, nodes-bound 64 65535 (trie ls) (t .linked) (omega (arith, trie-leaf-count, v .few)), e)
 
   -- The trie's nodes can be written.
-  pub trie-writable : Writable (st .width) (length ls) (trie-dense (st .dense) ls) (trie-sparse (st .dense) ls)
+  pub trie-writable : Writable (st .width) (length ls) (trie-dense (st .dense-levels) ls) (trie-sparse (st .dense-levels) ls)
   trie-writable =
-      let ds : List Node = trie-dense (st .dense) ls in
-      let ss : List Node = trie-sparse (st .dense) ls in
-      let whole : ds ++ ss ≡ concat (trie ls) = concat-split (st .dense) (trie ls) in
+      let ds : List Node = trie-dense (st .dense-levels) ls in
+      let ss : List Node = trie-sparse (st .dense-levels) ls in
+      let whole : ds ++ ss ≡ concat (trie ls) = concat-split (st .dense-levels) (trie ls) in
       let f : All Labelled (ds ++ ss) = rw whole (linked-labelled (trie ls) (t .linked)) in
       let s : All Byte-labels (ds ++ ss) = rw whole (trie-levels-valid .bytes) in
       let c : leaf-count (ds ++ ss) ≡ length ls = ap leaf-count whole ∙ trie-leaf-count in
@@ -201,7 +197,7 @@ module _ (st : Settings) (ls : List Leaf) (v : Buildable st ls) (t : Trie-valid 
         leaf-total = c;
         width-range = v .width-range;
         few = v .few;
-        few-dense = omega (arith, nodes-bound (st .dense) 65535 (trie ls) (t .linked) (omega (arith, trie-leaf-count, v .few)));
+        few-dense = omega (arith, nodes-bound (st .dense-levels) 65535 (trie ls) (t .linked) (omega (arith, trie-leaf-count, v .few)));
         few-entries = omega (arith, sparse-labels-count ss, leaf-count-append ds ss, total-append children-of ds ss);
         few-sparse = omega (arith, length-append ds ss);
       }
@@ -232,8 +228,8 @@ no-nodes-writable st h = record {
 
 -- The empty list's image has no node.
 pub empty-image : (st : Settings) → Buildable st [] → image st [] ≡ node-image st 0 [] []
-empty-image st v = image-of-trie st [] v ∙ ap₂ (λ (a b : List Node). node-image st 0 a b) (ap (λ (z : List (List Node)). concat (take (st .dense) z)) empty-trie ∙ ap concat (take-nil {A = List Node} (st .dense)) ∙ empty-concat)
-    (ap (λ (z : List (List Node)). concat (drop (st .dense) z)) empty-trie ∙ ap concat (drop-nil {A = List Node} (st .dense)) ∙ empty-concat)
+empty-image st v = image-of-trie st [] v ∙ ap₂ (λ (a b : List Node). node-image st 0 a b) (ap (λ (z : List (List Node)). concat (take (st .dense-levels) z)) empty-trie ∙ ap concat (take-nil {A = List Node} (st .dense-levels)) ∙ empty-concat)
+    (ap (λ (z : List (List Node)). concat (drop (st .dense-levels) z)) empty-trie ∙ ap concat (drop-nil {A = List Node} (st .dense-levels)) ∙ empty-concat)
 
 -- an image is that of the nodes of its leaf list's trie
 pub record Image-holds (st : Settings) (ls : List Leaf) : Type 0 where
@@ -250,9 +246,9 @@ image-holds st ls v = go (realizable-trie (st .width) ls (v .realizable) (v .wel
     go : {ls : List Leaf} → Empty-or-valid ls → Buildable st ls → Image-holds st ls
     go empty-list v = record { dense-nodes = []; sparse-nodes = []; image-is = empty-image st v; writable = no-nodes-writable st (v .width-range); whole = sym (ap concat empty-trie ∙ empty-concat) }
     go (valid-trie {ls = ls} t) v = record {
-      dense-nodes = trie-dense (st .dense) ls;
-      sparse-nodes = trie-sparse (st .dense) ls;
+      dense-nodes = trie-dense (st .dense-levels) ls;
+      sparse-nodes = trie-sparse (st .dense-levels) ls;
       image-is = image-of-trie st ls v;
       writable = trie-writable st ls v t;
-      whole = concat-split (st .dense) (trie ls);
+      whole = concat-split (st .dense-levels) (trie ls);
     }

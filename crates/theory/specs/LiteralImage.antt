@@ -9,15 +9,13 @@ use lib.ListN.{take, drop, length, length-map}
 use lib.Seq.{take-nil, drop-nil}
 use Rattle.spec.specs.Bytes.{concat, iota, Bytes}
 use Rattle.spec.specs.Leaves.{Leaf}
-use Rattle.spec.specs.Image.{on-level, nodes, is-leaf, Bodies, marked, Settings, header}
-use Rattle.spec.specs.Frame.{marks}
+use Rattle.spec.specs.Image.{on-level, nodes, is-leaf, Bodies, Settings, header, rows, in-order, write-records}
 use Rattle.spec.specs.Nodes.{Group, Node}
 use Rattle.theory.specs.LeafLists.{Realizable, All-well-sized}
 use Rattle.theory.specs.Lists.{map-ext}
-use Rattle.theory.specs.Frame.{write-records}
 use Rattle.theory.specs.LevelTrie.{node-of, child-groups, trie-levels, trie-dense, trie-sparse, trie}
 use Rattle.theory.specs.TrieGroups.{Depth-at-most, realizable-trie-group, has-leaf, well-sized-depth}
-use Rattle.theory.specs.NodeBits.{bodies-of, bodies-bits, layout, node-image}
+use Rattle.theory.specs.NodeBits.{bodies-of, bodies-bits, node-image}
 use Rattle.theory.specs.PrefixNodes.{node-at, dense-labels-at, dense-has-child-at, is-leaf-at, sparse-labels-at, sparse-has-child-at, louds-at, slots-at-node}
 use Rattle.theory.specs.LevelPrefixes.{groups-below, groups-below-none, Trie-node, nodes-on-level}
 use Rattle.spec.specs.Image as Literal
@@ -124,38 +122,32 @@ same-bodies ls dp sp ds ss p q =
       map-prefix-nodes ls (Literal.slots ls) Level.slots (dp ++ sp) (ds ++ ss) (slots-at-node ls) both,
     ) (sym (bodies-bits ds ss))
 
--- The twelve records, one behind the other.
-records-layout : (b : Bodies) → write-records marks (layout b) ≡
-    marked 68 76 (b .DL) ++ (marked 68 67 (b .DC) ++ (marked 68 80 (b .DP) ++ (
-    marked 83 76 (b .SL) ++ (marked 83 67 (b .SC) ++ (marked 83 66 (b .SB) ++ (marked 83 86 (b .SV) ++ (
-    marked 82 76 (b .RL) ++ (marked 82 67 (b .RC) ++ (marked 82 80 (b .RP) ++ (marked 82 83 (b .RS) ++ marked 84 83 (b .TS)))))))))))
-unfolding write-records
-records-layout b = ap (λ (z : Bytes).
-    marked 68 76 (b .DL) ++ (marked 68 67 (b .DC) ++ (marked 68 80 (b .DP) ++ (
-    marked 83 76 (b .SL) ++ (marked 83 67 (b .SC) ++ (marked 83 66 (b .SB) ++ (marked 83 86 (b .SV) ++ (
-    marked 82 76 (b .RL) ++ (marked 82 67 (b .RC) ++ (marked 82 80 (b .RP) ++ (marked 82 83 (b .RS) ++ z)))))))))))
-    (append-nil (marked 84 83 (b .TS)))
-
 -- An image is its header and its records.
-image-records : (st : Settings) (ls : List Leaf) → Literal.image st ls
-    ≡ header st (length ls) (length (nodes ls 0 (st .dense))) (length (Literal.bodies (st .dense) ls .SL)) (length (nodes ls (st .dense) 64)) ++ write-records marks (layout (Literal.bodies (st .dense) ls))
+image-records : (st : Settings) (ls : List Leaf) → Literal.image st ls ≡ header st (Literal.counts (st .dense-levels) ls) ++ write-records rows (in-order (Literal.bodies (st .dense-levels) ls))
 unfolding Literal.image
-image-records st ls =
-    sym (ap (λ (z : Bytes). header st (length ls) (length (nodes ls 0 (st .dense))) (length (Literal.bodies (st .dense) ls .SL)) (length (nodes ls (st .dense) 64)) ++ z) (records-layout (Literal.bodies (st .dense) ls)))
+image-records st ls = refl
+
+-- The counts of a leaf list are those of its prefixes.
+literal-counts : (dense : ℕ) (ls : List Leaf) → Literal.counts dense ls
+    ≡ record { leaves = length ls; dense-nodes = length (nodes ls 0 dense); sparse-entries = length (concat (map (Literal.sparse-labels ls) (nodes ls dense 64))); sparse-nodes = length (nodes ls dense 64) }
+unfolding Literal.counts
+literal-counts dense ls = refl
 
 -- settings in range, and a realizable list of at most 65,535 leaves, each with a cut key of 1 to 64 bytes and a suffix of n bits with none set past the 64th byte
 pub record Buildable (st : Settings) (ls : List Leaf) : Type 0 where
-  pub dense-range : st .dense ≤ 4
+  pub dense-range : st .dense-levels ≤ 4
   pub width-range : st .width ≤ 16
   pub few : length ls ≤ 65535
   pub realizable : Realizable (st .width) ls
   pub well-sized : All-well-sized (st .width) ls
 
 -- The image of a buildable leaf list is the header and the records of its trie's nodes.
-pub image-of-trie : (st : Settings) (ls : List Leaf) → Buildable st ls → Literal.image st ls ≡ node-image st (length ls) (trie-dense (st .dense) ls) (trie-sparse (st .dense) ls)
+pub image-of-trie : (st : Settings) (ls : List Leaf) → Buildable st ls → Literal.image st ls ≡ node-image st (length ls) (trie-dense (st .dense-levels) ls) (trie-sparse (st .dense-levels) ls)
 image-of-trie st ls v =
-    let N = prefix-nodes (st .dense) ls (omega (arith, v .dense-range)) (v .realizable) (well-sized-depth (st .width) ls (v .well-sized)) in
-    let n : length (nodes ls 0 (st .dense)) ≡ length (trie-dense (st .dense) ls) = sym (length-map (nodes ls 0 (st .dense)) (node-at ls)) ∙ ap length (N .first) in
-    let m : length (nodes ls (st .dense) 64) ≡ length (trie-sparse (st .dense) ls) = sym (length-map (nodes ls (st .dense) 64) (node-at ls)) ∙ ap length (N .rest) in
-    let b = literal-bodies (st .dense) ls ∙ same-bodies ls (nodes ls 0 (st .dense)) (nodes ls (st .dense) 64) (trie-dense (st .dense) ls) (trie-sparse (st .dense) ls) (N .first) (N .rest) in
-    image-records st ls ∙ rw (n, m, b)
+    let N = prefix-nodes (st .dense-levels) ls (omega (arith, v .dense-range)) (v .realizable) (well-sized-depth (st .width) ls (v .well-sized)) in
+    let n : length (nodes ls 0 (st .dense-levels)) ≡ length (trie-dense (st .dense-levels) ls) = sym (length-map (nodes ls 0 (st .dense-levels)) (node-at ls)) ∙ ap length (N .first) in
+    let m : length (nodes ls (st .dense-levels) 64) ≡ length (trie-sparse (st .dense-levels) ls) = sym (length-map (nodes ls (st .dense-levels) 64) (node-at ls)) ∙ ap length (N .rest) in
+    let b = literal-bodies (st .dense-levels) ls ∙ same-bodies ls (nodes ls 0 (st .dense-levels)) (nodes ls (st .dense-levels) 64) (trie-dense (st .dense-levels) ls) (trie-sparse (st .dense-levels) ls) (N .first) (N .rest) in
+    let e : concat (map (Literal.sparse-labels ls) (nodes ls (st .dense-levels) 64)) ≡ concat (map Level.sparse-labels (trie-sparse (st .dense-levels) ls)) =
+    ap concat (map-prefix-nodes ls (Literal.sparse-labels ls) Level.sparse-labels (nodes ls (st .dense-levels) 64) (trie-sparse (st .dense-levels) ls) (sparse-labels-at ls) (N .rest)) in
+    image-records st ls ∙ rw (literal-counts (st .dense-levels) ls, n, m, e, b)

@@ -10,13 +10,11 @@ use native.Mathlib.Nat.{suc-mul, zero-mul, add-mul}
 use lib.ListN.{replicate, length, drop, take, take-append-drop, length-drop, length-append}
 use lib.Seq.{length-take-le, take-at, drop-at}
 use Rattle.spec.specs.Bytes.{Bits, iota, filter, Bytes, concat, pack, bit}
-use Rattle.spec.specs.Image.{has, Bodies, ranks, samples, Settings, header}
-use Rattle.spec.specs.Frame.{marks}
+use Rattle.spec.specs.Image.{has, Bodies, ranks, samples, Settings, header, Counts, rows, in-order, write-records}
 use Rattle.spec.specs.Nodes.{Node, label-of, branches-of, has-child, is-exact, exact-slot, slot, Branch, Entry, to-node, entry, to-leaf, Shape, node, shape, with-slots, entry-label, continues, slotted, past-slots}
 use Rattle.spec.specs.Trie.{open-leaves, leaf-count}
 use Rattle.theory.specs.Terms.{All, Is-bytes}
 use Rattle.theory.specs.Lists.{nil-of}
-use Rattle.theory.specs.Frame.{write-records}
 
 -- ---- one node
 
@@ -80,13 +78,13 @@ pub bodies-bits : (ds ss : List Node)
 unfolding bodies
 bodies-bits ds ss = refl
 
--- the bodies in the order of the records
-abbrev pub layout : Bodies → List Bytes
-layout b = b .DL ∷ b .DC ∷ b .DP ∷ b .SL ∷ b .SC ∷ b .SB ∷ b .SV ∷ b .RL ∷ b .RC ∷ b .RP ∷ b .RS ∷ b .TS ∷ []
+-- the counts of dense and sparse nodes with so many leaves
+abbrev pub node-counts : ℕ → List Node → List Node → Counts
+node-counts count ds ss = record { leaves = count; dense-nodes = length ds; sparse-entries = length (concat (map sparse-labels ss)); sparse-nodes = length ss }
 
 -- the image of dense and sparse nodes: header and records
 abbrev pub node-image : Settings → ℕ → List Node → List Node → Bytes
-node-image st count ds ss = header st count (length ds) (length (bodies ds ss .SL)) (length ss) ++ write-records marks (layout (bodies ds ss))
+node-image st count ds ss = header st (node-counts count ds ss) ++ write-records rows (in-order (bodies ds ss))
 
 -- ---- nodes without their slots
 

@@ -48,7 +48,7 @@ refuse-answer q r out o e =
     (λ h. cc, λ h. f ∙ ap Answer.refused h)
 
 -- a success is no refusal
-success-refused : {A : Type 0} (a out : Bytes) (r : ℕ) (o : Outcome) → o ≡ success a out → o .answer ≡ Answer.refused r → A
+pub success-refused : {A : Type 0} (a out : Bytes) (r : ℕ) (o : Outcome) → o ≡ success a out → o .answer ≡ Answer.refused r → A
 unfolding success
 success-refused a out r o e h =
     let f : o .answer ≡ written (length a) = ap (λ (o : Outcome). o .answer) e in
@@ -71,6 +71,13 @@ success-written b out n o e h =
     let s : length b ≡ n = cc in
     let g : o .final ≡ b ++ drop (length b) out = ap (λ (o : Outcome). o .final) e in
     rw (g, ← s) (take-append-seam b (drop (length b) out))
+
+-- and how many they are
+pub success-length : (b out : Bytes) (n : ℕ) (o : Outcome) → o ≡ success b out → o .answer ≡ written n → n ≡ length b
+unfolding success
+success-length b out n o e h =
+    let f : o .answer ≡ written (length b) = ap (λ (o : Outcome). o .answer) e in
+    cc
 
 -- and those of a call that writes what fits
 pub write-written : (q : ℕ) (b out : Bytes) (n : ℕ) (o : Outcome) → o ≡ write q b out → o .answer ≡ written n → take n (o .final) ≡ b
@@ -96,7 +103,7 @@ refuse-kept r out = record {
 }
 
 -- a success keeps its length and the bytes behind those written
-success-kept : (b out : Bytes) → length b ≤ length out → Kept out (success b out)
+pub success-kept : (b out : Bytes) → length b ≤ length out → Kept out (success b out)
 unfolding success
 success-kept b out h = record {
   refusal = λ r e. let z : _≡_ {A = ℕ} 0 1 = cc in absurd (omega arith);

@@ -26,7 +26,7 @@ use Rattle.theory.specs.Demands.{Build-refusal, Ask-refusal, Walk-refusa
 use Rattle.theory.specs.OutcomeLaws.{no-written, refuse-answer, write-answer, success-written, refuse-kept, write-kept}
 use Rattle.theory.specs.BuildLaws.{build-is, build-keys-is, build-writes}
 use Rattle.theory.specs.AskLaws.{ask-is, ask-answers, walk-is, step-is}
-use Rattle.theory.specs.RefusalNumbers.{keys-number, questions-number, check-accepts, check-refused, check-refuses, check-cases}
+use Rattle.theory.specs.RefusalNumbers.{keys-number, questions-number, check-accepts, check-refused, check-number, check-cases}
 use Rattle.spec.specs.Answer as Answer
 use Rattle.spec.specs.Check as Check
 use Rattle.spec.specs.Questions as Questions
@@ -79,7 +79,7 @@ module _ (b file out : Bytes) (r : ℕ) where
   ask-refuses = (λ h. check-cases b (λ c. over-accepted h c (parse-questions file) refl) (λ q c. over-refused h q c), from r)
     where
       over-refused : ask b file out .answer ≡ Answer.refused r → (q : ℕ) → check b ≡ Check.refused q → Ask-refusal b file out r
-      over-refused h q c = subst (Ask-refusal b file out) (refuse-answer q r out _ (ask-over-refused b file out q c) .0 h) (image-refused c (check-refuses b q c))
+      over-refused h q c = subst (Ask-refusal b file out) (refuse-answer q r out _ (ask-over-refused b file out q c) .0 h) (image-refused c (check-number b q c))
 
       over-accepted : ask b file out .answer ≡ Answer.refused r → check b ≡ accepted → (p : Parsed-questions) → parse-questions file ≡ p → Ask-refusal b file out r
       over-accepted h c (Questions.refused q) f =
@@ -136,7 +136,7 @@ module _ (b : Bytes) (place r : ℕ) where
       over-refused h q c =
           let w = walk-over-refused b place q c in
           let e : q ≡ r = cc in
-          subst (Walk-refusal b place) e (refused-image c (check-refuses b q c))
+          subst (Walk-refusal b place) e (refused-image c (check-number b q c))
 
       over-accepted : open-walk b place ≡ Walk.refused r → check b ≡ accepted → (t : Bool) → ltb (length (read-leaves b)) place ≡ t → Walk-refusal b place r
       over-accepted h c true e =

@@ -1,22 +1,20 @@
 -- The numbers with which key lists (1 to 4), question files (21 to 24) and images (11 to 16) are refused, and what the check says of them.
 -- RefusalLaws has the calls.
 use Prim.Native.Nat.{ℕ, zero, suc, _+_, _<_}
-use mathlib.Core.Path.{_≡_, refl, ap, subst}
+use mathlib.Core.Path.{_≡_, refl, sym, ap, subst, _∙_}
 use mathlib.Core.Bool.{Bool, true, false, not, _&&_, _||_}
-use mathlib.Core.List.{List, [], _∷_}
-use mathlib.Core.Option.{Option, none, some}
-use mathlib.Core.Logic.{_↔_, _⊎_, inl, inr, ⊎-elim}
+use mathlib.Core.List.{[], _∷_}
+use mathlib.Core.Logic.{_↔_}
 use native.Mathlib.Omega.{arith}
 use lib.ListN.{length, getD, take, drop}
 use lib.Dec.{ltb, eqb}
 use Rattle.spec.specs.Bytes.{Bytes, letter}
 use Rattle.spec.specs.Keys.{below, Parsed-keys, refused, keys, with-key, parse-records, parse-keys}
-use Rattle.spec.specs.Frame.{marks, has-header, read-bodies, parts}
-use Rattle.spec.specs.Nodes.{levels-of, nodes-of}
-use Rattle.spec.specs.Trie.{builders-trie}
 use Rattle.spec.specs.Questions.{Question, QP, QS, QB, QR, QC, Front, bad, got, read-key, one-key, two-keys, read-keys, read-question, Parsed-questions, taken, with-question, parse-from, parse-questions}
-use Rattle.spec.specs.Check.{header-valid, spare-clear, ranks-valid, slots-valid, judge-bodies, verdict, accepted, checked, check}
+use Rattle.spec.specs.Check.{verdict, accepted, checked, check}
 use Rattle.theory.specs.Terms.{From}
+use Rattle.theory.specs.Demands.{Check-refusal}
+use Rattle.theory.specs.CheckStages.{passes-verdict, refusal-verdict, refusal-number, by-stages}
 use Rattle.spec.specs.Check as Check
 use Rattle.spec.specs.Questions as Questions
 
@@ -127,28 +125,6 @@ pub questions-number : (file : Bytes) (r : ℕ) → parse-questions file ≡ Que
 unfolding parse-questions
 questions-number file r h = subst Questions-number h (parse-from-number (length file) 0 file)
 
--- an image is refused with 11 to 16
-abbrev Verdict-number : ℕ → Type 0
-Verdict-number v = (v ≡ 0) ⊎ From 11 16 v
-
-judge-number : (s : Bytes) (bs : List Bytes) → Verdict-number (judge-bodies s bs)
-unfolding judge-bodies
-judge-number s bs =
-    by-test Verdict-number (header-valid s (parts s bs) bs) _ _
-    (by-test Verdict-number (spare-clear (parts s bs) bs) _ _
-    (by-test Verdict-number (builders-trie (parts s bs)) _ _
-    (by-test Verdict-number (ranks-valid (parts s bs) bs) _ _
-    (by-test Verdict-number (slots-valid 0 (levels-of (nodes-of (parts s bs)))) _ _ (inl refl) (inr (omega arith)))
-    (inr (omega arith))) (inr (omega arith))) (inr (omega arith))) (inr (omega arith))
-
-verdict-number : (b : Bytes) → Verdict-number (verdict b)
-unfolding verdict
-verdict-number b = by-test Verdict-number (has-header b) _ _ (go (read-bodies marks (drop 22 b))) (inr (omega arith))
-  where
-    go : (f : Option (List Bytes)) → Verdict-number (elim f [ none ↦ 11 | some bs ↦ judge-bodies b bs ])
-    go none = inr (omega arith)
-    go (some bs) = judge-number b bs
-
 -- ---- the check
 
 -- the check accepts exactly where no number applies
@@ -173,9 +149,18 @@ check-refused b r = (λ h. to (verdict b) h, λ h. from (verdict b) r (h .0) (h 
     from zero r e h = absurd (omega arith)
     from (suc v) r e h = ap Check.refused e
 
--- The check refuses with 11 to 16.
-pub check-refuses : (b : Bytes) (r : ℕ) → check b ≡ Check.refused r → From 11 16 r
-check-refuses b r h = let v = check-refused b r .0 h in ⊎-elim (λ z. absurd (omega (arith, v))) (λ z. omega (arith, v)) (verdict-number b)
+-- The check refuses with a number exactly where the order of checks names it.
+pub check-refuses : (b : Bytes) (r : ℕ) → (check b ≡ Check.refused r) ↔ Check-refusal b r
+check-refuses b r = (to, λ c. check-refused b r .1 (refusal-verdict c, omega (arith, refusal-number c)))
+  where
+    to : check b ≡ Check.refused r → Check-refusal b r
+    to h =
+        let v = check-refused b r .0 h in
+        by-stages b (λ bs p. absurd (omega (arith, v, passes-verdict b bs p))) (λ n c. let e : n ≡ r = sym (refusal-verdict c) ∙ v .0 in subst (Check-refusal b) e c)
+
+-- An image is refused with 11 to 16.
+pub check-number : (b : Bytes) (r : ℕ) → check b ≡ Check.refused r → From 11 16 r
+check-number b r h = refusal-number (check-refuses b r .0 h)
 
 -- the check accepts or refuses
 pub check-cases : {A : Type 0} (b : Bytes) → (check b ≡ accepted → A) → ((r : ℕ) → check b ≡ Check.refused r → A) → A

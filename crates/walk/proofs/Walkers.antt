@@ -14,7 +14,7 @@ use prog.Wp.{Heap}
 use ghost.Atoms.{Atoms, sem}
 use contract.Lifetimes.{Lfts}
 use contract.Monad.{Fun, fact}
-use types.Kit.{Given, ‵, raw, _⊛_, ⋆, _$_, _∵_, !, qed, move, use1, use2, split, join, fsplit, fjoin, frame, done}
+use types.Kit.{Given, ‵, raw, _⊛_, given, ⋆, _$_, _∵_, !, qed, move, drop, use1, use2, split, join, learn, fsplit, fjoin, frame, done}
 use denote.RattleType.{RattleType, owns}
 use denote.Builtin.{u8, usize}
 use denote.Ref.{RefT, NamedLft, now}
@@ -23,18 +23,21 @@ use denote.Slice.{sliceVal, ShrSlice, shr-slice-copy}
 use denote.Steps.{nothing}
 use denote.Struct.Declared.{Declared}
 use denote.Struct.Laws as LL
+use denote.Struct.Rest.{all-own, own-open, own-shut}
 use denote.Triple.Statement.{Contract}
 use denote.Triple.Entry.{Vals, onEntry}
 use denote.Triple.Spec.{tripleOf}
 use denote.Triple.Walked.{says}
 use denote.Triple.Clauses.{ensured, lasts}
 use Rattle.spec.specs.Walk.{open-walk}
-use Rattle.image_types.specs.Value.{Sized}
-use Rattle.walk.specs.Walks.{stand-of, Walks, Moved}
+use Rattle.walk.specs.Walks.{Gives, Walks, Opens, Moved}
 use Rattle.walk.specs.declared.states.Standing.{Standing}
+use Rattle.walk.specs.declared.states.State.{State}
 use Rattle.walk.specs.declared.walker.Walker.{Walker}
 use Rattle.walk.proofs.walker.Walker as T
 use Rattle.walk.proofs.walker.Walker.Laws as T′
+use Rattle.walk.proofs.states.State as S
+use Rattle.walk.proofs.states.State.Laws as S′
 use Rattle.walk.proofs.walker.open as opening
 use Rattle.walk.proofs.walker.Walker.next as move-on
 use Rattle.walk.proofs.walker.Walker.stand as stand
@@ -77,7 +80,7 @@ abbrev pub Own : Lft → RefT (List ℕ) → Fml
 Own κ s = ShrSlice (named 0) κ u8 .own s (slice s ∷ [])
 
 abbrev pub Opened : RefT (List ℕ) → ℕ → Walker → Type 0
-Opened s n w = (w .image ≡ s) × Walks (now s) (w .at) × (w .at .place ≡ n)
+Opened s n w = (w .image ≡ s) × Opens (now s) n (w .at)
 
 module _ {M : Type 1} (𝓤 : URA M) (H : Heap 𝓤) (A : Atoms 𝓤) (W : Given 𝓤 H A) (mem : Memory → SProp 𝓤) (run : Routine → Fun 𝓤) (κ : Lft) (q : Share) (s : RefT (List ℕ)) (n : ℕ) where
   abbrev pub to-open : Open 𝓤 H A mem run .Ghost
@@ -100,7 +103,7 @@ abbrev pub Moved-on : Walker → Walker → Type 0
 Moved-on w r = (r .image ≡ w .image) × Moved (now (w .image)) (w .at) (r .at)
 
 abbrev pub Says : Walker → Standing → Type 0
-Says w r = (stand-of r ≡ open-walk (now (w .image)) (w .at .place)) × Sized (r .leaf)
+Says w r = Gives (open-walk (now (w .image)) (w .at .place)) r
 
 module _ {M : Type 1} (𝓤 : URA M) (H : Heap 𝓤) (A : Atoms 𝓤) (W : Given 𝓤 H A) (mem : Memory → SProp 𝓤) (run : Routine → Fun 𝓤) (κ : Lft) (q : Share) (w : Walker) (u : Val) where
   abbrev pub to-next : Next 𝓤 H A mem run .Ghost
@@ -120,3 +123,39 @@ module _ {M : Type 1} (𝓤 : URA M) (H : Heap 𝓤) (A : Atoms 𝓤) (W : Given
 
   pub stand-said : (r : Standing) → ent 𝓤 (ensured 𝓤 H A stand.ended (stand.clauses 𝓤 H A mem run) (κ, tt) (w, tt) tt r) (fact 𝓤 (Says w r))
   stand-said r = exE 𝓤 _ (λ ws. snd∗ 𝓤 (sem 𝓤 H A (lasts stand.ended (κ, tt) (w, tt) ws)) (fact 𝓤 (Says w r)))
+
+-- ---- a walker that is made of the slice s and the state a, and the state of a walker
+
+-- the machine value of a state, and what it owns
+abbrev pub state : State → Val
+state a = LL.val S.the-type S′.the-laws a
+
+abbrev pub Own-state : State → Fml
+Own-state a = S.the-row .own a (state a ∷ [])
+
+abbrev pub made : RefT (List ℕ) → State → Walker
+made s a = record { image = s; at = a }
+
+abbrev pub walker : Lft → Walker → Val
+walker κ w = LL.val (D (κ, tt)) (L (κ, tt)) w
+
+module _ {M : Type 1} (𝓤 : URA M) (H : Heap 𝓤) (A : Atoms 𝓤) (W : Given 𝓤 H A) (κ : Lft) (q : Share) where
+  -- the slice and the state are Copy: what they own makes a walker, and is kept
+  pub goes-made : (s : RefT (List ℕ)) (a : State)
+      → ent 𝓤 (⋆ 𝓤 H A ((‵ (flft κ q) ⊛ ‵ ftrue) ∷ ‵ (owns (ShrSlice (named 0) κ u8 ∷ S.the-row ∷ []) (s, (a, tt)) (slice s ∷ [], (state a ∷ [], tt))) ∷ []))
+      (⋆ 𝓤 H A (‵ (B (κ, tt) .own (made s a) (walker κ (made s a) ∷ [])) ∷ (‵ (flft κ q) ⊛ ‵ ftrue) ∷ ‵ (Own κ s) ∷ ‵ (Own-state a) ∷ []))
+  goes-made s a =
+      qed W ((‵ (flft κ q) ⊛ ‵ ftrue) ∷ ‵ (owns (ShrSlice (named 0) κ u8 ∷ S.the-row ∷ []) (s, (a, tt)) (slice s ∷ [], (state a ∷ [], tt))) ∷ []) ∵
+      move ! (1 ∷ []) $ fsplit ! $ use1 W (‵ (Own κ s) ⊛ ‵ (Own κ s)) (shr-slice-copy 𝓤 H A W (named 0) κ u8 .twice s (slice s ∷ [])) $ split ! $
+      -- [what the slice owns, twice; what the state owns, and nothing; the token]
+      move ! (2 ∷ []) $ fsplit ! $ use1 W (‵ (Own-state a) ⊛ ‵ (Own-state a)) (LL.copy S.the-type S′.the-copy 𝓤 H A W .twice a (state a ∷ [])) $ split ! $
+      -- [what the state owns, twice; nothing; what the slice owns, twice; the token]
+      move ! (0 ∷ 2 ∷ []) $ fjoin ! $ move ! (2 ∷ 0 ∷ []) $ fjoin ! $ use1 W (‵ (B (κ, tt) .own (made s a) (walker κ (made s a) ∷ []))) (own-shut 𝓤 H A W (D (κ, tt)) (L (κ, tt)) (s, (a, tt))) $ frame ! $
+      move ! (2 ∷ []) $ frame ! $ move ! (1 ∷ []) $ frame ! $ done !
+
+  -- of what a walker owns, what its state owns
+  pub state-of : (w : Walker) → ent 𝓤 (sem 𝓤 H A (B (κ, tt) .own w (walker κ w ∷ []))) (sem 𝓤 H A (Own-state (w .at)))
+  state-of w =
+      qed W (‵ (B (κ, tt) .own w (walker κ w ∷ [])) ∷ []) ∵
+      use1 W (given (walker κ w ∷ [] ≡ walker κ w ∷ []) (‵ (all-own (D (κ, tt) .parts) (L (κ, tt)) (w .image, (w .at, tt))))) (own-open 𝓤 H A W (D (κ, tt)) (L (κ, tt)) (w .image, (w .at, tt)) (walker κ w)) $ learn ! (λ _.
+      fsplit ! $ drop ! $ fsplit ! $ move ! (1 ∷ []) $ drop ! $ done !)

@@ -1,6 +1,3 @@
 pub mod Walks
-pub mod WalkLaws
+pub mod Records
 pub mod StateLaws
-pub mod Record
-pub mod RecordLaws
-pub mod FilledLaws

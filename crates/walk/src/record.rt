@@ -1,29 +1,31 @@
-// Leaves as records of 68 bytes, for programs in other languages: the kind (1 exact, 2 open), the cut key's length,
-// 64 bytes with the cut key and zeros behind it, and the suffix as a number, its low byte first.
+// Leaves as records of bytes, for programs in other languages: the kind (1 exact, 2 open), the cut key's length, 64 bytes with the cut key and zeros behind it,
+// and the suffix as a number of two bytes, the low one first.
 ghost use mathlib.Core.Path.{_≡_};
-ghost use mathlib.Core.List.{_++_};
-ghost use Prim.Native.Nat.{_+_, _/_, _≤_, _<_};
-ghost use lib.ListN.{length, drop};
-ghost use lib.Seq.{paste};
-ghost use Rattle.spec.specs.Bytes.{low-first, low-bits};
 ghost use Rattle.spec.specs.Nodes.{read-leaves};
+ghost use Rattle.spec.specs.WalkRecords.{kind-byte, walk-records};
 ghost use Rattle.bits_laws.specs.Bits.{placed};
-ghost use Rattle.image_types.specs.Value.{leaf-of, Sized};
-ghost use Rattle.nav_laws.specs.Accepted.{Accepted};
-ghost use Rattle.walk_cursor.specs.Stands.{Stands};
-ghost use Rattle.walk.specs.Record.{kind-byte, leaf-record, records-from, walk-records, outcome};
-use super::states::locate;
-use image_types::Frame;
+ghost use Rattle.image_types.specs.Outcomes.{outcome};
+ghost use Rattle.walk_laws.specs.LeafValues.{value-record};
+ghost use Rattle.walk_laws.specs.Filling.{Fills};
+ghost use Rattle.walk.specs.Walks.{Walks};
+ghost use Rattle.walk.specs.Records.{Room};
+use super::states::Stand;
+use super::states::State;
+use super::states::Status;
+use super::walker::move_from;
+use super::walker::open_from;
+use super::walker::stand_from;
+use bits::copy::write_bytes;
 use image_types::Leaf;
-use walk_cursor::Cursor;
-use walk_cursor::leaf_at;
-use walk_cursor::step;
+use image_types::Written;
 
-// So many bytes of records written, or a refusal's number.
-pub enum Walked {
-    Written(usize),
-    Refused(u32),
-}
+// The bytes of a record: kind, length, cut key and suffix.
+pub const RECORD_SIZE: usize = 68;
+
+// Where the cut key and the suffix stand in a record.
+const CUT_AT: usize = 2;
+
+const SUFFIX_AT: usize = 66;
 
 // The byte of a leaf's kind.
 fn kind_byte(exact: bool) -> u8
@@ -35,82 +37,50 @@ fn kind_byte(exact: bool) -> u8
     2
 }
 
-// The number of the low width bits.
-fn suffix_number(suffix: usize, width: usize) -> usize
-    requires { ⌜ width ≤ 16 ⌝ }
-    ensures { λ r. ⌜ (r ≡ low-first (low-bits width suffix)) × (r < 65536) ⌝ }
-{
-    suffix % (1usize << width)
-}
-
-// A record with the cut key copied into it.
-fn with_cut(before: [u8; 68], cut: [u8; 64], len: usize) -> [u8; 68]
-    requires { ⌜ len ≤ 64 ⌝ }
-    ensures { λ r. ⌜ r ≡ paste before 2 cut len ⌝ }
-{
-    let mut out = before;
-    let mut i = 0usize;
-    while i < len {
-        out[2 + i] = cut[i];
-        i = i + 1;
-    }
-    out
-}
-
-// A leaf's record.
-fn leaf_record(l: Leaf) -> [u8; 68]
-    requires { ⌜ Sized l ⌝ }
-    ensures { λ r. ⌜ r ≡ leaf-record (leaf-of l) ⌝ }
-{
-    let cut = l.cut;
-    let suffix = suffix_number(l.suffix, l.width);
-    let mut out = [0u8; 68];
-    out[0] = kind_byte(l.exact);
-    out[1] = l.len as u8;
-    out[66] = (suffix % 256) as u8;
-    out[67] = (suffix / 256) as u8;
-    with_cut(out, cut, l.len)
-}
-
 // A leaf's record goes to out from at, and all else stays.
 fn write_record(out: &mut [u8], at: usize, l: Leaf)
-    requires { ⌜ Sized l × (at + 68 ≤ length (now out)) ⌝ }
-    ensures { λ _. ⌜ now (out .exit) ≡ placed (now (out .entry)) at (leaf-record (leaf-of l)) ⌝ }
+    requires { ⌜ Room (now out) at l ⌝ }
+    ensures { λ _. ⌜ now (out .exit) ≡ placed (now (out .entry)) at (value-record l) ⌝ }
 {
-    let bytes = leaf_record(l);
-    let mut i = 0usize;
-    while i < 68 {
-        out[at + i] = bytes[i];
-        i = i + 1;
-    }
+    let cut = l.cut;
+    let suffix = l.suffix;
+    out[at] = kind_byte(l.exact);
+    out[at + 1] = l.len as u8;
+    write_bytes(out, at + CUT_AT, &cut);
+    out[at + SUFFIX_AT] = (suffix % 256) as u8;
+    out[at + SUFFIX_AT + 1] = (suffix / 256) as u8;
 }
 
-// The records of the leaves from the cursor's on go to the front of out, of as many as it holds whole, and all else stays; their length.
-fn write_leaves(image: &[u8], f: Frame, from: Cursor, out: &mut [u8]) -> usize
-    requires { ⌜ Accepted (now image) f × Stands (now image) f from ⌝ }
-    ensures { λ r. ⌜ (r ≡ length (records-from (read-leaves (now (image .entry))) (from .place) (length (now (out .entry)) / 68))) × (now (out .exit) ≡ records-from (read-leaves (now (image .entry))) (from .place) (length (now (out .entry)) / 68) ++ drop r (now (out .entry))) ⌝ }
+// The records of the leaves from the state's place on go to the front of out, of as many as it holds whole, and all else stays; their length.
+fn write_leaves(image: &[u8], from: State, out: &mut [u8]) -> usize
+    requires { ⌜ Walks (now image) from × (from .status ≡ Status.Opened) ⌝ }
+    ensures { λ r. ⌜ Fills (read-leaves (now (image .entry))) (from .place) (now (out .entry)) (now (out .exit)) r ⌝ }
 {
-    let room = out.len() / 68;
-    let mut next = from;
+    let room = out.len() / RECORD_SIZE;
+    let mut at = from;
     let mut count = 0usize;
-    while count < room && next.place < f.leaves {
-        let l = leaf_at(image, f, next);
-        write_record(out, 68 * count, l);
-        next = step(image, f, next);
+    while count < room {
+        let s = stand_from(image, at);
+        let stand = s.stand;
+        let Stand::Leaf = stand else {
+            return RECORD_SIZE * count;
+        };
+        let l = s.leaf;
+        write_record(out, RECORD_SIZE * count, l);
+        at = move_from(image, at);
         count = count + 1;
     }
-    68 * count
+    RECORD_SIZE * count
 }
 
 // Writes the records of the leaves from a place on to the front of out, of as many as it holds whole. The image is checked once.
-pub fn write_records(image: &[u8], place: usize, out: &mut [u8]) -> Walked
+pub fn write_records(image: &[u8], place: usize, out: &mut [u8]) -> Written
     ensures { λ r. ⌜ outcome r (now (out .exit)) ≡ walk-records (now (image .entry)) place (now (out .entry)) ⌝ }
 {
-    let at = locate(image, place);
-    if at.number != 0 {
-        return Walked::Refused(at.number);
+    let at = open_from(image, place);
+    let status = at.status;
+    match status {
+        Status::Refused(number) => Written::Refused(number),
+        Status::Opened => Written::Bytes(write_leaves(image, at, out)),
     }
-    let f = at.frame;
-    let c = at.cursor;
-    Walked::Written(write_leaves(image, f, c, out))
 }

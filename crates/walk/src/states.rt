@@ -1,41 +1,54 @@
 // Where a walk over an image stands, by value beside the image's slice, and what it says there.
 ghost use mathlib.Core.Path.{_≡_};
-ghost use Prim.Native.Nat.{_≤_};
 ghost use Rattle.spec.specs.Walk.{open-walk};
-ghost use Rattle.image_types.specs.Value.{Sized};
-ghost use Rattle.nav_laws.specs.Accepted.{Accepted as Accepted-image};
-ghost use Rattle.walk_cursor.specs.Stands.{Stands};
-ghost use Rattle.walk.specs.Walks.{stand-of, Walks, Moved};
-use check_image::Accepted;
+ghost use Rattle.walk.specs.Walks.{no-leaf, Gives, Walks, Opens, Moved};
+use super::value::padded;
 use check_image::accept;
 use image_types::Dense;
+use image_types::DenseTotals;
 use image_types::Frame;
+use image_types::Framed;
 use image_types::Leaf;
 use image_types::Sparse;
 use image_types::ValuePos;
 use walk_cursor::Cursor;
-use walk_cursor::first;
 use walk_cursor::leaf_at;
 use walk_cursor::step;
+use walk_locate::cursor_at;
 
-// What a walk says at a place: the number of a refusal; or, where that is 0, done or a leaf.
+// The number of a refusal: the place handed in is neither a leaf of the image nor done.
+const PLACE_REFUSED: u32 = 17;
+
+// What a walk says at a place: a refusal's number, a leaf, or done.
+pub enum Stand {
+    Refused(u32),
+    Leaf,
+    Done,
+}
+
+// What a walk says, with the leaf by value; without one, all of the leaf is zero.
 pub struct Standing {
-    pub number: u32,
-    pub done: bool,
+    pub stand: Stand,
     pub leaf: Leaf,
 }
 
-// Where a walk stands: the number of the refusal, 0 for none, and the place; of a walk that is not refused, the image's frame and the cursor at the place.
+// Whether a walk is refused, and with which number.
+pub enum Status {
+    Opened,
+    Refused(u32),
+}
+
+// Where a walk stands: its status and its place; of a walk that is not refused, the image's frame and the cursor at the place.
 pub struct State {
-    pub number: u32,
+    pub status: Status,
     pub place: usize,
     pub frame: Frame,
     pub cursor: Cursor,
 }
 
-// The leaf of a standing that has none.
+// The leaf of a walk that stands at none.
 fn no_leaf() -> Leaf
-    ensures { λ r. ⌜ Sized r ⌝ }
+    ensures { λ r. ⌜ r ≡ no-leaf ⌝ }
 {
     Leaf {
         cut: [0u8; 64],
@@ -48,10 +61,10 @@ fn no_leaf() -> Leaf
 
 // The state of a walk that is refused at a place.
 fn refused(number: u32, place: usize) -> State
-    ensures { λ r. ⌜ (r .number ≡ number) × (r .place ≡ place) ⌝ }
+    ensures { λ r. ⌜ (r .status ≡ Status.Refused number) × (r .place ≡ place) ⌝ }
 {
     State {
-        number,
+        status: Status::Refused(number),
         place,
         frame: Frame {
             width: 0,
@@ -59,11 +72,13 @@ fn refused(number: u32, place: usize) -> State
             dense: Dense {
                 levels: 0,
                 nodes: 0,
-                children: 0,
-                entries: 0,
             },
             sparse: Sparse {
                 nodes: 0,
+                entries: 0,
+            },
+            totals: DenseTotals {
+                children: 0,
                 entries: 0,
             },
             dl: 0,
@@ -90,48 +105,35 @@ fn refused(number: u32, place: usize) -> State
     }
 }
 
-// The cursor at a place of an accepted image: as many steps from the first leaf.
-fn seek(image: &[u8], f: Frame, place: usize) -> Cursor
-    requires { ⌜ Accepted-image (now image) f × (place ≤ f .leaves) ⌝ }
-    ensures { λ r. ⌜ Stands (now (image .entry)) f r × (r .place ≡ place) ⌝ }
-{
-    let mut c = first(image, f);
-    let mut i = 0usize;
-    while i < place {
-        c = step(image, f, c);
-        i = i + 1;
-    }
-    c
-}
-
-// The state of a walk that is opened at a place. The image is checked here, and not again.
-pub fn locate(image: &[u8], place: usize) -> State
-    ensures { λ r. ⌜ Walks (now (image .entry)) r × (r .place ≡ place) ⌝ }
+// The state of a walk that is opened at a place. The image is checked here, and not again; the cursor goes straight to the place.
+pub fn open_state(image: &[u8], place: usize) -> State
+    ensures { λ r. ⌜ Opens (now (image .entry)) place r ⌝ }
 {
     match accept(image) {
-        Accepted::Refused(number) => refused(number, place),
-        Accepted::At(f) => {
+        Framed::Refused(number) => refused(number, place),
+        Framed::At(f) => {
             if f.leaves < place {
-                return refused(17, place);
+                return refused(PLACE_REFUSED, place);
             }
             State {
-                number: 0,
+                status: Status::Opened,
                 place,
                 frame: f,
-                cursor: seek(image, f, place),
+                cursor: cursor_at(image, f, place),
             }
         }
     }
 }
 
-// The state behind a state: at the next leaf, or done; done and a refusal stay. `locate` and `advance` give what is required.
-pub fn advance(image: &[u8], at: State) -> State
+// The state behind a state: at the next leaf, or done; done and a refusal stay. `open_state` and `next_state` give what is required.
+pub fn next_state(image: &[u8], at: State) -> State
     requires { ⌜ Walks (now image) at ⌝ }
     ensures { λ r. ⌜ Moved (now (image .entry)) at r ⌝ }
 {
-    if at.number != 0 {
+    let status = at.status;
+    let Status::Opened = status else {
         return at;
-    }
+    };
     let f = at.frame;
     let c = at.cursor;
     let place = at.place;
@@ -139,37 +141,43 @@ pub fn advance(image: &[u8], at: State) -> State
         return at;
     }
     State {
-        number: 0,
+        status: Status::Opened,
         place: place + 1,
         frame: f,
         cursor: step(image, f, c),
     }
 }
 
-// What a walk says in a state. `locate` and `advance` give what is required.
-pub fn stand(image: &[u8], at: State) -> Standing
-    requires { ⌜ Walks (now image) at ⌝ }
-    ensures { λ r. ⌜ (stand-of r ≡ open-walk (now (image .entry)) (at .place)) × Sized (r .leaf) ⌝ }
+// What a walk that is not refused says in a state: the leaf at the cursor, or done.
+fn stand_opened(image: &[u8], at: State) -> Standing
+    requires { ⌜ Walks (now image) at × (at .status ≡ Status.Opened) ⌝ }
+    ensures { λ r. ⌜ Gives (open-walk (now (image .entry)) (at .place)) r ⌝ }
 {
-    if at.number != 0 {
-        return Standing {
-            number: at.number,
-            done: false,
-            leaf: no_leaf(),
-        };
-    }
     let f = at.frame;
     let c = at.cursor;
     if at.place == f.leaves {
         return Standing {
-            number: 0,
-            done: true,
+            stand: Stand::Done,
             leaf: no_leaf(),
         };
     }
     Standing {
-        number: 0,
-        done: false,
-        leaf: leaf_at(image, f, c),
+        stand: Stand::Leaf,
+        leaf: padded(leaf_at(image, f, c)),
+    }
+}
+
+// What a walk says in a state. `open_state` and `next_state` give what is required.
+pub fn stand_state(image: &[u8], at: State) -> Standing
+    requires { ⌜ Walks (now image) at ⌝ }
+    ensures { λ r. ⌜ Gives (open-walk (now (image .entry)) (at .place)) r ⌝ }
+{
+    let status = at.status;
+    match status {
+        Status::Refused(number) => Standing {
+            stand: Stand::Refused(number),
+            leaf: no_leaf(),
+        },
+        Status::Opened => stand_opened(image, at),
     }
 }

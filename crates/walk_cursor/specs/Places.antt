@@ -31,7 +31,7 @@ pub leaf-total : (s : Bytes) (f : Frame) → Accepted s f → length (read-leave
 leaf-total s f a = sym (root.leaf-total (f .width) (read-leaves s) (nodes s f) (a .realizable) (a .well-sized) (a .trie-is)) ∙ a .writable .leaf-total
 
 -- the member at a place
-found-at : (ls : List Leaf) (p : ℕ) (l : Leaf) (rest : List Leaf) → drop p ls ≡ l ∷ rest → getElem? ls p ≡ some l
+pub found-at : (ls : List Leaf) (p : ℕ) (l : Leaf) (rest : List Leaf) → drop p ls ≡ l ∷ rest → getElem? ls p ≡ some l
 found-at [] zero l rest e = let z : _≡_ {A = ℕ} 0 1 = cc in absurd (omega arith)
 found-at [] (suc p) l rest e = let z : _≡_ {A = ℕ} 0 1 = cc in absurd (omega arith)
 found-at (x ∷ ls) zero l rest e = cc

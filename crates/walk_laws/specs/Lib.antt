@@ -1,3 +1,7 @@
 pub mod Below
 pub mod Paths
 pub mod SuffixNumber
+pub mod Opening
+pub mod LeafValues
+pub mod Filling
+pub mod Counted

@@ -1,104 +1,106 @@
-use Prim.Native.Nat.{_≤_}
-use mathlib.Core.Path.{refl}
-use mathlib.Core.Logic.{inl}
+-- The tests in their order: each that fails gives 11 or 12, and where all pass the header and the records stand and their lengths agree.
+use Prim.Native.Nat.{ℕ, _≤_}
+use mathlib.Core.List.{List}
+use mathlib.Core.Path.{sym, ap, _∙_}
+use mathlib.Core.Option.{some}
+use native.Mathlib.Omega.{arith}
 use lib.ListN.{length}
-use Rattle.check_frame.specs.Found.{standing}
-use Rattle.image_types.specs.FrameOf.{no-header}
-use Rattle.check_frame.specs.Groups.{header-short, header-first, header-second, header-stands, first-missing, first-within, second-missing, second-within, third-missing, left-over, all-found}
 use borrow.Author.Needs.{needs}
+use borrow.Author.Tests.{not-true, not-false}
+use Rattle.check_frame_laws.specs.FrameLaws.{header-short, header-first, header-second, header-stands, records-absent, records-short, Frame-stands, settings-wrong, lengths-wrong}
+use Rattle.check_frame.specs.Found.{end-found}
 use Rattle.check_frame.proofs.read_frame.Statement.{statement}
 use Rattle.check_frame.proofs.read_frame.Tie as tie
 
+-- where the function was entered, from where the first letters and the length have passed
+abbrev entered : tie.Else3 → tie.Start
+entered c = c .before .before .before .before .before .before
+
+-- where the records have been read
+abbrev after-records : tie.After-read-header → tie.After-last-end
+after-records c = c .before .before .before .before .before
+
+-- the image
+abbrev image : tie.After-read-header → List ℕ
+image c = entered (after-records c .before) .args .image .now
+
+-- 22 bytes
+abbrev long : (c : tie.Else3) → 22 ≤ length (entered c .args .image .now)
+long c = c .before .before .before .before .if1 .left
+
+-- the header and the records stand
+stood : (c : tie.After-read-header) → Frame-stands (image c) (c .read-header .result)
+stood c =
+    let r = after-records c in
+    let e = c .before .before .before .end .given in
+    record {
+      header = header-stands (image c) (long (r .before)) (r .before .before .before .if2 .left) (r .before .if3 .left);
+      records = record { long = long (r .before); end = sym (r .last-end .ensures) ∙ ap end-found (e .1) ∙ ap some (c .before .if4 .left) };
+      reads = c .read-header .ensures;
+    }
+
 returns : tie.Need-returns
-returns c = (inl refl, no-header (c .before .before .args .image .now) (header-short (c .before .before .args .image .now) (c .if1 .taken)))
+returns c = (omega arith, header-short (c .before .before .args .image .now) (c .if1 .taken))
 
 shared-slice-read-if2 : tie.Need-shared-slice-read-if2
 shared-slice-read-if2 c = search needs
 
 returns-2 : tie.Need-returns-2
-returns-2 c = (inl refl, no-header (c .before .before .before .before .args .image .now) (header-first (c .before .before .before .before .args .image .now) (c .if2 .taken)))
+returns-2 c = (omega arith, header-first (c .before .before .before .before .args .image .now) (c .if2 .taken))
 
 shared-slice-read-if3 : tie.Need-shared-slice-read-if3
 shared-slice-read-if3 c = search needs
 
 returns-3 : tie.Need-returns-3
-returns-3 c = (inl refl, no-header (c .before .before .before .before .before .before .args .image .now) (header-second (c .before .before .before .before .before .before .args .image .now) (c .if3 .taken)))
+returns-3 c = (omega arith, header-second (c .before .before .before .before .before .before .args .image .now) (c .if3 .taken))
 
-four-records-requires : tie.Need-four-records-requires
-four-records-requires c κs = search needs
+last-end-requires : tie.Need-last-end-requires
+last-end-requires c κs = search needs
 
-enum-known-e0 : tie.Need-enum-known-e0
-enum-known-e0 c = search needs
+enum-known-end : tie.Need-enum-known-end
+enum-known-end c = search needs
 
 enum-told : tie.Need-enum-told
 enum-told c = search needs
 
 returns-4 : tie.Need-returns-4
 returns-4 c =
-    let s = c .before .before .before .before .before .before .before .before .before .before .before .before .before .args .image .now in
-    let l : 22 ≤ length s = c .before .before .before .before .before .before .before .before .before .before .before .if1 .left in
-    (inl refl, first-missing s l _ (c .before .before .four-records .ensures) (c .enum-told .given .1))
-
-four-records-requires-2 : tie.Need-four-records-requires-2
-four-records-requires-2 c κs =
-    let s = c .before .before .before .before .before .before .before .before .before .before .before .before .before .before .before .before .before .before .args .image .now in
-    let l : 22 ≤ length s = c .before .before .before .before .before .before .before .before .before .before .before .before .before .before .before .before .if1 .left in
-    let g1 = c .before .before .before .before .before .e0 .given in
-    first-within s l _ (c .before .before .before .before .before .before .before .four-records .ensures) (g1 .0 .0) (g1 .0 .1 .0) (g1 .0 .1 .1 .0) (g1 .0 .1 .1 .1 .0) (g1 .1)
-
-enum-known-e4 : tie.Need-enum-known-e4
-enum-known-e4 c = search needs
-
-enum-told-2 : tie.Need-enum-told-2
-enum-told-2 c = search needs
+    let r = c .before .before in
+    (omega arith, records-absent (entered (r .before) .args .image .now) (long (r .before)) (sym (r .last-end .ensures) ∙ ap end-found (c .enum-told .given .1)))
 
 returns-5 : tie.Need-returns-5
 returns-5 c =
-    let s = c .before .before .before .before .before .before .before .before .before .before .before .before .before .before .before .before .before .before .before .before .before .args .image .now in
-    let l : 22 ≤ length s = c .before .before .before .before .before .before .before .before .before .before .before .before .before .before .before .before .before .before .before .if1 .left in
-    let g1 = c .before .before .before .before .before .before .before .before .e0 .given in
-    (inl refl, second-missing s l _ (c .before .before .before .before .before .before .before .before .before .before .four-records .ensures) (g1 .0 .0) (g1 .0 .1 .0) (g1 .0 .1 .1 .0) (g1 .0 .1 .1 .1 .0) (g1 .1) _ (c .before .before .four-records2 .ensures) (c .enum-told2 .given .1))
+    let e = c .before .before .end .given in
+    let r = c .before .before .before .before in
+    (omega arith, records-short (entered (r .before) .args .image .now) (e .0 .0) (long (r .before)) (sym (r .last-end .ensures) ∙ ap end-found (e .1)) (c .if4 .taken))
 
-four-records-requires-3 : tie.Need-four-records-requires-3
-four-records-requires-3 c κs =
-    let s = c .before .before .before .before .before .before .before .before .before .before .before .before .before .before .before .before .before .before .before .before .before .before .before .before .before .before .args .image .now in
-    let l : 22 ≤ length s = c .before .before .before .before .before .before .before .before .before .before .before .before .before .before .before .before .before .before .before .before .before .before .before .before .if1 .left in
-    let g1 = c .before .before .before .before .before .before .before .before .before .before .before .before .before .e0 .given in
-    let g2 = c .before .before .before .before .before .e4 .given in
-    second-within s l _ (c .before .before .before .before .before .before .before .before .before .before .before .before .before .before .before .four-records .ensures) (g1 .0 .0) (g1 .0 .1 .0) (g1 .0 .1 .1 .0) (g1 .0 .1 .1 .1 .0) (g1 .1) _ (c .before .before .before .before .before .before .before .four-records2 .ensures) (g2 .0 .0) (g2 .0 .1 .0) (g2 .0 .1 .1 .0) (g2 .0 .1 .1 .1 .0) (g2 .1)
+read-header-requires : tie.Need-read-header-requires
+read-header-requires c κs = search needs
 
-enum-known-e8 : tie.Need-enum-known-e8
-enum-known-e8 c = search needs
-
-enum-told-3 : tie.Need-enum-told-3
-enum-told-3 c = search needs
+settings-valid-requires : tie.Need-settings-valid-requires
+settings-valid-requires c κs = search needs
 
 returns-6 : tie.Need-returns-6
 returns-6 c =
-    let s = c .before .before .before .before .before .before .before .before .before .before .before .before .before .before .before .before .before .before .before .before .before .before .before .before .before .before .before .before .before .args .image .now in
-    let l : 22 ≤ length s = c .before .before .before .before .before .before .before .before .before .before .before .before .before .before .before .before .before .before .before .before .before .before .before .before .before .before .before .if1 .left in
-    let g1 = c .before .before .before .before .before .before .before .before .before .before .before .before .before .before .before .before .e0 .given in
-    let g2 = c .before .before .before .before .before .before .before .before .e4 .given in
-    (inl refl, third-missing s l _ (c .before .before .before .before .before .before .before .before .before .before .before .before .before .before .before .before .before .before .four-records .ensures) (g1 .0 .0) (g1 .0 .1 .0) (g1 .0 .1 .1 .0) (g1 .0 .1 .1 .1 .0) (g1 .1) _ (c .before .before .before .before .before .before .before .before .before .before .four-records2 .ensures) (g2 .0 .0) (g2 .0 .1 .0) (g2 .0 .1 .1 .0) (g2 .0 .1 .1 .1 .0) (g2 .1) _ (c .before .before .four-records3 .ensures) (c .enum-told3 .given .1))
+    let h = c .before .before in
+    (omega arith, settings-wrong (image h) (h .read-header .result) (stood h) (sym (c .before .settings-valid .ensures) ∙ not-true _ (c .if5 .taken)))
+
+lengths-valid-requires : tie.Need-lengths-valid-requires
+lengths-valid-requires c κs = let h = c .before .before in (stood h .reads .short, stood h .records)
 
 returns-7 : tie.Need-returns-7
 returns-7 c =
-    let s = c .before .before .before .before .before .before .before .before .before .before .before .before .before .before .before .before .before .before .before .before .before .before .before .before .before .before .before .before .before .before .before .args .image .now in
-    let l : 22 ≤ length s = c .before .before .before .before .before .before .before .before .before .before .before .before .before .before .before .before .before .before .before .before .before .before .before .before .before .before .before .before .before .if1 .left in
-    let g1 = c .before .before .before .before .before .before .before .before .before .before .before .before .before .before .before .before .before .before .e0 .given in
-    let g2 = c .before .before .before .before .before .before .before .before .before .before .e4 .given in
-    let g3 = c .before .before .e8 .given in
-    (inl refl, left-over s l _ (c .before .before .before .before .before .before .before .before .before .before .before .before .before .before .before .before .before .before .before .before .four-records .ensures) (g1 .0 .0) (g1 .0 .1 .0) (g1 .0 .1 .1 .0) (g1 .0 .1 .1 .1 .0) (g1 .1) _ (c .before .before .before .before .before .before .before .before .before .before .before .before .four-records2 .ensures) (g2 .0 .0) (g2 .0 .1 .0) (g2 .0 .1 .1 .0) (g2 .0 .1 .1 .1 .0) (g2 .1) _ (c .before .before .before .before .four-records3 .ensures) (g3 .0 .0) (g3 .0 .1 .0) (g3 .0 .1 .1 .0) (g3 .0 .1 .1 .1 .0) (g3 .1) (c .if4 .taken))
+    let h = c .before .before .before .before in
+    (omega arith, lengths-wrong (image h) (h .read-header .result) (stood h) (sym (c .before .lengths-valid .ensures) ∙ not-true _ (c .if6 .taken)))
 
-judge-header-requires : tie.Need-judge-header-requires
-judge-header-requires c κs =
-    let s = c .before .before .before .before .before .before .before .before .before .before .before .before .before .before .before .before .before .before .before .before .before .before .before .before .before .before .before .before .before .before .before .args .image .now in
-    let l : 22 ≤ length s = c .before .before .before .before .before .before .before .before .before .before .before .before .before .before .before .before .before .before .before .before .before .before .before .before .before .before .before .before .before .if1 .left in
-    let g1 = c .before .before .before .before .before .before .before .before .before .before .before .before .before .before .before .before .before .before .e0 .given in
-    let g2 = c .before .before .before .before .before .before .before .before .before .before .e4 .given in
-    let g3 = c .before .before .e8 .given in
-    let found = all-found s l _ (c .before .before .before .before .before .before .before .before .before .before .before .before .before .before .before .before .before .before .before .before .four-records .ensures) (g1 .0 .0) (g1 .0 .1 .0) (g1 .0 .1 .1 .0) (g1 .0 .1 .1 .1 .0) (g1 .1) _ (c .before .before .before .before .before .before .before .before .before .before .before .before .four-records2 .ensures) (g2 .0 .0) (g2 .0 .1 .0) (g2 .0 .1 .1 .0) (g2 .0 .1 .1 .1 .0) (g2 .1) _ (c .before .before .before .before .four-records3 .ensures) (g3 .0 .0) (g3 .0 .1 .0) (g3 .0 .1 .1 .0) (g3 .0 .1 .1 .1 .0) (g3 .1) in
-    standing s (g1 .0 .0) (g1 .0 .1 .0) (g1 .0 .1 .1 .0) (g1 .0 .1 .1 .1 .0) (g2 .0 .0) (g2 .0 .1 .0) (g2 .0 .1 .1 .0) (g2 .0 .1 .1 .1 .0) (g3 .0 .0) (g3 .0 .1 .0) (g3 .0 .1 .1 .0) l (header-stands s l (c .before .before .before .before .before .before .before .before .before .before .before .before .before .before .before .before .before .before .before .before .before .before .before .before .before .before .before .if2 .left) (c .before .before .before .before .before .before .before .before .before .before .before .before .before .before .before .before .before .before .before .before .before .before .before .before .before .if3 .left)) (rw (c .if4 .left) at found)
+laid-out-requires : tie.Need-laid-out-requires
+laid-out-requires c κs =
+    let h = c .before .before .before .before in
+    record {
+      stands = stood h;
+      settings = sym (c .before .before .before .settings-valid .ensures) ∙ not-false _ (c .before .before .if5 .left);
+      lengths = sym (c .before .lengths-valid .ensures) ∙ not-false _ (c .if6 .left);
+    }
 
 returns-8 : tie.Need-returns-8
 returns-8 c = search needs
@@ -112,18 +114,15 @@ read-frame-spec =
     returns-2
     shared-slice-read-if3
     returns-3
-    four-records-requires
-    enum-known-e0
+    last-end-requires
+    enum-known-end
     enum-told
     returns-4
-    four-records-requires-2
-    enum-known-e4
-    enum-told-2
     returns-5
-    four-records-requires-3
-    enum-known-e8
-    enum-told-3
+    read-header-requires
+    settings-valid-requires
     returns-6
+    lengths-valid-requires
     returns-7
-    judge-header-requires
+    laid-out-requires
     returns-8)

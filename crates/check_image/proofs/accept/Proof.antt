@@ -1,130 +1,125 @@
--- The frame is read, then each number is judged over the whole image before the next: the first that applies is the verdict.
+-- The stages in their order: each test that fails gives its number, and where all pass the verdict is 0.
+use Prim.Native.Nat.{ℕ, _≤_}
 use mathlib.Core.Path.{_≡_, sym, ap, _∙_}
-use mathlib.Core.Bool.{Bool}
+use mathlib.Core.List.{List}
 use native.Mathlib.Omega.{arith}
 use borrow.Author.Needs.{needs}
 use borrow.Author.Tests.{not-true, not-false}
 use Rattle.spec.specs.Bytes.{Bytes}
-use Rattle.spec.specs.Frame.{Parts, parts}
-use Rattle.spec.specs.Nodes.{levels-of, nodes-of}
 use Rattle.spec.specs.Trie.{builders-trie}
-use Rattle.spec.specs.Check.{spare-clear, ranks-valid, slots-valid}
-use Rattle.image_types.specs.FrameOf.{FrameOf, frame-bodies, frame-parts}
+use Rattle.spec.specs.Check.{verdict}
+use Rattle.theory.specs.Demands.{Passes-12, Passes-13, Passes-14, Passes-15, Check-refusal, spare-set, no-trie, rank-wrong, slot-set}
+use Rattle.theory.specs.CheckStages.{passes-verdict, refusal-verdict, refusal-number}
+use Rattle.image_types.specs.FrameOf.{FrameOf, frame-bodies}
 use Rattle.image_types.specs.declared.Frame.{Frame}
-use Rattle.check_slots_laws.specs.Judged.{slots-pass}
-use Rattle.check_image.specs.Answers.{stage-13, stage-14, stage-15, stage-16, stage-0, early}
+use Rattle.check_frame_laws.specs.FrameLaws.{frame-passes}
 use Rattle.check_image.proofs.accept.Statement.{statement}
 use Rattle.check_image.proofs.accept.Tie as tie
 
-module _ (s : Bytes) (f : Frame) (o : FrameOf s f) (r b : Bool) where
-  -- what was judged of spare bits, said of the frame's parts
-  spare-of : r ≡ spare-clear (parts s (frame-bodies s f)) (frame-bodies s f) → r ≡ b → spare-clear (frame-parts s f) (frame-bodies s f) ≡ b
-  spare-of e h = sym (e ∙ ap (λ (p : Parts). spare-clear p (frame-bodies s f)) (o .parts-are)) ∙ h
+-- the answer of a refusal
+refuses : {s : Bytes} {n : ℕ} → Check-refusal s n → (verdict s ≡ n) × (1 ≤ n)
+refuses r = (refusal-verdict r, omega (arith, refusal-number r))
 
-  -- the same of ranks and samples
-  ranks-of : r ≡ ranks-valid (parts s (frame-bodies s f)) (frame-bodies s f) → r ≡ b → ranks-valid (frame-parts s f) (frame-bodies s f) ≡ b
-  ranks-of e h = sym (e ∙ ap (λ (p : Parts). ranks-valid p (frame-bodies s f)) (o .parts-are)) ∙ h
+-- the image
+abbrev image : tie.After-known-told → Bytes
+image c = c .before .before .before .before .before .args .image .now
 
-  -- the same of slots
-  slots-of : r ≡ slots-pass s f → r ≡ b → slots-valid 0 (levels-of (nodes-of (frame-parts s f))) ≡ b
-  slots-of e h = sym (e ∙ ap (λ (p : Parts). slots-valid 0 (levels-of (nodes-of p))) (o .parts-are)) ∙ h
+-- the frame that was read
+abbrev frame : tie.After-known-told → Frame
+frame c = c .before .framed .given .0 .0
+
+-- the bodies of the records
+abbrev bodies : tie.After-known-told → List Bytes
+bodies c = frame-bodies (image c) (frame c)
+
+framed : (c : tie.After-known-told) → FrameOf (image c) (frame c)
+framed c = rw (c .before .framed .given .1) at (c .before .before .before .read-frame .ensures)
+
+-- what has passed behind each test
+passed-12 : (c : tie.After-known-told) → Passes-12 (image c) (bodies c)
+passed-12 c = frame-passes (image c) (frame c) (framed c)
+
+passed-13 : (c : tie.Else1) → Passes-13 (image (c .before .before)) (bodies (c .before .before))
+passed-13 c = record { before = passed-12 (c .before .before); spare = sym (c .before .spare-clear .ensures) ∙ not-false _ (c .if1 .left) }
+
+passed-14 : (c : tie.Else2) → Passes-14 (image (c .before .before .before .before)) (bodies (c .before .before .before .before))
+passed-14 c =
+    let k = c .before .before in
+    record { before = passed-13 k; trie = ap builders-trie (framed (k .before .before) .parts-are) ∙ sym (c .before .trie-valid .ensures) ∙ not-false _ (c .if2 .left) }
+
+passed-15 : (c : tie.Else3) → Passes-15 (image (c .before .before .before .before .before .before)) (bodies (c .before .before .before .before .before .before))
+passed-15 c = record { before = passed-14 (c .before .before); ranks = sym (c .before .tables-valid .ensures) ∙ not-false _ (c .if3 .left) }
 
 read-frame-requires : tie.Need-read-frame-requires
 read-frame-requires c κs = search needs
 
-enum-known-n : tie.Need-enum-known-n
-enum-known-n c = search needs
+enum-known-framed : tie.Need-enum-known-framed
+enum-known-framed c = search needs
 
-enum-known-f : tie.Need-enum-known-f
-enum-known-f c = search needs
-
-spare-clear-requires : tie.Need-spare-clear-requires
-spare-clear-requires c κs =
-    let s = c .before .before .before .before .before .args .image .now in
-    let g = c .before .f .given in
-    let o : FrameOf (c .before .before .before .before .before .args .image .now) (g .0 .0) = rw (g .1) at (c .before .before .before .read-frame .ensures) in
-    o
+enum-told : tie.Need-enum-told
+enum-told c = search needs
 
 returns : tie.Need-returns
 returns c =
-    let s = c .before .before .before .before .before .before .before .args .image .now in
-    let g = c .before .before .before .f .given in
-    let o : FrameOf (c .before .before .before .before .before .before .before .args .image .now) (g .0 .0) = rw (g .1) at (c .before .before .before .before .before .read-frame .ensures) in
-    (stage-13 s (g .0 .0) o (spare-of s (g .0 .0) o _ _ (c .before .spare-clear .ensures) (not-true _ (c .if1 .taken))), omega arith)
+    let e = c .enum-told .given .1 in
+    let r = rw e at (c .before .before .read-frame .ensures) in
+    rw e (refuses (r .1))
 
-nodes-valid-requires : tie.Need-nodes-valid-requires
-nodes-valid-requires c κs =
-    let s = c .before .before .before .before .before .before .before .args .image .now in
-    let g = c .before .before .before .f .given in
-    let o : FrameOf (c .before .before .before .before .before .before .before .args .image .now) (g .0 .0) = rw (g .1) at (c .before .before .before .before .before .read-frame .ensures) in
-    o
+spare-clear-requires : tie.Need-spare-clear-requires
+spare-clear-requires c κs = framed c
 
 returns-2 : tie.Need-returns-2
 returns-2 c =
-    let s = c .before .before .before .before .before .before .before .before .before .args .image .now in
-    let g = c .before .before .before .before .before .f .given in
-    let o : FrameOf (c .before .before .before .before .before .before .before .before .before .args .image .now) (g .0 .0) = rw (g .1) at (c .before .before .before .before .before .before .before .read-frame .ensures) in
-    (stage-14 s (g .0 .0) o (spare-of s (g .0 .0) o _ _ (c .before .before .before .spare-clear .ensures) (not-false _ (c .before .before .if1 .left))) (sym (c .before .nodes-valid .ensures) ∙ not-true _ (c .if2 .taken)), omega arith)
+    let k = c .before .before in
+    refuses (spare-set (bodies k) (passed-12 k) (sym (c .before .spare-clear .ensures) ∙ not-true _ (c .if1 .taken)))
 
-tables-valid-requires : tie.Need-tables-valid-requires
-tables-valid-requires c κs =
-    let s = c .before .before .before .before .before .before .before .before .before .args .image .now in
-    let g = c .before .before .before .before .before .f .given in
-    let o : FrameOf (c .before .before .before .before .before .before .before .before .before .args .image .now) (g .0 .0) = rw (g .1) at (c .before .before .before .before .before .before .before .read-frame .ensures) in
-    o
+trie-valid-requires : tie.Need-trie-valid-requires
+trie-valid-requires c κs = framed (c .before .before)
 
 returns-3 : tie.Need-returns-3
 returns-3 c =
-    let s = c .before .before .before .before .before .before .before .before .before .before .before .args .image .now in
-    let g = c .before .before .before .before .before .before .before .f .given in
-    let o : FrameOf (c .before .before .before .before .before .before .before .before .before .before .before .args .image .now) (g .0 .0) = rw (g .1) at (c .before .before .before .before .before .before .before .before .before .read-frame .ensures) in
-    (stage-15 s (g .0 .0) o (spare-of s (g .0 .0) o _ _ (c .before .before .before .before .before .spare-clear .ensures) (not-false _ (c .before .before .before .before .if1 .left))) (sym (c .before .before .before .nodes-valid .ensures) ∙ not-false _ (c .before .before .if2 .left)) (ranks-of s (g .0 .0) o _ _ (c .before .tables-valid .ensures) (not-true _ (c .if3 .taken))), omega arith)
+    let k = c .before .before in
+    let o = framed (k .before .before) in
+    refuses (no-trie (bodies (k .before .before)) (passed-13 k) (ap builders-trie (o .parts-are) ∙ sym (c .before .trie-valid .ensures) ∙ not-true _ (c .if2 .taken)))
 
-slots-valid-requires : tie.Need-slots-valid-requires
-slots-valid-requires c κs =
-    let s = c .before .before .before .before .before .before .before .before .before .before .before .args .image .now in
-    let g = c .before .before .before .before .before .before .before .f .given in
-    let o : FrameOf (c .before .before .before .before .before .before .before .before .before .before .before .args .image .now) (g .0 .0) = rw (g .1) at (c .before .before .before .before .before .before .before .before .before .read-frame .ensures) in
-    record {
-      frame = o;
-      trie = ap builders-trie (o .parts-are) ∙ (sym (c .before .before .before .nodes-valid .ensures) ∙ not-false _ (c .before .before .if2 .left));
-      ranks = sym (c .before .tables-valid .ensures) ∙ not-false _ (c .if3 .left);
-    }
+tables-valid-requires : tie.Need-tables-valid-requires
+tables-valid-requires c κs = framed (c .before .before .before .before)
 
 returns-4 : tie.Need-returns-4
 returns-4 c =
-    let s = c .before .before .before .before .before .before .before .before .before .before .before .before .before .args .image .now in
-    let g = c .before .before .before .before .before .before .before .before .before .f .given in
-    let o : FrameOf (c .before .before .before .before .before .before .before .before .before .before .before .before .before .args .image .now) (g .0 .0) = rw (g .1) at (c .before .before .before .before .before .before .before .before .before .before .before .read-frame .ensures) in
-    (stage-16 s (g .0 .0) o (spare-of s (g .0 .0) o _ _ (c .before .before .before .before .before .before .before .spare-clear .ensures) (not-false _ (c .before .before .before .before .before .before .if1 .left))) (sym (c .before .before .before .before .before .nodes-valid .ensures) ∙ not-false _ (c .before .before .before .before .if2 .left)) (ranks-of s (g .0 .0) o _ _ (c .before .before .before .tables-valid .ensures) (not-false _ (c .before .before .if3 .left))) (slots-of s (g .0 .0) o _ _ (c .before .slots-valid .ensures) (not-true _ (c .if4 .taken))), omega arith)
+    let k = c .before .before in
+    refuses (rank-wrong (bodies (k .before .before .before .before)) (passed-14 k) (sym (c .before .tables-valid .ensures) ∙ not-true _ (c .if3 .taken)))
+
+slots-valid-requires : tie.Need-slots-valid-requires
+slots-valid-requires c κs =
+    let p = passed-15 c in
+    record { frame = framed (c .before .before .before .before .before .before); trie = p .before .trie; ranks = p .ranks }
 
 returns-5 : tie.Need-returns-5
 returns-5 c =
-    let g = c .before .n .given in
-    let r = rw (g .1) at (c .before .before .before .read-frame .ensures) in
-    (r .1, early _ (r .0))
+    let k = c .before .before in
+    refuses (slot-set (bodies (k .before .before .before .before .before .before)) (passed-15 k) (sym (c .before .slots-valid .ensures) ∙ not-true _ (c .if4 .taken)))
 
 returns-6 : tie.Need-returns-6
 returns-6 c =
-    let s = c .before .before .before .before .before .before .before .before .before .before .before .before .before .args .image .now in
-    let g = c .before .before .before .before .before .before .before .before .before .f .given in
-    let o : FrameOf (c .before .before .before .before .before .before .before .before .before .before .before .before .before .args .image .now) (g .0 .0) = rw (g .1) at (c .before .before .before .before .before .before .before .before .before .before .before .read-frame .ensures) in
-    (o, stage-0 s (g .0 .0) o (spare-of s (g .0 .0) o _ _ (c .before .before .before .before .before .before .before .spare-clear .ensures) (not-false _ (c .before .before .before .before .before .before .if1 .left))) (sym (c .before .before .before .before .before .nodes-valid .ensures) ∙ not-false _ (c .before .before .before .before .if2 .left)) (ranks-of s (g .0 .0) o _ _ (c .before .before .before .tables-valid .ensures) (not-false _ (c .before .before .if3 .left))) (slots-of s (g .0 .0) o _ _ (c .before .slots-valid .ensures) (not-false _ (c .if4 .left))))
+    let k = c .before .before in
+    let r = k .before .before .before .before .before .before in
+    (framed r, passes-verdict (image r) (bodies r) (record { before = passed-15 k; slots = sym (c .before .slots-valid .ensures) ∙ not-false _ (c .if4 .left) }))
 
 pub accept-spec : {M : Type 1} → statement M
 accept-spec =
     tie.close
     (tie.spec
     read-frame-requires
-    enum-known-n
-    enum-known-f
-    spare-clear-requires
+    enum-known-framed
+    enum-told
     returns
-    nodes-valid-requires
+    spare-clear-requires
     returns-2
-    tables-valid-requires
+    trie-valid-requires
     returns-3
-    slots-valid-requires
+    tables-valid-requires
     returns-4
+    slots-valid-requires
     returns-5
     returns-6)

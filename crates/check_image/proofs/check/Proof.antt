@@ -1,5 +1,7 @@
-use Rattle.check_image.specs.Answers.{check-accepted, check-refused}
+-- The answer by what accepting the image gave.
+use mathlib.Core.Path.{sym}
 use borrow.Author.Needs.{needs}
+use Rattle.theory.specs.RefusalNumbers.{check-accepts, check-refused}
 use Rattle.check_image.proofs.check.Statement.{statement}
 use Rattle.check_image.proofs.check.Tie as tie
 
@@ -14,15 +16,14 @@ enum-known-n c = search needs
 
 returns : tie.Need-returns
 returns c =
-    let e = c .enum-told .given .1 in
-    let r = rw e at (c .before .before .accept .ensures) in
-    check-accepted (c .before .before .before .before .args .image .now) (r .1)
+    let a = c .before .before in
+    sym (check-accepts (a .before .before .args .image .now) .1 (rw (c .enum-told .given .1) at (a .accept .ensures) .1))
 
 returns-2 : tie.Need-returns-2
 returns-2 c =
     let g = c .before .n .given in
-    let r = rw (g .1) at (c .before .before .before .accept .ensures) in
-    check-refused (c .before .before .before .before .before .args .image .now) _ (r .0) (r .1)
+    let a = c .before .before .before in
+    sym (check-refused (a .before .before .args .image .now) (g .0 .0) .1 (rw (g .1) at (a .accept .ensures)))
 
 pub check-spec : {M : Type 1} → statement M
 check-spec = tie.close (tie.spec accept-requires enum-told enum-known-n returns returns-2)

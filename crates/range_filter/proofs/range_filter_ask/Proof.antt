@@ -1,48 +1,27 @@
--- The answer's number and value, by its cases.
-use mathlib.Core.Path.{refl}
+-- The answer is one number, and replies are short enough that it decodes.
 use borrow.Author.Needs.{needs}
-use Rattle.ask.specs.Outcomes.{answer-of}
-use Rattle.range_filter.proofs.CodedLaws.{coded-written, coded-refused}
+use Rattle.theory.specs.LengthBounds.{ask-short}
+use Rattle.query_laws.specs.Answers.{all-small}
+use Rattle.range_filter.proofs.CodedLaws.{coded}
 use Rattle.range_filter.proofs.range_filter_ask.Statement.{statement}
 use Rattle.range_filter.proofs.range_filter_ask.Tie as tie
 
 ask-requires : tie.Need-ask-requires
 ask-requires c κs = search needs
 
-enum-known-answer : tie.Need-enum-known-answer
-enum-known-answer c = search needs
-
-enum-known-answer-2 : tie.Need-enum-known-answer-2
-enum-known-answer-2 c = search needs
-
-cast-result : tie.Need-cast-result
-cast-result c = search needs
-
-mul-result : tie.Need-mul-result
-mul-result c = search needs
+code-requires : tie.Need-code-requires
+code-requires c κs = search needs
 
 same-length : tie.Need-same-length
 same-length c = search needs
 
 returns : tie.Need-returns
-returns c = coded-written answer-of (c .before .before .before .before .before .ask .last .1 .1 .0) _ (c .before .answer .given .1) (c .before .before .before .before .before .ask .ensures) _ refl
-
-same-length-2 : tie.Need-same-length-2
-same-length-2 c = search needs
-
-returns-2 : tie.Need-returns-2
-returns-2 c = coded-refused answer-of (c .before .before .before .before .before .ask .last .1 .1 .0) _ (c .before .answer2 .given .1) (c .before .before .before .before .before .ask .ensures) _ refl
+returns c =
+    let d = c .before .before .before in
+    let b = d .before .before .before in
+    let a = b .before .before .args in
+    coded (d .ask .result) _ _ _ (d .ask .ensures) (c .code .ensures)
+    (ask-short (a .image .now) (a .questions .now) (all-small (a .image .now) (λ i. b .before .shared-slice-known .given i .fits)) (all-small (a .questions .now) (λ i. b .shared-slice-known2 .given i .fits)) (a .replies .now))
 
 pub range-filter-ask-spec : {M : Type 1} → statement M
-range-filter-ask-spec =
-    tie.close
-    (tie.spec
-    ask-requires
-    enum-known-answer
-    enum-known-answer-2
-    cast-result
-    mul-result
-    same-length
-    returns
-    same-length-2
-    returns-2)
+range-filter-ask-spec = tie.close (tie.spec ask-requires code-requires same-length returns)

@@ -1,48 +1,26 @@
--- The answer's number and value, by its cases.
-use mathlib.Core.Path.{refl}
+-- The answer is one number, and records are short enough that it decodes.
 use borrow.Author.Needs.{needs}
-use Rattle.walk.specs.Record.{answer-of}
-use Rattle.range_filter.proofs.CodedLaws.{coded-written, coded-refused}
+use Rattle.theory.specs.LengthBounds.{walk-records-short}
+use Rattle.query_laws.specs.Answers.{all-small}
+use Rattle.range_filter.proofs.CodedLaws.{coded}
 use Rattle.range_filter.proofs.range_filter_walk.Statement.{statement}
 use Rattle.range_filter.proofs.range_filter_walk.Tie as tie
 
 write-records-requires : tie.Need-write-records-requires
 write-records-requires c κs = search needs
 
-enum-known-walked : tie.Need-enum-known-walked
-enum-known-walked c = search needs
-
-enum-known-walked-2 : tie.Need-enum-known-walked-2
-enum-known-walked-2 c = search needs
-
-cast-result : tie.Need-cast-result
-cast-result c = search needs
-
-mul-result : tie.Need-mul-result
-mul-result c = search needs
+code-requires : tie.Need-code-requires
+code-requires c κs = search needs
 
 same-length : tie.Need-same-length
 same-length c = search needs
 
 returns : tie.Need-returns
-returns c = coded-written answer-of (c .before .before .before .before .before .write-records .last .1 .1 .0) _ (c .before .walked .given .1) (c .before .before .before .before .before .write-records .ensures) _ refl
-
-same-length-2 : tie.Need-same-length-2
-same-length-2 c = search needs
-
-returns-2 : tie.Need-returns-2
-returns-2 c = coded-refused answer-of (c .before .before .before .before .before .write-records .last .1 .1 .0) _ (c .before .walked2 .given .1) (c .before .before .before .before .before .write-records .ensures) _ refl
+returns c =
+    let d = c .before .before .before in
+    let b = d .before .before .before in
+    let a = b .before .args in
+    coded (d .write-records .result) _ _ _ (d .write-records .ensures) (c .code .ensures) (walk-records-short (a .image .now) (all-small (a .image .now) (λ i. b .shared-slice-known .given i .fits)) _ (a .records .now))
 
 pub range-filter-walk-spec : {M : Type 1} → statement M
-range-filter-walk-spec =
-    tie.close
-    (tie.spec
-    write-records-requires
-    enum-known-walked
-    enum-known-walked-2
-    cast-result
-    mul-result
-    same-length
-    returns
-    same-length-2
-    returns-2)
+range-filter-walk-spec = tie.close (tie.spec write-records-requires code-requires same-length returns)

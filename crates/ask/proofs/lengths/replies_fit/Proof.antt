@@ -10,8 +10,8 @@ use Rattle.spec.specs.Nodes.{read-leaves}
 use Rattle.spec.specs.Questions.{questions-of}
 use Rattle.query_laws.specs.Answers.{all-small}
 use Rattle.ask_laws.specs.FileLaws.{few-questions}
-use Rattle.ask_laws.specs.ReplyBound.{replies-bound}
-use Rattle.ask.specs.Outcomes.{file-replies}
+use Rattle.theory.specs.LengthBounds.{replies-bound}
+use Rattle.ask.specs.Replies.{file-replies}
 use Rattle.ask.proofs.lengths.replies_fit.Statement.{statement}
 use Rattle.ask.proofs.lengths.replies_fit.Tie as tie
 

@@ -7,7 +7,7 @@ use borrow.Author.Needs.{needs}
 use lib.ListN.{length, drop}
 use Rattle.spec.specs.Nodes.{read-leaves}
 use Rattle.ask_laws.specs.ReplyLaws.{Replied, replied-start, replied-length, replied-size, replied-end}
-use Rattle.ask.specs.Outcomes.{file-replies}
+use Rattle.ask.specs.Replies.{file-replies}
 use Rattle.ask_files.proofs.AnswerLaws.{answered-room, answered-more}
 use Rattle.ask.proofs.replies.write_replies.Statement.{statement}
 use Rattle.ask.proofs.replies.write_replies.Tie as tie

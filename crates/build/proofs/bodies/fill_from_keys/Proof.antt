@@ -1,49 +1,28 @@
 -- The bytes are cleared, the cursors go to the levels' starts, and the pass leaves the body.
-use borrow.Author.Needs.{needs}
-use mathlib.Core.Path.{subst, _≡_, refl, sym, ap, _∙_}
-use lib.ListN.{replicate, length, drop}
-use Rattle.spec.specs.Keys.{keys-of}
+use Prim.Native.Nat.{ℕ}
+use mathlib.Core.Path.{_≡_, refl, sym, ap, _∙_}
+use mathlib.Core.List.{_++_}
+use lib.ListN.{length, drop}
+use Rattle.spec.specs.Bytes.{Bytes}
 use Rattle.theory.specs.Lists.{bytes-drop}
-use Rattle.theory.specs.Terms.{Is-bytes}
-use Rattle.build_laws.specs.Cursors.{sums}
 use Rattle.build_laws.specs.PackedBody.{small-of}
-use Rattle.build_laws.specs.BytePass.{byte-state}
-use Rattle.build_laws.specs.Counters.{Cursors-at}
-use Rattle.image_types.specs.Header.{settings}
-use Rattle.build_laws.specs.declared.Body.{Body}
-use Rattle.build_laws.specs.declared.Levels.{Levels}
-use Rattle.build_laws.specs.List.{Accepted}
-use Rattle.build_laws.specs.Writes.{write-keys, Keys-room}
-use Rattle.build_laws.specs.BodyChoice.{body-of, counters-of, levels-of}
-use Rattle.build_laws.specs.BodyRoom.{counters-few, body-room}
-use Rattle.build_laws.specs.BodyFilled.{body-filled}
-use Rattle.build.specs.Build.{Ready, list-bodies}
-use mathlib.Core.List.{List, _++_}
-use Prim.Native.Nat.{ℕ, _≤_}
+use Rattle.build_laws.specs.Plan.{list-body}
+use Rattle.build_laws.specs.BodyWritten.{ready-list, empty-body, sums-small, pass-room, pass-leaves}
+use borrow.Author.Needs.{needs}
 use native.Mathlib.Omega.{arith}
+use borrow.Author.Needs.{needs}
 use Rattle.build.proofs.bodies.fill_from_keys.Statement.{statement}
 use Rattle.build.proofs.bodies.fill_from_keys.Tie as tie
 
-module _ (list : List ℕ) (dense width : ℕ) (r : Ready list dense width) (body : Body) (cnt : List ℕ) (k : cnt ≡ counters-of body (keys-of list)) (l : Levels) (e : l ≡ levels-of body dense) where
-  few : sums cnt (l .lo) 65 ≤ 8600000
-  few = subst (λ (c : List ℕ). sums c (l .lo) 65 ≤ 8600000) (sym k) (counters-few body (keys-of list) (l .lo) 65 (r .built .few) (omega arith))
+-- an empty body
+empty-len : (body out : Bytes) (len : ℕ) → len ≡ length body → len ≡ 0 → out ≡ body ++ drop len out
+empty-len body out len e z = empty-body body out (sym e ∙ z) ∙ ap (λ (n : ℕ). body ++ drop n out) (sym z)
 
-  accepted : Accepted list
-  accepted = record { records = r .records; each = r .built .keys; up = r .built .up }
-
-  module _ (cur : List ℕ) (w : length cur ≡ 65) (c : Cursors-at cnt (l .lo) cur) where
-    starts : Cursors-at (counters-of body (keys-of list)) (levels-of body dense .lo) cur
-    starts = subst (λ (i : Levels). Cursors-at (counters-of body (keys-of list)) (i .lo) cur) e (subst (λ (x : List ℕ). Cursors-at x (l .lo) cur) k c)
-
-    room : (size : ℕ) → length (body-of body (list-bodies list dense width)) ≤ size → Keys-room body (l .lo) (l .hi) width 0 (keys-of list) size cur
-    room size h = subst (λ (i : Levels). Keys-room body (i .lo) (i .hi) width 0 (keys-of list) size cur) (sym e) (body-room (settings dense width) (keys-of list) (r .built) cur w size body starts h)
-
-    done : (len : ℕ) (rest o p c′ : List ℕ) → len ≡ length (body-of body (list-bodies list dense width)) → Is-bytes o → Is-bytes rest → p ≡ replicate len 0 ++ rest
-        → byte-state o c′ ≡ write-keys body (l .lo) (l .hi) width 0 (keys-of list) (byte-state p cur) → o ≡ body-of body (list-bodies list dense width) ++ rest
-    done len rest o p c′ n a b q z =
-        body-filled (settings dense width) (keys-of list) (r .built) cur w rest o c′ a b body starts
-        (z ∙ ap (λ (i : Levels). write-keys body (i .lo) (i .hi) width 0 (keys-of list) (byte-state p cur)) e
-        ∙ ap (λ (x : List ℕ). write-keys body (levels-of body dense .lo) (levels-of body dense .hi) width 0 (keys-of list) (byte-state x cur)) (q ∙ ap (λ (i : ℕ). replicate i 0 ++ rest) n))
+returns : tie.Need-returns
+returns c =
+    let a = c .before .before .before .args in
+    let pre = c .before .before .before .pre in
+    empty-len (list-body (a .list .now) (a .plan) (a .body)) (a .out .now) (a .len) (pre .size) (c .if1 .taken)
 
 clear-requires : tie.Need-clear-requires
 clear-requires c κs = search needs
@@ -51,34 +30,60 @@ clear-requires c κs = search needs
 levels-of-requires : tie.Need-levels-of-requires
 levels-of-requires c κs = search needs
 
+counters-of-requires : tie.Need-counters-of-requires
+counters-of-requires c κs = search needs
+
 start-levels-requires : tie.Need-start-levels-requires
 start-levels-requires c κs =
-    let a = (c .before .before .before .before .before .before .before .before .args) in
-    (refl, few (a .list .now) (a .st .dense) (a .st .width) (c .before .before .before .before .before .before .before .before .pre .0) (a .body) (a .cnt .now) (c .before .before .before .before .before .before .before .before .pre .1) (c .before .levels-of .result) (c .before .levels-of .ensures))
+    let pre = c .before .before .before .before .before .before .before .before .before .before .before .pre in
+    let levels-of = c .before .before .before .levels-of in
+    let counters-of = c .before .before .counters-of in
+    let a = c .before .before .before .before .before .before .before .before .before .before .before .args in
+    (refl, sums-small (a .list .now) (a .plan) (pre .planned) (a .body) (counters-of .result) (counters-of .ensures) (levels-of .result) (levels-of .ensures))
 
 write-keys-requires : tie.Need-write-keys-requires
 write-keys-requires c κs =
-    let a = (c .before .before .before .before .before .before .before .before .before .before .before .args) in (
-      (accepted (a .list .now) (a .st .dense) (a .st .width) (c .before .before .before .before .before .before .before .before .before .before .before .pre .0) (a .body) (a .cnt .now) (c .before .before .before .before .before .before .before .before .before .before .before .pre .1) (c .before .before .before .before .levels-of .result) (c .before .before .before .before .levels-of .ensures), c .before .before .start-levels .ensures .1, c .before .before .before .before .before .before .before .before .before .before .before .pre .0 .built .width-range),
-      room (a .list .now) (a .st .dense) (a .st .width) (c .before .before .before .before .before .before .before .before .before .before .before .pre .0) (a .body) (a .cnt .now) (c .before .before .before .before .before .before .before .before .before .before .before .pre .1) (c .before .before .before .before .levels-of .result) (c .before .before .before .before .levels-of .ensures) (c .before .before .start-levels .last .0) (c .before .before .start-levels .ensures .1) (c .before .before .start-levels .ensures .0) (length (c .before .before .before .before .before .before .before .clear .last .0)) (omega (arith, c .before .before .before .before .before .before .before .before .before .before .before .pre .2, c .before .before .before .before .before .before .before .before .before .before .before .pre .3, c .before .before .before .before .before .before .before .clear .kept .0)),
+    let levels-of-known = c .before .before .before .before .before .before .levels-of in
+    let counters-of-known = c .before .before .before .before .before .counters-of in
+    let a = c .before .before .before .before .before .before .before .before .before .before .before .before .before .before .args in
+    let pre = c .before .before .before .before .before .before .before .before .before .before .before .before .before .before .pre in
+    let cleared = c .before .before .before .before .before .before .before .before .before .clear in
+    let starts = c .before .before .start-levels in
+    let counters-of = counters-of-known in
+    let levels-of = levels-of-known in (
+      (ready-list (a .list .now) (a .plan) (pre .planned), starts .ensures .1, pre .planned .ready .built .width-range),
+      pass-room (a .list .now) (a .plan) (pre .planned) (a .body) (counters-of .result) (counters-of .ensures) (levels-of .result) (levels-of .ensures) (starts .last .0) (starts .ensures .1) (starts .ensures .0)
+          (length (cleared .last .0)) (omega (arith, pre .size, pre .room, cleared .kept .0)),
     )
 
 same-length : tie.Need-same-length
 same-length c = search needs
 
-returns : tie.Need-returns
-returns c =
-    let a = (c .before .before .before .before .before .before .before .before .before .before .before .before .before .before .args) in
-    done (a .list .now) (a .st .dense) (a .st .width) (c .before .before .before .before .before .before .before .before .before .before .before .before .before .before .pre .0) (a .body) (a .cnt .now) (c .before .before .before .before .before .before .before .before .before .before .before .before .before .before .pre .1) (c .before .before .before .before .before .before .before .levels-of .result) (c .before .before .before .before .before .before .before .levels-of .ensures) (c .before .before .before .before .before .start-levels .last .0) (c .before .before .before .before .before .start-levels .ensures .1) (c .before .before .before .before .before .start-levels .ensures .0)
-    (a .len) (drop (a .len) (a .out .now)) _ _ _ (c .before .before .before .before .before .before .before .before .before .before .before .before .before .before .pre .2) (small-of (c .before .before .write-keys .last .0) (λ i. c .slice-known3 .given i .fits)) (bytes-drop (a .len) (a .out .now) (small-of (a .out .now) (λ i. c .before .before .before .before .before .before .before .before .before .before .before .before .before .slice-known .given i .fits))) (c .before .before .before .before .before .before .before .before .before .before .clear .ensures) (c .before .before .write-keys .ensures)
+returns-2 : tie.Need-returns-2
+returns-2 c =
+    let slice-known = c .before .before .before .before .before .before .before .before .before .before .before .before .before .before .before .before .slice-known in
+    let clear = c .before .before .before .before .before .before .before .before .before .before .before .before .clear in
+    let levels-of-known = c .before .before .before .before .before .before .before .before .before .levels-of in
+    let counters-of-known = c .before .before .before .before .before .before .before .before .counters-of in
+    let write-keys = c .before .before .write-keys in
+    let a = c .before .before .before .before .before .before .before .before .before .before .before .before .before .before .before .before .before .args in
+    let pre = c .before .before .before .before .before .before .before .before .before .before .before .before .before .before .before .before .before .pre in
+    let starts = c .before .before .before .before .before .start-levels in
+    let counters-of = counters-of-known in
+    let levels-of = levels-of-known in
+    pass-leaves (a .list .now) (a .plan) (pre .planned) (a .body) (counters-of .result) (counters-of .ensures) (levels-of .result) (levels-of .ensures) (starts .last .0) (starts .ensures .1) (starts .ensures .0)
+    (a .len) (drop (a .len) (a .out .now)) _ _ _ (pre .size) (small-of (write-keys .last .0) (λ i. c .slice-known3 .given i .fits)) (bytes-drop (a .len) (a .out .now) (small-of (a .out .now) (λ i. slice-known .given i .fits)))
+    (clear .ensures) (write-keys .ensures)
 
 pub fill-from-keys-spec : {M : Type 1} → statement M
 fill-from-keys-spec =
     tie.close
     (tie.spec
+    returns
     clear-requires
     levels-of-requires
+    counters-of-requires
     start-levels-requires
     write-keys-requires
     same-length
-    returns)
+    returns-2)

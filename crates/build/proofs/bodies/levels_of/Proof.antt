@@ -36,22 +36,40 @@ returns : tie.Need-returns
 returns c = ap (λ (b : Body). levels-of b (c .before .before .args .dense)) (sym (c .enum-told .given .1))
 
 returns-2 : tie.Need-returns-2
-returns-2 c = sym (ap (λ (b : Body). levels-of b (c .before .before .before .before .before .args .dense)) (c .before .before .before .body .given .1) ∙ ap (λ (k : Kind). levels-of (Entries k) (c .before .before .before .before .before .args .dense)) (c .enum-told2 .given .1))
+returns-2 c =
+    let args = c .before .before .before .before .before .args in
+    let body = c .before .before .before .body in
+    sym (ap (λ (b : Body). levels-of b (args .dense)) (body .given .1) ∙ ap (λ (k : Kind). levels-of (Entries k) (args .dense)) (c .enum-told2 .given .1))
 
 returns-3 : tie.Need-returns-3
-returns-3 c = sym (ap (λ (b : Body). levels-of b (c .before .before .before .before .before .args .dense)) (c .before .before .before .body .given .1) ∙ ap (λ (k : Kind). levels-of (Entries k) (c .before .before .before .before .before .args .dense)) (c .enum-told3 .given .1))
+returns-3 c =
+    let args = c .before .before .before .before .before .args in
+    let body = c .before .before .before .body in
+    sym (ap (λ (b : Body). levels-of b (args .dense)) (body .given .1) ∙ ap (λ (k : Kind). levels-of (Entries k) (args .dense)) (c .enum-told3 .given .1))
 
 returns-4 : tie.Need-returns-4
-returns-4 c = sym (ap (λ (b : Body). levels-of b (c .before .before .before .before .before .args .dense)) (c .before .before .before .body .given .1) ∙ ap (λ (k : Kind). levels-of (Entries k) (c .before .before .before .before .before .args .dense)) (c .enum-told4 .given .1))
+returns-4 c =
+    let args = c .before .before .before .before .before .args in
+    let body = c .before .before .before .body in
+    sym (ap (λ (b : Body). levels-of b (args .dense)) (body .given .1) ∙ ap (λ (k : Kind). levels-of (Entries k) (args .dense)) (c .enum-told4 .given .1))
 
 returns-5 : tie.Need-returns-5
-returns-5 c = sym (ap (λ (b : Body). levels-of b (c .before .before .before .before .before .args .dense)) (c .before .before .before .body .given .1) ∙ ap (λ (k : Kind). levels-of (Entries k) (c .before .before .before .before .before .args .dense)) (c .enum-told5 .given .1))
+returns-5 c =
+    let args = c .before .before .before .before .before .args in
+    let body = c .before .before .before .body in
+    sym (ap (λ (b : Body). levels-of b (args .dense)) (body .given .1) ∙ ap (λ (k : Kind). levels-of (Entries k) (args .dense)) (c .enum-told5 .given .1))
 
 returns-6 : tie.Need-returns-6
-returns-6 c = sym (ap (λ (b : Body). levels-of b (c .before .before .before .before .before .args .dense)) (c .before .before .before .body .given .1) ∙ ap (λ (k : Kind). levels-of (Entries k) (c .before .before .before .before .before .args .dense)) (c .enum-told6 .given .1))
+returns-6 c =
+    let args = c .before .before .before .before .before .args in
+    let body = c .before .before .before .body in
+    sym (ap (λ (b : Body). levels-of b (args .dense)) (body .given .1) ∙ ap (λ (k : Kind). levels-of (Entries k) (args .dense)) (c .enum-told6 .given .1))
 
 returns-7 : tie.Need-returns-7
-returns-7 c = sym (ap (λ (b : Body). levels-of b (c .before .before .before .before .before .args .dense)) (c .before .before .before .body .given .1) ∙ ap (λ (k : Kind). levels-of (Entries k) (c .before .before .before .before .before .args .dense)) (c .enum-told7 .given .1))
+returns-7 c =
+    let args = c .before .before .before .before .before .args in
+    let body = c .before .before .before .body in
+    sym (ap (λ (b : Body). levels-of b (args .dense)) (body .given .1) ∙ ap (λ (k : Kind). levels-of (Entries k) (args .dense)) (c .enum-told7 .given .1))
 
 pub levels-of-spec : {M : Type 1} → statement M
 levels-of-spec =

@@ -1,9 +1,9 @@
 use mathlib.Core.Path.{_≡_, sym, ap, _∙_, subst}
 use Prim.Native.Nat.{ℕ, _+_, _-_, _≤_}
 use Rattle.bits_laws.specs.Bits.{key}
-use Rattle.build_list.specs.Judged.{Judges, counted, judgement}
-use Rattle.build_list.specs.declared.judge.Step.the-variants.{Record, Number}
-use Rattle.build_list.proofs.ListLaws.{judge-start, judge-end, judge-number, judge-more}
+use Rattle.build_laws.specs.KeyList.{Record-judged, counted, key-list}
+use Rattle.build_laws.specs.declared.Record.the-variants.{Key, Refused as Record-refused}
+use Rattle.build_laws.specs.ListLaws.{judge-start, judge-end, judge-number, judge-more}
 use native.Mathlib.Omega.{arith}
 use borrow.Author.Needs.{needs}
 use lib.ListN.{length, drop}
@@ -12,80 +12,76 @@ use Rattle.build_list.proofs.judge.judge_list.Statement.{statement}
 use Rattle.build_list.proofs.judge.judge_list.Tie as tie
 
 abbrev Inv-loop : tie.InvT-loop
-Inv-loop s at₀ last₀ m₀ count₀ at last m count = (last + m ≤ length s) × (count ≤ at) × (at ≤ length s) × (count ≤ 65535) × (judgement (parse-keys s) ≡ counted count (parse-records (length s - count) count (key s last m) (drop at s)))
+Inv-loop s at₀ last₀ m₀ count₀ at last m count = (last + m ≤ length s) × (count ≤ at) × (at ≤ length s) × (count ≤ 65535) × (key-list (parse-keys s) ≡ counted count (parse-records (length s - count) count (key s last m) (drop at s)))
 
 abbrev μ-loop : tie.MeasureT-loop
 μ-loop s at₀ last₀ m₀ count₀ at last m count = length s - at
 
--- src/list.rt:82:5
 loop-holds : tie.Need-loop-holds Inv-loop μ-loop
 loop-holds c = (omega arith, omega arith, omega arith, omega arith, judge-start (c .before .args .s .now))
 
--- src/list.rt:83:13
 judge-record-requires : tie.Need-judge-record-requires Inv-loop μ-loop
 judge-record-requires c κs = search needs
 
--- src/list.rt:85:26
-enum-known-step : tie.Need-enum-known-step Inv-loop μ-loop
-enum-known-step c = search needs
+enum-known-found : tie.Need-enum-known-found Inv-loop μ-loop
+enum-known-found c = search needs
 
--- src/list.rt:86:17
 returns : tie.Need-returns Inv-loop μ-loop
 returns c =
+    let judge-record = c .before .before .before .judge-record in
+    let found = c .before .found in
     let a = c .before .before .before .before .before .before .before .args in
     let l = c .before .before .before .before .before .loop in
-    let r : Judges (a .s .now) (l .at) (l .count) (key (a .s .now) (l .last) (l .m)) (Number (c .before .step .given .0 .0)) = subst (Judges (a .s .now) (l .at) (l .count) (key (a .s .now) (l .last) (l .m))) (c .before .step .given .1) (c .before .before .before .judge-record .ensures) in
-    sym (l .inv .4 ∙ judge-number (a .s .now) (l .at) (l .count) (key (a .s .now) (l .last) (l .m)) (length (a .s .now) - l .count) (c .before .step .given .0 .0) (omega arith) r)
+    let r : Record-judged (a .s .now) (l .at) (l .count) (key (a .s .now) (l .last) (l .m)) (Record-refused (found .given .0 .0)) = subst (Record-judged (a .s .now) (l .at) (l .count) (key (a .s .now) (l .last) (l .m))) (found .given .1) (judge-record .ensures) in
+    sym (l .inv .4 ∙ judge-number (a .s .now) (l .at) (l .count) (key (a .s .now) (l .last) (l .m)) (length (a .s .now) - l .count) (found .given .0 .0) (omega arith) r)
 
--- src/list.rt:88:26
-enum-known-step-2 : tie.Need-enum-known-step-2 Inv-loop μ-loop
-enum-known-step-2 c = search needs
+enum-known-found-2 : tie.Need-enum-known-found-2 Inv-loop μ-loop
+enum-known-found-2 c = search needs
 
--- src/list.rt:89:24
 add-last : tie.Need-add-last Inv-loop μ-loop
 add-last c = search needs
 
--- src/list.rt:91:22
 add-at : tie.Need-add-at Inv-loop μ-loop
 add-at c = search needs
 
--- src/list.rt:91:22
 add-at-2 : tie.Need-add-at-2 Inv-loop μ-loop
 add-at-2 c =
+    let judge-record = c .before .before .before .judge-record in
+    let found2 = c .before .found2 in
     let a = c .before .before .before .before .before .before .before .args in
     let l = c .before .before .before .before .before .loop in
-    let r : Judges (a .s .now) (l .at) (l .count) (key (a .s .now) (l .last) (l .m)) (Record (c .before .step2 .given .0 .0)) = subst (Judges (a .s .now) (l .at) (l .count) (key (a .s .now) (l .last) (l .m))) (c .before .step2 .given .1) (c .before .before .before .judge-record .ensures) in
-    omega (arith, r .0)
+    let r : Record-judged (a .s .now) (l .at) (l .count) (key (a .s .now) (l .last) (l .m)) (Key (found2 .given .0 .0)) = subst (Record-judged (a .s .now) (l .at) (l .count) (key (a .s .now) (l .last) (l .m))) (found2 .given .1) (judge-record .ensures) in
+    omega (arith, r .within)
 
--- src/list.rt:92:25
 add-count : tie.Need-add-count Inv-loop μ-loop
 add-count c = search needs
 
--- src/list.rt:82:5
 loop-less : tie.Need-loop-less Inv-loop μ-loop
 loop-less c =
+    let judge-record = c .before .before .before .judge-record in
+    let found2 = c .before .found2 in
     let a = c .before .before .before .before .before .before .before .args in
     let l = c .before .before .before .before .before .loop in
-    let r : Judges (a .s .now) (l .at) (l .count) (key (a .s .now) (l .last) (l .m)) (Record (c .before .step2 .given .0 .0)) = subst (Judges (a .s .now) (l .at) (l .count) (key (a .s .now) (l .last) (l .m))) (c .before .step2 .given .1) (c .before .before .before .judge-record .ensures) in
-    omega (arith, r .0)
+    let r : Record-judged (a .s .now) (l .at) (l .count) (key (a .s .now) (l .last) (l .m)) (Key (found2 .given .0 .0)) = subst (Record-judged (a .s .now) (l .at) (l .count) (key (a .s .now) (l .last) (l .m))) (found2 .given .1) (judge-record .ensures) in
+    omega (arith, r .within)
 
--- src/list.rt:82:5
 loop-again : tie.Need-loop-again Inv-loop μ-loop
 loop-again c =
+    let judge-record = c .before .before .before .judge-record in
+    let found2 = c .before .found2 in
     let a = c .before .before .before .before .before .before .before .args in
     let l = c .before .before .before .before .before .loop in
-    let r : Judges (a .s .now) (l .at) (l .count) (key (a .s .now) (l .last) (l .m)) (Record (c .before .step2 .given .0 .0)) = subst (Judges (a .s .now) (l .at) (l .count) (key (a .s .now) (l .last) (l .m))) (c .before .step2 .given .1) (c .before .before .before .judge-record .ensures) in
-    let n = c .before .step2 .given .0 .0 in
+    let r : Record-judged (a .s .now) (l .at) (l .count) (key (a .s .now) (l .last) (l .m)) (Key (found2 .given .0 .0)) = subst (Record-judged (a .s .now) (l .at) (l .count) (key (a .s .now) (l .last) (l .m))) (found2 .given .1) (judge-record .ensures) in
+    let n = found2 .given .0 .0 in
     let e : length (a .s .now) - l .count - 1 ≡ length (a .s .now) - (l .count + 1) = omega arith in (
-      r .0,
-      omega (arith, r .0),
-      r .0,
-      omega (arith, r .1),
+      r .within,
+      omega (arith, r .within),
+      r .within,
+      omega (arith, r .few),
       l .inv .4 ∙ judge-more (a .s .now) (l .at) (l .count) (key (a .s .now) (l .last) (l .m)) (length (a .s .now) - l .count) n (omega arith) r
           ∙ ap (λ (f : ℕ). counted (l .count + 1) (parse-records f (l .count + 1) (key (a .s .now) (l .at + 3) n) (drop (l .at + 3 + n) (a .s .now)))) e,
     )
 
--- src/list.rt:75:1
 returns-2 : tie.Need-returns-2 Inv-loop μ-loop
 returns-2 c =
     let a = c .before .before .before .args in
@@ -100,9 +96,9 @@ judge-list-spec =
     μ-loop
     loop-holds
     judge-record-requires
-    enum-known-step
+    enum-known-found
     returns
-    enum-known-step-2
+    enum-known-found-2
     add-last
     add-at
     add-at-2

@@ -16,7 +16,8 @@ add-wide c = search needs
 
 shared-slice-read-wide : tie.Need-shared-slice-read-wide
 shared-slice-read-wide c =
-    let h = c .before .before .before .pre .1 (c .before .if1 .taken) in
+    let pre = c .before .before .before .pre in
+    let h = pre .1 (c .before .if1 .taken) in
     omega (arith, h)
 
 wide-requires : tie.Need-wide-requires
@@ -42,7 +43,9 @@ part-shared-start-2 c = search needs
 
 part-shared-end-2 : tie.Need-part-shared-end-2
 part-shared-end-2 c =
-    let h = c .before .before .before .before .before .pre .1 (c .before .before .before .if1 .taken) in
+    let pre = c .before .before .before .before .before .pre in
+    let if1 = c .before .before .before .if1 in
+    let h = pre .1 (if1 .taken) in
     omega (arith, h, c .before .wide .ensures .0)
 
 shared-requires : tie.Need-shared-requires
@@ -50,11 +53,15 @@ shared-requires c κs = search needs
 
 returns : tie.Need-returns
 returns c =
-    let a = (c .before .before .before .before .before .before .before .args) in
-    behind-some (a .s .now) (a .a) (a .n) _ _ (c .before .before .before .before .before .if1 .taken) (c .before .before .before .wide .ensures .0) (c .shared .ensures)
+    let if1 = c .before .before .before .before .before .if1 in
+    let wide = c .before .before .before .wide in
+    let a = c .before .before .before .before .before .before .before .args in
+    behind-some (a .s .now) (a .a) (a .n) _ _ (if1 .taken) (wide .ensures .0) (c .shared .ensures)
 
 returns-2 : tie.Need-returns-2
-returns-2 c = behind-none (c .before .before .args .s .now) (c .before .before .args .a) (c .before .before .args .n) (c .if1 .left)
+returns-2 c =
+    let args = c .before .before .args in
+    behind-none (args .s .now) (args .a) (args .n) (c .if1 .left)
 
 pub next-shared-spec : {M : Type 1} → statement M
 next-shared-spec =

@@ -1,6 +1,6 @@
 -- The parts of the key are as read.
 use borrow.Author.Needs.{needs}
-use Rattle.build_laws.specs.List.{shared-behind}
+use Rattle.build_laws.specs.KeyRecords.{shared-behind}
 use mathlib.Core.Path.{ap, ap₂, _∙_}
 use Prim.Native.Nat.{ℕ, _+_}
 use native.Mathlib.Omega.{arith}
@@ -21,12 +21,13 @@ wide-requires c κs = search needs
 
 next-shared-requires : tie.Need-next-shared-requires
 next-shared-requires c κs =
+    let pre = c .before .before .before .pre in
     let e = c .wide .ensures .0 in
-    (omega (arith, e), λ h. rw e (c .before .before .before .pre .1 (rw e at h)))
+    (omega (arith, e, pre .here), λ h. rw e (pre .next (rw e at h)))
 
 returns : tie.Need-returns
 returns c =
-    let a = (c .before .before .before .before .args) in
+    let a = c .before .before .before .before .args in
     let e = c .before .wide .ensures .0 in
     ap₂ (λ (n q : ℕ). record { at = a .at + 3; len = n; first = a .first; next = q }) e (c .next-shared .ensures ∙ ap (shared-behind (a .s .now) (a .at + 3)) e)
 

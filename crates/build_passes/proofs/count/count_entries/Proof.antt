@@ -4,14 +4,14 @@ use mathlib.Core.Path.{subst, _≡_, sym, ap, _∙_}
 use mathlib.Core.Bool.{Bool, true, false}
 use lib.Dec.{leb}
 use Rattle.spec.specs.Bytes.{bit}
-use Rattle.build_laws.specs.LevelItems.{pred}
+use Rattle.build_laws.specs.LevelEntries.{pred}
 use Rattle.build_laws.specs.NeighbourLeaves.{cut-length}
 use Rattle.build_laws.specs.Emissions.{Emission, emission}
 use Rattle.build_laws.specs.Cursors.{counts}
 use Rattle.build_laws.specs.BytePass.{one-step}
 use Rattle.build_laws.specs.PassEmissions.{Key-numbers}
-use Rattle.build_laws.specs.Writes.{key-exact}
-use Rattle.build_laws.specs.Counts.{key-starts, Counter-room}
+use Rattle.build_laws.specs.Passes.{key-exact}
+use Rattle.build_laws.specs.CountPass.{key-starts, Counter-room}
 use Rattle.build_laws.specs.EntryLaws.{key-rest, rest-start, rest-more, rest-exact, rest-none, To-count, count-next, count-done}
 use mathlib.Core.List.{List, [], _∷_}
 use borrow.Author.Needs.{needs}
@@ -50,11 +50,13 @@ Inv-loop entries₀ nodes₀ k b end d₀ entries nodes d = (d₀ ≤ d) × (d �
 abbrev μ-loop : tie.MeasureT-loop
 μ-loop entries₀ nodes₀ k b end d₀ entries nodes d = end - d
 
-less-requires : tie.Need-less-requires Inv-loop μ-loop
-less-requires c κs = search needs
+one-less-requires : tie.Need-one-less-requires Inv-loop μ-loop
+one-less-requires c κs = search needs
 
 cut-length-requires : tie.Need-cut-length-requires Inv-loop μ-loop
-cut-length-requires c κs = subst (λ (p : ℕ). Key-numbers p (c .before .args .k .next) (c .before .args .k .len)) (sym (c .less .ensures)) (c .before .pre .0)
+cut-length-requires c κs =
+    let args = c .before .args in
+    subst (λ (p : ℕ). Key-numbers p (args .k .next) (args .k .len)) (sym (c .one-less .ensures)) (c .before .pre .0)
 
 smaller-requires : tie.Need-smaller-requires Inv-loop μ-loop
 smaller-requires c κs = search needs
@@ -64,24 +66,33 @@ larger-requires c κs = search needs
 
 loop-holds : tie.Need-loop-holds Inv-loop μ-loop
 loop-holds c =
-    let k = c .before .before .before .before .args .k in
-    let e = begins (k .len) (k .first) (k .next) _ _ _ _ (c .before .before .before .less .ensures) (c .before .before .cut-length .ensures .0) (c .before .smaller .ensures) (c .larger .ensures) in
-    (omega arith, omega arith, start (k .len) (k .first) (k .next) one-step (c .before .before .before .before .args .entries .now) _ _ e (c .before .before .before .before .pre .1 .0), start (k .len) (k .first) (k .next) bit (c .before .before .before .before .args .nodes .now) _ _ e (c .before .before .before .before .pre .1 .1))
+    let args = c .before .before .before .before .args in
+    let pre = c .before .before .before .before .pre in
+    let one-less = c .before .before .before .one-less in
+    let cut-length-known = c .before .before .cut-length in
+    let k = args .k in
+    let e = begins (k .len) (k .first) (k .next) _ _ _ _ (one-less .ensures) (cut-length-known .ensures .0) (c .before .smaller .ensures) (c .larger .ensures) in
+    (omega arith, omega arith, start (k .len) (k .first) (k .next) one-step (args .entries .now) _ _ e (pre .1 .0), start (k .len) (k .first) (k .next) bit (args .nodes .now) _ _ e (pre .1 .1))
 
 count-if-requires : tie.Need-count-if-requires Inv-loop μ-loop
 count-if-requires c κs =
-    let k = c .before .before .before .before .before .before .before .args .k in
-    let l = (c .before .before .loop) in
-    let e = more (k .len) (k .first) (k .next) (l .d) (c .before .before .before .before .smaller .result) (c .before .loop-test .taken) in
-    let r : To-count one-step (emission (l .d) (leb (k .first) (l .d)) ∷ start-rest (k .len) (k .first) (k .next) (l .d + 1) (c .before .before .before .before .smaller .result)) (l .entries) _ = rw e at (l .inv .2) in
+    let args = c .before .before .before .before .before .before .before .args in
+    let smaller = c .before .before .before .before .smaller in
+    let k = args .k in
+    let l = c .before .before .loop in
+    let e = more (k .len) (k .first) (k .next) (l .d) (smaller .result) (c .before .loop-test .taken) in
+    let r : To-count one-step (emission (l .d) (leb (k .first) (l .d)) ∷ start-rest (k .len) (k .first) (k .next) (l .d + 1) (smaller .result)) (l .entries) _ = rw e at (l .inv .2) in
     (omega (arith, r .room .0), r .room .1)
 
 count-if-requires-2 : tie.Need-count-if-requires-2 Inv-loop μ-loop
 count-if-requires-2 c κs =
-    let k = c .before .before .before .before .before .before .before .before .before .before .args .k in
-    let l = (c .before .before .before .before .before .loop) in
-    let e = more (k .len) (k .first) (k .next) (l .d) (c .before .before .before .before .before .before .before .smaller .result) (c .before .before .before .before .loop-test .taken) in
-    let r : To-count bit (emission (l .d) (leb (k .first) (l .d)) ∷ start-rest (k .len) (k .first) (k .next) (l .d + 1) (c .before .before .before .before .before .before .before .smaller .result)) (l .nodes) _ = rw e at (l .inv .3) in
+    let args = c .before .before .before .before .before .before .before .before .before .before .args in
+    let smaller = c .before .before .before .before .before .before .before .smaller in
+    let loop-test = c .before .before .before .before .loop-test in
+    let k = args .k in
+    let l = c .before .before .before .before .before .loop in
+    let e = more (k .len) (k .first) (k .next) (l .d) (smaller .result) (loop-test .taken) in
+    let r : To-count bit (emission (l .d) (leb (k .first) (l .d)) ∷ start-rest (k .len) (k .first) (k .next) (l .d + 1) (smaller .result)) (l .nodes) _ = rw e at (l .inv .3) in
     (omega (arith, r .room .0), r .room .1)
 
 add-d : tie.Need-add-d Inv-loop μ-loop
@@ -92,42 +103,64 @@ loop-less c = search needs
 
 loop-again : tie.Need-loop-again Inv-loop μ-loop
 loop-again c =
-    let k = c .before .before .before .before .before .before .before .before .before .before .before .args .k in
-    let l = (c .before .before .before .before .before .before .loop) in
-    let e = more (k .len) (k .first) (k .next) (l .d) (c .before .before .before .before .before .before .before .before .smaller .result) (c .before .before .before .before .before .loop-test .taken) in
-    (omega arith, omega arith, count-next one-step (l .d) (leb (k .first) (l .d)) _ (l .entries) _ _ (c .before .before .before .count-if .ensures) (rw e at (l .inv .2)), count-next bit (l .d) (leb (k .first) (l .d)) _ (l .nodes) _ _ (c .count-if2 .ensures) (rw e at (l .inv .3)))
+    let args = c .before .before .before .before .before .before .before .before .before .before .before .args in
+    let smaller = c .before .before .before .before .before .before .before .before .smaller in
+    let loop-test = c .before .before .before .before .before .loop-test in
+    let count-if = c .before .before .before .count-if in
+    let k = args .k in
+    let l = c .before .before .before .before .before .before .loop in
+    let e = more (k .len) (k .first) (k .next) (l .d) (smaller .result) (loop-test .taken) in
+    (omega arith, omega arith, count-next one-step (l .d) (leb (k .first) (l .d)) _ (l .entries) _ _ (count-if .ensures) (rw e at (l .inv .2)), count-next bit (l .d) (leb (k .first) (l .d)) _ (l .nodes) _ _ (c .count-if2 .ensures) (rw e at (l .inv .3)))
 
 has-exact-requires : tie.Need-has-exact-requires Inv-loop μ-loop
 has-exact-requires c κs = search needs
 
 count-if-requires-3 : tie.Need-count-if-requires-3 Inv-loop μ-loop
 count-if-requires-3 c κs =
-    let k = c .before .before .before .before .before .before .before .before .before .args .k in
-    let l = (c .before .before .before .before .loop) in
-    let e = last (k .len) (k .first) (k .next) (l .d) (c .before .before .before .before .before .before .smaller .result) (c .before .before .before .loop-test .left) (sym (c .before .before .has-exact .ensures) ∙ c .before .if1 .taken) in
+    let args = c .before .before .before .before .before .before .before .before .before .args in
+    let smaller = c .before .before .before .before .before .before .smaller in
+    let loop-test = c .before .before .before .loop-test in
+    let has-exact = c .before .before .has-exact in
+    let k = args .k in
+    let l = c .before .before .before .before .loop in
+    let e = last (k .len) (k .first) (k .next) (l .d) (smaller .result) (loop-test .left) (sym (has-exact .ensures) ∙ c .before .if1 .taken) in
     let r : To-count one-step (emission (k .len) true ∷ []) (l .entries) _ = rw e at (l .inv .2) in
     (omega (arith, r .room .0), r .room .1)
 
 count-if-requires-4 : tie.Need-count-if-requires-4 Inv-loop μ-loop
 count-if-requires-4 c κs =
-    let k = c .before .before .before .before .before .before .before .before .before .before .before .args .k in
-    let l = (c .before .before .before .before .before .before .loop) in
-    let e = last (k .len) (k .first) (k .next) (l .d) (c .before .before .before .before .before .before .before .before .smaller .result) (c .before .before .before .before .before .loop-test .left) (sym (c .before .before .before .before .has-exact .ensures) ∙ c .before .before .before .if1 .taken) in
+    let args = c .before .before .before .before .before .before .before .before .before .before .before .args in
+    let smaller = c .before .before .before .before .before .before .before .before .smaller in
+    let loop-test = c .before .before .before .before .before .loop-test in
+    let has-exact = c .before .before .before .before .has-exact in
+    let if1 = c .before .before .before .if1 in
+    let k = args .k in
+    let l = c .before .before .before .before .before .before .loop in
+    let e = last (k .len) (k .first) (k .next) (l .d) (smaller .result) (loop-test .left) (sym (has-exact .ensures) ∙ if1 .taken) in
     let r : To-count bit (emission (k .len) true ∷ []) (l .nodes) _ = rw e at (l .inv .3) in
     (omega (arith, r .room .0), r .room .1)
 
 returns : tie.Need-returns Inv-loop μ-loop
 returns c =
-    let k = c .before .before .before .before .before .before .before .before .before .before .before .before .args .k in
-    let l = (c .before .before .before .before .before .before .before .loop) in
-    let e = last (k .len) (k .first) (k .next) (l .d) (c .before .before .before .before .before .before .before .before .before .smaller .result) (c .before .before .before .before .before .before .loop-test .left) (sym (c .before .before .before .before .before .has-exact .ensures) ∙ c .before .before .before .before .if1 .taken) in
-    (count-done one-step _ _ (count-next one-step (k .len) true [] (l .entries) _ _ (c .before .before .count-if3 .ensures) (rw e at (l .inv .2))), count-done bit _ _ (count-next bit (k .len) true [] (l .nodes) _ _ (c .count-if4 .ensures) (rw e at (l .inv .3))))
+    let args = c .before .before .before .before .before .before .before .before .before .before .before .before .args in
+    let smaller = c .before .before .before .before .before .before .before .before .before .smaller in
+    let loop-test = c .before .before .before .before .before .before .loop-test in
+    let has-exact = c .before .before .before .before .before .has-exact in
+    let if1 = c .before .before .before .before .if1 in
+    let count-if3 = c .before .before .count-if3 in
+    let k = args .k in
+    let l = c .before .before .before .before .before .before .before .loop in
+    let e = last (k .len) (k .first) (k .next) (l .d) (smaller .result) (loop-test .left) (sym (has-exact .ensures) ∙ if1 .taken) in
+    (count-done one-step _ _ (count-next one-step (k .len) true [] (l .entries) _ _ (count-if3 .ensures) (rw e at (l .inv .2))), count-done bit _ _ (count-next bit (k .len) true [] (l .nodes) _ _ (c .count-if4 .ensures) (rw e at (l .inv .3))))
 
 returns-2 : tie.Need-returns-2 Inv-loop μ-loop
 returns-2 c =
-    let k = c .before .before .before .before .before .before .before .before .args .k in
-    let l = (c .before .before .before .loop) in
-    let e = none (k .len) (k .first) (k .next) (l .d) (c .before .before .before .before .before .smaller .result) (c .before .before .loop-test .left) (sym (c .before .has-exact .ensures) ∙ c .if1 .left) in
+    let args = c .before .before .before .before .before .before .before .before .args in
+    let smaller = c .before .before .before .before .before .smaller in
+    let loop-test = c .before .before .loop-test in
+    let k = args .k in
+    let l = c .before .before .before .loop in
+    let e = none (k .len) (k .first) (k .next) (l .d) (smaller .result) (loop-test .left) (sym (c .before .has-exact .ensures) ∙ c .if1 .left) in
     (count-done one-step (l .entries) _ (rw e at (l .inv .2)), count-done bit (l .nodes) _ (rw e at (l .inv .3)))
 
 pub count-entries-spec : {M : Type 1} → statement M
@@ -136,7 +169,7 @@ count-entries-spec =
     (tie.spec
     Inv-loop
     μ-loop
-    less-requires
+    one-less-requires
     cut-length-requires
     smaller-requires
     larger-requires

@@ -29,7 +29,7 @@ element-write-cnt c = search needs
 
 returns : tie.Need-returns
 returns c =
-    let a = (c .before .before .args) in
+    let a = c .before .before .args in
     ap (λ (v : ℕ). set (a .cnt .now) (a .d) (getD (a .cnt .now) (a .d) 0 + v)) (c .one-if .ensures .0)
 
 pub count-if-spec : {M : Type 1} → statement M

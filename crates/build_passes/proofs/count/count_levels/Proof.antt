@@ -1,100 +1,66 @@
--- What the keys left count gives what all keys count, and the counters have room for it.
-use mathlib.Core.Path.{subst, _≡_, sym}
-use Rattle.spec.specs.Bytes.{bit}
+-- What the keys left count gives what all keys count, and there is room for it.
+use mathlib.Core.Path.{sym, subst}
+use Prim.Native.Nat.{_+_, _-_}
+use lib.ListN.{length}
 use Rattle.spec.specs.Keys.{keys-of}
-use Rattle.build_laws.specs.LevelItems.{pred}
-use Rattle.build_laws.specs.Cursors.{counts}
-use Rattle.build_laws.specs.BytePass.{one-step}
-use Rattle.build_laws.specs.PassEmissions.{Key-numbers, leaf-level}
-use Rattle.build_laws.specs.Counters.{entry-counts, node-counts, leaf-counts}
-use Rattle.build_laws.specs.declared.Key.{Key}
-use Rattle.build_laws.specs.List.{key-at}
-use Rattle.build_laws.specs.Counts.{key-starts, Counter-room}
-use Rattle.build_laws.specs.WalkLaws.{Counting, with-leaf, count-turn, count-reads, count-done, count-start}
-use mathlib.Core.List.{List}
-use Prim.Native.Nat.{ℕ, _+_, _-_, _≤_, _<_}
+use Rattle.build_laws.specs.CountPass.{Level-counts, level-counts, list-counts, counts-same}
+use Rattle.build_laws.specs.ListPass.{Counting, counted-key, count-reads, count-done, count-start}
 use native.Mathlib.Omega.{arith}
-use lib.ListN.{length, getD}
 use Rattle.build_passes.proofs.count.count_levels.Statement.{statement}
 use Rattle.build_passes.proofs.count.count_levels.Tie as tie
 
--- what a key that was read asks and gives
-record Turn (s : List ℕ) (at first : ℕ) (e n l fe fn fl : List ℕ) (k : Key) : Type 0 where
-  fits : k .at + k .len ≤ length s
-  some : at < k .at
-  numbers : Key-numbers (pred (k .first)) (k .next) (k .len)
-  entry-room : Counter-room one-step (key-starts (k .first) (k .next) (k .len)) e
-  node-room : Counter-room bit (key-starts (k .first) (k .next) (k .len)) n
-  leaf-room : getD l (leaf-level (pred (k .first)) (k .next) (k .len)) 0 + 1 ≤ 8600000
-  then : Counting s (k .at + k .len) (k .next + 1) (counts one-step (key-starts (k .first) (k .next) (k .len)) e) (counts bit (key-starts (k .first) (k .next) (k .len)) n) (with-leaf l (leaf-level (pred (k .first)) (k .next) (k .len))) fe fn fl
-
-turn : (s : List ℕ) (at first : ℕ) (e n l fe fn fl : List ℕ) (k : Key) → k ≡ key-at s at first → at < length s → Counting s at first e n l fe fn fl → Turn s at first e n l fe fn fl k
-turn s at first e n l fe fn fl k q h f =
-    let t = count-turn s at first e n l fe fn fl h f in
-    subst (Turn s at first e n l fe fn fl) (sym q)
-    (record { fits = t .fits; some = omega arith; numbers = t .numbers; entry-room = t .entry-room; node-room = t .node-room; leaf-room = t .leaf-room; then = t .then })
-
--- the counters as the calls leave them
-as-left : (s : List ℕ) (at first : ℕ) (e e′ n n′ l l′ fe fn fl : List ℕ) → e′ ≡ e → n′ ≡ n → l′ ≡ l → Counting s at first e n l fe fn fl → Counting s at first e′ n′ l′ fe fn fl
-as-left s at first e e′ n n′ l l′ fe fn fl p q r c =
-    subst (λ (x : List ℕ). Counting s at first x n′ l′ fe fn fl) (sym p) (subst (λ (x : List ℕ). Counting s at first e x l′ fe fn fl) (sym q) (subst (λ (x : List ℕ). Counting s at first e n x fe fn fl) (sym r) c))
-
 abbrev Inv-loop : tie.InvT-loop
-Inv-loop entries₀ nodes₀ leaves₀ s at₀ first₀ entries nodes leaves at first = Counting s at first entries nodes leaves (entry-counts (keys-of s)) (node-counts (keys-of s)) (leaf-counts (keys-of s))
+Inv-loop entries₀ nodes₀ leaves₀ s at₀ first₀ entries nodes leaves at first = Counting s at first (level-counts entries nodes leaves) (list-counts (keys-of s))
 
 abbrev μ-loop : tie.MeasureT-loop
 μ-loop entries₀ nodes₀ leaves₀ s at₀ first₀ entries nodes leaves at first = length s - at
 
 loop-holds : tie.Need-loop-holds Inv-loop μ-loop
-loop-holds c =
-    let a = (c .before .args) in
-    count-start (a .s .now) (a .entries .now) (a .nodes .now) (a .leaves .now) (c .before .pre .0 .0) (c .before .pre .0 .1) (c .before .pre .1 .0) (c .before .pre .1 .1) (c .before .pre .1 .2)
+loop-holds c = count-start (c .before .args .s .now) _ (c .before .pre .0) (c .before .pre .1) (c .before .pre .2)
 
 read-key-requires : tie.Need-read-key-requires Inv-loop μ-loop
-read-key-requires c κs =
-    let l = (c .before .loop) in
-    count-reads (c .before .before .before .args .s .now) (l .at) (l .first) (l .entries) (l .nodes) (l .leaves) _ _ _ (c .loop-test .taken) (l .inv)
+read-key-requires c κs = count-reads (c .before .before .before .args .s .now) (c .before .loop .at) (c .before .loop .first) _ _ (c .loop-test .taken) (c .before .loop .inv)
 
 count-entries-requires : tie.Need-count-entries-requires Inv-loop μ-loop
 count-entries-requires c κs =
-    let l = (c .before .before .before .before .loop) in
-    let t = turn (c .before .before .before .before .before .before .args .s .now) (l .at) (l .first) (l .entries) (l .nodes) (l .leaves) _ _ _ _ (c .before .before .read-key .ensures) (c .before .before .before .loop-test .taken) (l .inv) in
-    (t .numbers, (t .entry-room, t .node-room))
+    let l = c .before .before .before .before .loop in
+    let t = counted-key (c .before .before .before .before .before .before .args .s .now) (l .at) (l .first) _ _ (c .before .before .read-key .result) (c .before .before .read-key .ensures) (c .before .before .before .loop-test .taken) (l .inv) in
+    (t .listed .numbers, (t .entry-room, t .node-room))
 
 count-leaf-requires : tie.Need-count-leaf-requires Inv-loop μ-loop
 count-leaf-requires c κs =
-    let l = (c .before .before .before .before .before .before .loop) in
-    let t = turn (c .before .before .before .before .before .before .before .before .args .s .now) (l .at) (l .first) (l .entries) (l .nodes) (l .leaves) _ _ _ _ (c .before .before .before .before .read-key .ensures) (c .before .before .before .before .before .loop-test .taken) (l .inv) in
-    (t .numbers, t .leaf-room)
+    let l = c .before .before .before .before .before .before .loop in
+    let t = counted-key (c .before .before .before .before .before .before .before .before .args .s .now) (l .at) (l .first) _ _ (c .before .before .before .before .read-key .result) (c .before .before .before .before .read-key .ensures) (c .before .before .before .before .before .loop-test .taken) (l .inv) in
+    (t .listed .numbers, t .leaf-room)
 
 add-first : tie.Need-add-first Inv-loop μ-loop
 add-first c =
-    let l = (c .before .before .before .before .before .before .before .before .loop) in
-    let t = turn (c .before .before .before .before .before .before .before .before .before .before .args .s .now) (l .at) (l .first) (l .entries) (l .nodes) (l .leaves) _ _ _ _ (c .before .before .before .before .before .before .read-key .ensures) (c .before .before .before .before .before .before .before .loop-test .taken) (l .inv) in
-    omega (arith, t .numbers .behind, t .numbers .size)
+    let l = c .before .before .before .before .before .before .before .before .loop in
+    let t = counted-key (c .before .before .before .before .before .before .before .before .before .before .args .s .now) (l .at) (l .first) _ _ (c .before .before .before .before .before .before .read-key .result) (c .before .before .before .before .before .before .read-key .ensures) (c .before .before .before .before .before .before .before .loop-test .taken) (l .inv) in
+    omega (arith, t .listed .numbers .behind, t .listed .numbers .size)
 
 add-at : tie.Need-add-at Inv-loop μ-loop
 add-at c =
-    let l = (c .before .before .before .before .before .before .before .before .before .loop) in
-    let t = turn (c .before .before .before .before .before .before .before .before .before .before .before .args .s .now) (l .at) (l .first) (l .entries) (l .nodes) (l .leaves) _ _ _ _ (c .before .before .before .before .before .before .before .read-key .ensures) (c .before .before .before .before .before .before .before .before .loop-test .taken) (l .inv) in
-    omega (arith, t .fits)
+    let l = c .before .before .before .before .before .before .before .before .before .loop in
+    let t = counted-key (c .before .before .before .before .before .before .before .before .before .before .before .args .s .now) (l .at) (l .first) _ _ (c .before .before .before .before .before .before .before .read-key .result) (c .before .before .before .before .before .before .before .read-key .ensures) (c .before .before .before .before .before .before .before .before .loop-test .taken) (l .inv) in
+    omega (arith, t .listed .within)
 
 loop-less : tie.Need-loop-less Inv-loop μ-loop
 loop-less c =
-    let l = (c .before .before .before .before .before .before .before .before .before .loop) in
-    let t = turn (c .before .before .before .before .before .before .before .before .before .before .before .args .s .now) (l .at) (l .first) (l .entries) (l .nodes) (l .leaves) _ _ _ _ (c .before .before .before .before .before .before .before .read-key .ensures) (c .before .before .before .before .before .before .before .before .loop-test .taken) (l .inv) in
-    omega (arith, t .fits, t .some)
+    let l = c .before .before .before .before .before .before .before .before .before .loop in
+    let t = counted-key (c .before .before .before .before .before .before .before .before .before .before .before .args .s .now) (l .at) (l .first) _ _ (c .before .before .before .before .before .before .before .read-key .result) (c .before .before .before .before .before .before .before .read-key .ensures) (c .before .before .before .before .before .before .before .before .loop-test .taken) (l .inv) in
+    omega (arith, t .listed .within, t .after)
 
 loop-again : tie.Need-loop-again Inv-loop μ-loop
 loop-again c =
-    let l = (c .before .before .before .before .before .before .before .before .before .loop) in
-    let t = turn (c .before .before .before .before .before .before .before .before .before .before .before .args .s .now) (l .at) (l .first) (l .entries) (l .nodes) (l .leaves) _ _ _ _ (c .before .before .before .before .before .before .before .read-key .ensures) (c .before .before .before .before .before .before .before .before .loop-test .taken) (l .inv) in
-    as-left (c .before .before .before .before .before .before .before .before .before .before .before .args .s .now) _ _ _ _ _ _ _ _ _ _ _ (c .before .before .before .before .count-entries .ensures .0) (c .before .before .before .before .count-entries .ensures .1) (c .before .before .count-leaf .ensures) (t .then)
+    let l = c .before .before .before .before .before .before .before .before .before .loop in
+    let t = counted-key (c .before .before .before .before .before .before .before .before .before .before .before .args .s .now) (l .at) (l .first) _ _ (c .before .before .before .before .before .before .before .read-key .result) (c .before .before .before .before .before .before .before .read-key .ensures) (c .before .before .before .before .before .before .before .before .loop-test .taken) (l .inv) in
+    let k = c .before .before .before .before .before .before .before .read-key .result in
+    let e = counts-same (c .before .before .before .before .count-entries .ensures .0) (c .before .before .before .before .count-entries .ensures .1) (c .before .before .count-leaf .ensures) in
+    subst (λ (z : Level-counts). Counting (c .before .before .before .before .before .before .before .before .before .before .before .args .s .now) (k .at + k .len) (k .next + 1) z (list-counts (keys-of (c .before .before .before .before .before .before .before .before .before .before .before .args .s .now)))) (sym e) (t .behind)
 
 returns : tie.Need-returns Inv-loop μ-loop
-returns c =
-    let l = (c .before .loop) in
-    count-done (c .before .before .before .args .s .now) (l .at) (l .first) (l .entries) (l .nodes) (l .leaves) _ _ _ (c .loop-test .left) (l .inv)
+returns c = count-done (c .before .before .before .args .s .now) (c .before .loop .at) (c .before .loop .first) _ _ (c .loop-test .left) (c .before .loop .inv)
 
 pub count-levels-spec : {M : Type 1} → statement M
 count-levels-spec =

@@ -3,7 +3,7 @@ use borrow.Author.Needs.{needs}
 use mathlib.Core.Bool.{Bool, false}
 use lib.Dec.{leb}
 use Rattle.bits_laws.specs.Bits.{key}
-use Rattle.build_laws.specs.KeyItems.{continues-at}
+use Rattle.build_laws.specs.KeyEntries.{continues-at}
 use Rattle.build_laws.specs.KeyLaws.{key-byte, key-length}
 use mathlib.Core.Path.{_≡_, sym, ap, ap₂, _∙_}
 use Prim.Native.Nat.{ℕ}
@@ -23,11 +23,13 @@ shared-slice-read-t9 c = search needs
 
 returns : tie.Need-returns
 returns c =
-    let a = (c .before .before .before .before .before .args) in
+    let pre = c .before .before .before .before .before .pre in
+    let continues = c .before .before .continues in
+    let a = c .before .before .before .before .before .args in
     let k = a .k in
-    let n : length (key (a .s .now) (k .at) (k .len)) ≡ k .len = key-length (a .s .now) (k .at) (k .len) (c .before .before .before .before .before .pre .0) in
+    let n : length (key (a .s .now) (k .at) (k .len)) ≡ k .len = key-length (a .s .now) (k .at) (k .len) (pre .0) in
     ap₂ (λ (m : Bool) (x : ℕ). record { start = leb (k .first) (a .d); exact = false; child = m; label = x })
-    (c .before .before .continues .ensures ∙ ap (λ (i : ℕ). continues-at (k .first) (k .next) i (a .d)) (sym n))
+    (continues .ensures ∙ ap (λ (i : ℕ). continues-at (k .first) (k .next) i (a .d)) (sym n))
     (key-byte (a .s .now) (k .at) (k .len) (a .d) (omega arith))
 
 pub branch-spec : {M : Type 1} → statement M

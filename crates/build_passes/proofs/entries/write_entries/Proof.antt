@@ -3,14 +3,15 @@ use mathlib.Core.Bool.{true, false}
 use Prim.Native.Nat.{max, min, ℕ, _+_, _-_, _≤_, _<_}
 use mathlib.Core.Path.{subst, _≡_, refl, sym, ap, ap₂, _∙_}
 use Rattle.bits_laws.specs.Bits.{key}
-use Rattle.build_laws.specs.LevelItems.{pred}
+use Rattle.build_laws.specs.LevelEntries.{pred}
 use Rattle.build_laws.specs.NeighbourLeaves.{cut-length}
 use Rattle.build_laws.specs.Emissions.{Emission, emission}
 use Rattle.build_laws.specs.BitPass.{Room}
 use Rattle.build_laws.specs.BytePass.{byte-state}
 use Rattle.build_laws.specs.PassEmissions.{Key-numbers}
 use Rattle.build_laws.specs.declared.Entry.{Entry}
-use Rattle.build_laws.specs.Writes.{entry-at, exact-entry, key-entries, key-exact, kind-step, kind-ones, capacity, write-entries}
+use Rattle.build_laws.specs.KeyEntries.{entry-at, exact-entry}
+use Rattle.build_laws.specs.Passes.{key-entries, key-exact, kind-step, kind-ones, capacity, write-entries}
 use Rattle.build_laws.specs.KeyLaws.{key-length}
 use Rattle.build_laws.specs.EntryLaws.{key-rest, rest-start, rest-more, rest-exact, rest-none, Left, left-next, left-room, left-done}
 use mathlib.Core.List.{List, [], _∷_}
@@ -19,6 +20,7 @@ use native.Mathlib.Omega.{arith}
 use lib.ListN.{length}
 use Rattle.build_passes.proofs.entries.write_entries.Statement.{statement}
 use Rattle.build_passes.proofs.entries.write_entries.Tie as tie
+use Rattle.build_laws.specs.Limits.{counter-max}
 
 -- what is left from level d on
 entry-rest : List ℕ → ℕ → ℕ → ℕ → ℕ → ℕ → ℕ → ℕ → ℕ → List (Emission Entry)
@@ -50,11 +52,14 @@ Inv-loop out₀ cur₀ s k l kind b c end d₀ out cur d = (d₀ ≤ d) × (d �
 abbrev μ-loop : tie.MeasureT-loop
 μ-loop out₀ cur₀ s k l kind b c end d₀ out cur d = end - d
 
-less-requires : tie.Need-less-requires Inv-loop μ-loop
-less-requires c κs = search needs
+one-less-requires : tie.Need-one-less-requires Inv-loop μ-loop
+one-less-requires c κs = search needs
 
 cut-length-requires : tie.Need-cut-length-requires Inv-loop μ-loop
-cut-length-requires c κs = subst (λ (p : ℕ). Key-numbers p (c .before .before .before .args .k .next) (c .before .before .before .args .k .len)) (sym (c .less .ensures)) (c .before .before .before .pre .0 .1)
+cut-length-requires c κs =
+    let args = c .before .before .before .args in
+    let pre = c .before .before .before .pre in
+    subst (λ (p : ℕ). Key-numbers p (args .k .next) (args .k .len)) (sym (c .one-less .ensures)) (pre .0 .numbers)
 
 smaller-requires : tie.Need-smaller-requires Inv-loop μ-loop
 smaller-requires c κs = search needs
@@ -64,30 +69,42 @@ larger-requires c κs = search needs
 
 loop-holds : tie.Need-loop-holds Inv-loop μ-loop
 loop-holds c =
-    let a = (c .before .before .before .before .before .before .args) in
+    let pre = c .before .before .before .before .before .before .pre in
+    let one-less = c .before .before .before .one-less in
+    let cut-length-known = c .before .before .cut-length in
+    let a = c .before .before .before .before .before .before .args in
     let k = a .k in
-    let e = begins (a .s .now) (k .at) (k .len) (k .first) (k .next) (a .l .lo) (a .l .hi) (c .before .before .before .before .before .before .pre .0 .0) _ _ _ _ (c .before .before .before .less .ensures) (c .before .before .cut-length .ensures .0) (c .before .smaller .ensures) (c .larger .ensures) in (
+    let e = begins (a .s .now) (k .at) (k .len) (k .first) (k .next) (a .l .lo) (a .l .hi) (pre .0 .within) _ _ _ _ (one-less .ensures) (cut-length-known .ensures .0) (c .before .smaller .ensures) (c .larger .ensures) in (
       omega arith,
       omega arith,
       refl,
       record {
         run = ap (λ (es : List (Emission Entry)). write-entries (a .kind) es (byte-state (a .out .now) (a .cur .now))) e;
-        room = subst (λ (es : List (Emission Entry)). Room (kind-step (a .kind)) (kind-ones (a .kind)) (capacity (a .kind) (length (a .out .now))) 8600000 es (a .cur .now)) (sym e) (c .before .before .before .before .before .before .pre .1);
+        room = subst (λ (es : List (Emission Entry)). Room (kind-step (a .kind)) (kind-ones (a .kind)) (capacity (a .kind) (length (a .out .now))) counter-max es (a .cur .now)) (sym e) (pre .2);
       },
     )
 
 branch-requires : tie.Need-branch-requires Inv-loop μ-loop
 branch-requires c κs =
-    let k = c .before .before .before .before .before .before .before .before .args .k in
-    (c .before .before .before .before .before .before .before .before .pre .0 .0, omega (arith, c .before .before .before .smaller .ensures), c .before .before .before .before .cut-length .ensures .1, c .before .before .before .before .before .before .before .before .pre .0 .1 .size, c .before .before .before .before .cut-length .ensures .0 ∙ ap (λ (p : ℕ). cut-length p (k .next) (k .len)) (c .before .before .before .before .before .less .ensures))
+    let args = c .before .before .before .before .before .before .before .before .args in
+    let pre = c .before .before .before .before .before .before .before .before .pre in
+    let one-less = c .before .before .before .before .before .one-less in
+    let cut-length-known = c .before .before .before .before .cut-length in
+    let smaller = c .before .before .before .smaller in
+    let k = args .k in
+    (pre .0 .within, omega (arith, smaller .ensures), cut-length-known .ensures .1, pre .0 .numbers .size, cut-length-known .ensures .0 ∙ ap (λ (p : ℕ). cut-length p (k .next) (k .len)) (one-less .ensures))
 
 write-entry-requires : tie.Need-write-entry-requires Inv-loop μ-loop
 write-entry-requires c κs =
-    let a = (c .before .before .before .before .before .before .before .before .before .before .before .args) in
+    let pre = c .before .before .before .before .before .before .before .before .before .before .before .pre in
+    let smaller = c .before .before .before .before .before .before .smaller in
+    let loop-test = c .before .before .before .loop-test in
+    let branch = c .before .before .branch in
+    let a = c .before .before .before .before .before .before .before .before .before .before .before .args in
     let k = a .k in
-    let l = (c .before .before .before .before .loop) in
-    let e = more (a .s .now) (k .at) (k .len) (k .first) (k .next) (a .l .lo) (a .l .hi) (c .before .before .before .before .before .before .before .before .before .before .before .pre .0 .0) (l .d) (c .before .before .before .before .before .before .smaller .result) (c .before .before .before .loop-test .taken) in
-    left-room (a .kind) (capacity (a .kind) (length (a .out .now))) (length (l .out)) (l .d) (entry-at (k .first) (k .next) (key (a .s .now) (k .at) (k .len)) (l .d)) (c .before .before .branch .result) _ (byte-state (l .out) (l .cur)) _ (c .before .before .branch .ensures) (ap (capacity (a .kind)) (sym (l .inv .2))) (rw e at (l .inv .3))
+    let l = c .before .before .before .before .loop in
+    let e = more (a .s .now) (k .at) (k .len) (k .first) (k .next) (a .l .lo) (a .l .hi) (pre .0 .within) (l .d) (smaller .result) (loop-test .taken) in
+    left-room (a .kind) (capacity (a .kind) (length (a .out .now))) (length (l .out)) (l .d) (entry-at (k .first) (k .next) (key (a .s .now) (k .at) (k .len)) (l .d)) (branch .result) _ (byte-state (l .out) (l .cur)) _ (branch .ensures) (ap (capacity (a .kind)) (sym (l .inv .2))) (rw e at (l .inv .3))
 
 add-d : tie.Need-add-d Inv-loop μ-loop
 add-d c = search needs
@@ -97,14 +114,19 @@ loop-less c = search needs
 
 loop-again : tie.Need-loop-again Inv-loop μ-loop
 loop-again c =
-    let a = (c .before .before .before .before .before .before .before .before .before .before .before .before .before .before .args) in
+    let pre = c .before .before .before .before .before .before .before .before .before .before .before .before .before .before .pre in
+    let smaller = c .before .before .before .before .before .before .before .before .before .smaller in
+    let loop-test = c .before .before .before .before .before .before .loop-test in
+    let branch = c .before .before .before .before .before .branch in
+    let write-entry = c .before .before .write-entry in
+    let a = c .before .before .before .before .before .before .before .before .before .before .before .before .before .before .args in
     let k = a .k in
-    let l = (c .before .before .before .before .before .before .before .loop) in
-    let e = more (a .s .now) (k .at) (k .len) (k .first) (k .next) (a .l .lo) (a .l .hi) (c .before .before .before .before .before .before .before .before .before .before .before .before .before .before .pre .0 .0) (l .d) (c .before .before .before .before .before .before .before .before .before .smaller .result) (c .before .before .before .before .before .before .loop-test .taken) in (
+    let l = c .before .before .before .before .before .before .before .loop in
+    let e = more (a .s .now) (k .at) (k .len) (k .first) (k .next) (a .l .lo) (a .l .hi) (pre .0 .within) (l .d) (smaller .result) (loop-test .taken) in (
       omega arith,
       omega arith,
-      omega (arith, c .before .before .write-entry .kept .0, l .inv .2),
-      left-next (a .kind) (capacity (a .kind) (length (a .out .now))) (l .d) (entry-at (k .first) (k .next) (key (a .s .now) (k .at) (k .len)) (l .d)) (c .before .before .before .before .before .branch .result) _ (byte-state (l .out) (l .cur)) _ _ (c .before .before .before .before .before .branch .ensures) (c .before .before .write-entry .ensures) (rw e at (l .inv .3)),
+      omega (arith, write-entry .kept .0, l .inv .2),
+      left-next (a .kind) (capacity (a .kind) (length (a .out .now))) (l .d) (entry-at (k .first) (k .next) (key (a .s .now) (k .at) (k .len)) (l .d)) (branch .result) _ (byte-state (l .out) (l .cur)) _ _ (branch .ensures) (write-entry .ensures) (rw e at (l .inv .3)),
     )
 
 has-exact-requires : tie.Need-has-exact-requires Inv-loop μ-loop
@@ -115,33 +137,49 @@ exact-leaf-requires c κs = search needs
 
 write-entry-requires-2 : tie.Need-write-entry-requires-2 Inv-loop μ-loop
 write-entry-requires-2 c κs =
-    let a = (c .before .before .before .before .before .before .before .before .before .before .before .before .before .args) in
+    let pre = c .before .before .before .before .before .before .before .before .before .before .before .before .before .pre in
+    let smaller = c .before .before .before .before .before .before .before .before .smaller in
+    let loop-test = c .before .before .before .before .before .loop-test in
+    let has-exact = c .before .before .before .before .has-exact in
+    let if1 = c .before .before .before .if1 in
+    let exact-leaf = c .before .before .exact-leaf in
+    let a = c .before .before .before .before .before .before .before .before .before .before .before .before .before .args in
     let k = a .k in
-    let l = (c .before .before .before .before .before .before .loop) in
-    let e = last (a .s .now) (k .at) (k .len) (k .first) (k .next) (a .l .lo) (a .l .hi) (c .before .before .before .before .before .before .before .before .before .before .before .before .before .pre .0 .0) (l .d) (c .before .before .before .before .before .before .before .before .smaller .result) (c .before .before .before .before .before .loop-test .left) (sym (c .before .before .before .before .has-exact .ensures) ∙ c .before .before .before .if1 .taken) in
-    left-room (a .kind) (capacity (a .kind) (length (a .out .now))) (length (l .out)) (k .len) exact-entry (c .before .before .exact-leaf .result) [] (byte-state (l .out) (l .cur)) _ (c .before .before .exact-leaf .ensures) (ap (capacity (a .kind)) (sym (l .inv .2))) (rw e at (l .inv .3))
+    let l = c .before .before .before .before .before .before .loop in
+    let e = last (a .s .now) (k .at) (k .len) (k .first) (k .next) (a .l .lo) (a .l .hi) (pre .0 .within) (l .d) (smaller .result) (loop-test .left) (sym (has-exact .ensures) ∙ if1 .taken) in
+    left-room (a .kind) (capacity (a .kind) (length (a .out .now))) (length (l .out)) (k .len) exact-entry (exact-leaf .result) [] (byte-state (l .out) (l .cur)) _ (exact-leaf .ensures) (ap (capacity (a .kind)) (sym (l .inv .2))) (rw e at (l .inv .3))
 
 same-length : tie.Need-same-length Inv-loop μ-loop
 same-length c = search needs
 
 returns : tie.Need-returns Inv-loop μ-loop
 returns c =
-    let a = (c .before .before .before .before .before .before .before .before .before .before .before .before .before .before .before .before .args) in
+    let pre = c .before .before .before .before .before .before .before .before .before .before .before .before .before .before .before .before .pre in
+    let smaller = c .before .before .before .before .before .before .before .before .before .before .before .smaller in
+    let loop-test = c .before .before .before .before .before .before .before .before .loop-test in
+    let has-exact = c .before .before .before .before .before .before .before .has-exact in
+    let if1 = c .before .before .before .before .before .before .if1 in
+    let exact-leaf = c .before .before .before .before .before .exact-leaf in
+    let write-entry2 = c .before .before .write-entry2 in
+    let a = c .before .before .before .before .before .before .before .before .before .before .before .before .before .before .before .before .args in
     let k = a .k in
-    let l = (c .before .before .before .before .before .before .before .before .before .loop) in
-    let e = last (a .s .now) (k .at) (k .len) (k .first) (k .next) (a .l .lo) (a .l .hi) (c .before .before .before .before .before .before .before .before .before .before .before .before .before .before .before .before .pre .0 .0) (l .d) (c .before .before .before .before .before .before .before .before .before .before .before .smaller .result) (c .before .before .before .before .before .before .before .before .loop-test .left) (sym (c .before .before .before .before .before .before .before .has-exact .ensures) ∙ c .before .before .before .before .before .before .if1 .taken) in
+    let l = c .before .before .before .before .before .before .before .before .before .loop in
+    let e = last (a .s .now) (k .at) (k .len) (k .first) (k .next) (a .l .lo) (a .l .hi) (pre .0 .within) (l .d) (smaller .result) (loop-test .left) (sym (has-exact .ensures) ∙ if1 .taken) in
     left-done (a .kind) (capacity (a .kind) (length (a .out .now))) _ _
-    (left-next (a .kind) (capacity (a .kind) (length (a .out .now))) (k .len) exact-entry (c .before .before .before .before .before .exact-leaf .result) [] (byte-state (l .out) (l .cur)) _ _ (c .before .before .before .before .before .exact-leaf .ensures) (c .before .before .write-entry2 .ensures) (rw e at (l .inv .3)))
+    (left-next (a .kind) (capacity (a .kind) (length (a .out .now))) (k .len) exact-entry (exact-leaf .result) [] (byte-state (l .out) (l .cur)) _ _ (exact-leaf .ensures) (write-entry2 .ensures) (rw e at (l .inv .3)))
 
 same-length-2 : tie.Need-same-length-2 Inv-loop μ-loop
 same-length-2 c = search needs
 
 returns-2 : tie.Need-returns-2 Inv-loop μ-loop
 returns-2 c =
-    let a = (c .before .before .before .before .before .before .before .before .before .before .args) in
+    let pre = c .before .before .before .before .before .before .before .before .before .before .pre in
+    let smaller = c .before .before .before .before .before .smaller in
+    let loop-test = c .before .before .loop-test in
+    let a = c .before .before .before .before .before .before .before .before .before .before .args in
     let k = a .k in
-    let l = (c .before .before .before .loop) in
-    let e = none (a .s .now) (k .at) (k .len) (k .first) (k .next) (a .l .lo) (a .l .hi) (c .before .before .before .before .before .before .before .before .before .before .pre .0 .0) (l .d) (c .before .before .before .before .before .smaller .result) (c .before .before .loop-test .left) (sym (c .before .has-exact .ensures) ∙ c .if1 .left) in
+    let l = c .before .before .before .loop in
+    let e = none (a .s .now) (k .at) (k .len) (k .first) (k .next) (a .l .lo) (a .l .hi) (pre .0 .within) (l .d) (smaller .result) (loop-test .left) (sym (c .before .has-exact .ensures) ∙ c .if1 .left) in
     left-done (a .kind) (capacity (a .kind) (length (a .out .now))) (byte-state (l .out) (l .cur)) _ (rw e at (l .inv .3))
 
 pub write-entries-spec : {M : Type 1} → statement M
@@ -150,7 +188,7 @@ write-entries-spec =
     (tie.spec
     Inv-loop
     μ-loop
-    less-requires
+    one-less-requires
     cut-length-requires
     smaller-requires
     larger-requires

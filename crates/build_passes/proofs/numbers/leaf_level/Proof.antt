@@ -12,7 +12,7 @@ less p q n r a b c d e = omega arith
 
 returns : tie.Need-returns
 returns c =
-    let a = (c .before .args) in
+    let a = c .before .args in
     (level-exact (a .p) (a .q) (a .n) (c .if1 .taken), c .before .pre .exact (c .if1 .taken))
 
 larger-requires : tie.Need-larger-requires
@@ -20,8 +20,10 @@ larger-requires c κs = search needs
 
 returns-2 : tie.Need-returns-2
 returns-2 c =
-    let a = (c .before .before .args) in
-    (c .larger .ensures ∙ level-open (a .p) (a .q) (a .n) (c .before .if1 .left), less (a .p) (a .q) (a .n) _ (c .before .before .pre .before) (c .before .before .pre .behind) (c .before .before .pre .size) (c .before .if1 .left) (c .larger .ensures))
+    let pre = c .before .before .pre in
+    let if1 = c .before .if1 in
+    let a = c .before .before .args in
+    (c .larger .ensures ∙ level-open (a .p) (a .q) (a .n) (if1 .left), less (a .p) (a .q) (a .n) _ (pre .before) (pre .behind) (pre .size) (if1 .left) (c .larger .ensures))
 
 pub leaf-level-spec : {M : Type 1} → statement M
 leaf-level-spec = tie.close (tie.spec returns larger-requires returns-2)

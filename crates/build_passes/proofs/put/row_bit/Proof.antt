@@ -6,10 +6,14 @@ use Rattle.build_passes.proofs.put.row_bit.Statement.{statement}
 use Rattle.build_passes.proofs.put.row_bit.Tie as tie
 
 mul-t4 : tie.Need-mul-t4
-mul-t4 c = omega (arith, mul-le-mul (c .before .pre .0) (c .before .pre .1))
+mul-t4 c =
+    let pre = c .before .pre in
+    omega (arith, mul-le-mul (pre .0) (pre .1))
 
 add-t5 : tie.Need-add-t5
-add-t5 c = omega (arith, mul-le-mul (c .before .pre .0) (c .before .pre .1))
+add-t5 c =
+    let pre = c .before .pre in
+    omega (arith, mul-le-mul (pre .0) (pre .1))
 
 returns : tie.Need-returns
 returns c = search needs

@@ -6,10 +6,14 @@ use Rattle.build_passes.proofs.slots.slot_bit.Statement.{statement}
 use Rattle.build_passes.proofs.slots.slot_bit.Tie as tie
 
 mul-t3 : tie.Need-mul-t3
-mul-t3 c = omega (arith, mul-le-mul (c .before .pre .0) (c .before .pre .1))
+mul-t3 c =
+    let pre = c .before .pre in
+    omega (arith, mul-le-mul (pre .0) (pre .1))
 
 returns : tie.Need-returns
-returns c = (refl, omega (arith, mul-le-mul (c .before .pre .0) (c .before .pre .1)))
+returns c =
+    let pre = c .before .pre in
+    (refl, omega (arith, mul-le-mul (pre .0) (pre .1)))
 
 pub slot-bit-spec : {M : Type 1} → statement M
 slot-bit-spec = tie.close (tie.spec mul-t3 returns)

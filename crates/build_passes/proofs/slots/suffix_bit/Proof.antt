@@ -18,13 +18,14 @@ add-at c = search needs
 
 returns : tie.Need-returns
 returns c =
-    let a = (c .before .before .before .args) in
+    let pre = c .before .before .before .pre in
+    let a = c .before .before .before .args in
     let k = a .k in
-    let e = key-length (a .s .now) (k .at) (k .len) (c .before .before .before .pre .0) in
+    let e = key-length (a .s .now) (k .at) (k .len) (pre .0) in
     suffix-ended (drop (a .cut) (key (a .s .now) (k .at) (k .len))) (a .i) (omega (arith, e, length-drop (a .cut) (key (a .s .now) (k .at) (k .len))))
 
-add-place : tie.Need-add-place
-add-place c = search needs
+add-byte : tie.Need-add-byte
+add-byte c = search needs
 
 shared-slice-read-wide : tie.Need-shared-slice-read-wide
 shared-slice-read-wide c = search needs
@@ -40,11 +41,13 @@ shr-result c = search needs
 
 returns-2 : tie.Need-returns-2
 returns-2 c =
-    let a = (c .before .before .before .before .before .before .args) in
+    let pre = c .before .before .before .before .before .before .pre in
+    let shared-slice-known = c .before .before .before .before .before .shared-slice-known in
+    let a = c .before .before .before .before .before .before .args in
     let k = a .k in
     let xs : List ℕ = key (a .s .now) (k .at) (k .len) in
-    let e = key-length (a .s .now) (k .at) (k .len) (c .before .before .before .before .before .before .pre .0) in
-    suffix-at (drop (a .cut) xs) (a .i) _ (small-part (a .cut) (k .at) (k .len) (a .s .now) (small-of (a .s .now) (λ i. c .before .before .before .before .before .shared-slice-known .given i .fits))) (omega (arith, e, length-drop (a .cut) xs))
+    let e = key-length (a .s .now) (k .at) (k .len) (pre .0) in
+    suffix-at (drop (a .cut) xs) (a .i) _ (small-part (a .cut) (k .at) (k .len) (a .s .now) (small-of (a .s .now) (λ i. shared-slice-known .given i .fits))) (omega (arith, e, length-drop (a .cut) xs))
     (c .wide .ensures .0 ∙ key-byte (a .s .now) (k .at) (k .len) (a .cut + a .i / 8) (omega arith) ∙ sym (getD-drop (a .cut) xs (a .i / 8) 0))
 
 pub suffix-bit-spec : {M : Type 1} → statement M
@@ -53,7 +56,7 @@ suffix-bit-spec =
     (tie.spec
     add-at
     returns
-    add-place
+    add-byte
     shared-slice-read-wide
     wide-requires
     sub-result

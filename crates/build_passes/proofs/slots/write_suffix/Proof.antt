@@ -6,8 +6,8 @@ use Rattle.spec.specs.Leaves.{bits-behind}
 use Rattle.spec.specs.Image.{positions}
 use Rattle.bits_laws.specs.Bits.{key}
 use Rattle.build_laws.specs.BitPass.{Positions-below}
-use Rattle.build_laws.specs.Writes.{with-bits}
-use Rattle.build_laws.specs.WriteLaws.{with-none, with-cons}
+use Rattle.build_laws.specs.Passes.{with-bits}
+use Rattle.build_laws.specs.CursorWrites.{with-none, with-cons}
 use Rattle.build_laws.specs.SuffixLaws.{length-behind, behind-at, positions-on, positions-none, positions-first}
 use mathlib.Core.Path.{_≡_, refl, sym, ap, _∙_}
 use mathlib.Core.List.{List, _∷_}
@@ -25,13 +25,16 @@ abbrev μ-loop : tie.MeasureT-loop
 
 loop-holds : tie.Need-loop-holds Inv-loop μ-loop
 loop-holds c =
-    let a = (c .before .before .args) in
+    let pre = c .before .before .pre in
+    let a = c .before .before .args in
     let bs : Bits = bits-behind (a .n) (a .cut) (key (a .s .now) (a .k .at) (a .k .len)) in
     let e = positions-first bs (a .base .0) in
-    (omega arith, refl, ap (λ (z : List ℕ). with-bits z (a .out .now)) e, rw e (c .before .before .pre .4))
+    (omega arith, refl, ap (λ (z : List ℕ). with-bits z (a .out .now)) e, rw e (pre .below))
 
 suffix-bit-requires : tie.Need-suffix-bit-requires Inv-loop μ-loop
-suffix-bit-requires c κs = (c .before .before .before .before .pre .0, c .before .before .before .before .pre .1, omega arith)
+suffix-bit-requires c κs =
+    let pre = c .before .before .before .before .pre in
+    (pre .within, pre .cut-within, omega arith)
 
 add-to : tie.Need-add-to Inv-loop μ-loop
 add-to c = search needs
@@ -41,10 +44,11 @@ add-i c = search needs
 
 set-bit-requires : tie.Need-set-bit-requires Inv-loop μ-loop
 set-bit-requires c κs =
-    let a = (c .before .before .before .before .before .before .before .before .args) in
-    let l = (c .before .before .before .before .before .loop) in
+    let suffix-bit = c .before .before .before .suffix-bit in
+    let a = c .before .before .before .before .before .before .before .before .args in
+    let l = c .before .before .before .before .before .loop in
     let bs : Bits = bits-behind (a .n) (a .cut) (key (a .s .now) (a .k .at) (a .k .len)) in
-    let e = positions-on bs (a .base .0) (l .i) true (omega (arith, length-behind (a .n) (a .cut) (key (a .s .now) (a .k .at) (a .k .len)))) (behind-at (a .n) (a .cut) (l .i) (key (a .s .now) (a .k .at) (a .k .len)) (omega arith) ∙ sym (c .before .before .before .suffix-bit .ensures) ∙ c .before .if1 .taken) in
+    let e = positions-on bs (a .base .0) (l .i) true (omega (arith, length-behind (a .n) (a .cut) (key (a .s .now) (a .k .at) (a .k .len)))) (behind-at (a .n) (a .cut) (l .i) (key (a .s .now) (a .k .at) (a .k .len)) (omega arith) ∙ sym (suffix-bit .ensures) ∙ c .before .if1 .taken) in
     let p : Positions-below (8 * length (a .out .now)) ((a .base .0 + l .i) ∷ positions (a .base .0 + (l .i + 1)) (drop (l .i + 1) bs)) = rw e at (l .inv .3) in
     omega (arith, p .0, l .inv .1)
 
@@ -53,14 +57,17 @@ loop-less c = search needs
 
 loop-again : tie.Need-loop-again Inv-loop μ-loop
 loop-again c =
-    let a = (c .before .before .before .before .before .before .before .before .before .before .before .args) in
-    let l = (c .before .before .before .before .before .before .before .before .loop) in
+    let suffix-bit = c .before .before .before .before .before .before .suffix-bit in
+    let if1 = c .before .before .before .before .if1 in
+    let set-bit = c .before .before .set-bit in
+    let a = c .before .before .before .before .before .before .before .before .before .before .before .args in
+    let l = c .before .before .before .before .before .before .before .before .loop in
     let bs : Bits = bits-behind (a .n) (a .cut) (key (a .s .now) (a .k .at) (a .k .len)) in
-    let e = positions-on bs (a .base .0) (l .i) true (omega (arith, length-behind (a .n) (a .cut) (key (a .s .now) (a .k .at) (a .k .len)))) (behind-at (a .n) (a .cut) (l .i) (key (a .s .now) (a .k .at) (a .k .len)) (omega arith) ∙ sym (c .before .before .before .before .before .before .suffix-bit .ensures) ∙ c .before .before .before .before .if1 .taken) in
+    let e = positions-on bs (a .base .0) (l .i) true (omega (arith, length-behind (a .n) (a .cut) (key (a .s .now) (a .k .at) (a .k .len)))) (behind-at (a .n) (a .cut) (l .i) (key (a .s .now) (a .k .at) (a .k .len)) (omega arith) ∙ sym (suffix-bit .ensures) ∙ if1 .taken) in
     let p : Positions-below (8 * length (a .out .now)) ((a .base .0 + l .i) ∷ positions (a .base .0 + (l .i + 1)) (drop (l .i + 1) bs)) = rw e at (l .inv .3) in (
       omega arith,
-      omega (arith, c .before .before .set-bit .kept .0, l .inv .1),
-      ap (with-bits (positions (a .base .0 + (l .i + 1)) (drop (l .i + 1) bs))) (c .before .before .set-bit .ensures) ∙ sym (with-cons (a .base .0 + l .i) (positions (a .base .0 + (l .i + 1)) (drop (l .i + 1) bs)) (l .out))
+      omega (arith, set-bit .kept .0, l .inv .1),
+      ap (with-bits (positions (a .base .0 + (l .i + 1)) (drop (l .i + 1) bs))) (set-bit .ensures) ∙ sym (with-cons (a .base .0 + l .i) (positions (a .base .0 + (l .i + 1)) (drop (l .i + 1) bs)) (l .out))
           ∙ ap (λ (z : List ℕ). with-bits z (l .out)) (sym e) ∙ l .inv .2,
       p .1,
     )
@@ -70,10 +77,11 @@ loop-less-2 c = search needs
 
 loop-again-2 : tie.Need-loop-again-2 Inv-loop μ-loop
 loop-again-2 c =
-    let a = (c .before .before .before .before .before .before .before .args) in
-    let l = (c .before .before .before .before .loop) in
+    let suffix-bit = c .before .before .suffix-bit in
+    let a = c .before .before .before .before .before .before .before .args in
+    let l = c .before .before .before .before .loop in
     let bs : Bits = bits-behind (a .n) (a .cut) (key (a .s .now) (a .k .at) (a .k .len)) in
-    let e = positions-on bs (a .base .0) (l .i) false (omega (arith, length-behind (a .n) (a .cut) (key (a .s .now) (a .k .at) (a .k .len)))) (behind-at (a .n) (a .cut) (l .i) (key (a .s .now) (a .k .at) (a .k .len)) (omega arith) ∙ sym (c .before .before .suffix-bit .ensures) ∙ c .if1 .left) in
+    let e = positions-on bs (a .base .0) (l .i) false (omega (arith, length-behind (a .n) (a .cut) (key (a .s .now) (a .k .at) (a .k .len)))) (behind-at (a .n) (a .cut) (l .i) (key (a .s .now) (a .k .at) (a .k .len)) (omega arith) ∙ sym (suffix-bit .ensures) ∙ c .if1 .left) in
     (omega arith, l .inv .1, ap (λ (z : List ℕ). with-bits z (l .out)) (sym e) ∙ l .inv .2, rw e at (l .inv .3))
 
 same-length : tie.Need-same-length Inv-loop μ-loop
@@ -81,8 +89,8 @@ same-length c = c .before .loop .inv .1
 
 returns : tie.Need-returns Inv-loop μ-loop
 returns c =
-    let a = (c .before .before .before .before .args) in
-    let l = (c .before .loop) in
+    let a = c .before .before .before .before .args in
+    let l = c .before .loop in
     let bs : Bits = bits-behind (a .n) (a .cut) (key (a .s .now) (a .k .at) (a .k .len)) in
     sym (with-none (l .out)) ∙ ap (λ (z : List ℕ). with-bits z (l .out)) (sym (positions-none bs (a .base .0) (l .i) (omega (arith, length-behind (a .n) (a .cut) (key (a .s .now) (a .k .at) (a .k .len)))))) ∙ l .inv .2
 

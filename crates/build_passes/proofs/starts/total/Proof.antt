@@ -1,12 +1,13 @@
 -- The sum so far is that of the levels passed.
 use Rattle.build_laws.specs.Cursors.{sums, sums-none}
-use Rattle.build_laws.specs.CountLaws.{sums-le}
+use Rattle.build_laws.specs.CounterSums.{sums-le}
 use mathlib.Core.Path.{_≡_, sym, ap, _∙_}
 use Prim.Native.Nat.{_+_, _-_, _≤_}
 use borrow.Author.Needs.{needs}
 use native.Mathlib.Omega.{arith}
 use Rattle.build_passes.proofs.starts.total.Statement.{statement}
 use Rattle.build_passes.proofs.starts.total.Tie as tie
+use Rattle.build_laws.specs.Limits.{counters}
 
 abbrev Inv-loop : tie.InvT-loop
 Inv-loop cnt lo hi sum₀ d₀ sum d = (d ≤ hi) × (sum ≡ sums cnt lo d)
@@ -22,8 +23,9 @@ count-from-requires c κs = search needs
 
 add-sum : tie.Need-add-sum Inv-loop μ-loop
 add-sum c =
-    let a = (c .before .before .before .args) in
-    omega (arith, c .count-from .ensures, c .before .before .loop .inv .1, sums-le (a .cnt .now) (a .lo) (c .before .before .loop .d + 1) 65 (omega arith))
+    let loop = c .before .before .loop in
+    let a = c .before .before .before .args in
+    omega (arith, c .count-from .ensures, loop .inv .1, sums-le (a .cnt .now) (a .lo) (loop .d + 1) counters (omega arith))
 
 add-d : tie.Need-add-d Inv-loop μ-loop
 add-d c = search needs
@@ -39,8 +41,10 @@ wide32-requires c κs = search needs
 
 returns : tie.Need-returns Inv-loop μ-loop
 returns c =
-    let e : c .before .before .loop .d ≡ c .before .before .before .args .hi = omega arith in
-    c .wide32 .ensures ∙ c .before .before .loop .inv .1 ∙ ap (sums (c .before .before .before .args .cnt .now) (c .before .before .before .args .lo)) e
+    let args = c .before .before .before .args in
+    let loop = c .before .before .loop in
+    let e : loop .d ≡ args .hi = omega arith in
+    c .wide32 .ensures ∙ loop .inv .1 ∙ ap (sums (args .cnt .now) (args .lo)) e
 
 pub total-spec : {M : Type 1} → statement M
 total-spec =

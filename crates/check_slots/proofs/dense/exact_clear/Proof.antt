@@ -1,63 +1,58 @@
 -- The slots lie within the image, and the slot is the one of the leaf.
-use Rattle.bits_laws.specs.Bits.{part}
-use Rattle.check_trie_laws.specs.Positions.{bits}
-use Rattle.check_slots_laws.specs.NodeSlots.{slot-clear}
-use mathlib.Core.Path.{ap₂, _∙_}
-use Prim.Native.Nat.{ℕ, _+_, _*_, _≤_}
+use mathlib.Core.Path.{_≡_, ap, _∙_}
+use Prim.Native.Nat.{ℕ, _≤_}
 use native.Mathlib.Omega.{arith}
 use mir.Val.{Fits}
 use mir.Syntax.{w64}
-use Rattle.spec.specs.Bytes.{blocks}
-use Rattle.check_slots_laws.specs.Judged.{few-bits, bodies-inside, by-end}
+use Rattle.spec.specs.Bytes.{Bytes}
+use Rattle.bits_laws.specs.PartLaws.{lent-part}
+use Rattle.image_types.specs.FrameOf.{within}
+use Rattle.check_trie_laws.specs.Bodies.{sv-body}
+use Rattle.check_slots_laws.specs.SlotTests.{clear-at, slots-sized}
 use borrow.Author.Needs.{needs}
 use Rattle.check_slots.proofs.dense.exact_clear.Statement.{statement}
 use Rattle.check_slots.proofs.dense.exact_clear.Tie as tie
 
-bits-fit : {n : ℕ} → n ≤ 1048560 → Fits w64 n × Fits w64 (n + 7)
-bits-fit h = (record { fits = omega arith }, record { fits = omega arith })
+bits-fit : {n : ℕ} → n ≤ 1048560 → Fits w64 n
+bits-fit h = record { fits = omega arith }
 
 dense-slot-requires : tie.Need-dense-slot-requires
 dense-slot-requires c κs = search needs
 
-mul-end : tie.Need-mul-end
-mul-end c = bits-fit (few-bits (c .before .before .before .args .image .now) (c .before .before .before .args .f) (c .before .before .before .pre .0 .frame)) .0
-
-add-end : tie.Need-add-end
-add-end c = bits-fit (few-bits (c .before .before .before .args .image .now) (c .before .before .before .args .f) (c .before .before .before .pre .0 .frame)) .1
-
-add-end-2 : tie.Need-add-end-2
-add-end-2 c = search needs
-
-sub-slot-clear : tie.Need-sub-slot-clear
-sub-slot-clear c = search needs
-
-part-slot-clear-start : tie.Need-part-slot-clear-start
-part-slot-clear-start c = search needs
-
-part-slot-clear-end : tie.Need-part-slot-clear-end
-part-slot-clear-end c =
+mul-bytes-for : tie.Need-mul-bytes-for
+mul-bytes-for c =
     let a = c .before .before .before .args in
-    bodies-inside (a .image .now) (a .f) (c .before .before .before .pre .0 .frame) .sv .0
+    bits-fit (within (a .image .now) (a .f) (c .before .before .before .pre .0 .frame) .slots)
+
+bytes-for-requires : tie.Need-bytes-for-requires
+bytes-for-requires c κs = search needs
+
+part-requires : tie.Need-part-requires
+part-requires c κs =
+    let a = c .before .before .before .before .args in
+    rw (c .bytes-for .ensures) (within (a .image .now) (a .f) (c .before .before .before .before .pre .0 .frame) .sv)
 
 slot-clear-requires : tie.Need-slot-clear-requires
-slot-clear-requires c κs = search needs
+slot-clear-requires c κs =
+    let a = c .before .before .before .before .before .args in
+    let s : Bytes = a .image .now in
+    let sv : c .part .result .now ≡ sv-body s (a .f) = lent-part s (a .f .sv) (c .part .ensures) (c .before .bytes-for .ensures) in
+    rw sv (slots-sized s (a .f) (c .before .before .before .before .before .pre .0 .frame))
 
 returns : tie.Need-returns
 returns c =
-    let a = c .before .before .before .before .before .args in
-    c .slot-clear .ensures
-    ∙ ap₂ (λ (k v : ℕ). slot-clear 0 (a .f .width) (bits (part (a .image .now) (a .f .sv) k) (a .f .leaves * a .f .width)) v) (by-end (a .f .sv) (blocks 8 (a .f .leaves * a .f .width))) (c .before .before .before .dense-slot .ensures)
+    let a = c .before .before .before .before .before .before .args in
+    let s : Bytes = a .image .now in
+    let sv : c .before .part .result .now ≡ sv-body s (a .f) = lent-part s (a .f .sv) (c .before .part .ensures) (c .before .before .bytes-for .ensures) in
+    (rw sv at (c .slot-clear .ensures)) ∙ ap (clear-at s (a .f) 0) (c .before .before .before .before .dense-slot .ensures)
 
 pub exact-clear-spec : {M : Type 1} → statement M
 exact-clear-spec =
     tie.close
     (tie.spec
     dense-slot-requires
-    mul-end
-    add-end
-    add-end-2
-    sub-slot-clear
-    part-slot-clear-start
-    part-slot-clear-end
+    mul-bytes-for
+    bytes-for-requires
+    part-requires
     slot-clear-requires
     returns)

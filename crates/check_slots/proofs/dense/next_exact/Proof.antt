@@ -1,58 +1,38 @@
--- D-IsPrefixKey lies within the image.
+-- D-IsPrefixKey lies within the image, and its next set bit is the next exact leaf.
 use mathlib.Core.Path.{_≡_}
-use Prim.Native.Nat.{ℕ, _+_, _*_, _≤_, _<_}
-use native.Mathlib.Omega.{arith}
-use lib.ListN.{length}
-use mir.Val.{Fits}
-use mir.Syntax.{w64}
-use Rattle.spec.specs.Bytes.{blocks}
-use Rattle.check_slots_laws.specs.Judged.{dp-body, bodies-sized, bodies-inside, by-end}
+use Rattle.spec.specs.Bytes.{Bytes}
+use Rattle.bits_laws.specs.PartLaws.{bits-room, lent-part}
+use Rattle.image_types.specs.FrameOf.{within}
+use Rattle.check_trie_laws.specs.Bodies.{dp-body, bodies-sized}
+use Rattle.check_slots_laws.specs.DenseSlots.{exact-select}
 use borrow.Author.Needs.{needs}
 use Rattle.check_slots.proofs.dense.next_exact.Statement.{statement}
 use Rattle.check_slots.proofs.dense.next_exact.Tie as tie
 
-near-fits : {n : ℕ} → n < 4294967296 → Fits w64 (n + 7)
-near-fits h = record { fits = omega arith }
+bytes-for-requires : tie.Need-bytes-for-requires
+bytes-for-requires c κs = search needs
 
-room : (n l : ℕ) → l ≡ blocks 8 n → n ≤ 8 * l
-room n l h = omega arith
-
-add-end : tie.Need-add-end
-add-end c = near-fits (c .before .before .pre .0 .frame .dense)
-
-add-end-2 : tie.Need-add-end-2
-add-end-2 c = search needs
-
-sub-next-set : tie.Need-sub-next-set
-sub-next-set c = search needs
-
-part-next-set-start : tie.Need-part-next-set-start
-part-next-set-start c = search needs
-
-part-next-set-end : tie.Need-part-next-set-end
-part-next-set-end c =
+part-requires : tie.Need-part-requires
+part-requires c κs =
     let a = c .before .before .args in
-    bodies-inside (a .image .now) (a .f) (c .before .before .pre .0 .frame) .dp .0
+    rw (c .bytes-for .ensures) (within (a .image .now) (a .f) (c .before .before .pre .0 .frame) .dp)
 
-next-set-requires : tie.Need-next-set-requires
-next-set-requires c κs =
+next-one-requires : tie.Need-next-one-requires
+next-one-requires c κs =
     let a = c .before .before .before .args in
     let p = c .before .before .before .pre in
-    rw (by-end (a .f .dp) (blocks 8 (a .f .dense .nodes))) (room (a .f .dense .nodes) (length (dp-body (a .image .now) (a .f))) (bodies-sized (a .image .now) (a .f) (p .0 .frame) .dp), p .0 .frame .dense, p .1)
+    let s : Bytes = a .image .now in
+    let dp : c .part .result .now ≡ dp-body s (a .f) = lent-part s (a .f .dp) (c .part .ensures) (c .before .bytes-for .ensures) in
+    rw dp (bits-room (a .f .dense .nodes) (dp-body s (a .f)) (bodies-sized s (a .f) (p .0 .frame) .dp), p .1)
 
 returns : tie.Need-returns
 returns c =
     let a = c .before .before .before .before .args in
-    rw (by-end (a .f .dp) (blocks 8 (a .f .dense .nodes))) at (c .next-set .ensures)
+    let p = c .before .before .before .before .pre in
+    let s : Bytes = a .image .now in
+    let dp : c .before .part .result .now ≡ dp-body s (a .f) = lent-part s (a .f .dp) (c .before .part .ensures) (c .before .before .bytes-for .ensures) in
+    let e = rw dp at (c .next-one .ensures) in
+    exact-select (dp-body s (a .f)) (a .f .dense .nodes) (a .from .0) _ (p .1) (e .0) (e .1) (e .2)
 
 pub next-exact-spec : {M : Type 1} → statement M
-next-exact-spec =
-    tie.close
-    (tie.spec
-    add-end
-    add-end-2
-    sub-next-set
-    part-next-set-start
-    part-next-set-end
-    next-set-requires
-    returns)
+next-exact-spec = tie.close (tie.spec bytes-for-requires part-requires next-one-requires returns)

@@ -3,7 +3,7 @@ use mathlib.Core.Path.{sym, ap, _∙_}
 use Prim.Native.Nat.{ℕ, _%_}
 use native.Mathlib.Omega.{arith}
 use lib.ListN.{List·getD-eq-default}
-use Rattle.check_slots_laws.specs.Words.{bit-low}
+use Rattle.check_slots_laws.specs.WordDigits.{bit-low}
 use borrow.Author.Needs.{needs}
 use Rattle.check_slots.proofs.sparse.low_bit.Statement.{statement}
 use Rattle.check_slots.proofs.sparse.low_bit.Tie as tie

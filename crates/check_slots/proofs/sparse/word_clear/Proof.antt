@@ -5,27 +5,31 @@ use mathlib.Core.Path.{_≡_, sym, ap, _∙_}
 use Prim.Native.Nat.{ℕ, _+_, _*_, _-_, _/_, _≤_, _<_}
 use native.Mathlib.Omega.{arith}
 use lib.ListN.{length}
-use mathlib.Core.Bool.{true, true≢false}
+use mathlib.Core.Bool.{Bool, true, true≢false}
 use Prim.Native.Nat.{_^_}
 use lib.Count.{trailingZeros}
-use Rattle.check_slots_laws.specs.Ranges.{all-from}
-use Rattle.check_slots_laws.specs.SparseExact.{sparse-exact}
-use Rattle.check_slots_laws.specs.SparseWords.{Starts, starts-end, start-within, start-last, start-fail, start-pass, start-rest}
-use Rattle.check_slots.specs.Sizes.{clear-slot}
+use Rattle.check_trie_laws.specs.Ranges.{all-from}
+use Rattle.check_slots_laws.specs.SparseWords.{Several-starts, starts-end, start-within, start-last, start-fail, start-pass, start-rest}
+use Rattle.check_slots.specs.Entries.{clear-slot, exact-test}
+use Rattle.check_slots.specs.declared.sparse.SparseSlots.{SparseSlots}
 use borrow.Author.Tests.{not-true, not-false}
 use mir.Val.{Fits}
 use mir.Syntax.{w64}
 use Rattle.check_slots.proofs.sparse.word_clear.Statement.{statement}
 use Rattle.check_slots.proofs.sparse.word_clear.Tie as tie
 
+-- the entries from one on
+abbrev left : Bytes → Bytes → Bytes → Bytes → SparseSlots → ℕ → Bool
+left sl sc sb sv z i = all-from (exact-test sl sc sb sv z) i (z .entries - i)
+
 abbrev Inv-loop : tie.InvT-loop
-Inv-loop sl sc sb sv z q before rest₀ j₀ rest j = Starts sb q rest₀ × (j ≤ 64) × (rest ≡ rest₀ / 2 ^ j) × (all-from (sparse-exact (clear-slot sv z) sl sc sb (z .entries) (z .dense)) (64 * q) (z .entries - 64 * q) ≡ all-from (sparse-exact (clear-slot sv z) sl sc sb (z .entries) (z .dense)) (64 * q + j) (z .entries - (64 * q + j)))
+Inv-loop sl sc sb sv z word rest₀ j₀ rest j = Several-starts sb (word .number) rest₀ × (j ≤ 64) × (rest ≡ rest₀ / 2 ^ j) × (left sl sc sb sv z (64 * word .number) ≡ left sl sc sb sv z (64 * word .number + j))
 
 abbrev μ-loop : tie.MeasureT-loop
-μ-loop sl sc sb sv z q before rest₀ j₀ rest j = 64 - j
+μ-loop sl sc sb sv z word rest₀ j₀ rest j = 64 - j
 
 -- the next start is in the word
-within : (sb : Bytes) (q x j y : ℕ) → Starts sb q x → j ≤ 64 → y ≡ x / 2 ^ j → (y ≡ 0 → ⊥) → j + trailingZeros 64 y < 64
+within : (sb : Bytes) (q x j y : ℕ) → Several-starts sb q x → j ≤ 64 → y ≡ x / 2 ^ j → (y ≡ 0 → ⊥) → j + trailingZeros 64 y < 64
 within sb q x j y s le is some = start-within (λ v. true) [] [] sb 0 0 q x s j y le is some
 
 starts-room : (q n l : ℕ) → 64 * q < n → n ≤ 8 * l → q * 8 < l
@@ -56,21 +60,21 @@ several-requires : tie.Need-several-requires Inv-loop μ-loop
 several-requires c κs =
     let a = c .before .before .before .before .args in
     let p = c .before .before .before .before .pre in
-    starts-room (a .q) (a .z .entries) (length (a .sb .now)) (p .3) (p .1)
+    starts-room (a .word .number) (a .z .entries) (length (a .sb .now)) (p .2 .some) (p .1)
 
 loop-holds : tie.Need-loop-holds Inv-loop μ-loop
 loop-holds c =
     let a = c .before .before .before .before .before .args in
-    let e : 64 * a .q ≡ 64 * a .q + 0 = omega arith in
+    let e : 64 * a .word .number ≡ 64 * a .word .number + 0 = omega arith in
     let d : c .several .result / 1 ≡ c .several .result = omega arith in
-    (c .several .ensures, omega arith, sym d, ap (λ (k : ℕ). all-from (sparse-exact (clear-slot (a .sv .now) (a .z)) (a .sl .now) (a .sc .now) (a .sb .now) (a .z .entries) (a .z .dense)) k (a .z .entries - k)) e)
+    (c .several .ensures, omega arith, sym d, ap (left (a .sl .now) (a .sc .now) (a .sb .now) (a .sv .now) (a .z)) e)
 
 cast-step : tie.Need-cast-step Inv-loop μ-loop
 cast-step c =
     let a = c .before .before .before .before .before .before .before .args in
     let l = c .before .loop in
     let some = c .loop-test .taken in
-    let w = within (a .sb .now) (a .q) (c .before .before .several .result) (l .j) (l .rest) (l .inv .0) (l .inv .1) (l .inv .2) some in
+    let w = within (a .sb .now) (a .word .number) (c .before .before .several .result) (l .j) (l .rest) (l .inv .0) (l .inv .1) (l .inv .2) some in
     fits-few (l .j) w .0
 
 add-at : tie.Need-add-at Inv-loop μ-loop
@@ -78,96 +82,97 @@ add-at c =
     let a = c .before .before .before .before .before .before .before .args in
     let l = c .before .loop in
     let some = c .loop-test .taken in
-    let w = within (a .sb .now) (a .q) (c .before .before .several .result) (l .j) (l .rest) (l .inv .0) (l .inv .1) (l .inv .2) some in
+    let w = within (a .sb .now) (a .word .number) (c .before .before .several .result) (l .j) (l .rest) (l .inv .0) (l .inv .1) (l .inv .2) some in
     fits-few (l .j) w .1
 
 mul-if1 : tie.Need-mul-if1 Inv-loop μ-loop
 mul-if1 c =
-    let a = c .before .before .before .before .before .before .before .args in
-    let p = c .before .before .before .before .before .before .before .pre in
-    let l = c .before .loop in
-    let some = c .loop-test .taken in
-    let w = within (a .sb .now) (a .q) (c .before .before .several .result) (l .j) (l .rest) (l .inv .0) (l .inv .1) (l .inv .2) some in
-    fits-entry (a .q) (a .z .entries) (p .3) (p .0 .entries) w .0
+    let a = c .before .before .before .before .before .before .before .before .args in
+    let p = c .before .before .before .before .before .before .before .before .pre in
+    let l = c .before .before .loop in
+    let some = c .before .loop-test .taken in
+    let w = within (a .sb .now) (a .word .number) (c .before .before .before .several .result) (l .j) (l .rest) (l .inv .0) (l .inv .1) (l .inv .2) some in
+    fits-entry (a .word .number) (a .z .entries) (p .2 .some) (p .0 .few-entries) w .0
 
 add-if1 : tie.Need-add-if1 Inv-loop μ-loop
 add-if1 c =
-    let a = c .before .before .before .before .before .before .before .args in
-    let p = c .before .before .before .before .before .before .before .pre in
-    let l = c .before .loop in
-    let some = c .loop-test .taken in
-    let w = within (a .sb .now) (a .q) (c .before .before .several .result) (l .j) (l .rest) (l .inv .0) (l .inv .1) (l .inv .2) some in
-    fits-entry (a .q) (a .z .entries) (p .3) (p .0 .entries) w .1
+    let a = c .before .before .before .before .before .before .before .before .args in
+    let p = c .before .before .before .before .before .before .before .before .pre in
+    let l = c .before .before .loop in
+    let some = c .before .loop-test .taken in
+    let w = within (a .sb .now) (a .word .number) (c .before .before .before .several .result) (l .j) (l .rest) (l .inv .0) (l .inv .1) (l .inv .2) some in
+    fits-entry (a .word .number) (a .z .entries) (p .2 .some) (p .0 .few-entries) w .1
 
 add-if1-2 : tie.Need-add-if1-2 Inv-loop μ-loop
 add-if1-2 c =
-    let a = c .before .before .before .before .before .before .before .args in
-    let p = c .before .before .before .before .before .before .before .pre in
-    let l = c .before .loop in
-    let some = c .loop-test .taken in
-    let w = within (a .sb .now) (a .q) (c .before .before .several .result) (l .j) (l .rest) (l .inv .0) (l .inv .1) (l .inv .2) some in
-    fits-entry (a .q) (a .z .entries) (p .3) (p .0 .entries) w .2
+    let a = c .before .before .before .before .before .before .before .before .args in
+    let p = c .before .before .before .before .before .before .before .before .pre in
+    let l = c .before .before .loop in
+    let some = c .before .loop-test .taken in
+    let w = within (a .sb .now) (a .word .number) (c .before .before .before .several .result) (l .j) (l .rest) (l .inv .0) (l .inv .1) (l .inv .2) some in
+    fits-entry (a .word .number) (a .z .entries) (p .2 .some) (p .0 .few-entries) w .2
 
 returns : tie.Need-returns Inv-loop μ-loop
 returns c =
-    let a = c .before .before .before .before .before .before .before .before .before .args in
-    let l = c .before .before .before .loop in
-    let some = c .before .before .loop-test .taken in
-    record { passed = λ t. l .inv .3 ∙ start-last (clear-slot (a .sv .now) (a .z)) (a .sl .now) (a .sc .now) (a .sb .now) (a .z .entries) (a .z .dense) (a .q) (c .before .before .before .before .several .result) (l .inv .0) (l .j) (l .rest) (l .inv .1) (l .inv .2) some (c .if1 .taken); failed = λ t. absurd (true≢false t) }
+    let a = c .before .before .before .before .before .before .before .before .before .before .args in
+    let l = c .before .before .before .before .loop in
+    let some = c .before .before .before .loop-test .taken in
+    record { passed = λ t. l .inv .3 ∙ start-last (clear-slot (a .sv .now) (a .z)) (a .sl .now) (a .sc .now) (a .sb .now) (a .z .entries) (a .z .first .0) (a .word .number) (c .before .before .before .before .before .several .result) (l .inv .0) (l .j) (l .rest) (l .inv .1) (l .inv .2) some (c .if1 .taken); failed = λ t. absurd (true≢false t) }
 
 entry-clear-requires : tie.Need-entry-clear-requires Inv-loop μ-loop
 entry-clear-requires c κs =
-    let a = c .before .before .before .before .before .before .before .before .before .args in
-    let p = c .before .before .before .before .before .before .before .before .before .pre in
-    let l = c .before .before .before .loop in
-    let some = c .before .before .loop-test .taken in
-    let w = within (a .sb .now) (a .q) (c .before .before .before .before .several .result) (l .j) (l .rest) (l .inv .0) (l .inv .1) (l .inv .2) some in
-    (p .0, p .2, w, entry-below (c .if1 .left))
+    let a = c .before .before .before .before .before .before .before .before .before .before .args in
+    let p = c .before .before .before .before .before .before .before .before .before .before .pre in
+    let l = c .before .before .before .before .loop in
+    let some = c .before .before .before .loop-test .taken in
+    let w = within (a .sb .now) (a .word .number) (c .before .before .before .before .before .several .result) (l .j) (l .rest) (l .inv .0) (l .inv .1) (l .inv .2) some in
+    (p .0, record { word = p .2; inside = w; some = entry-below (c .if1 .left) })
 
 returns-2 : tie.Need-returns-2 Inv-loop μ-loop
 returns-2 c =
-    let a = c .before .before .before .before .before .before .before .before .before .before .before .args in
-    let l = c .before .before .before .before .before .loop in
-    let some = c .before .before .before .before .loop-test .taken in
-    record { passed = λ t. absurd (true≢false (sym t)); failed = λ t. l .inv .3 ∙ start-fail (clear-slot (a .sv .now) (a .z)) (a .sl .now) (a .sc .now) (a .sb .now) (a .z .entries) (a .z .dense) (a .q) (c .before .before .before .before .before .before .several .result) (l .inv .0) (l .j) (l .rest) (l .inv .1) (l .inv .2) some (c .before .before .if1 .left) (sym (c .before .entry-clear .ensures) ∙ not-true _ (c .if2 .taken)) }
+    let a = c .before .before .before .before .before .before .before .before .before .before .before .before .args in
+    let l = c .before .before .before .before .before .before .loop in
+    let some = c .before .before .before .before .before .loop-test .taken in
+    record { passed = λ t. absurd (true≢false (sym t)); failed = λ t. l .inv .3 ∙ start-fail (clear-slot (a .sv .now) (a .z)) (a .sl .now) (a .sc .now) (a .sb .now) (a .z .entries) (a .z .first .0) (a .word .number) (c .before .before .before .before .before .before .before .several .result) (l .inv .0) (l .j) (l .rest) (l .inv .1) (l .inv .2) some (c .before .before .if1 .left) (sym (c .before .entry-clear .ensures) ∙ not-true _ (c .if2 .taken)) }
 
 shr-rest : tie.Need-shr-rest Inv-loop μ-loop
 shr-rest c =
-    let a = c .before .before .before .before .before .before .before .before .before .before .before .args in
-    let l = c .before .before .before .before .before .loop in
-    let some = c .before .before .before .before .loop-test .taken in
-    let w = within (a .sb .now) (a .q) (c .before .before .before .before .before .before .several .result) (l .j) (l .rest) (l .inv .0) (l .inv .1) (l .inv .2) some in
+    let a = c .before .before .before .before .before .before .before .before .before .before .before .before .args in
+    let l = c .before .before .before .before .before .before .loop in
+    let some = c .before .before .before .before .before .loop-test .taken in
+    let w = within (a .sb .now) (a .word .number) (c .before .before .before .before .before .before .before .several .result) (l .j) (l .rest) (l .inv .0) (l .inv .1) (l .inv .2) some in
     step-below (l .j) (trailingZeros 64 (l .rest)) w
 
 add-j : tie.Need-add-j Inv-loop μ-loop
 add-j c =
-    let a = c .before .before .before .before .before .before .before .before .before .before .before .args in
-    let l = c .before .before .before .before .before .loop in
-    let some = c .before .before .before .before .loop-test .taken in
-    let w = within (a .sb .now) (a .q) (c .before .before .before .before .before .before .several .result) (l .j) (l .rest) (l .inv .0) (l .inv .1) (l .inv .2) some in
+    let a = c .before .before .before .before .before .before .before .before .before .before .before .before .args in
+    let l = c .before .before .before .before .before .before .loop in
+    let some = c .before .before .before .before .before .loop-test .taken in
+    let w = within (a .sb .now) (a .word .number) (c .before .before .before .before .before .before .before .several .result) (l .j) (l .rest) (l .inv .0) (l .inv .1) (l .inv .2) some in
     fits-next (l .j) (trailingZeros 64 (l .rest)) w
 
 loop-less : tie.Need-loop-less Inv-loop μ-loop
 loop-less c =
-    let a = c .before .before .before .before .before .before .before .before .before .before .before .args in
-    let l = c .before .before .before .before .before .loop in
-    let some = c .before .before .before .before .loop-test .taken in
-    let w = within (a .sb .now) (a .q) (c .before .before .before .before .before .before .several .result) (l .j) (l .rest) (l .inv .0) (l .inv .1) (l .inv .2) some in
+    let a = c .before .before .before .before .before .before .before .before .before .before .before .before .args in
+    let l = c .before .before .before .before .before .before .loop in
+    let some = c .before .before .before .before .before .loop-test .taken in
+    let w = within (a .sb .now) (a .word .number) (c .before .before .before .before .before .before .before .several .result) (l .j) (l .rest) (l .inv .0) (l .inv .1) (l .inv .2) some in
     closer (l .j) (trailingZeros 64 (l .rest)) w
 
 loop-again : tie.Need-loop-again Inv-loop μ-loop
 loop-again c =
-    let a = c .before .before .before .before .before .before .before .before .before .before .before .args in
-    let l = c .before .before .before .before .before .loop in
-    let some = c .before .before .before .before .loop-test .taken in
-    let w = within (a .sb .now) (a .q) (c .before .before .before .before .before .before .several .result) (l .j) (l .rest) (l .inv .0) (l .inv .1) (l .inv .2) some in
-    (l .inv .0, below-end (l .j) (trailingZeros 64 (l .rest)) w, start-rest (clear-slot (a .sv .now) (a .z)) (a .sl .now) (a .sc .now) (a .sb .now) (a .z .entries) (a .z .dense) (a .q) (c .before .before .before .before .before .before .several .result) (l .inv .0) (l .j) (l .rest) (l .inv .1) (l .inv .2) some, l .inv .3 ∙ start-pass (clear-slot (a .sv .now) (a .z)) (a .sl .now) (a .sc .now) (a .sb .now) (a .z .entries) (a .z .dense) (a .q) (c .before .before .before .before .before .before .several .result) (l .inv .0) (l .j) (l .rest) (l .inv .1) (l .inv .2) some (c .before .before .if1 .left) (sym (c .before .entry-clear .ensures) ∙ not-false _ (c .if2 .left)))
+    let several = c .before .before .before .before .before .before .before .several in
+    let a = c .before .before .before .before .before .before .before .before .before .before .before .before .args in
+    let l = c .before .before .before .before .before .before .loop in
+    let some = c .before .before .before .before .before .loop-test .taken in
+    let w = within (a .sb .now) (a .word .number) (several .result) (l .j) (l .rest) (l .inv .0) (l .inv .1) (l .inv .2) some in
+    (l .inv .0, below-end (l .j) (trailingZeros 64 (l .rest)) w, start-rest (clear-slot (a .sv .now) (a .z)) (a .sl .now) (a .sc .now) (a .sb .now) (a .z .entries) (a .z .first .0) (a .word .number) (several .result) (l .inv .0) (l .j) (l .rest) (l .inv .1) (l .inv .2) some, l .inv .3 ∙ start-pass (clear-slot (a .sv .now) (a .z)) (a .sl .now) (a .sc .now) (a .sb .now) (a .z .entries) (a .z .first .0) (a .word .number) (several .result) (l .inv .0) (l .j) (l .rest) (l .inv .1) (l .inv .2) some (c .before .before .if1 .left) (sym (c .before .entry-clear .ensures) ∙ not-false _ (c .if2 .left)))
 
 returns-3 : tie.Need-returns-3 Inv-loop μ-loop
 returns-3 c =
     let a = c .before .before .before .before .before .before .before .args in
     let l = c .before .loop in
-    record { passed = λ t. l .inv .3 ∙ starts-end (clear-slot (a .sv .now) (a .z)) (a .sl .now) (a .sc .now) (a .sb .now) (a .z .entries) (a .z .dense) (a .q) (c .before .before .several .result) (l .inv .0) (l .j) (l .rest) (l .inv .1) (l .inv .2) (c .loop-test .left); failed = λ t. absurd (true≢false t) }
+    record { passed = λ t. l .inv .3 ∙ starts-end (clear-slot (a .sv .now) (a .z)) (a .sl .now) (a .sc .now) (a .sb .now) (a .z .entries) (a .z .first .0) (a .word .number) (c .before .before .several .result) (l .inv .0) (l .j) (l .rest) (l .inv .1) (l .inv .2) (c .loop-test .left); failed = λ t. absurd (true≢false t) }
 
 pub word-clear-spec : {M : Type 1} → statement M
 word-clear-spec =

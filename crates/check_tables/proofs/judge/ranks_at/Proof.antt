@@ -1,94 +1,69 @@
 -- The body and the table lie within the image, so the comparison of the two parts is that of document 01.
-use Prim.Native.Nat.{ℕ, _*_}
-use mathlib.Core.Path.{ap₂, _∙_}
-use Rattle.spec.specs.Bytes.{Bytes, blocks, equal}
-use Rattle.bits_laws.specs.Bits.{rank}
+use Prim.Native.Nat.{ℕ, _+_, _*_, _≤_, _<_}
+use mathlib.Core.Path.{_≡_, _∙_}
+use native.Mathlib.Omega.{arith}
+use mir.Val.{Fits}
+use mir.Syntax.{w64}
+use Rattle.spec.specs.Bytes.{Bytes, blocks}
 use Rattle.bits_laws.specs.Bits.{part}
-use Rattle.rank_tables_laws.specs.Entries.{entries}
-use Rattle.check_tables.specs.Parts.{by-end, ranked-parts, ranked-is}
+use Rattle.bits_laws.specs.PartLaws.{lent-part}
+use Rattle.check_tables_laws.specs.Tables.{ranked-parts, ranked-is}
 use borrow.Author.Needs.{needs}
 use Rattle.check_tables.proofs.judge.ranks_at.Statement.{statement}
 use Rattle.check_tables.proofs.judge.ranks_at.Tie as tie
 
-mul-entries : tie.Need-mul-entries
-mul-entries c = search needs
+-- a block of one to eight words has at most 512 bits
+block : {w : ℕ} → 0 < w → w ≤ 8 → Fits w64 (64 * w) × (0 < 64 * w) × (64 * w ≤ 512)
+block h l = (record { fits = omega arith }, omega arith, omega arith)
 
-sub-entries : tie.Need-sub-entries
-sub-entries c = search needs
+short : {n : ℕ} → n < 1099511627776 → n < 9223372036854775808
+short h = omega arith
 
-add-entries : tie.Need-add-entries
-add-entries c = search needs
+inside : {b l : ℕ} (a : ℕ) → a + b ≤ l → l < 18446744073709551616 → Fits w64 b
+inside a h l = record { fits = omega arith }
 
-mul-entries-2 : tie.Need-mul-entries-2
-mul-entries-2 c = search needs
+mul-blocks-for : tie.Need-mul-blocks-for
+mul-blocks-for c = block (c .before .pre .some) (c .before .pre .few) .0
 
-div-entries : tie.Need-div-entries
-div-entries c = search needs
+blocks-for-requires : tie.Need-blocks-for-requires
+blocks-for-requires c κs = let b = block (c .before .pre .some) (c .before .pre .few) in (b .1, b .2, short (c .before .pre .short))
 
-add-end : tie.Need-add-end
-add-end c = search needs
+bytes-for-requires : tie.Need-bytes-for-requires
+bytes-for-requires c κs = search needs
 
-add-end-2 : tie.Need-add-end-2
-add-end-2 c = search needs
+part-requires : tie.Need-part-requires
+part-requires c κs = rw (c .bytes-for .ensures) (c .before .before .before .pre .body)
 
-mul-table-end : tie.Need-mul-table-end
-mul-table-end c = search needs
+mul-part : tie.Need-mul-part
+mul-part c = rw (c .before .before .blocks-for .ensures) (inside (c .before .before .before .before .args .table) (c .before .before .before .before .pre .ranks) (c .before .before .before .before .good .0 .0))
 
-add-table-end : tie.Need-add-table-end
-add-table-end c = search needs
-
-sub-ranks-valid : tie.Need-sub-ranks-valid
-sub-ranks-valid c = search needs
-
-part-ranks-valid-start : tie.Need-part-ranks-valid-start
-part-ranks-valid-start c = search needs
-
-part-ranks-valid-end : tie.Need-part-ranks-valid-end
-part-ranks-valid-end c = search needs
-
-sub-ranks-valid-2 : tie.Need-sub-ranks-valid-2
-sub-ranks-valid-2 c = search needs
-
-part-ranks-valid-start-2 : tie.Need-part-ranks-valid-start-2
-part-ranks-valid-start-2 c = search needs
-
-part-ranks-valid-end-2 : tie.Need-part-ranks-valid-end-2
-part-ranks-valid-end-2 c = search needs
+part-requires-2 : tie.Need-part-requires-2
+part-requires-2 c κs = rw (c .before .before .blocks-for .ensures) (c .before .before .before .before .pre .ranks)
 
 ranks-valid-requires : tie.Need-ranks-valid-requires
 ranks-valid-requires c κs =
-    let a = c .before .before .before .args in
-    let p = c .before .before .before .pre in
+    let a = c .before .before .before .before .before .args in
     let s : Bytes = a .image .now in
-    rw (by-end (a .at) (blocks 8 (a .n)), by-end (a .table) (4 * blocks (64 * a .words) (a .n))) (ranked-parts s (a .at) (a .n) (a .table) (a .words) (p .0) (p .3) (p .1) (p .2) (p .4))
+    let body : c .before .part .result .now ≡ part s (a .at) (blocks 8 (a .n)) = lent-part s (a .at) (c .before .part .ensures) (c .before .before .bytes-for .ensures) in
+    rw (body, c .part2 .ensures, c .before .before .before .blocks-for .ensures) (ranked-parts s (a .at) (a .n) (a .table) (a .words) (c .before .before .before .before .before .pre))
 
 returns : tie.Need-returns
 returns c =
-    let a = c .before .before .before .before .args in
-    let p = c .before .before .before .before .pre in
+    let part-call = c .before .before .part in
+    let a = c .before .before .before .before .before .before .args in
     let s : Bytes = a .image .now in
-    c .ranks-valid .ensures
-    ∙ ap₂ (λ (k m : ℕ). equal (part s (a .table) m) (entries (λ b. rank (part s (a .at) k) (64 * a .words * b)) (blocks (64 * a .words) (a .n)))) (by-end (a .at) (blocks 8 (a .n))) (by-end (a .table) (4 * blocks (64 * a .words) (a .n)))
-    ∙ ranked-is s (a .at) (a .n) (a .table) (a .words) (p .0) (p .3)
+    let body : part-call .result .now ≡ part s (a .at) (blocks 8 (a .n)) = lent-part s (a .at) (part-call .ensures) (c .before .before .before .bytes-for .ensures) in
+    (rw (body, c .before .part2 .ensures, c .before .before .before .before .blocks-for .ensures) at (c .ranks-valid .ensures)) ∙ ranked-is s (a .at) (a .n) (a .table) (a .words) (c .before .before .before .before .before .before .pre)
 
 pub ranks-at-spec : {M : Type 1} → statement M
 ranks-at-spec =
     tie.close
     (tie.spec
-    mul-entries
-    sub-entries
-    add-entries
-    mul-entries-2
-    div-entries
-    add-end
-    add-end-2
-    mul-table-end
-    add-table-end
-    sub-ranks-valid
-    part-ranks-valid-start
-    part-ranks-valid-end
-    sub-ranks-valid-2
-    part-ranks-valid-start-2
-    part-ranks-valid-end-2
+    mul-blocks-for
+    blocks-for-requires
+    bytes-for-requires
+    part-requires
+    mul-part
+    part-requires-2
     ranks-valid-requires
     returns)

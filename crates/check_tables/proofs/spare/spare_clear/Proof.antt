@@ -5,24 +5,25 @@ use mir.Syntax.{w64}
 use mathlib.Core.Path.{sym, ap₂, _∙_}
 use mathlib.Core.Bool.{_&&_}
 use native.Mathlib.Omega.{arith}
-use Rattle.check_tables.specs.Parts.{frame-within, few-slots, spare-is}
+use Rattle.image_types.specs.FrameOf.{within}
+use Rattle.check_tables_laws.specs.Tables.{spare-is}
 use Rattle.check_tables.proofs.spare.spare_clear.Statement.{statement}
 use Rattle.check_tables.proofs.spare.spare_clear.Tie as tie
 
 no-spare-requires : tie.Need-no-spare-requires
-no-spare-requires c κs = let a = c .before .args in frame-within (a .image .now) (a .f) (c .before .pre) .dp
+no-spare-requires c κs = let a = c .before .args in within (a .image .now) (a .f) (c .before .pre) .dp
 
 no-spare-requires-2 : tie.Need-no-spare-requires-2
-no-spare-requires-2 c κs = let a = c .before .before .args in frame-within (a .image .now) (a .f) (c .before .before .pre) .sc
+no-spare-requires-2 c κs = let a = c .before .before .args in within (a .image .now) (a .f) (c .before .before .pre) .sc
 
 no-spare-requires-3 : tie.Need-no-spare-requires-3
-no-spare-requires-3 c κs = let a = c .before .before .before .args in frame-within (a .image .now) (a .f) (c .before .before .before .pre) .sb
+no-spare-requires-3 c κs = let a = c .before .before .before .args in within (a .image .now) (a .f) (c .before .before .before .pre) .sb
 
 mul-no-spare : tie.Need-mul-no-spare
 mul-no-spare c =
     let a = c .before .before .before .before .before .args in
     let h = c .before .before .before .before .before .pre in
-    fits (few-slots (a .f .leaves) (a .f .width) (h .leaves) (h .width))
+    fits (within (a .image .now) (a .f) h .slots)
   where
     fits : {n : _} → n ≤ 1048560 → Fits w64 n
     fits l = record { fits = omega arith }
@@ -30,7 +31,7 @@ mul-no-spare c =
 no-spare-requires-4 : tie.Need-no-spare-requires-4
 no-spare-requires-4 c κs =
     let a = c .before .before .before .before .before .args in
-    frame-within (a .image .now) (a .f) (c .before .before .before .before .before .pre) .sv
+    within (a .image .now) (a .f) (c .before .before .before .before .before .pre) .sv
 
 returns : tie.Need-returns
 returns c =

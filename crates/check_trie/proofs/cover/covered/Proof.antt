@@ -1,3 +1,4 @@
+-- The loop: the words before q are covered.
 use mathlib.Core.Path.{sym, ap₂, _∙_}
 use Prim.Native.Nat.{_*_, _-_, _≤_}
 use native.Mathlib.Omega.{arith}
@@ -15,27 +16,21 @@ Inv-loop xs ys w q₀ q = (q ≤ w) × Covers xs ys (64 * q)
 abbrev μ-loop : tie.MeasureT-loop
 μ-loop xs ys w q₀ q = w - q
 
--- src/cover.rt:15:5
 loop-holds : tie.Need-loop-holds Inv-loop μ-loop
 loop-holds c = (omega arith, λ i h. absurd (omega arith))
 
--- src/cover.rt:16:28
 mul-read64 : tie.Need-mul-read64 Inv-loop μ-loop
 mul-read64 c = search needs
 
--- src/cover.rt:16:13
 read64-requires : tie.Need-read64-requires Inv-loop μ-loop
 read64-requires c κs = search needs
 
--- src/cover.rt:17:28
 mul-read64-2 : tie.Need-mul-read64-2 Inv-loop μ-loop
 mul-read64-2 c = search needs
 
--- src/cover.rt:17:13
 read64-requires-2 : tie.Need-read64-requires-2 Inv-loop μ-loop
 read64-requires-2 c κs = search needs
 
--- src/cover.rt:19:13
 returns : tie.Need-returns Inv-loop μ-loop
 returns c =
     let a = c .before .before .before .before .before .before .before .args in
@@ -46,15 +41,12 @@ returns c =
     let e₂ = c .before .read642 .ensures in
     sym (covered-false (a .xs .now) (a .ys .now) (64 * a .w) (covers-not (a .xs .now) (a .ys .now) small₁ small₂ (l .q) (a .w) (omega arith) (λ z. c .if1 .taken (ap₂ bitAnd e₁ e₂ ∙ z ∙ sym e₁))))
 
--- src/cover.rt:21:13
 add-q : tie.Need-add-q Inv-loop μ-loop
 add-q c = search needs
 
--- src/cover.rt:15:5
 loop-less : tie.Need-loop-less Inv-loop μ-loop
 loop-less c = search needs
 
--- src/cover.rt:15:5
 loop-again : tie.Need-loop-again Inv-loop μ-loop
 loop-again c =
     let a = c .before .before .before .before .before .before .before .args in
@@ -65,7 +57,6 @@ loop-again c =
     let e₂ = c .before .read642 .ensures in
     (omega arith, covers-more (a .xs .now) (a .ys .now) small₁ small₂ (l .q) (l .inv .1) (ap₂ bitAnd (sym e₁) (sym e₂) ∙ c .if1 .left ∙ e₁))
 
--- src/cover.rt:10:1
 returns-2 : tie.Need-returns-2 Inv-loop μ-loop
 returns-2 c =
     let a = c .before .before .before .before .args in

@@ -1,60 +1,83 @@
-use mathlib.Core.Path.{_≡_, sym, ap, _∙_}
-use Prim.Native.Nat.{_*_, _-_, _≤_}
+-- The loop: the nodes before i are judged.
+use mathlib.Core.Path.{_≡_, sym, _∙_}
+use Prim.Native.Nat.{ℕ, _+_, _*_, _-_, _≤_, _<_}
 use mathlib.Core.Bool.{true}
 use borrow.Author.Needs.{needs}
 use native.Mathlib.Omega.{arith}
 use borrow.Author.Tests.{not-true, not-false}
+use Rattle.check_trie_laws.specs.Ranges.{all-from, from-fail, from-step, from-end}
 use Rattle.check_trie_laws.specs.DenseNodes.{dense-nodes-valid}
 use Rattle.check_trie_laws.specs.Positions.{bits}
-use Rattle.check_trie_laws.specs.DensePositions.{dense-from, dense-all, dense-wrong, dense-next, dense-end}
+use Rattle.check_trie_laws.specs.DensePositions.{dense-node-valid, dense-all, node-judged}
 use Rattle.check_trie.proofs.dense.dense_valid.Statement.{statement}
 use Rattle.check_trie.proofs.dense.dense_valid.Tie as tie
 
 abbrev Inv-loop : tie.InvT-loop
-Inv-loop dl dc dp n i₀ root₀ i root = (i ≤ n) × (dense-nodes-valid true (bits dl (256 * n)) (bits dc (256 * n)) (bits dp n) ≡ dense-from dl dc dp root i (n - i))
+Inv-loop dl dc dp n i₀ i = (i ≤ n) × (dense-nodes-valid true (bits dl (256 * n)) (bits dc (256 * n)) (bits dp n) ≡ all-from (dense-node-valid dl dc dp) i (n - i))
 
 abbrev μ-loop : tie.MeasureT-loop
-μ-loop dl dc dp n i₀ root₀ i root = n - i
+μ-loop dl dc dp n i₀ i = n - i
+
+-- node i has its 32 bytes
+node-room : {i n l : ℕ} → i < n → l ≡ 32 * n → 32 * i + 32 ≤ l
+node-room h e = omega arith
+
+bit-room : {i n m : ℕ} → i < n → n ≤ m → i < m
+bit-room h l = omega arith
+
+next : {i n : ℕ} → i < n → i + 1 ≤ n
+next h = omega arith
 
 loop-holds : tie.Need-loop-holds Inv-loop μ-loop
-loop-holds c = (omega arith, dense-all (c .before .before .before .args .dl .now) (c .before .before .before .args .dc .now) (c .before .before .before .args .dp .now) (c .before .before .before .args .n) (c .before .before .before .pre .2))
+loop-holds c =
+    let a = c .before .before .before .args in
+    (omega arith, dense-all (a .dl .now) (a .dc .now) (a .dp .now) (a .n) (c .before .before .before .pre .exacts))
 
 node-ones-requires : tie.Need-node-ones-requires Inv-loop μ-loop
-node-ones-requires c κs = search needs
+node-ones-requires c κs = node-room (c .loop-test .taken) (c .before .before .before .before .before .pre .labels)
 
 node-ones-requires-2 : tie.Need-node-ones-requires-2 Inv-loop μ-loop
-node-ones-requires-2 c κs = search needs
+node-ones-requires-2 c κs = node-room (c .before .loop-test .taken) (c .before .before .before .before .before .before .pre .children)
 
 bit-at-requires : tie.Need-bit-at-requires Inv-loop μ-loop
-bit-at-requires c κs = search needs
+bit-at-requires c κs = bit-room (c .before .before .loop-test .taken) (c .before .before .before .before .before .before .before .pre .exacts)
 
 node-valid-requires : tie.Need-node-valid-requires Inv-loop μ-loop
 node-valid-requires c κs = search needs
 
 returns : tie.Need-returns Inv-loop μ-loop
 returns c =
+    let node-ones = c .before .before .before .before .node-ones in
+    let node-ones2 = c .before .before .before .node-ones2 in
     let a = c .before .before .before .before .before .before .before .before .before .before .args in
     let l = c .before .before .before .before .before .before .loop in
-    sym (l .inv .1 ∙ dense-wrong (a .dl .now) (a .dc .now) (a .dp .now) (l .root) (c .before .node-valid .result) (a .n) (l .i) (c .before .before .before .before .node-ones .result) (c .before .before .before .node-ones2 .result) (c .before .before .bit-at .result) (c .before .before .before .before .before .loop-test .taken) (c .before .before .bit-at .ensures) (c .before .before .before .before .node-ones .ensures) (c .before .before .before .node-ones2 .ensures) (c .before .node-valid .ensures) (not-true _ (c .if1 .taken)))
+    let e = node-judged (a .dl .now) (a .dc .now) (a .dp .now) (l .i) (node-ones .result) (node-ones2 .result) (c .before .before .bit-at .ensures) (node-ones .ensures) (node-ones2 .ensures) (c .before .node-valid .ensures) in
+    sym (l .inv .1 ∙ from-fail (dense-node-valid (a .dl .now) (a .dc .now) (a .dp .now)) (l .i) (a .n) (c .before .before .before .before .before .loop-test .taken) (e ∙ not-true _ (c .if1 .taken)))
 
 add-i : tie.Need-add-i Inv-loop μ-loop
 add-i c = search needs
 
 loop-less : tie.Need-loop-less Inv-loop μ-loop
-loop-less c = search needs
+loop-less c = closer (c .before .before .before .before .before .loop-test .taken)
+  where
+    closer : {i n : ℕ} → i < n → n - (i + 1) < n - i
+    closer h = omega arith
 
 loop-again : tie.Need-loop-again Inv-loop μ-loop
 loop-again c =
+    let node-ones = c .before .before .before .before .node-ones in
+    let node-ones2 = c .before .before .before .node-ones2 in
+    let loop-test = c .before .before .before .before .before .loop-test in
     let a = c .before .before .before .before .before .before .before .before .before .before .args in
     let l = c .before .before .before .before .before .before .loop in
-    (omega arith, l .inv .1 ∙ dense-next (a .dl .now) (a .dc .now) (a .dp .now) (l .root) (c .before .node-valid .result) (a .n) (l .i) (c .before .before .before .before .node-ones .result) (c .before .before .before .node-ones2 .result) (c .before .before .bit-at .result) (c .before .before .before .before .before .loop-test .taken) (c .before .before .bit-at .ensures) (c .before .before .before .before .node-ones .ensures) (c .before .before .before .node-ones2 .ensures) (c .before .node-valid .ensures) (not-false _ (c .if1 .left)))
+    let e = node-judged (a .dl .now) (a .dc .now) (a .dp .now) (l .i) (node-ones .result) (node-ones2 .result) (c .before .before .bit-at .ensures) (node-ones .ensures) (node-ones2 .ensures) (c .before .node-valid .ensures) in
+    (next (loop-test .taken), l .inv .1 ∙ from-step (dense-node-valid (a .dl .now) (a .dc .now) (a .dp .now)) (l .i) (a .n) (loop-test .taken) (e ∙ not-false _ (c .if1 .left)))
 
 returns-2 : tie.Need-returns-2 Inv-loop μ-loop
 returns-2 c =
     let a = c .before .before .before .before .before .args in
     let l = c .before .loop in
-    let e : a .n - l .i ≡ 0 = omega arith in
-    sym (l .inv .1 ∙ ap (dense-from (a .dl .now) (a .dc .now) (a .dp .now) (l .root) (l .i)) e ∙ dense-end (a .dl .now) (a .dc .now) (a .dp .now) (l .root) (l .i))
+    sym (l .inv .1 ∙ from-end (dense-node-valid (a .dl .now) (a .dc .now) (a .dp .now)) (l .i) (a .n) (c .loop-test .left))
 
 pub dense-valid-spec : {M : Type 1} → statement M
 dense-valid-spec =

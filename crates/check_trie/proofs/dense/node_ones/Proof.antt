@@ -1,16 +1,14 @@
+-- The ones of the four words of the node.
 use Rattle.check_trie_laws.specs.DensePositions.{node-words}
 use borrow.Author.Needs.{needs}
 use Rattle.check_trie.proofs.dense.node_ones.Statement.{statement}
 use Rattle.check_trie.proofs.dense.node_ones.Tie as tie
 
-mul-ones-word : tie.Need-mul-ones-word
-mul-ones-word c = search needs
+mul-word : tie.Need-mul-word
+mul-word c = search needs
 
 ones-word-requires : tie.Need-ones-word-requires
 ones-word-requires c κs = search needs
-
-mul-ones-word-2 : tie.Need-mul-ones-word-2
-mul-ones-word-2 c = search needs
 
 add-ones-word : tie.Need-add-ones-word
 add-ones-word c = search needs
@@ -21,9 +19,6 @@ ones-word-requires-2 c κs = search needs
 add-result : tie.Need-add-result
 add-result c = search needs
 
-mul-ones-word-3 : tie.Need-mul-ones-word-3
-mul-ones-word-3 c = search needs
-
 add-ones-word-2 : tie.Need-add-ones-word-2
 add-ones-word-2 c = search needs
 
@@ -32,9 +27,6 @@ ones-word-requires-3 c κs = search needs
 
 add-result-2 : tie.Need-add-result-2
 add-result-2 c = search needs
-
-mul-ones-word-4 : tie.Need-mul-ones-word-4
-mul-ones-word-4 c = search needs
 
 add-ones-word-3 : tie.Need-add-ones-word-3
 add-ones-word-3 c = search needs
@@ -47,23 +39,21 @@ add-result-3 c = search needs
 
 returns : tie.Need-returns
 returns c =
-    node-words (c .before .before .before .before .before .args .s .now) (c .before .before .before .before .before .args .i) _ _ _ _ (c .before .before .before .ones-word .ensures .0) (c .before .before .ones-word2 .ensures .0) (c .before .ones-word3 .ensures .0) (c .ones-word4 .ensures .0)
+    let a = c .before .before .before .before .before .before .args in
+    node-words (a .s .now) (a .node .0) _ _ _ _ (c .before .before .before .ones-word .ensures .0) (c .before .before .ones-word2 .ensures .0) (c .before .ones-word3 .ensures .0) (c .ones-word4 .ensures .0)
 
 pub node-ones-spec : {M : Type 1} → statement M
 node-ones-spec =
     tie.close
     (tie.spec
-    mul-ones-word
+    mul-word
     ones-word-requires
-    mul-ones-word-2
     add-ones-word
     ones-word-requires-2
     add-result
-    mul-ones-word-3
     add-ones-word-2
     ones-word-requires-3
     add-result-2
-    mul-ones-word-4
     add-ones-word-3
     ones-word-requires-4
     add-result-3

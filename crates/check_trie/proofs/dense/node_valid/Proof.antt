@@ -1,3 +1,4 @@
+-- By cases of the root.
 use Rattle.check_trie.proofs.dense.node_valid.Statement.{statement}
 use Rattle.check_trie.proofs.dense.node_valid.Tie as tie
 

@@ -1,3 +1,4 @@
+-- The next label and the complement carry where the label is below it.
 use mathlib.Core.Path.{ap, _∙_}
 use Prim.Native.Nat.{ℕ, _/_}
 use lib.Bits.{bitAnd}
@@ -42,12 +43,15 @@ gather-requires c κs = search needs
 
 returns : tie.Need-returns
 returns c =
+    let even-bytes = c .before .before .before .before .even-bytes in
+    let even-bytes2 = c .before .before .before .even-bytes2 in
+    let read64 = c .before .before .before .before .before .read64 in
     let a = c .before .before .before .before .before .before .before .args in
     let small : Small (a .sl .now) = λ i. c .before .before .before .before .before .before .shared-slice-known .given i .fits in
     c .gather .ensures
-    ∙ ascents-eight (a .sl .now) small (a .at) (c .before .before .before .before .even-bytes .result) (c .before .before .before .even-bytes2 .result) (c .before .even-bytes3 .result)
-    (c .before .before .before .before .even-bytes .ensures .0 ∙ ap (λ (k : ℕ). bitAnd k low-bytes) (c .before .before .before .before .before .read64 .ensures))
-    (c .before .before .before .even-bytes2 .ensures .0 ∙ ap (λ (k : ℕ). bitAnd (k / 256) low-bytes) (c .before .before .before .before .before .read64 .ensures))
+    ∙ ascents-eight (a .sl .now) small (a .at) (even-bytes .result) (even-bytes2 .result) (c .before .even-bytes3 .result)
+    (even-bytes .ensures .0 ∙ ap (λ (k : ℕ). bitAnd k low-bytes) (read64 .ensures))
+    (even-bytes2 .ensures .0 ∙ ap (λ (k : ℕ). bitAnd (k / 256) low-bytes) (read64 .ensures))
     (c .before .even-bytes3 .ensures .0 ∙ ap (λ (k : ℕ). bitAnd (k / 256) low-bytes) (c .before .before .read642 .ensures))
 
 pub ascents-of-eight-spec : {M : Type 1} → statement M

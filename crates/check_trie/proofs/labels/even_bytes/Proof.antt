@@ -1,3 +1,4 @@
+-- The low byte of each lane stays.
 use mathlib.Core.Path.{refl}
 use lib.Bits.{and-le-r}
 use Rattle.check_trie_laws.specs.LaneLaws.{low-bytes}

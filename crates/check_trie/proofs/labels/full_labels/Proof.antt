@@ -1,3 +1,4 @@
+-- The loop: the mask of the labels from i on, eight at a time.
 use mathlib.Core.Path.{_≡_, sym, ap, _∙_}
 use Prim.Native.Nat.{ℕ, _+_, _-_, _%_, _≤_}
 use native.Mathlib.Omega.{arith}
@@ -23,8 +24,9 @@ sub-i c = search needs
 
 mul-m : tie.Need-mul-m Inv-loop μ-loop
 mul-m c =
+    let a = c .before .before .before .args in
     let l = c .before .loop in
-    let r = mask-room (full (c .before .before .before .args .sl .now) (c .before .before .before .args .at + l .i)) (l .i) (l .m) (omega arith) (l .inv .2) in
+    let r = mask-room (full (a .sl .now) (a .at + l .i)) (l .i) (l .m) (omega arith) (l .inv .2) in
     search needs
 
 add-full-of-eight : tie.Need-add-full-of-eight Inv-loop μ-loop

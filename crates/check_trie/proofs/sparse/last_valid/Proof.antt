@@ -1,3 +1,4 @@
+-- The last entry of a node is judged by its two bits.
 use mathlib.Core.Path.{ap₂}
 use Prim.Native.Nat.{ℕ}
 use mathlib.Core.Bool.{not, _||_}

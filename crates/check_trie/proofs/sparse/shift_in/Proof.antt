@@ -1,3 +1,4 @@
+-- The bits behind those of a word are its own, shifted, and the lowest of the next word.
 use native.Mathlib.Nat.{mod-eq-of-lt}
 use lib.Bits.{bitOr}
 use mathlib.Core.Path.{ap}

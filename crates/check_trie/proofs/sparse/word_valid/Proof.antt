@@ -1,3 +1,4 @@
+-- The 64 entries are judged by one number of 64 digits, which is 0 where each is valid.
 use Rattle.bits_laws.specs.ValueLaws.{Small}
 use Rattle.check_trie_laws.specs.WordEntries.{word-judged, word-ascends, word-lasts}
 use borrow.Author.Needs.{needs}
@@ -27,12 +28,15 @@ read64-requires-2 c κs = search needs
 
 returns : tie.Need-returns
 returns c =
+    let read64 = c .before .before .before .before .read64 in
+    let read-word = c .before .before .before .read-word in
+    let shift-in = c .before .before .shift-in in
     let a = c .before .before .before .before .before .before .before .before .args in
     let small₁ : Small (a .sl .now) = λ i. c .before .before .before .before .before .before .before .shared-slice-known .given i .fits in
     let small₂ : Small (a .sc .now) = λ i. c .before .before .before .before .before .before .shared-slice-known2 .given i .fits in
     let small₃ : Small (a .sb .now) = λ i. c .before .before .before .before .before .shared-slice-known3 .given i .fits in
-    word-lasts (a .sl .now) (a .sc .now) (a .sb .now) small₁ small₂ small₃ (a .q) (c .before .before .before .before .read64 .result) (c .before .before .before .read-word .result) (c .before .before .shift-in .result) (c .before .read642 .result)
-    (c .before .before .before .before .read64 .ensures) (c .before .before .before .read-word .ensures) (c .before .before .shift-in .ensures) (c .before .read642 .ensures) (c .if1 .taken)
+    word-lasts (a .sl .now) (a .sc .now) (a .sb .now) small₁ small₂ small₃ (a .q) (read64 .result) (read-word .result) (shift-in .result) (c .before .read642 .result)
+    (read64 .ensures) (read-word .ensures) (shift-in .ensures) (c .before .read642 .ensures) (c .if1 .taken)
 
 mul-ascents : tie.Need-mul-ascents
 mul-ascents c = search needs
@@ -42,12 +46,16 @@ ascents-requires c κs = search needs
 
 returns-2 : tie.Need-returns-2
 returns-2 c =
+    let read64 = c .before .before .before .before .before .before .read64 in
+    let read-word = c .before .before .before .before .before .read-word in
+    let shift-in = c .before .before .before .before .shift-in in
+    let read642 = c .before .before .before .read642 in
     let a = c .before .before .before .before .before .before .before .before .before .before .args in
     let small₁ : Small (a .sl .now) = λ i. c .before .before .before .before .before .before .before .before .before .shared-slice-known .given i .fits in
     let small₂ : Small (a .sc .now) = λ i. c .before .before .before .before .before .before .before .before .shared-slice-known2 .given i .fits in
     let small₃ : Small (a .sb .now) = λ i. c .before .before .before .before .before .before .before .shared-slice-known3 .given i .fits in
-    word-ascends (a .sl .now) (a .sc .now) (a .sb .now) small₁ small₂ small₃ (a .q) (c .before .before .before .before .before .before .read64 .result) (c .before .before .before .before .before .read-word .result) (c .before .before .before .before .shift-in .result) (c .before .before .before .read642 .result)
-    (c .before .before .before .before .before .before .read64 .ensures) (c .before .before .before .before .before .read-word .ensures) (c .before .before .before .before .shift-in .ensures) (c .before .before .before .read642 .ensures) (c .before .ascents .result) (c .before .ascents .ensures) (c .if2 .taken)
+    word-ascends (a .sl .now) (a .sc .now) (a .sb .now) small₁ small₂ small₃ (a .q) (read64 .result) (read-word .result) (shift-in .result) (read642 .result)
+    (read64 .ensures) (read-word .ensures) (shift-in .ensures) (read642 .ensures) (c .before .ascents .result) (c .before .ascents .ensures) (c .if2 .taken)
 
 mul-full-labels : tie.Need-mul-full-labels
 mul-full-labels c = search needs
@@ -57,12 +65,17 @@ full-labels-requires c κs = search needs
 
 returns-3 : tie.Need-returns-3
 returns-3 c =
+    let read64 = c .before .before .before .before .before .before .before .read64 in
+    let read-word = c .before .before .before .before .before .before .read-word in
+    let shift-in = c .before .before .before .before .before .shift-in in
+    let read642 = c .before .before .before .before .read642 in
+    let ascents = c .before .before .ascents in
     let a = c .before .before .before .before .before .before .before .before .before .before .before .args in
     let small₁ : Small (a .sl .now) = λ i. c .before .before .before .before .before .before .before .before .before .before .shared-slice-known .given i .fits in
     let small₂ : Small (a .sc .now) = λ i. c .before .before .before .before .before .before .before .before .before .shared-slice-known2 .given i .fits in
     let small₃ : Small (a .sb .now) = λ i. c .before .before .before .before .before .before .before .before .shared-slice-known3 .given i .fits in
-    word-judged (a .sl .now) (a .sc .now) (a .sb .now) small₁ small₂ small₃ (a .q) (c .before .before .before .before .before .before .before .read64 .result) (c .before .before .before .before .before .before .read-word .result) (c .before .before .before .before .before .shift-in .result) (c .before .before .before .before .read642 .result)
-    (c .before .before .before .before .before .before .before .read64 .ensures) (c .before .before .before .before .before .before .read-word .ensures) (c .before .before .before .before .before .shift-in .ensures) (c .before .before .before .before .read642 .ensures) (c .before .before .ascents .result) (c .full-labels .result) (c .before .before .ascents .ensures) (c .full-labels .ensures)
+    word-judged (a .sl .now) (a .sc .now) (a .sb .now) small₁ small₂ small₃ (a .q) (read64 .result) (read-word .result) (shift-in .result) (read642 .result)
+    (read64 .ensures) (read-word .ensures) (shift-in .ensures) (read642 .ensures) (ascents .result) (c .full-labels .result) (ascents .ensures) (c .full-labels .ensures)
 
 pub word-valid-spec : {M : Type 1} → statement M
 word-valid-spec =

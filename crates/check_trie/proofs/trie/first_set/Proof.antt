@@ -1,3 +1,4 @@
+-- The first of the bits, where there is one.
 use borrow.Author.Tests.{eq-eqb, ne-eqb}
 use borrow.Author.Needs.{needs}
 use Rattle.check_trie.proofs.trie.first_set.Statement.{statement}

@@ -26,8 +26,10 @@ same-length c = search needs
 
 returns : tie.Need-returns
 returns c =
-    let a = (c .before .before .before .before .before .before .before .before .before .args) in
-    c .before .before .write32 .ensures ∙ ap (λ (o : List ℕ). placed o (a .at + 2) (le32 (a .len))) (c .before .before .before .before .before .before .write-mark .ensures)
+    let length = c .before .before in
+    let mark = length .before .before .before .before in
+    let a = mark .before .before .before .args in
+    length .write32 .ensures ∙ ap (λ (o : List ℕ). placed o (a .at + 2) (le32 (a .len))) (mark .write-mark .ensures)
     ∙ placed-placed (a .out .now) (mark-bytes (a .mark .now)) (le32 (a .len)) (a .at) (a .at + 2) refl (omega (arith, length-le32 (a .len)))
 
 pub begin-record-spec : {M : Type 1} → statement M

@@ -14,6 +14,12 @@ use native.Mathlib.Omega.{arith}
 use Rattle.image_records.proofs.header.write_header.Statement.{statement}
 use Rattle.image_records.proofs.header.write_header.Tie as tie
 
+cast-write-settings : tie.Need-cast-write-settings
+cast-write-settings c = search needs
+
+cast-write-settings-2 : tie.Need-cast-write-settings-2
+cast-write-settings-2 c = search needs
+
 write-settings-requires : tie.Need-write-settings-requires
 write-settings-requires c κs = search needs
 
@@ -35,28 +41,40 @@ same-length c = search needs
 returns : tie.Need-returns
 unfolding header
 returns c =
-    let a = (c .before .before .before .before .before .before .before .before .before .before .before .before .before .before .before .before .before .before .before .before .before .args) in
-    let f : List ℕ = first-bytes (a .dense) (a .n) in
-    let la = length-le32 (a .c .leaves) in
-    let lb = length-le32 (a .c .dense) in
-    let lc = length-le32 (a .c .entries) in
-    let ld = length-le32 (a .c .sparse) in
-    let x : List ℕ = f ++ le32 (a .c .leaves) in
-    let lx : length x ≡ 10 = length-append f (le32 (a .c .leaves)) ∙ omega (arith, la) in
-    let y : List ℕ = x ++ le32 (a .c .dense) in
-    let ly : length y ≡ 14 = length-append x (le32 (a .c .dense)) ∙ omega (arith, lx, lb) in
-    let z : List ℕ = y ++ le32 (a .c .entries) in
-    let lz : length z ≡ 18 = length-append y (le32 (a .c .entries)) ∙ omega (arith, ly, lc) in
-    let e₁ = placed-behind (a .out .now) _ _ f (le32 (a .c .leaves)) 0 6 refl (omega (arith, la)) (c .before .before .before .before .before .before .before .before .before .before .before .before .before .before .before .before .before .before .write-settings .ensures) (c .before .before .before .before .before .before .before .before .before .before .before .before .before .before .write32 .ensures) in
-    let e₂ = placed-behind (a .out .now) _ _ x (le32 (a .c .dense)) 0 10 (omega (arith, lx)) (omega (arith, lb)) e₁ (c .before .before .before .before .before .before .before .before .before .before .write322 .ensures) in
-    let e₃ = placed-behind (a .out .now) _ _ y (le32 (a .c .entries)) 0 14 (omega (arith, ly)) (omega (arith, lc)) e₂ (c .before .before .before .before .before .before .write323 .ensures) in
-    let e₄ = placed-behind (a .out .now) _ _ z (le32 (a .c .sparse)) 0 18 (omega (arith, lz)) (omega (arith, ld)) e₃ (c .before .before .write324 .ensures) in
-    e₄ ∙ ap (placed (a .out .now) 0) (append-assoc y (le32 (a .c .entries)) (le32 (a .c .sparse)) ∙ append-assoc x (le32 (a .c .dense)) (le32 (a .c .entries) ++ le32 (a .c .sparse)) ∙ append-assoc f (le32 (a .c .leaves)) (le32 (a .c .dense) ++ (le32 (a .c .entries) ++ le32 (a .c .sparse))))
+    let fourth = c .before .before in
+    let third = fourth .before .before .before .before in
+    let second = third .before .before .before .before in
+    let first = second .before .before .before .before in
+    let settings = first .before .before .before .before in
+    let a = settings .before .before .before .before .before .args in
+    let out = a .out .now in
+    let leaves = le32 (a .h .leaves) in
+    let nodes = le32 (a .h .dense .nodes) in
+    let entries = le32 (a .h .sparse .entries) in
+    let sparse = le32 (a .h .sparse .nodes) in
+    let f : List ℕ = first-bytes (a .h .dense .levels) (a .h .width) in
+    let la = length-le32 (a .h .leaves) in
+    let lb = length-le32 (a .h .dense .nodes) in
+    let lc = length-le32 (a .h .sparse .entries) in
+    let ld = length-le32 (a .h .sparse .nodes) in
+    let x : List ℕ = f ++ leaves in
+    let lx : length x ≡ 10 = length-append f leaves ∙ omega (arith, la) in
+    let y : List ℕ = x ++ nodes in
+    let ly : length y ≡ 14 = length-append x nodes ∙ omega (arith, lx, lb) in
+    let z : List ℕ = y ++ entries in
+    let lz : length z ≡ 18 = length-append y entries ∙ omega (arith, ly, lc) in
+    let e₁ = placed-behind out _ _ f leaves 0 6 refl (omega (arith, la)) (settings .write-settings .ensures) (first .write32 .ensures) in
+    let e₂ = placed-behind out _ _ x nodes 0 10 (omega (arith, lx)) (omega (arith, lb)) e₁ (second .write322 .ensures) in
+    let e₃ = placed-behind out _ _ y entries 0 14 (omega (arith, ly)) (omega (arith, lc)) e₂ (third .write323 .ensures) in
+    let e₄ = placed-behind out _ _ z sparse 0 18 (omega (arith, lz)) (omega (arith, ld)) e₃ (fourth .write324 .ensures) in
+    e₄ ∙ ap (placed out 0) (append-assoc y entries sparse ∙ append-assoc x nodes (entries ++ sparse) ∙ append-assoc f leaves (nodes ++ (entries ++ sparse)))
 
 pub write-header-spec : {M : Type 1} → statement M
 write-header-spec =
     tie.close
     (tie.spec
+    cast-write-settings
+    cast-write-settings-2
     write-settings-requires
     write32-requires
     write32-requires-2

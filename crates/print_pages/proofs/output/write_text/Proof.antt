@@ -1,7 +1,11 @@
-use mathlib.Core.Path.{sym}
+-- The opening is all of the text, or the pages follow it.
+use mathlib.Core.Path.{_≡_, sym, ap, _∙_}
+use mathlib.Core.Bool.{true≢false}
 use native.Mathlib.Omega.{arith}
-use lib.Seq.{length-take-le}
 use borrow.Author.Needs.{needs}
+use lib.ListN.{length}
+use lib.Seq.{length-take-le}
+use Rattle.spec.specs.Print.{print}
 use Rattle.print_pages.proofs.output.write_text.Statement.{statement}
 use Rattle.print_pages.proofs.output.write_text.Tie as tie
 
@@ -11,51 +15,37 @@ slice-aggregate-open c = search needs
 open-requires : tie.Need-open-requires
 open-requires c κs = search needs
 
-enum-known-len : tie.Need-enum-known-len
-enum-known-len c = search needs
-
 array-share-prefix-page : tie.Need-array-share-prefix-page
-array-share-prefix-page c =
-    let r = rw (c .before .len .given .1) at (c .before .before .before .before .«open» .ensures) in
-    r .0
+array-share-prefix-page c = search needs
 
 slice-aggregate-write-all : tie.Need-slice-aggregate-write-all
-slice-aggregate-write-all c =
-    let r = rw (c .before .before .len .given .1) at (c .before .before .before .before .before .«open» .ensures) in
-    sym (length-take-le _ _ (r .0))
+slice-aggregate-write-all c = sym (length-take-le _ _ (c .before .before .before .«open» .ensures .within))
 
 write-all-requires : tie.Need-write-all-requires
 write-all-requires c κs = search needs
 
-enum-known-len-2 : tie.Need-enum-known-len-2
-enum-known-len-2 c = search needs
+returns : tie.Need-returns
+returns c = record { within = omega arith; whole = λ q. absurd (true≢false (sym q)) }
 
-array-share-prefix-page-2 : tie.Need-array-share-prefix-page-2
-array-share-prefix-page-2 c =
-    let r = rw (c .before .len2 .given .1) at (c .before .before .before .before .«open» .ensures) in
-    r .1
+enum-told : tie.Need-enum-told
+enum-told c = search needs
 
-slice-aggregate-write-all-2 : tie.Need-slice-aggregate-write-all-2
-slice-aggregate-write-all-2 c =
-    let r = rw (c .before .before .len2 .given .1) at (c .before .before .before .before .before .«open» .ensures) in
-    sym (length-take-le _ _ (r .1))
-
-write-all-requires-2 : tie.Need-write-all-requires-2
-write-all-requires-2 c κs = search needs
+enum-told-2 : tie.Need-enum-told-2
+enum-told-2 c = search needs
 
 slice-aggregate-write-pages : tie.Need-slice-aggregate-write-pages
 slice-aggregate-write-pages c = search needs
 
 write-pages-requires : tie.Need-write-pages-requires
 write-pages-requires c κs =
-    let r = rw (c .before .before .before .before .before .len2 .given .1) at (c .before .before .before .before .before .before .before .before .«open» .ensures) in
-    (r .0, omega (arith, c .before .before .before .before .before .before .before .before .«open» .kept .1 .0))
-
-returns : tie.Need-returns
-returns c = search needs
+    let o = c .before .before .before .before .before .before .before .before .«open» in
+    (o .ensures .listing (c .before .enum-told2 .given .1), omega (arith, o .kept .1 .0))
 
 returns-2 : tie.Need-returns-2
-returns-2 c = search needs
+returns-2 c =
+    let o = c .before .before .before .before .before .before .before .«open» in
+    let e : o .result .len ≡ length (print (c .before .before .before .before .before .before .before .before .before .before .args .input .now)) = sym (ap length (o .ensures .whole (c .enum-told .given .1)) ∙ length-take-le _ _ (o .ensures .within)) in
+    record { within = omega arith; whole = λ _. e }
 
 returns-3 : tie.Need-returns-3
 returns-3 c = search needs
@@ -66,16 +56,13 @@ write-text-spec =
     (tie.spec
     slice-aggregate-open
     open-requires
-    enum-known-len
     array-share-prefix-page
     slice-aggregate-write-all
     write-all-requires
-    enum-known-len-2
-    array-share-prefix-page-2
-    slice-aggregate-write-all-2
-    write-all-requires-2
+    returns
+    enum-told
+    enum-told-2
     slice-aggregate-write-pages
     write-pages-requires
-    returns
     returns-2
     returns-3)

@@ -1,83 +1,88 @@
-use mathlib.Core.Path.{_≡_, refl, sym, ap, _∙_}
-use Prim.Native.Nat.{_-_, _≤_}
+-- The page begins with the lines of the leaves passed.
+use Prim.Native.Nat.{_-_}
+use mathlib.Core.Path.{_≡_, ap, _∙_}
+use mathlib.Core.Logic.{⊎-elim}
 use native.Mathlib.Omega.{arith}
 use borrow.Author.Needs.{needs}
-use borrow.Author.Tests.{leb-true, leb-false}
+use denote.Enum.Declared.{tagOf}
 use lib.ListN.{length}
 use Rattle.spec.specs.Nodes.{read-leaves}
-use Rattle.walk_cursor.specs.Stands.{Stands}
-use Rattle.print_laws.specs.Writing.{Written, written-none, written-append, written-as, written-front}
-use Rattle.print_laws.specs.Texts.{longest-line}
-use Rattle.print_pages.specs.Pages.{lines-between}
-use Rattle.print_pages.specs.PageLaws.{between-none, between-some, between-more}
+use Rattle.walk.specs.StateLaws.{found-leaf, moved-on}
+use Rattle.walk.proofs.states.Stand as R
+use Rattle.print_laws.specs.Parts.{leaf-found}
+use Rattle.print_pages.specs.PrintLaws.{Filled, place-small, filled-none, filled-more, finished-full, finished-done}
 use Rattle.print_pages.proofs.pages.write_page.Statement.{statement}
 use Rattle.print_pages.proofs.pages.write_page.Tie as tie
 
 abbrev Inv-loop : tie.InvT-loop
-Inv-loop image f page₀ next₀ len₀ page next len = Stands image f next × (next₀ .place ≤ next .place) × (length page ≡ length page₀) × Written page₀ 0 (lines-between (read-leaves image) (next₀ .place) (next .place)) page len
+Inv-loop image page₀ at₀ len₀ page at len = Filled image at₀ page₀ at page len
 
 abbrev μ-loop : tie.MeasureT-loop
-μ-loop image f page₀ next₀ len₀ page next len = f .leaves - next .place
+μ-loop image page₀ at₀ len₀ page at len = length (read-leaves image) - at .place
 
 loop-holds : tie.Need-loop-holds Inv-loop μ-loop
 loop-holds c =
-    let a = c .before .before .args in
-    (c .before .before .pre .1, omega arith, refl, written-as (written-none (a .page .now) 0 (omega arith)) (sym (between-none (read-leaves (a .image .now)) (a .from .place))))
+    let b = c .before .before in
+    filled-none (b .args .image .now) (b .args .from) (b .args .page .now) (b .pre .0) (b .pre .1)
 
-sub-if2 : tie.Need-sub-if2 Inv-loop μ-loop
-sub-if2 c = search needs
+sub-loop : tie.Need-sub-loop Inv-loop μ-loop
+sub-loop c = c .loop .inv .text .within
 
-leaf-at-requires : tie.Need-leaf-at-requires Inv-loop μ-loop
-leaf-at-requires c κs = (c .before .before .before .before .before .before .before .pre .0, c .before .before .before .before .loop .inv .0, omega arith)
+stand-from-requires : tie.Need-stand-from-requires Inv-loop μ-loop
+stand-from-requires c κs = c .before .loop .inv .walks
 
-write-line-requires : tie.Need-write-line-requires Inv-loop μ-loop
-write-line-requires c κs = (c .before .leaf-at .ensures .1, omega (arith, c .before .before .before .before .before .before .before .before .before .pre .0 .writable .few), omega (arith, c .before .before .before .before .before .before .loop .inv .3 .within, leb-true longest-line (length (c .before .before .before .before .before .before .loop .page) - c .before .before .before .before .before .before .loop .len) (c .before .before .if2 .taken)))
-
-step-requires : tie.Need-step-requires Inv-loop μ-loop
-step-requires c κs = (c .before .before .before .before .before .before .before .before .before .before .before .before .pre .0, c .before .before .before .before .before .before .before .before .before .loop .inv .0, omega arith)
-
-loop-less : tie.Need-loop-less Inv-loop μ-loop
-loop-less c = search needs
-
-loop-again : tie.Need-loop-again Inv-loop μ-loop
-loop-again c =
-    let a = c .before .before .before .before .before .before .before .before .before .before .before .before .before .args in
-    let l = c .before .before .before .before .before .before .before .before .before .before .loop in
-    let ls = read-leaves (a .image .now) in (
-      c .step .ensures .0,
-      omega (arith, c .step .ensures .1, l .inv .1),
-      c .before .before .before .write-line .kept .0 ∙ l .inv .2,
-      written-as (written-append (omega (arith, l .inv .2, l .inv .3 .next, l .inv .3 .within)) (l .inv .3) (c .before .before .before .write-line .ensures))
-          (sym (ap (lines-between ls (a .from .place)) (c .step .ensures .1) ∙ between-more ls (a .from .place) (l .next .place) _ (l .inv .1) (c .before .before .before .before .before .leaf-at .ensures .0))),
-    )
+enum-told : tie.Need-enum-told Inv-loop μ-loop
+enum-told c = search needs
 
 same-length : tie.Need-same-length Inv-loop μ-loop
-same-length c = search needs
+same-length c = c .before .before .before .loop .inv .same-size
 
 returns : tie.Need-returns Inv-loop μ-loop
 returns c =
-    let l = c .before .before .before .before .loop in
-    record {
-      within = l .inv .3 .within;
-      text = written-front (l .inv .3);
-      stands = l .inv .0;
-      onward = l .inv .1;
-      advance = λ h. between-some (read-leaves (c .before .before .before .before .before .before .before .args .image .now)) (c .before .before .before .before .before .before .before .args .from .place) (l .next .place) (l .inv .1) (omega (arith, l .inv .3 .next, l .inv .2, leb-false longest-line (length (l .page) - l .len) (c .if2 .left)));
-    }
+    let l = c .before .before .before in
+    let b = l .before .before .before in
+    let a = b .args in
+    finished-done (a .image .now) (a .from) (a .page .now) (l .loop .at) (l .loop .page) (l .loop .len) (l .loop .inv) (c .before .stand-from .result) (c .before .stand-from .ensures) (λ e. ⊎-elim (λ q. omega (arith, ap (tagOf R.the-type) e, q)) (λ q. omega (arith, ap (tagOf R.the-type) e, q)) (c .match .keys2))
+
+write-line-requires : tie.Need-write-line-requires Inv-loop μ-loop
+write-line-requires c κs =
+    let l = c .before .before .before .before .before .before in
+    let b = l .before .before .before in
+    let a = b .args in
+    let i = l .loop .inv in
+    (c .before .before .before .before .stand-from .ensures .sized, omega (arith, place-small (a .image .now) (l .loop .at) (i .walks) (i .opened)), omega (arith, i .text .within, c .before .before .before .before .before .loop-test .taken))
+
+move-from-requires : tie.Need-move-from-requires Inv-loop μ-loop
+move-from-requires c κs = c .before .before .before .before .before .before .before .before .before .loop .inv .walks
+
+loop-less : tie.Need-loop-less Inv-loop μ-loop
+loop-less c =
+    let l = c .before .before .before .before .before .before .before .before .before .before in
+    let b = l .before .before .before in
+    let a = b .args in
+    let i = l .loop .inv in
+    let s = c .before .before .before .before .before .before .before .before .stand-from in
+    let e = c .before .before .before .before .before .before .enum-told .given .1 in
+    let f = found-leaf (a .image .now) (l .loop .at) (i .walks) (i .opened) (s .result) (s .ensures) e in
+    omega (arith, leaf-found (read-leaves (a .image .now)) (l .loop .at .place) (f .0) (f .1), moved-on (a .image .now) (l .loop .at) (i .walks) (i .opened) (s .result) (s .ensures) e (c .move-from .result) (c .move-from .ensures))
+
+loop-again : tie.Need-loop-again Inv-loop μ-loop
+loop-again c =
+    let l = c .before .before .before .before .before .before .before .before .before .before in
+    let b = l .before .before .before in
+    let a = b .args in
+    let s = c .before .before .before .before .before .before .before .before .stand-from in
+    filled-more (a .image .now) (a .from) (a .page .now) (l .loop .at) (l .loop .page) (l .loop .len) (l .loop .inv) (s .result) (s .ensures) (c .before .before .before .before .before .before .enum-told .given .1) (c .move-from .result) (c .move-from .ensures) _ _ (c .before .before .before .write-line .kept .0) (omega (arith, l .loop .inv .text .within, c .before .before .before .before .before .before .before .before .before .loop-test .taken)) (c .before .before .before .write-line .ensures)
 
 same-length-2 : tie.Need-same-length-2 Inv-loop μ-loop
-same-length-2 c = search needs
+same-length-2 c = c .before .loop .inv .same-size
 
 returns-2 : tie.Need-returns-2 Inv-loop μ-loop
 returns-2 c =
-    let l = c .before .before .before .loop in
-    record {
-      within = l .inv .3 .within;
-      text = written-front (l .inv .3);
-      stands = l .inv .0;
-      onward = l .inv .1;
-      advance = λ h. omega arith;
-    }
+    let l = c .before in
+    let b = l .before .before .before in
+    let a = b .args in
+    finished-full (a .image .now) (a .from) (a .page .now) (l .loop .at) (l .loop .page) (l .loop .len) (l .loop .inv) (b .pre .2) (omega (arith, c .loop-test .left))
 
 pub write-page-spec : {M : Type 1} → statement M
 write-page-spec =
@@ -86,13 +91,14 @@ write-page-spec =
     Inv-loop
     μ-loop
     loop-holds
-    sub-if2
-    leaf-at-requires
-    write-line-requires
-    step-requires
-    loop-less
-    loop-again
+    sub-loop
+    stand-from-requires
+    enum-told
     same-length
     returns
+    write-line-requires
+    move-from-requires
+    loop-less
+    loop-again
     same-length-2
     returns-2)

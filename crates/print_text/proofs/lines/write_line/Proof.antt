@@ -6,7 +6,8 @@ use lib.ListN.{length, length-append, length-take}
 use Rattle.spec.specs.Print.{decimal}
 use Rattle.image_types.specs.Value.{leaf-of}
 use Rattle.print_laws.specs.Writing.{written-append, written-as}
-use Rattle.print_laws.specs.Texts.{cut-text, slot-text, line-is, length-pieces, length-line, length-low-bits}
+use Rattle.print_laws.specs.Texts.{cut-text, slot-text, line-is, length-pieces, length-line}
+use Rattle.bits_laws.specs.UnpackLaws.{length-low-bits}
 use borrow.Author.Needs.{needs}
 use Rattle.print_text.proofs.lines.write_line.Statement.{statement}
 use Rattle.print_text.proofs.lines.write_line.Tie as tie

@@ -66,16 +66,19 @@ read32-requires c κs =
 
 returns-2 : tie.Need-returns-2 Inv-loop μ-loop
 returns-2 c =
+    let shared-slice-known2 = c .before .before .before .shared-slice-known2 in
+    let if1 = c .before .before .if1 in
     let a = c .before .before .before .before .before .args in
     let p = c .before .before .before .before .before .pre in
-    let small : Small (a .table .now) = λ i. c .before .before .before .shared-slice-known2 .given i .fits in
-    sym (table-wrong (λ b. rank (a .body .now) (64 * a .words * b)) (a .n) (a .table .now) small 0 (positive (a .n) (c .before .before .if1 .left)) (λ z. c .if2 .taken (c .before .read32 .ensures .0 ∙ z ∙ at-first (a .body .now) (a .words))))
+    let small : Small (a .table .now) = λ i. shared-slice-known2 .given i .fits in
+    sym (table-wrong (λ b. rank (a .body .now) (64 * a .words * b)) (a .n) (a .table .now) small 0 (positive (a .n) (if1 .left)) (λ z. c .if2 .taken (c .before .read32 .ensures .0 ∙ z ∙ at-first (a .body .now) (a .words))))
 
 loop-holds : tie.Need-loop-holds Inv-loop μ-loop
 loop-holds c =
+    let if1 = c .before .before .if1 in
     let a = c .before .before .before .before .before .args in
     let p = c .before .before .before .before .before .pre in (
-      positive (a .n) (c .before .before .if1 .left),
+      positive (a .n) (if1 .left),
       p .some,
       sym (mul-one (a .words)),
       sym (rank-zero (a .body .now)),
@@ -120,13 +123,16 @@ read32-requires-2 c κs =
 
 returns-3 : tie.Need-returns-3 Inv-loop μ-loop
 returns-3 c =
+    let shared-slice-known2 = c .before .before .before .before .before .before .before .before .before .shared-slice-known2 in
+    let whole-word-ones = c .before .before .before .whole-word-ones in
+    let if3 = c .before .before .if3 in
     let a = c .before .before .before .before .before .before .before .before .before .before .before .args in
     let p = c .before .before .before .before .before .before .before .before .before .before .before .pre in
     let l = c .before .before .before .before .before .loop in
-    let small : Small (a .table .now) = λ i. c .before .before .before .before .before .before .before .before .before .shared-slice-known2 .given i .fits in
+    let small : Small (a .table .now) = λ i. shared-slice-known2 .given i .fits in
     let w : 64 * l .q + 64 ≡ 64 * (l .q + 1) = omega arith in
-    let k : l .ones + c .before .before .before .whole-word-ones .result ≡ rank (a .body .now) (64 * (l .q + 1)) = omega (arith, l .inv .3, c .before .before .before .whole-word-ones .ensures .0, ap (rank (a .body .now)) w) in
-    sym (table-wrong (λ b. rank (a .body .now) (64 * a .words * b)) (a .n) (a .table .now) small (l .b) (omega arith) (λ z. c .if4 .taken (c .before .read322 .ensures .0 ∙ z ∙ sym (at-start (a .body .now) (a .words) (l .b) (l .q + 1) (l .ones + c .before .before .before .whole-word-ones .result) k (c .before .before .if3 .taken ∙ l .inv .2)))))
+    let k : l .ones + whole-word-ones .result ≡ rank (a .body .now) (64 * (l .q + 1)) = omega (arith, l .inv .3, whole-word-ones .ensures .0, ap (rank (a .body .now)) w) in
+    sym (table-wrong (λ b. rank (a .body .now) (64 * a .words * b)) (a .n) (a .table .now) small (l .b) (omega arith) (λ z. c .if4 .taken (c .before .read322 .ensures .0 ∙ z ∙ sym (at-start (a .body .now) (a .words) (l .b) (l .q + 1) (l .ones + whole-word-ones .result) k (if3 .taken ∙ l .inv .2)))))
 
 add-b : tie.Need-add-b Inv-loop μ-loop
 add-b c =
@@ -151,16 +157,18 @@ loop-less c =
 
 loop-again : tie.Need-loop-again Inv-loop μ-loop
 loop-again c =
+    let whole-word-ones = c .before .before .before .whole-word-ones in
+    let if3 = c .before .before .if3 in
     let a = c .before .before .before .before .before .before .before .before .before .before .before .args in
     let p = c .before .before .before .before .before .before .before .before .before .before .before .pre in
     let l = c .before .before .before .before .before .loop in
     let w : 64 * l .q + 64 ≡ 64 * (l .q + 1) = omega arith in
-    let k : l .ones + c .before .before .before .whole-word-ones .result ≡ rank (a .body .now) (64 * (l .q + 1)) = omega (arith, l .inv .3, c .before .before .before .whole-word-ones .ensures .0, ap (rank (a .body .now)) w) in (
+    let k : l .ones + whole-word-ones .result ≡ rank (a .body .now) (64 * (l .q + 1)) = omega (arith, l .inv .3, whole-word-ones .ensures .0, ap (rank (a .body .now)) w) in (
       omega arith,
       omega (arith, l .inv .1, p .some),
       omega (arith, l .inv .2, next (a .words) (l .b)),
       k,
-      below-more (Counted (a .body .now) (a .table .now) (a .words)) (l .b) (l .inv .4) (sym (c .before .read322 .ensures .0) ∙ c .if4 .left ∙ at-start (a .body .now) (a .words) (l .b) (l .q + 1) (l .ones + c .before .before .before .whole-word-ones .result) k (c .before .before .if3 .taken ∙ l .inv .2)),
+      below-more (Counted (a .body .now) (a .table .now) (a .words)) (l .b) (l .inv .4) (sym (c .before .read322 .ensures .0) ∙ c .if4 .left ∙ at-start (a .body .now) (a .words) (l .b) (l .q + 1) (l .ones + whole-word-ones .result) k (if3 .taken ∙ l .inv .2)),
     )
 
 loop-less-2 : tie.Need-loop-less-2 Inv-loop μ-loop
@@ -172,18 +180,20 @@ loop-less-2 c =
 
 loop-again-2 : tie.Need-loop-again-2 Inv-loop μ-loop
 loop-again-2 c =
+    let whole-word-ones = c .before .whole-word-ones in
     let a = c .before .before .before .before .before .before .before .before .before .args in
     let p = c .before .before .before .before .before .before .before .before .before .pre in
     let l = c .before .before .before .loop in
     let w : 64 * l .q + 64 ≡ 64 * (l .q + 1) = omega arith in
-    let k : l .ones + c .before .whole-word-ones .result ≡ rank (a .body .now) (64 * (l .q + 1)) = omega (arith, l .inv .3, c .before .whole-word-ones .ensures .0, ap (rank (a .body .now)) w) in
+    let k : l .ones + whole-word-ones .result ≡ rank (a .body .now) (64 * (l .q + 1)) = omega (arith, l .inv .3, whole-word-ones .ensures .0, ap (rank (a .body .now)) w) in
     (l .inv .0, onward (l .q) (l .start) (l .inv .1) (c .if3 .left), l .inv .2, k, l .inv .4)
 
 returns-4 : tie.Need-returns-4 Inv-loop μ-loop
 returns-4 c =
+    let shared-slice-known2 = c .before .before .before .before .before .shared-slice-known2 in
     let a = c .before .before .before .before .before .before .before .args in
     let p = c .before .before .before .before .before .before .before .pre in
-    let small : Small (a .table .now) = λ i. c .before .before .before .before .before .shared-slice-known2 .given i .fits in
+    let small : Small (a .table .now) = λ i. shared-slice-known2 .given i .fits in
     let l = c .before .loop in
     sym (table-valid (λ b. rank (a .body .now) (64 * a .words * b)) (a .n) (a .table .now) small (p .sized) (λ i m. l .inv .4 i (omega arith)))
 

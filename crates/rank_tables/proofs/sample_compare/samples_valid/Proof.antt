@@ -67,33 +67,37 @@ ones-among-requires c κs = search needs
 
 add-ones : tie.Need-add-ones Inv-loop μ-loop
 add-ones c =
+    let loop-test = c .before .loop-test in
     let a = c .before .before .before .before .before .args in
     let p = c .before .before .before .before .before .pre in
     let l = c .before .before .loop in
     let r = c .ones-among .result in
-    let e = counted (a .s .now) (a .n) (l .q) (l .ones) r (c .before .loop-test .taken) (l .inv .1) (c .ones-among .ensures .0) in
-    omega (arith, p .1, e .0, rank-le (a .s .now) (64 * l .q), c .ones-among .ensures .1, c .before .loop-test .taken)
+    let e = counted (a .s .now) (a .n) (l .q) (l .ones) r (loop-test .taken) (l .inv .1) (c .ones-among .ensures .0) in
+    omega (arith, p .1, e .0, rank-le (a .s .now) (64 * l .q), c .ones-among .ensures .1, loop-test .taken)
 
 mul-if1 : tie.Need-mul-if1 Inv-loop μ-loop
 mul-if1 c =
+    let loop-test = c .before .loop-test in
     let a = c .before .before .before .before .before .args in
     let p = c .before .before .before .before .before .pre in
     let l = c .before .before .loop in
     let r = c .ones-among .result in
-    let e = counted (a .s .now) (a .n) (l .q) (l .ones) r (c .before .loop-test .taken) (l .inv .1) (c .ones-among .ensures .0) in
-    omega (arith, p .1, e .0, rank-le (a .s .now) (64 * l .q), l .inv .2, c .before .loop-test .taken)
+    let e = counted (a .s .now) (a .n) (l .q) (l .ones) r (loop-test .taken) (l .inv .1) (c .ones-among .ensures .0) in
+    omega (arith, p .1, e .0, rank-le (a .s .now) (64 * l .q), l .inv .2, loop-test .taken)
 
 sample-valid-requires : tie.Need-sample-valid-requires Inv-loop μ-loop
 sample-valid-requires c κs =
+    let loop-test = c .before .before .loop-test in
+    let ones-among = c .before .ones-among in
     let a = c .before .before .before .before .before .before .args in
     let p = c .before .before .before .before .before .before .pre in
     let l = c .before .before .before .loop in
-    let r = c .before .ones-among .result in
-    let e = counted (a .s .now) (a .n) (l .q) (l .ones) r (c .before .before .loop-test .taken) (l .inv .1) (c .before .ones-among .ensures .0) in
+    let r = ones-among .result in
+    let e = counted (a .s .now) (a .n) (l .q) (l .ones) r (loop-test .taken) (l .inv .1) (ones-among .ensures .0) in
     record {
       within = p .0;
       short = p .1;
-      begun = c .before .before .loop-test .taken;
+      begun = loop-test .taken;
       ones = e .0;
       low = passed (l .ones) (l .t) (l .inv .2);
       high = omega (arith, e .1, c .if1 .taken);
@@ -101,64 +105,81 @@ sample-valid-requires c κs =
 
 returns : tie.Need-returns Inv-loop μ-loop
 returns c =
+    let shared-slice-known2 = c .before .before .before .before .before .before .shared-slice-known2 in
+    let loop-test = c .before .before .before .before .loop-test in
+    let ones-among = c .before .before .before .ones-among in
+    let if1 = c .before .before .if1 in
+    let sample-valid = c .before .sample-valid in
     let a = c .before .before .before .before .before .before .before .before .args in
     let p = c .before .before .before .before .before .before .before .before .pre in
     let l = c .before .before .before .before .before .loop in
-    let r = c .before .before .before .ones-among .result in
-    let e = counted (a .s .now) (a .n) (l .q) (l .ones) r (c .before .before .before .before .loop-test .taken) (l .inv .1) (c .before .before .before .ones-among .ensures .0) in
-    let small : Small (a .table .now) = λ i. c .before .before .before .before .before .before .shared-slice-known2 .given i .fits in
+    let r = ones-among .result in
+    let e = counted (a .s .now) (a .n) (l .q) (l .ones) r (loop-test .taken) (l .inv .1) (ones-among .ensures .0) in
+    let small : Small (a .table .now) = λ i. shared-slice-known2 .given i .fits in
     sym (samples-wrong (a .s .now) (a .n) (a .table .now) small (p .1) (l .t)
-    (omega (arith, e .1, c .before .before .if1 .taken, rank-up (a .s .now) (min (64 * l .q + 64) (a .n)) (a .n) (omega arith)))
-    (sym (c .before .sample-valid .ensures) ∙ not-true (c .before .sample-valid .result) (c .if2 .taken)))
+    (omega (arith, e .1, if1 .taken, rank-up (a .s .now) (min (64 * l .q + 64) (a .n)) (a .n) (omega arith)))
+    (sym (sample-valid .ensures) ∙ not-true (sample-valid .result) (c .if2 .taken)))
 
 add-t : tie.Need-add-t Inv-loop μ-loop
 add-t c =
+    let loop-test = c .before .before .before .before .loop-test in
+    let ones-among = c .before .before .before .ones-among in
     let a = c .before .before .before .before .before .before .before .before .args in
     let p = c .before .before .before .before .before .before .before .before .pre in
     let l = c .before .before .before .before .before .loop in
-    let r = c .before .before .before .ones-among .result in
-    let e = counted (a .s .now) (a .n) (l .q) (l .ones) r (c .before .before .before .before .loop-test .taken) (l .inv .1) (c .before .before .before .ones-among .ensures .0) in
-    omega (arith, p .1, e .0, rank-le (a .s .now) (64 * l .q), l .inv .2, c .before .before .before .before .loop-test .taken)
+    let r = ones-among .result in
+    let e = counted (a .s .now) (a .n) (l .q) (l .ones) r (loop-test .taken) (l .inv .1) (ones-among .ensures .0) in
+    omega (arith, p .1, e .0, rank-le (a .s .now) (64 * l .q), l .inv .2, loop-test .taken)
 
 loop-less : tie.Need-loop-less Inv-loop μ-loop
 loop-less c =
+    let loop-test = c .before .before .before .before .loop-test in
+    let ones-among = c .before .before .before .ones-among in
     let a = c .before .before .before .before .before .before .before .before .args in
     let p = c .before .before .before .before .before .before .before .before .pre in
     let l = c .before .before .before .before .before .loop in
-    let r = c .before .before .before .ones-among .result in
-    let e = counted (a .s .now) (a .n) (l .q) (l .ones) r (c .before .before .before .before .loop-test .taken) (l .inv .1) (c .before .before .before .ones-among .ensures .0) in
-    omega (arith, c .before .before .before .before .loop-test .taken)
+    let r = ones-among .result in
+    let e = counted (a .s .now) (a .n) (l .q) (l .ones) r (loop-test .taken) (l .inv .1) (ones-among .ensures .0) in
+    omega (arith, loop-test .taken)
 
 loop-again : tie.Need-loop-again Inv-loop μ-loop
 loop-again c =
+    let loop-test = c .before .before .before .before .loop-test in
+    let ones-among = c .before .before .before .ones-among in
+    let if1 = c .before .before .if1 in
+    let sample-valid = c .before .sample-valid in
     let a = c .before .before .before .before .before .before .before .before .args in
     let p = c .before .before .before .before .before .before .before .before .pre in
     let l = c .before .before .before .before .before .loop in
-    let r = c .before .before .before .ones-among .result in
-    let e = counted (a .s .now) (a .n) (l .q) (l .ones) r (c .before .before .before .before .loop-test .taken) (l .inv .1) (c .before .before .before .ones-among .ensures .0) in (
-      omega (arith, c .before .before .before .before .loop-test .taken),
+    let r = ones-among .result in
+    let e = counted (a .s .now) (a .n) (l .q) (l .ones) r (loop-test .taken) (l .inv .1) (ones-among .ensures .0) in (
+      omega (arith, loop-test .taken),
       e .1 ∙ ap (rank (a .s .now)) (next-end (a .n) (l .q)),
-      one-more (l .ones) (l .ones + r) (l .t) (l .inv .2) (omega (arith, c .before .before .before .ones-among .ensures .1)) (c .before .before .if1 .taken),
-      below-more (λ i. sampled (a .s .now) (a .n) (a .table .now) i ≡ true) (l .t) (l .inv .3) (sym (c .before .sample-valid .ensures) ∙ not-false (c .before .sample-valid .result) (c .if2 .left)),
+      one-more (l .ones) (l .ones + r) (l .t) (l .inv .2) (omega (arith, ones-among .ensures .1)) (if1 .taken),
+      below-more (λ i. sampled (a .s .now) (a .n) (a .table .now) i ≡ true) (l .t) (l .inv .3) (sym (sample-valid .ensures) ∙ not-false (sample-valid .result) (c .if2 .left)),
     )
 
 loop-less-2 : tie.Need-loop-less-2 Inv-loop μ-loop
 loop-less-2 c =
+    let loop-test = c .before .before .loop-test in
+    let ones-among = c .before .ones-among in
     let a = c .before .before .before .before .before .before .args in
     let p = c .before .before .before .before .before .before .pre in
     let l = c .before .before .before .loop in
-    let r = c .before .ones-among .result in
-    let e = counted (a .s .now) (a .n) (l .q) (l .ones) r (c .before .before .loop-test .taken) (l .inv .1) (c .before .ones-among .ensures .0) in
-    omega (arith, c .before .before .loop-test .taken)
+    let r = ones-among .result in
+    let e = counted (a .s .now) (a .n) (l .q) (l .ones) r (loop-test .taken) (l .inv .1) (ones-among .ensures .0) in
+    omega (arith, loop-test .taken)
 
 loop-again-2 : tie.Need-loop-again-2 Inv-loop μ-loop
 loop-again-2 c =
+    let loop-test = c .before .before .loop-test in
+    let ones-among = c .before .ones-among in
     let a = c .before .before .before .before .before .before .args in
     let p = c .before .before .before .before .before .before .pre in
     let l = c .before .before .before .loop in
-    let r = c .before .ones-among .result in
-    let e = counted (a .s .now) (a .n) (l .q) (l .ones) r (c .before .before .loop-test .taken) (l .inv .1) (c .before .ones-among .ensures .0) in (
-      omega (arith, c .before .before .loop-test .taken),
+    let r = ones-among .result in
+    let e = counted (a .s .now) (a .n) (l .q) (l .ones) r (loop-test .taken) (l .inv .1) (ones-among .ensures .0) in (
+      omega (arith, loop-test .taken),
       e .1 ∙ ap (rank (a .s .now)) (next-end (a .n) (l .q)),
       none-more (l .ones) (l .ones + r) (l .t) (l .inv .2) (omega arith) (c .if1 .left),
       l .inv .3,
@@ -173,10 +194,11 @@ mul-result c =
 
 returns-2 : tie.Need-returns-2 Inv-loop μ-loop
 returns-2 c =
+    let shared-slice-known2 = c .before .before .shared-slice-known2 in
     let a = c .before .before .before .before .args in
     let p = c .before .before .before .before .pre in
     let l = c .before .loop in
-    let small : Small (a .table .now) = λ i. c .before .before .shared-slice-known2 .given i .fits in
+    let small : Small (a .table .now) = λ i. shared-slice-known2 .given i .fits in
     let w : min (64 * l .q) (a .n) ≡ a .n = omega (arith, c .loop-test .left) in
     samples-valid (a .s .now) (a .n) (a .table .now) small (p .1) (l .t) (l .inv .2 ∙ ap (λ (k : ℕ). blocks 64 k) (l .inv .1 ∙ ap (rank (a .s .now)) w)) (l .inv .3)
 

@@ -1,17 +1,16 @@
--- Each turn counts one word more; a word has at most 64 ones, so at most one sample stands in it.
-use Prim.Native.Nat.{_%_, ℕ, _+_, _*_, _/_, _-_, _≤_, _<_}
-use lib.Seq.{length-take-le}
-use Rattle.spec.specs.Bytes.{le32, blocks}
-use Rattle.bits_laws.specs.Bits.{placed, rank, select}
-use Rattle.bits_laws.specs.RankLaws.{rank-zero, rank-slow, rank-le}
-use Rattle.rank_tables_laws.specs.Entries.{sample-entries}
-use Rattle.bits_laws.specs.Placing.{placed-nil, take-placed}
-use Rattle.rank_tables_laws.specs.Entries.{entry-placed, entries-none}
+-- Each turn counts one word more; a word has at most 64 ones, so at most one sample stands in it. Its entry is written in the part lent from the table's start.
+use Prim.Native.Nat.{ℕ, _+_, _*_, _/_, _%_, _-_, _≤_, _<_}
 use mathlib.Core.Path.{_≡_, refl, sym, ap, ap₂, _∙_}
 use mathlib.Core.List.{List}
+use lib.ListN.{length, length-drop}
+use Rattle.spec.specs.Bytes.{blocks}
+use Rattle.bits_laws.specs.Bits.{placed, rank, select, part}
+use Rattle.bits_laws.specs.RankLaws.{rank-zero, rank-slow, rank-le}
+use Rattle.bits_laws.specs.Parts.{length-part, mid-is}
+use Rattle.rank_tables_laws.specs.Entries.{sample-entries}
+use Rattle.rank_tables_laws.specs.Filling.{Filled, filled-none, filled-more}
 use borrow.Author.Needs.{needs}
 use native.Mathlib.Omega.{arith}
-use lib.ListN.{length, take}
 use Rattle.rank_tables.proofs.sample_write.fill_samples.Statement.{statement}
 use Rattle.rank_tables.proofs.sample_write.fill_samples.Tie as tie
 
@@ -22,24 +21,31 @@ more r e t h a b l = omega arith
 same : (r e t : ℕ) → t ≡ blocks 64 r → r ≤ e → e ≤ r + 64 → e ≤ 64 * t → t ≡ blocks 64 e
 same r e t h a b l = omega arith
 
--- the place of a sample lies within those of all
+-- the entry of a sample lies within those of all
 within : (r e u t : ℕ) → t ≡ blocks 64 r → 64 * t < e → e ≤ u → t + 1 ≤ blocks 64 u
 within r e u t h l g = omega arith
 
-sixty : (at : ℕ) → at % 64 ≡ 0 → 64 * (at / 64) ≡ at
-sixty at h = omega arith
+-- a word starts at a multiple of 64
+word-start : (at : ℕ) → at % 64 ≡ 0 → 64 * (at / 64) ≡ at
+word-start at h = omega arith
+
+-- sample number i of the first bits of a body
+abbrev samples : List ℕ → ℕ → ℕ → ℕ
+samples body bits i = select body bits (64 * i)
 
 abbrev Inv-loop : tie.InvT-loop
-Inv-loop out₀ m bits to at₀ r₀ t₀ out at r t = (at ≤ bits) × (length out ≡ length out₀) × (r ≡ rank (take m out₀) at) × (t ≡ blocks 64 r) × (out ≡ placed out₀ to (sample-entries (take m out₀) bits t)) × (take m out ≡ take m out₀) × (at < bits → at % 64 ≡ 0)
+Inv-loop out₀ bits table from end at₀ r₀ t₀ out at r t =
+    (at ≤ bits) × Filled out₀ from (end - from) table (samples (part out₀ from (end - from)) bits) t out × (r ≡ rank (part out₀ from (end - from)) at) × (t ≡ blocks 64 r)
+    × (at < bits → at % 64 ≡ 0)
 
 abbrev μ-loop : tie.MeasureT-loop
-μ-loop out₀ m bits to at₀ r₀ t₀ out at r t = bits - at
+μ-loop out₀ bits table from end at₀ r₀ t₀ out at r t = bits - at
+
+add-end : tie.Need-add-end Inv-loop μ-loop
+add-end c = search needs
 
 loop-holds : tie.Need-loop-holds Inv-loop μ-loop
-loop-holds c =
-    let a = (c .before .args) in
-    let s : List ℕ = take (a .m) (a .out .now) in
-    (omega arith, refl, sym (rank-zero s), refl, placed-nil (a .out .now) (a .to) ∙ ap (placed (a .out .now) (a .to)) (sym (entries-none (λ t. select s (a .bits) (64 * t)))), refl, λ h. refl)
+loop-holds c = (omega arith, filled-none _ _ _ _ _, sym (rank-zero _), refl, λ h. refl)
 
 add-smaller : tie.Need-add-smaller Inv-loop μ-loop
 add-smaller c = search needs
@@ -47,88 +53,182 @@ add-smaller c = search needs
 smaller-requires : tie.Need-smaller-requires Inv-loop μ-loop
 smaller-requires c κs = search needs
 
-slice-reshare-prefix-rank-from : tie.Need-slice-reshare-prefix-rank-from Inv-loop μ-loop
-slice-reshare-prefix-rank-from c = omega (arith, c .before .before .loop .inv .1)
+sub-rank-from : tie.Need-sub-rank-from Inv-loop μ-loop
+sub-rank-from c = search needs
 
-slice-aggregate-rank-from : tie.Need-slice-aggregate-rank-from Inv-loop μ-loop
-slice-aggregate-rank-from c = sym (length-take-le (c .before .before .before .before .before .args .m) (c .before .before .before .loop .out) (omega (arith, c .before .before .before .loop .inv .1)))
+part-rank-from-start : tie.Need-part-rank-from-start Inv-loop μ-loop
+part-rank-from-start c = search needs
+
+part-rank-from-end : tie.Need-part-rank-from-end Inv-loop μ-loop
+part-rank-from-end c = search needs
 
 rank-from-requires : tie.Need-rank-from-requires Inv-loop μ-loop
 rank-from-requires c κs =
-    let l = (c .before .before .before .loop) in
-    let w = sixty (l .at) (l .inv .6 (c .before .before .loop-test .taken)) in
-    let e = length-take-le (c .before .before .before .before .before .args .m) (l .out) (omega (arith, l .inv .1)) in
-    (omega (arith, e, c .before .smaller .ensures), omega (arith, w, c .before .smaller .ensures), l .inv .2 ∙ ap₂ rank (sym (l .inv .5)) (sym w))
+    let loop-test = c .before .before .before .loop-test in
+    let start = c .before .before .before .before .before .before .before in
+    let a = start .args in
+    let l = c .before .before .before .before .loop in
+    let from : ℕ = a .body .at in
+    let m : ℕ = from + a .body .len - from in
+    let s : List ℕ = part (a .out .now) from m in
+    let next = c .before .before .smaller in
+    let w = word-start (l .at) (l .inv .4 (loop-test .taken)) in
+    let size : length (l .out) ≡ length (a .out .now) = l .inv .1 .size in
+    let n = length-part (l .out) from m (omega (arith, size, start .pre .behind, start .pre .room)) in
+    (omega (arith, n, start .pre .within, next .ensures), omega (arith, w, next .ensures), l .inv .2 ∙ ap₂ rank (sym (l .inv .1 .kept)) (sym w))
 
 mul-if1 : tie.Need-mul-if1 Inv-loop μ-loop
-mul-if1 c = omega (arith, c .before .before .before .before .loop .inv .2, c .before .before .before .before .loop .inv .3, rank-le (take (c .before .before .before .before .before .before .args .m) (c .before .before .before .before .before .before .args .out .now)) (c .before .before .before .before .loop .at))
+mul-if1 c =
+    let start = c .before .before .before .before .before .before .before .before in
+    let a = start .args in
+    let l = c .before .before .before .before .before .loop in
+    let from : ℕ = a .body .at in
+    let m : ℕ = from + a .body .len - from in
+    let s : List ℕ = part (a .out .now) from m in
+    omega (arith, l .inv .2, l .inv .3, rank-le s (l .at), start .pre .short)
 
-write-sample-requires : tie.Need-write-sample-requires Inv-loop μ-loop
-write-sample-requires c κs =
-    let a = (c .before .before .before .before .before .before .before .before .args) in
-    let l = (c .before .before .before .before .before .before .loop) in
-    let s : List ℕ = take (a .m) (a .out .now) in
-    let e : c .before .before .rank-from .result ≡ rank s (c .before .before .before .before .smaller .result) = c .before .before .rank-from .ensures ∙ ap (λ (z : List ℕ). rank z (c .before .before .before .before .smaller .result)) (l .inv .5) in
-    let g = rank-slow s (c .before .before .before .before .smaller .result) (a .bits) (omega (arith, c .before .before .before .before .smaller .ensures)) in
-    let n = within (l .r) (c .before .before .rank-from .result) (rank s (a .bits)) (l .t) (l .inv .3) (c .before .if1 .taken) (omega (arith, e, g .0)) in
-    (omega (arith, l .inv .1), c .before .before .before .before .before .before .before .before .pre .1, omega (arith, e, rank-le s (c .before .before .before .before .smaller .result), c .before .before .before .before .smaller .ensures), l .inv .0, l .inv .2 ∙ ap (λ (z : List ℕ). rank z (l .at)) (sym (l .inv .5)), omega (arith, l .inv .3), omega (arith, n, c .before .before .before .before .before .before .before .before .pre .3, l .inv .1))
+sub-select-from : tie.Need-sub-select-from Inv-loop μ-loop
+sub-select-from c = search needs
+
+part-select-from-start : tie.Need-part-select-from-start Inv-loop μ-loop
+part-select-from-start c = search needs
+
+part-select-from-end : tie.Need-part-select-from-end Inv-loop μ-loop
+part-select-from-end c = search needs
+
+mul-select-from : tie.Need-mul-select-from Inv-loop μ-loop
+mul-select-from c =
+    let start = c .before .before .before .before .before .before .before .before .before .before .before in
+    let a = start .args in
+    let l = c .before .before .before .before .before .before .before .before .loop in
+    let from : ℕ = a .body .at in
+    let m : ℕ = from + a .body .len - from in
+    let s : List ℕ = part (a .out .now) from m in
+    omega (arith, l .inv .2, l .inv .3, rank-le s (l .at), start .pre .short)
+
+select-from-requires : tie.Need-select-from-requires Inv-loop μ-loop
+select-from-requires c κs =
+    let start = c .before .before .before .before .before .before .before .before .before .before .before in
+    let a = start .args in
+    let l = c .before .before .before .before .before .before .before .before .loop in
+    let from : ℕ = a .body .at in
+    let m : ℕ = from + a .body .len - from in
+    let s : List ℕ = part (a .out .now) from m in
+    let size : length (l .out) ≡ length (a .out .now) = l .inv .1 .size in
+    let n = length-part (l .out) from m (omega (arith, size, start .pre .behind, start .pre .room)) in
+    (omega (arith, n, start .pre .within), l .inv .0, l .inv .2 ∙ ap (λ (z : List ℕ). rank z (l .at)) (sym (l .inv .1 .kept)), omega (arith, l .inv .3))
+
+sub-write32 : tie.Need-sub-write32 Inv-loop μ-loop
+sub-write32 c = search needs
+
+part-write32-start : tie.Need-part-write32-start Inv-loop μ-loop
+part-write32-start c = search needs
+
+part-write32-end : tie.Need-part-write32-end Inv-loop μ-loop
+part-write32-end c = search needs
+
+mul-write32 : tie.Need-mul-write32 Inv-loop μ-loop
+mul-write32 c = search needs
+
+write32-requires : tie.Need-write32-requires Inv-loop μ-loop
+write32-requires c κs =
+    let if1 = c .before .before .before .before .if1 in
+    let start = c .before .before .before .before .before .before .before .before .before .before .before .before .before in
+    let a = start .args in
+    let l = c .before .before .before .before .before .before .before .before .before .before .loop in
+    let from : ℕ = a .body .at in
+    let m : ℕ = from + a .body .len - from in
+    let s : List ℕ = part (a .out .now) from m in
+    let next = c .before .before .before .before .before .before .before .before .smaller in
+    let counted = c .before .before .before .before .before .rank-from in
+    let e : counted .result ≡ rank s (next .result) = counted .ensures ∙ ap (λ (z : List ℕ). rank z (next .result)) (l .inv .1 .kept) in
+    let up = rank-slow s (next .result) (a .bits) (omega (arith, next .ensures)) in
+    let n = within (l .r) (counted .result) (rank s (a .bits)) (l .t) (l .inv .3) (if1 .taken) (omega (arith, e, up .0)) in
+    let q : m ≡ a .body .len = omega arith in
+    let room = ap (λ (k : ℕ). rank (part (a .out .now) from k) (a .bits)) q in
+    let size : length (l .out) ≡ length (a .out .now) = l .inv .1 .size in
+    omega (arith, n, room, size, start .pre .room, ap length (mid-is (l .out) (a .table)), length-drop (a .table) (l .out))
 
 add-t : tie.Need-add-t Inv-loop μ-loop
-add-t c = omega (arith, c .before .before .before .before .before .before .before .before .before .loop .inv .3, c .before .before .before .before .before .before .before .before .before .loop .inv .2, rank-le (take (c .before .before .before .before .before .before .before .before .before .before .before .args .m) (c .before .before .before .before .before .before .before .before .before .before .before .args .out .now)) (c .before .before .before .before .before .before .before .before .before .loop .at))
+add-t c =
+    let start = c .before .before .before .before .before .before .before .before .before .before .before .before .before .before .before .before in
+    let a = start .args in
+    let l = c .before .before .before .before .before .before .before .before .before .before .before .before .before .loop in
+    let from : ℕ = a .body .at in
+    let m : ℕ = from + a .body .len - from in
+    let s : List ℕ = part (a .out .now) from m in
+    omega (arith, l .inv .2, l .inv .3, rank-le s (l .at), start .pre .short)
 
 loop-less : tie.Need-loop-less Inv-loop μ-loop
-loop-less c = omega (arith, c .before .before .before .before .before .before .before .smaller .ensures)
+loop-less c =
+    let smaller = c .before .before .before .before .before .before .before .before .before .before .before .smaller in
+    omega (arith, smaller .ensures)
 
 loop-again : tie.Need-loop-again Inv-loop μ-loop
 loop-again c =
-    let a = (c .before .before .before .before .before .before .before .before .before .before .before .args) in
-    let l = (c .before .before .before .before .before .before .before .before .before .loop) in
-    let s : List ℕ = take (a .m) (a .out .now) in
-    let e : c .before .before .before .before .before .rank-from .result ≡ rank s (c .before .before .before .before .before .before .before .smaller .result) = c .before .before .before .before .before .rank-from .ensures ∙ ap (λ (z : List ℕ). rank z (c .before .before .before .before .before .before .before .smaller .result)) (l .inv .5) in
-    let g = rank-slow s (c .before .before .before .before .before .before .before .smaller .result) (a .bits) (omega (arith, c .before .before .before .before .before .before .before .smaller .ensures)) in
-    let f = rank-slow s (l .at) (c .before .before .before .before .before .before .before .smaller .result) (omega (arith, c .before .before .before .before .before .before .before .smaller .ensures)) in
-    let n = within (l .r) (c .before .before .before .before .before .rank-from .result) (rank s (a .bits)) (l .t) (l .inv .3) (c .before .before .before .before .if1 .taken) (omega (arith, e, g .0)) in
-    let o = c .before .before .write-sample .ensures ∙ ap (λ (z : List ℕ). placed (l .out) (a .to + 4 * l .t) (le32 (select z (a .bits) (64 * l .t)))) (l .inv .5) in (
-      omega (arith, c .before .before .before .before .before .before .before .smaller .ensures),
-      omega (arith, c .before .before .write-sample .kept .0, l .inv .1),
+    let loop-test = c .before .before .before .before .before .before .before .before .before .before .before .before .loop-test in
+    let if1 = c .before .before .before .before .before .before .before .if1 in
+    let select-from = c .before .before .before .before .select-from in
+    let write32 = c .before .before .write32 in
+    let start = c .before .before .before .before .before .before .before .before .before .before .before .before .before .before .before .before in
+    let a = start .args in
+    let l = c .before .before .before .before .before .before .before .before .before .before .before .before .before .loop in
+    let from : ℕ = a .body .at in
+    let m : ℕ = from + a .body .len - from in
+    let s : List ℕ = part (a .out .now) from m in
+    let next = c .before .before .before .before .before .before .before .before .before .before .before .smaller in
+    let counted = c .before .before .before .before .before .before .before .before .rank-from in
+    let e : counted .result ≡ rank s (next .result) = counted .ensures ∙ ap (λ (z : List ℕ). rank z (next .result)) (l .inv .1 .kept) in
+    let up = rank-slow s (next .result) (a .bits) (omega (arith, next .ensures)) in
+    let on = rank-slow s (l .at) (next .result) (omega (arith, next .ensures)) in
+    let n = within (l .r) (counted .result) (rank s (a .bits)) (l .t) (l .inv .3) (if1 .taken) (omega (arith, e, up .0)) in
+    let q : m ≡ a .body .len = omega arith in
+    let room = ap (λ (k : ℕ). rank (part (a .out .now) from k) (a .bits)) q in
+    let v = select-from .ensures .0 ∙ ap (λ (z : List ℕ). select z (a .bits) (64 * l .t)) (l .inv .1 .kept) in (
+      omega (arith, next .ensures),
+      filled-more (a .out .now) from m (a .table) (samples s (a .bits)) (l .t) (l .out) _ _ (omega (arith, start .pre .behind)) (omega (arith, n, room, start .pre .room)) (l .inv .1) v (write32 .ensures),
       e,
-      more (l .r) (c .before .before .before .before .before .rank-from .result) (l .t) (l .inv .3) (omega (arith, e, f .0, l .inv .2)) (omega (arith, e, f .1, l .inv .2, c .before .before .before .before .before .before .before .smaller .ensures)) (c .before .before .before .before .if1 .taken),
-      o ∙ ap (λ (z : List ℕ). placed z (a .to + 4 * l .t) (le32 (select s (a .bits) (64 * l .t)))) (l .inv .4)
-          ∙ entry-placed (a .out .now) (λ t. select s (a .bits) (64 * t)) (a .to) (l .t) (a .to + 4 * l .t) refl (omega (arith, n, c .before .before .before .before .before .before .before .before .before .before .before .pre .3)),
-      ap (take (a .m)) o ∙ take-placed (l .out) (le32 (select s (a .bits) (64 * l .t))) (a .m) (a .to + 4 * l .t) (omega arith) (omega (arith, n, c .before .before .before .before .before .before .before .before .before .before .before .pre .3, l .inv .1)) ∙ l .inv .5,
-      λ h. omega (arith, c .before .before .before .before .before .before .before .smaller .ensures, l .inv .6 (c .before .before .before .before .before .before .before .before .loop-test .taken)),
+      more (l .r) (counted .result) (l .t) (l .inv .3) (omega (arith, e, on .0, l .inv .2)) (omega (arith, e, on .1, l .inv .2, next .ensures)) (if1 .taken),
+      λ h. omega (arith, next .ensures, l .inv .4 (loop-test .taken)),
     )
 
 loop-less-2 : tie.Need-loop-less-2 Inv-loop μ-loop
-loop-less-2 c = omega (arith, c .before .before .before .smaller .ensures)
+loop-less-2 c =
+    let smaller = c .before .before .before .before .smaller in
+    omega (arith, smaller .ensures)
 
 loop-again-2 : tie.Need-loop-again-2 Inv-loop μ-loop
 loop-again-2 c =
-    let a = (c .before .before .before .before .before .before .before .args) in
-    let l = (c .before .before .before .before .before .loop) in
-    let s : List ℕ = take (a .m) (a .out .now) in
-    let e : c .before .rank-from .result ≡ rank s (c .before .before .before .smaller .result) = c .before .rank-from .ensures ∙ ap (λ (z : List ℕ). rank z (c .before .before .before .smaller .result)) (l .inv .5) in
-    let f = rank-slow s (l .at) (c .before .before .before .smaller .result) (omega (arith, c .before .before .before .smaller .ensures)) in (
-      omega (arith, c .before .before .before .smaller .ensures),
+    let loop-test = c .before .before .before .before .before .loop-test in
+    let start = c .before .before .before .before .before .before .before .before .before in
+    let a = start .args in
+    let l = c .before .before .before .before .before .before .loop in
+    let from : ℕ = a .body .at in
+    let m : ℕ = from + a .body .len - from in
+    let s : List ℕ = part (a .out .now) from m in
+    let next = c .before .before .before .before .smaller in
+    let counted = c .before .rank-from in
+    let e : counted .result ≡ rank s (next .result) = counted .ensures ∙ ap (λ (z : List ℕ). rank z (next .result)) (l .inv .1 .kept) in
+    let on = rank-slow s (l .at) (next .result) (omega (arith, next .ensures)) in (
+      omega (arith, next .ensures),
       l .inv .1,
       e,
-      same (l .r) (c .before .rank-from .result) (l .t) (l .inv .3) (omega (arith, e, f .0, l .inv .2)) (omega (arith, e, f .1, l .inv .2, c .before .before .before .smaller .ensures)) (c .if1 .left),
-      l .inv .4,
-      l .inv .5,
-      λ h. omega (arith, c .before .before .before .smaller .ensures, l .inv .6 (c .before .before .before .before .loop-test .taken)),
+      same (l .r) (counted .result) (l .t) (l .inv .3) (omega (arith, e, on .0, l .inv .2)) (omega (arith, e, on .1, l .inv .2, next .ensures)) (c .if1 .left),
+      λ h. omega (arith, next .ensures, l .inv .4 (loop-test .taken)),
     )
 
 same-length : tie.Need-same-length Inv-loop μ-loop
-same-length c = c .before .loop .inv .1
+same-length c = c .before .loop .inv .1 .size
 
 returns : tie.Need-returns Inv-loop μ-loop
 returns c =
-    let a = (c .before .before .before .args) in
-    let l = (c .before .loop) in
-    let s : List ℕ = take (a .m) (a .out .now) in
+    let a = c .before .before .before .before .args in
+    let l = c .before .loop in
+    let m : a .body .at + a .body .len - a .body .at ≡ a .body .len = omega arith in
     let e : l .at ≡ a .bits = omega arith in
-    let f : l .t ≡ blocks 64 (rank s (a .bits)) = l .inv .3 ∙ ap (blocks 64) (l .inv .2 ∙ ap (rank s) e) in
-    l .inv .4 ∙ ap (λ (n : ℕ). placed (a .out .now) (a .to) (sample-entries s (a .bits) n)) f
+    let n : l .t ≡ blocks 64 (rank (part (a .out .now) (a .body .at) (a .body .at + a .body .len - a .body .at)) (a .bits)) = l .inv .3 ∙ ap (blocks 64) (l .inv .2 ∙ ap (rank _) e) in
+    l .inv .1 .text ∙ ap (λ (i : ℕ). placed (a .out .now) (a .table) (sample-entries (part (a .out .now) (a .body .at) (a .body .at + a .body .len - a .body .at)) (a .bits) i)) n
+    ∙ ap (λ (k : ℕ). placed (a .out .now) (a .table) (sample-entries (part (a .out .now) (a .body .at) k) (a .bits) (blocks 64 (rank (part (a .out .now) (a .body .at) k) (a .bits))))) m
 
 pub fill-samples-spec : {M : Type 1} → statement M
 fill-samples-spec =
@@ -136,14 +236,25 @@ fill-samples-spec =
     (tie.spec
     Inv-loop
     μ-loop
+    add-end
     loop-holds
     add-smaller
     smaller-requires
-    slice-reshare-prefix-rank-from
-    slice-aggregate-rank-from
+    sub-rank-from
+    part-rank-from-start
+    part-rank-from-end
     rank-from-requires
     mul-if1
-    write-sample-requires
+    sub-select-from
+    part-select-from-start
+    part-select-from-end
+    mul-select-from
+    select-from-requires
+    sub-write32
+    part-write32-start
+    part-write32-end
+    mul-write32
+    write32-requires
     add-t
     loop-less
     loop-again

@@ -1,87 +1,88 @@
--- The first i bytes of the record are copied.
-use mathlib.Core.Path.{_≡_, ap, _∙_}
-use Prim.Native.Nat.{ℕ, _+_, _-_, _≤_}
-use mathlib.Core.List.{List, _++_}
-use native.Mathlib.Numerals.{add-one}
+-- The parts of the record, one behind the other.
+use mathlib.Core.Path.{_≡_, sym, _∙_}
 use native.Mathlib.Omega.{arith}
 use borrow.Author.Needs.{needs}
-use lib.ListN.{length, take, drop}
-use lib.Seq.{paste, paste-zero, paste-suc, length-paste, take-all}
-use Rattle.bits_laws.specs.Bits.{placed}
-use Rattle.image_types.specs.Value.{leaf-of}
-use Rattle.walk.specs.FilledLaws.{record-length, cut-small}
+use lib.ListN.{length, length-map, length-set}
+use Rattle.walk_laws.specs.LeafValues.{record-placed}
 use Rattle.walk.proofs.record.write_record.Statement.{statement}
 use Rattle.walk.proofs.record.write_record.Tie as tie
 
-abbrev Inv-loop : tie.InvT-loop
-Inv-loop out₀ at bytes i₀ out i = (i ≤ 68) × (length bytes ≡ 68) × (out ≡ paste out₀ at bytes i)
+-- the cut key's array has 64 bytes, as owning it tells
+cut-length : (c : tie.Start) → length (c .args .l .cut) ≡ 64
+cut-length c = sym (length-map (c .args .l .cut) (λ v. v)) ∙ c .good .1 .1 .0 .1 .1 .0 .1 .0 .1
 
-abbrev μ-loop : tie.MeasureT-loop
-μ-loop out₀ at bytes i₀ out i = 68 - i
+kind-byte-requires : tie.Need-kind-byte-requires
+kind-byte-requires c κs = search needs
 
-leaf-record-requires : tie.Need-leaf-record-requires Inv-loop μ-loop
-leaf-record-requires c κs = search needs
+slice-write-out : tie.Need-slice-write-out
+slice-write-out c = search needs
 
-loop-holds : tie.Need-loop-holds Inv-loop μ-loop
-loop-holds c =
-    let a = c .before .before .args in
-    (omega arith, ap length (c .leaf-record .ensures) ∙ record-length (leaf-of (a .l)) (cut-small (a .l) (c .before .before .pre .0)), paste-zero (a .out .now) (a .at) (c .leaf-record .result))
+cast-out : tie.Need-cast-out
+cast-out c = search needs
 
-array-read-out : tie.Need-array-read-out Inv-loop μ-loop
-array-read-out c = search needs
-
-add-out : tie.Need-add-out Inv-loop μ-loop
+add-out : tie.Need-add-out
 add-out c = search needs
 
-slice-write-out : tie.Need-slice-write-out Inv-loop μ-loop
-slice-write-out c =
-    let a = c .before .before .before .before .args in
-    let l = c .before .loop in
-    omega (arith, ap length (l .inv .2), length-paste (a .out .now) (a .at) (c .before .before .leaf-record .result) (l .i) (omega arith) (omega (arith, l .inv .0, l .inv .1)))
+slice-write-out-2 : tie.Need-slice-write-out-2
+slice-write-out-2 c = simp length-set (omega arith)
 
-add-i : tie.Need-add-i Inv-loop μ-loop
-add-i c = search needs
+add-write-bytes : tie.Need-add-write-bytes
+add-write-bytes c = search needs
 
-loop-less : tie.Need-loop-less Inv-loop μ-loop
-loop-less c = search needs
+slice-aggregate-write-bytes : tie.Need-slice-aggregate-write-bytes
+slice-aggregate-write-bytes c = search needs
 
-loop-again : tie.Need-loop-again Inv-loop μ-loop
-loop-again c =
-    let a = c .before .before .before .before .args in
-    let l = c .before .loop in (
-      omega arith,
-      l .inv .1,
-      rw (l .inv .2, add-one (l .i)) (paste-suc (a .out .now) (a .at) (c .before .before .leaf-record .result) (l .i) 0 (omega arith) (omega (arith, l .inv .1))),
-    )
+write-bytes-requires : tie.Need-write-bytes-requires
+write-bytes-requires c κs = simp length-set (omega (arith, cut-length (c .before .before .before .before .before .before)))
 
-same-length : tie.Need-same-length Inv-loop μ-loop
-same-length c =
-    let a = c .before .before .before .before .args in
-    let l = c .before .loop in
-    ap length (l .inv .2) ∙ length-paste (a .out .now) (a .at) (c .before .before .leaf-record .result) (l .i) (omega arith) (omega (arith, l .inv .0, l .inv .1))
+cast-out-2 : tie.Need-cast-out-2
+cast-out-2 c = search needs
 
-returns : tie.Need-returns Inv-loop μ-loop
+add-out-2 : tie.Need-add-out-2
+add-out-2 c = search needs
+
+slice-write-out-3 : tie.Need-slice-write-out-3
+slice-write-out-3 c = omega (arith, simp length-set at (c .before .before .write-bytes .kept .0))
+
+cast-out-3 : tie.Need-cast-out-3
+cast-out-3 c = search needs
+
+add-out-3 : tie.Need-add-out-3
+add-out-3 c = search needs
+
+add-out-4 : tie.Need-add-out-4
+add-out-4 c = search needs
+
+slice-write-out-4 : tie.Need-slice-write-out-4
+slice-write-out-4 c = simp length-set (omega (arith, simp length-set at (c .before .before .write-bytes .kept .0)))
+
+same-length : tie.Need-same-length
+same-length c = simp length-set (simp length-set at (c .before .before .write-bytes .kept .0))
+
+returns : tie.Need-returns
 returns c =
-    let a = c .before .before .before .before .args in
-    let l = c .before .loop in
-    let bytes = c .before .before .leaf-record .result in
-    let e : l .i ≡ length bytes = omega (arith, l .inv .1) in
-    l .inv .2 ∙ ap (paste (a .out .now) (a .at) bytes) e ∙ ap (λ (t : List ℕ). take (a .at) (a .out .now) ++ t ++ drop (a .at + length bytes) (a .out .now)) (take-all (length bytes) bytes (omega arith))
-    ∙ ap (placed (a .out .now) (a .at)) (c .before .before .leaf-record .ensures)
+    let b = c .before .before .before .before .before .before .before .before .before in
+    let a = b .args in
+    record-placed (a .out .now) (a .at) (a .l) (c .before .before .write-bytes .last .0) (b .pre .within) (cut-length b) (rw (← c .before .before .before .before .before .before .kind-byte .ensures) (c .before .before .write-bytes .ensures))
 
 pub write-record-spec : {M : Type 1} → statement M
 write-record-spec =
     tie.close
     (tie.spec
-    Inv-loop
-    μ-loop
-    leaf-record-requires
-    loop-holds
-    array-read-out
-    add-out
+    kind-byte-requires
     slice-write-out
-    add-i
-    loop-less
-    loop-again
+    cast-out
+    add-out
+    slice-write-out-2
+    add-write-bytes
+    slice-aggregate-write-bytes
+    write-bytes-requires
+    cast-out-2
+    add-out-2
+    slice-write-out-3
+    cast-out-3
+    add-out-3
+    add-out-4
+    slice-write-out-4
     same-length
     returns)

@@ -35,8 +35,7 @@ use denote.Exit.{yes}
 use denote.Triple.Clauses.{ensured}
 use Rattle.spec.specs.Walk as Walk
 use Rattle.spec.specs.Walk.{open-walk, next}
-use Rattle.image_types.specs.Value.{Sized}
-use Rattle.walk.specs.Walks.{stand-of, Walks}
+use Rattle.walk.specs.Walks.{Gives, Walks}
 use Rattle.walk.specs.declared.states.Standing.{Standing}
 use Rattle.walk.specs.declared.walker.Walker.{Walker}
 use Rattle.walk.proofs.walker.Walker as T
@@ -70,7 +69,7 @@ module _ {M : Type 1} (𝓤 : URA M) (H : Heap 𝓤) (A : Atoms 𝓤) (W : Given
 
   -- what the function says of its result
   abbrev Said : Standing → Type 0
-  Said r = (stand-of r ≡ next (now s) n) × Sized (r .leaf)
+  Said r = Gives (next (now s) n) r
 
   exits : (r : Standing) (u : Val) → Said r → ent 𝓤 (⋆ 𝓤 H A (‵ (R.the-row .own r (u ∷ [])) ∷ (‵ (flft κ q) ⊛ ‵ ftrue) ∷ ‵ (Own κ s) ∷ [])) (Post u)
   exits r u e =
@@ -90,7 +89,7 @@ module _ {M : Type 1} (𝓤 : URA M) (H : Heap 𝓤) (A : Atoms 𝓤) (W : Given
         split ! $ move ! (1 ∷ []) $ use1 W (raw (fact 𝓤 (Opened s n w))) (open-said 𝓤 H A W mem run κ q s n w) $ heard ! (Opened s n w) (λ e. split ! $ move ! (1 ∷ []) $
         -- [what the walker owns; the token; what the slice owns; the locals from the last one on]
         peeks ! (B (κ, tt)) (Is (B (κ, tt))) (shows 𝓤 H A (B (κ, tt))) w (u ∷ []) (λ is. land ! (from ! (stop !)) (init ! 3 refl (LL.lawful (T.the-type (αᵉ κ)) (T′.the-laws (αᵉ κ)) 𝓤 H A W .typed w _ is .0)) $
-        use2 W (raw (Next 𝓤 H A mem run .pre (to-next 𝓤 H A W mem run κ q w u))) (goes-next 𝓤 H A W mem run κ q w u (subst (λ (x : RefT (List ℕ)). Walks (now x) (w .at)) (sym (e .0)) (e .1))) $
+        use2 W (raw (Next 𝓤 H A mem run .pre (to-next 𝓤 H A W mem run κ q w u))) (goes-next 𝓤 H A W mem run κ q w u (subst (λ (x : RefT (List ℕ)). Walks (now x) (w .at)) (sym (e .0)) (e .1 .walks))) $
         calls-at ! fm (Next 𝓤 H A mem run) known-move (to-next 𝓤 H A W mem run κ q w u) (and-then ! (load ! (from ! (stop !)) (look ! 2 refl)) (no-more !)) (λ u′.
         use1 W (later (some (λ (w′ : Walker). ((‵ (flft κ q) ⊛ ‵ ftrue) ⊛ ‵ (B (κ, tt) .own w′ (u′ ∷ []))) ⊛ raw (ensured 𝓤 H A move-on.ended (move-on.clauses 𝓤 H A mem run) (κ, tt) (w, tt) tt w′)))) (id⊢ 𝓤 _) $ await ! tt $ pick ! (λ w′.
         split ! $ move ! (1 ∷ []) $ use1 W (raw (fact 𝓤 (Moved-on w w′))) (next-said 𝓤 H A W mem run κ q w u w′) $ heard ! (Moved-on w w′) (λ m. split ! $ move ! (1 ∷ []) $
@@ -103,7 +102,7 @@ module _ {M : Type 1} (𝓤 : URA M) (H : Heap 𝓤) (A : Atoms 𝓤) (W : Given
         peeks ! R.the-row (Is R.the-row) (shows 𝓤 H A R.the-row) r (t ∷ []) (λ ir. land ! (from ! (stop !)) (init ! 11 refl (LL.lawful R.the-type R′.the-laws 𝓤 H A W .typed r _ ir .0)) $
         returns ! (look ! 11 refl) $ forget ! 3 refl $ forget ! 5 refl $ forget ! 7 refl $ forget ! 9 refl $ forget ! 11 refl $
         move ! (11 ∷ 12 ∷ []) $ free1 ! $ move ! (9 ∷ 10 ∷ []) $ free1 ! $ move ! (7 ∷ 8 ∷ []) $ free1 ! $ move ! (5 ∷ 6 ∷ []) $ free1 ! $ move ! (3 ∷ 4 ∷ []) $ free1 ! $ free0 ! $
-        by ! (exits r t (f .0 ∙ ap {B = Walk.Stand} (λ (x : RefT (List ℕ)). open-walk (now x) (w′ .at .place)) (m .0) ∙ m .1 .stands ∙ ap₂ {C = Walk.Stand} (λ (x : RefT (List ℕ)) (k : ℕ). next (now x) k) (e .0) (e .2), f .1)))))))))))))))))))
+        by ! (exits r t (subst (λ (said : Walk.Stand). Gives said r) (ap {B = Walk.Stand} (λ (x : RefT (List ℕ)). open-walk (now x) (w′ .at .place)) (m .0) ∙ m .1 .stands ∙ ap₂ {C = Walk.Stand} (λ (x : RefT (List ℕ)) (k : ℕ). next (now x) k) (e .0) (e .1 .place-is)) f)))))))))))))))))))
 
 module _ {M : Type 1} (𝓤 : URA M) (H : Heap 𝓤) (A : Atoms 𝓤) (W : Given 𝓤 H A) (mem : Memory → SProp 𝓤) (run : Routine → Fun 𝓤) where
   next-walks : (C : Calls 𝓤 H) (Λ : Loops 𝓤 H) → FmC 𝓤 H (W .laws) C → Triple 𝓤 (C #walk·open) (Open 𝓤 H A mem run) → Triple 𝓤 (C #walk·move) (Next 𝓤 H A mem run) → Triple 𝓤 (C #walk·stand) (Stand 𝓤 H A mem run)

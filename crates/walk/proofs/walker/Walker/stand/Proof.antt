@@ -1,4 +1,4 @@
--- `Walker::stand` meets its contract: a walk of its MIR, by hand. The walker is taken apart, and `stand` is called on the slice and the state. All that the proof knows of `stand` is that it meets its contract.
+-- `Walker::stand` meets its contract: a walk of its MIR, by hand. The walker is taken apart, and `stand_state` is called on the slice and the state. All that the proof knows of `stand_state` is that it meets its contract.
 -- The walker is Copy: what it owns is had twice, and one copy is kept whole for the exit. The callee takes the fields in their order and nothing else, so what the fields own together is what it asks, by computation.
 use mathlib.Core.Path.{_≡_, refl}
 use mathlib.Core.List.{[], _∷_}
@@ -36,8 +36,7 @@ use denote.Triple.Walked.{says, needs, Stays, stay-none, walkOf, goes-none, Walk
 use denote.Exit.{yes}
 use denote.Triple.Clauses.{ensured, lasts}
 use Rattle.spec.specs.Walk.{open-walk}
-use Rattle.image_types.specs.Value.{Sized}
-use Rattle.walk.specs.Walks.{stand-of, Walks}
+use Rattle.walk.specs.Walks.{Gives, Walks}
 use Rattle.walk.specs.declared.states.Standing.{Standing}
 use Rattle.walk.specs.declared.walker.Walker.{Walker}
 use Rattle.walk.proofs.walker.Walker.Laws as T′
@@ -46,10 +45,10 @@ use Rattle.walk.proofs.states.State as S
 use Rattle.walk.proofs.states.State.Laws as S′
 use Rattle.walk.proofs.states.Standing as R
 use Rattle.walk.proofs.states.Standing.Laws as R′
-use Rattle.walk.proofs.states.stand as stand
-use Rattle.walk.proofs.states.stand.Symbol as stand-def
-use Rattle.walk.proofs.states.stand.Symbol.{name as #walk·stand}
-use Rattle.walk.proofs.states.stand.Met as stand-thm
+use Rattle.walk.proofs.states.stand_state as stand
+use Rattle.walk.proofs.states.stand_state.Symbol as stand-def
+use Rattle.walk.proofs.states.stand_state.Symbol.{name as #walk·stand}
+use Rattle.walk.proofs.states.stand_state.Met as stand-thm
 use Rattle.walk.proofs.walker.Walker.stand.Key.{name as #walk·method}
 use Rattle.walk.proofs.walker.Walker.stand as method
 use Rattle.walk.proofs.walker.Walker.stand.Statement as stated
@@ -69,7 +68,7 @@ module _ {M : Type 1} (𝓤 : URA M) (H : Heap 𝓤) (A : Atoms 𝓤) (W : Given
 
   -- what both say of the result
   abbrev Said : Standing → Type 0
-  Said r = (stand-of r ≡ open-walk (now (d .image)) (d .at .place)) × Sized (r .leaf)
+  Said r = Gives (open-walk (now (d .image)) (d .at .place)) r
 
   abbrev Post : Val → SProp 𝓤
   Post = walkOf 𝓤 H A method.ended stayed (method.clauses 𝓤 H A mem run) .post (((κ, tt), (q, tt), tt, (d, tt), (mach ∷ [], tt)), tt)
@@ -143,4 +142,4 @@ stand-spec 𝓤 H 𝓜 𝓖 𝓡 =
     entered 𝓤 H (tripleOf 𝓤 H (𝓖 .A) method.signature (method.spec 𝓤 H (𝓖 .A) (𝓜 .mem) (𝓡 .run)))
     (tables 𝓤 H 𝓜 𝓡 code.env .C) (tables 𝓤 H 𝓜 𝓡 code.env .Λ) #walk·method code.function (code.unfolded 𝓤 H 𝓜 𝓡)
     (stand-meets 𝓤 H (𝓖 .A) (givenOf 𝓤 H 𝓜 𝓖) (𝓜 .mem) (𝓡 .run) (tablesOf 𝓤 H 𝓜 (tables 𝓤 H 𝓜 𝓡 code.env))
-    (cited 𝓤 H (Called 𝓤 H (𝓖 .A) (𝓜 .mem) (𝓡 .run)) 𝓜 𝓡 code.env #walk·stand stand-def.routine code.calls-walk·states·stand (stand-thm.met 𝓤 H 𝓜 𝓖 𝓡)))
+    (cited 𝓤 H (Called 𝓤 H (𝓖 .A) (𝓜 .mem) (𝓡 .run)) 𝓜 𝓡 code.env #walk·stand stand-def.routine code.calls-walk·states·stand-state (stand-thm.met 𝓤 H 𝓜 𝓖 𝓡)))

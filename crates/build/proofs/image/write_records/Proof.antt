@@ -1,0 +1,67 @@
+-- One record more stands behind those before it.
+use Prim.Native.Nat.{ℕ, _≤_, _-_}
+use mathlib.Core.Path.{_≡_, subst}
+use Rattle.build_laws.specs.Plan.{Written, written-none, written-asks, written-more, written-all}
+use borrow.Author.Needs.{needs}
+use native.Mathlib.Omega.{arith}
+use Rattle.build.proofs.image.write_records.Statement.{statement}
+use Rattle.build.proofs.image.write_records.Tie as tie
+
+abbrev Inv-loop : tie.InvT-loop
+Inv-loop out₀ list plan i₀ out i = (i ≤ 12) × Written list plan out₀ i out
+
+abbrev μ-loop : tie.MeasureT-loop
+μ-loop out₀ list plan i₀ out i = 12 - i
+
+loop-holds : tie.Need-loop-holds Inv-loop μ-loop
+loop-holds c =
+    let pre = c .before .before .pre in
+    let a = c .before .before .args in
+    (omega arith, written-none (a .list .now) (a .plan) (pre .0) (a .out .now) (pre .1))
+
+write-record-requires : tie.Need-write-record-requires Inv-loop μ-loop
+write-record-requires c κs =
+    let pre = c .before .before .before .before .before .pre in
+    let a = c .before .before .before .before .before .args in
+    let l = c .before .before .loop in
+    written-asks (a .list .now) (a .plan) (pre .0) (a .out .now) (pre .1) (l .i) (l .out) (c .before .loop-test .taken) (l .inv .1)
+
+add-i : tie.Need-add-i Inv-loop μ-loop
+add-i c = search needs
+
+loop-less : tie.Need-loop-less Inv-loop μ-loop
+loop-less c = search needs
+
+loop-again : tie.Need-loop-again Inv-loop μ-loop
+loop-again c =
+    let pre = c .before .before .before .before .before .before .before .before .pre in
+    let loop-test = c .before .before .before .before .loop-test in
+    let write-record = c .before .before .write-record in
+    let a = c .before .before .before .before .before .before .before .before .args in
+    let l = c .before .before .before .before .before .loop in
+    (omega arith, written-more (a .list .now) (a .plan) (pre .0) (a .out .now) (pre .1) (l .i) (l .out) _ (loop-test .taken) (l .inv .1) (write-record .ensures))
+
+same-length : tie.Need-same-length Inv-loop μ-loop
+same-length c = c .before .loop .inv .1 .size
+
+returns : tie.Need-returns Inv-loop μ-loop
+returns c =
+    let pre = c .before .before .before .before .pre in
+    let a = c .before .before .before .before .args in
+    let l = c .before .loop in
+    let e : l .i ≡ 12 = omega arith in
+    written-all (a .list .now) (a .plan) (pre .0) (a .out .now) (pre .1) (l .out) (subst (λ (n : ℕ). Written (a .list .now) (a .plan) (a .out .now) n (l .out)) e (l .inv .1))
+
+pub write-records-spec : {M : Type 1} → statement M
+write-records-spec =
+    tie.close
+    (tie.spec
+    Inv-loop
+    μ-loop
+    loop-holds
+    write-record-requires
+    add-i
+    loop-less
+    loop-again
+    same-length
+    returns)

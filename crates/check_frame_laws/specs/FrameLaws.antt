@@ -1,0 +1,219 @@
+-- A frame from what the reader of the frame finds: the header stands, the records stand one behind the other up to the end, and their lengths are those that the header gives.
+use Prim.Native.Nat.{ℕ, _+_, _*_, _≤_, _<_}
+use mathlib.Core.Path.{_≡_, refl, sym, ap, _∙_}
+use mathlib.Core.Bool.{Bool, true, false, _&&_, true≢false, and-false, and-assoc, and-true}
+use mathlib.Core.List.{List, [], _∷_}
+use mathlib.Core.Option.{none, some}
+use lib.ListN.{length, getD, drop}
+use lib.Dec.{leb, eqb}
+use borrow.Author.Tests.{lt-leb, le-leb, leb-true, ne-eqb, eq-eqb}
+use Rattle.spec.specs.Bytes.{Bytes, blocks, every}
+use Rattle.spec.specs.Image.{rows, sizes}
+use Rattle.spec.specs.Frame.{has-header, read-bodies, named, parts}
+use Rattle.spec.specs.Check.{header-valid}
+use Rattle.theory.specs.Demands.{Passes-11, Passes-12, Check-refusal, header-missing, records-missing, header-wrong}
+use Rattle.bits_laws.specs.Bits.{rank}
+use Rattle.image_types.specs.Header.{settings-of, counts-of, Reads-header}
+use Rattle.image_types.specs.Records.{records-end, bodies-at, read-is, lengths-agree, starts, rows-end-at, laid-bodies, sized-is, bodies-laid}
+use Rattle.image_types.specs.FrameOf.{frame-bodies, frame-parts, Chained, FrameOf, Within, within}
+use Rattle.image_types.specs.declared.Header.{Header}
+use Rattle.image_types.specs.declared.DenseTotals.{DenseTotals}
+use Rattle.image_types.specs.declared.Frame.{Frame}
+
+-- ---- the header
+
+-- a header that is too short: 11
+pub header-short : (s : Bytes) → length s < 22 → Check-refusal s 11
+unfolding has-header every
+header-short s h = header-missing (rw (lt-leb 22 (length s) h))
+
+-- another first letter: 11
+pub header-first : (s : Bytes) → (getD s 0 0 ≡ 72 → ⊥) → Check-refusal s 11
+unfolding has-header every
+header-first s h = header-missing (rw (ne-eqb (getD s 0 0) 72 h) (and-false (leb 22 (length s))))
+
+-- another second letter: 11
+pub header-second : (s : Bytes) → (getD s 1 0 ≡ 68 → ⊥) → Check-refusal s 11
+unfolding has-header every
+header-second s h = header-missing (rw (ne-eqb (getD s 1 0) 68 h, and-false (eqb (getD s 0 0) 72)) (and-false (leb 22 (length s))))
+
+-- 22 bytes and "HD"
+pub header-stands : (s : Bytes) → 22 ≤ length s → getD s 0 0 ≡ 72 → getD s 1 0 ≡ 68 → has-header s ≡ true
+unfolding has-header every
+header-stands s l a b = rw (le-leb 22 (length s) l, eq-eqb (getD s 0 0) 72 a, eq-eqb (getD s 1 0) 68 b)
+
+-- the header's version, settings, zero byte and leaf count are in range
+abbrev pub settings-valid : Bytes → Header → Bool
+settings-valid s h = eqb (getD s 2 0) 1 && leb (h .dense .levels) 4 && leb (h .width) 16 && eqb (getD s 5 0) 0 && leb (h .leaves) 65535
+
+-- ---- the records
+
+-- records that do not all stand: 11
+pub records-absent : (s : Bytes) → 22 ≤ length s → records-end rows s 22 ≡ none → Check-refusal s 11
+records-absent s l e = records-missing (read-is rows s 22 l ∙ rw e)
+
+-- records that end before the bytes do: 11
+pub records-short : (s : Bytes) (end : ℕ) → 22 ≤ length s → records-end rows s 22 ≡ some end → (end ≡ length s → ⊥) → Check-refusal s 11
+records-short s end l e n = records-missing (read-is rows s 22 l ∙ rw (e, ne-eqb end (length s) n))
+
+-- the records stand behind the header, the last one up to the end
+pub record Records-stand (s : Bytes) : Type 0 where
+  pub long : 22 ≤ length s
+  pub end : records-end rows s 22 ≡ some (length s)
+
+-- header and records stand, and the header by value is the one that is read
+pub record Frame-stands (s : Bytes) (h : Header) : Type 0 where
+  pub header : has-header s ≡ true
+  pub records : Records-stand s
+  pub reads : Reads-header s h
+
+-- besides, what the header says is in range, and each record has the length that it gives
+pub record Laid-out (s : Bytes) (h : Header) : Type 0 where
+  pub stands : Frame-stands s h
+  pub settings : settings-valid s h ≡ true
+  pub lengths : lengths-agree (settings-of h) (counts-of h) rows s 22 ≡ true
+
+-- the bodies are read
+bodies-read : (s : Bytes) → Records-stand s → read-bodies rows (drop 22 s) ≡ some (bodies-at rows s 22)
+bodies-read s r = read-is rows s 22 (r .long) ∙ rw (r .end, eq-eqb (length s) (length s) refl)
+
+regroup : (a b c d e f : Bool) → every (a ∷ b ∷ c ∷ d ∷ e ∷ f ∷ []) ≡ ((a && b && c && d && e) && f)
+unfolding every
+regroup a b c d e f = simp (and-assoc, and-true)
+
+-- the tests of number 12, by the header by value and the lengths that the records say
+tests-12 : (s : Bytes) (h : Header) → Frame-stands s h → header-valid s (parts s (named (bodies-at rows s 22))) (bodies-at rows s 22) ≡ (settings-valid s h && lengths-agree (settings-of h) (counts-of h) rows s 22)
+unfolding header-valid parts sizes
+tests-12 s h p =
+    rw (← p .reads .settings, ← p .reads .counts, sized-is (settings-of h) (counts-of h) rows s 22 (length s) (p .records .long) (p .records .end))
+    (regroup (eqb (getD s 2 0) 1) (leb (h .dense .levels) 4) (leb (h .width) 16) (eqb (getD s 5 0) 0) (leb (h .leaves) 65535) (lengths-agree (settings-of h) (counts-of h) rows s 22))
+
+-- 11 does not apply
+stands-passes : (s : Bytes) (h : Header) → Frame-stands s h → Passes-11 s (bodies-at rows s 22)
+stands-passes s h p = record { header = p .header; bodies = bodies-read s (p .records) }
+
+module _ (s : Bytes) (h : Header) (p : Frame-stands s h) where
+  refused-12 : (settings-valid s h && lengths-agree (settings-of h) (counts-of h) rows s 22) ≡ false → Check-refusal s 12
+  refused-12 e = header-wrong (bodies-at rows s 22) (stands-passes s h p) (tests-12 s h p ∙ e)
+
+  -- a setting or the leaf count is out of range: 12
+  pub settings-wrong : settings-valid s h ≡ false → Check-refusal s 12
+  settings-wrong e = refused-12 (rw e)
+
+  -- a length is not the one that the header gives: 12
+  pub lengths-wrong : lengths-agree (settings-of h) (counts-of h) rows s 22 ≡ false → Check-refusal s 12
+  lengths-wrong e = refused-12 (rw e (and-false (settings-valid s h)))
+
+-- ---- the frame
+
+-- the frame of a header, of the starts of the records and of the totals of the dense nodes
+abbrev pub frame-at : Header → List ℕ → DenseTotals → Frame
+frame-at h a t = record {
+  width = h .width;
+  leaves = h .leaves;
+  dense = h .dense;
+  sparse = h .sparse;
+  totals = t;
+  dl = getD a 0 0 + 6;
+  dc = getD a 1 0 + 6;
+  dp = getD a 2 0 + 6;
+  sl = getD a 3 0 + 6;
+  sc = getD a 4 0 + 6;
+  sb = getD a 5 0 + 6;
+  sv = getD a 6 0 + 6;
+  rl = getD a 7 0 + 6;
+  rc = getD a 8 0 + 6;
+  rp = getD a 9 0 + 6;
+  rs = getD a 10 0 + 6;
+  ts = getD a 11 0 + 6;
+}
+
+-- the starts that a header gives
+abbrev pub header-starts : Header → List ℕ
+header-starts h = starts (settings-of h) (counts-of h) rows 22
+
+-- the totals of the dense nodes, whose bodies stand at these offsets
+pub record Totals (s : Bytes) (dl dc dp n : ℕ) (t : DenseTotals) : Type 0 where
+  pub children : t .children ≡ rank (drop dc s) (256 * n)
+  pub entries : t .entries ≡ rank (drop dl s) (256 * n) + rank (drop dp s) n
+
+-- five tests that all pass
+five-pass : (a b c d e : Bool) → (a && b && c && d && e) ≡ true → (b ≡ true) × (c ≡ true) × (e ≡ true)
+five-pass true true true true true h = (refl, refl, refl)
+five-pass false b c d e h = absurd (true≢false (sym h))
+five-pass true false c d e h = absurd (true≢false (sym h))
+five-pass true true false d e h = absurd (true≢false (sym h))
+five-pass true true true false e h = absurd (true≢false (sym h))
+five-pass true true true true false h = absurd (true≢false (sym h))
+
+-- the bodies that are laid out are those of the frame
+laid-same : (s : Bytes) (h : Header) (t : DenseTotals) → laid-bodies (settings-of h) (counts-of h) rows s 22 ≡ frame-bodies s (frame-at h (header-starts h) t)
+unfolding laid-bodies starts rows
+laid-same s h t = refl
+
+parts-same : (s : Bytes) (h : Header) (t : DenseTotals) → Reads-header s h → parts s (named (frame-bodies s (frame-at h (header-starts h) t))) ≡ frame-parts s (frame-at h (header-starts h) t)
+unfolding parts named
+parts-same s h t r = rw (← r .settings, ← r .counts)
+
+end-same : (s : Bytes) (h : Header) (t : DenseTotals) → length s ≡ rows-end-at (settings-of h) (counts-of h) rows 22
+    → frame-at h (header-starts h) t .ts + 4 * blocks 64 (h .sparse .nodes) ≡ length s
+unfolding rows-end-at starts rows
+end-same s h t e = sym e
+
+chained-starts : (h : Header) (t : DenseTotals) → Chained (frame-at h (header-starts h) t)
+unfolding starts rows
+chained-starts h t = record { dl = refl; dc = refl; dp = refl; sl = refl; sc = refl; sb = refl; sv = refl; rl = refl; rc = refl; rp = refl; rs = refl; ts = refl }
+
+-- A laid-out image has the frame that its header gives.
+pub frame-laid : (s : Bytes) (h : Header) (t : DenseTotals) → Laid-out s h
+    → Totals s (getD (header-starts h) 0 0 + 6) (getD (header-starts h) 1 0 + 6) (getD (header-starts h) 2 0 + 6) (h .dense .nodes) t → FrameOf s (frame-at h (header-starts h) t)
+frame-laid s h t o n =
+    let p = o .stands in
+    let b = bodies-laid (settings-of h) (counts-of h) rows s 22 (length s) (o .lengths) (p .records .end) in
+    let same : bodies-at rows s 22 ≡ frame-bodies s (frame-at h (header-starts h) t) = b .0 ∙ laid-same s h t in
+    let q = five-pass (eqb (getD s 2 0) 1) (leb (h .dense .levels) 4) (leb (h .width) 16) (eqb (getD s 5 0) 0) (leb (h .leaves) 65535) (o .settings) in
+    let all : (settings-valid s h && lengths-agree (settings-of h) (counts-of h) rows s 22) ≡ true = rw (o .settings, o .lengths) in
+    record {
+      header = p .header;
+      bodies = bodies-read s (p .records) ∙ ap some same;
+      parts-are = parts-same s h t (p .reads);
+      valid = rw (← same) (tests-12 s h p ∙ all);
+      levels = leb-true (h .dense .levels) 4 (q .0);
+      width = leb-true (h .width) 16 (q .1);
+      leaves = leb-true (h .leaves) 65535 (q .2);
+      dense = p .reads .short .dense-nodes;
+      entries = p .reads .short .sparse-entries;
+      sparse = p .reads .short .sparse-nodes;
+      chained = chained-starts h t;
+      end = end-same s h t (b .1);
+      children = n .children;
+      dense-entries = n .entries;
+    }
+
+-- the totals of the dense nodes, by the ones of their bodies
+abbrev laid-totals : Bytes → Header → DenseTotals
+laid-totals s h = record {
+  children = rank (drop (getD (header-starts h) 1 0 + 6) s) (256 * h .dense .nodes);
+  entries = rank (drop (getD (header-starts h) 0 0 + 6) s) (256 * h .dense .nodes) + rank (drop (getD (header-starts h) 2 0 + 6) s) (h .dense .nodes);
+}
+
+-- A laid-out image has each body within it.
+pub laid-within : (s : Bytes) (h : Header) → Laid-out s h → Within s (frame-at h (header-starts h) (laid-totals s h))
+laid-within s h o = within s (frame-at h (header-starts h) (laid-totals s h)) (frame-laid s h (laid-totals s h) o (record { children = refl; entries = refl }))
+
+-- the dense nodes' bodies lie within the image
+pub record Dense-within (s : Bytes) (dl dc dp n : ℕ) : Type 0 where
+  pub few : n < 4294967296
+  pub labels : dl + 32 * n ≤ length s
+  pub has-child : dc + 32 * n ≤ length s
+  pub is-prefix-key : dp + blocks 8 n ≤ length s
+
+-- A laid-out image has them there.
+pub dense-laid : (s : Bytes) (h : Header) → Laid-out s h → Dense-within s (getD (header-starts h) 0 0 + 6) (getD (header-starts h) 1 0 + 6) (getD (header-starts h) 2 0 + 6) (h .dense .nodes)
+dense-laid s h o = let w = laid-within s h o in record { few = o .stands .reads .short .dense-nodes; labels = w .dl; has-child = w .dc; is-prefix-key = w .dp }
+
+-- ---- the stage
+
+-- An image with a frame passed the numbers 11 and 12, and its records' bodies are the frame's.
+pub frame-passes : (s : Bytes) (f : Frame) → FrameOf s f → Passes-12 s (frame-bodies s f)
+frame-passes s f o = record { before = record { header = o .header; bodies = o .bodies }; header = o .valid }

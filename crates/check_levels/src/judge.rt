@@ -1,0 +1,53 @@
+// Number 14's tests of the levels: each level ends where the next one starts, one behind the branches that continue before the end of the last.
+ghost use mathlib.Core.Path.{_≡_};
+ghost use mathlib.Core.Bool.{cond};
+ghost use Prim.Native.Nat.{_<_};
+ghost use Rattle.check_trie_laws.specs.Levels.{Louds-valid, node-count, levels-valid};
+use super::step::level_at;
+use check_trie_laws::Level;
+use image_types::BitPos;
+use image_types::Frame;
+use image_types::NodeNum;
+
+// The most levels of nodes that a trie has: keys have at most as many bytes.
+const MAX_LEVELS: usize = 64;
+
+// One of two numbers.
+fn pick(first: bool, x: usize, y: usize) -> usize
+    ensures { λ r. ⌜ r ≡ cond first x y ⌝ }
+{
+    if first { x } else { y }
+}
+
+// Whether the ends of the levels rise to the node count in at most 64 levels, and the dense nodes are those on the dense levels.
+pub fn levels_valid(image: &[u8], f: Frame) -> bool
+    requires { ⌜ Louds-valid (now image) f × (0 < node-count f) ⌝ }
+    ensures { λ r. ⌜ r ≡ levels-valid (now (image .entry)) f ⌝ }
+{
+    let nodes = f.dense.nodes + f.sparse.nodes;
+    let mut level = Level {
+        node: NodeNum(0),
+        entry: BitPos(0),
+        branches: 0,
+    };
+    let mut end = 1usize;
+    let mut depth = 1usize;
+    let mut above = 0usize;
+    while end < nodes {
+        if depth == MAX_LEVELS {
+            return false;
+        }
+        level = level_at(image, f, level, NodeNum(end));
+        let next = level.branches + 1;
+        if next <= end {
+            return false;
+        }
+        if nodes < next {
+            return false;
+        }
+        above = pick(depth == f.dense.levels, end, above);
+        end = next;
+        depth = depth + 1;
+    }
+    pick(depth <= f.dense.levels, end, above) == f.dense.nodes
+}

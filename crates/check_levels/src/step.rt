@@ -1,0 +1,66 @@
+// A level from one before it, by select on S-LOUDS and rank on S-HasChild, or by rank on D-HasChild.
+ghost use mathlib.Core.Path.{_≡_};
+ghost use Prim.Native.Nat.{_-_, _≤_, _<_};
+ghost use Rattle.check_trie_laws.specs.Levels.{Louds-valid, LevelOf, Behind};
+use bits::numbers::bytes_for;
+use bits::ones::rank_on;
+use bits::parts::part;
+use bits::select::select_from;
+use check_trie_laws::Level;
+use image_types::BitPos;
+use image_types::Frame;
+use image_types::NodeNum;
+
+// How much a number is above another, 0 where it is not.
+fn excess(x: usize, y: usize) -> usize
+    ensures { λ r. ⌜ r ≡ x - y ⌝ }
+{
+    if x <= y {
+        return 0;
+    }
+    x - y
+}
+
+// The level that starts at a dense node, or at the first sparse one.
+fn dense_level(image: &[u8], f: Frame, from: Level, node: NodeNum) -> Level
+    requires { ⌜ Louds-valid (now image) f × LevelOf (now image) f from × Behind f from (node .0) × (node .0 ≤ f .dense .nodes) ⌝ }
+    ensures { λ r. ⌜ LevelOf (now (image .entry)) f r × (r .node .0 ≡ node .0) ⌝ }
+{
+    let dc = part(image, f.dc, 32 * f.dense.nodes);
+    let branches = rank_on(dc, 256 * from.node.0, from.branches, 256 * node.0);
+    Level {
+        node,
+        entry: BitPos(0),
+        branches,
+    }
+}
+
+// The level that starts at a sparse node.
+fn sparse_level(image: &[u8], f: Frame, from: Level, node: NodeNum) -> Level
+    requires { ⌜ Louds-valid (now image) f × LevelOf (now image) f from × Behind f from (node .0) × (f .dense .nodes < node .0) ⌝ }
+    ensures { λ r. ⌜ LevelOf (now (image .entry)) f r × (r .node .0 ≡ node .0) ⌝ }
+{
+    let entries = f.sparse.entries;
+    let sc = part(image, f.sc, bytes_for(entries));
+    let sb = part(image, f.sb, bytes_for(entries));
+    let starts = excess(from.node.0, f.dense.nodes);
+    let entry = select_from(sb, entries, from.entry.0, starts, node.0 - f.dense.nodes);
+    let children = excess(from.branches, f.totals.children);
+    let branches = f.totals.children + rank_on(sc, from.entry.0, children, entry);
+    Level {
+        node,
+        entry: BitPos(entry),
+        branches,
+    }
+}
+
+// The level that starts at a node, from a level at or before it.
+pub fn level_at(image: &[u8], f: Frame, from: Level, node: NodeNum) -> Level
+    requires { ⌜ Louds-valid (now image) f × LevelOf (now image) f from × Behind f from (node .0) ⌝ }
+    ensures { λ r. ⌜ LevelOf (now (image .entry)) f r × (r .node .0 ≡ node .0) ⌝ }
+{
+    if node.0 <= f.dense.nodes {
+        return dense_level(image, f, from, node);
+    }
+    sparse_level(image, f, from, node)
+}

@@ -1,0 +1,52 @@
+// Bits and suffix slots that are clear, by counts of ones in words.
+ghost use mathlib.Core.Path.{_≡_};
+ghost use Prim.Native.Nat.{_-_, _*_, _≤_};
+ghost use lib.ListN.{length};
+ghost use Rattle.check_trie_laws.specs.Positions.{bits};
+ghost use Rattle.check_trie_laws.specs.Ranges.{all-from};
+ghost use Rattle.check_slots_laws.specs.NodeSlots.{slot-clear};
+ghost use Rattle.check_slots_laws.specs.SlotBits.{bits-clear, Slots-sized};
+use bits::ones::ones_before;
+use bits::ones::ones_between;
+use image_types::BitPos;
+use image_types::ValuePos;
+
+// Whether no bit of s is set from one position to another.
+pub fn bits_clear(s: &[u8], from: BitPos, to: BitPos) -> bool
+    requires { ⌜ (from .0 ≤ to .0) × (to .0 ≤ 8 * length (now s)) ⌝ }
+    ensures { λ r. ⌜ r ≡ bits-clear (now (s .entry)) (from .0) (to .0) ⌝ }
+{
+    let word = from.0 / 64;
+    ones_between(s, word, to.0) == ones_before(s, word, from.0 % 64)
+}
+
+// Whether a slot, of so many leaves, has no bit set; behind the last slot stand no bits.
+pub fn slot_clear(sv: &[u8], leaves: usize, width: usize, slot: ValuePos) -> bool
+    requires { ⌜ Slots-sized (now sv) leaves width ⌝ }
+    ensures { λ r. ⌜ r ≡ slot-clear 0 width (bits (now (sv .entry)) (leaves * width)) (slot .0) ⌝ }
+{
+    if leaves <= slot.0 {
+        return true;
+    }
+    let at = slot.0 * width;
+    bits_clear(sv, BitPos(at), BitPos(at + width))
+}
+
+// Whether the slots from one to another have no bit set behind their first byte.
+pub fn past_clear(sv: &[u8], leaves: usize, width: usize, from: ValuePos, to: ValuePos) -> bool
+    requires { ⌜ Slots-sized (now sv) leaves width × (to .0 ≤ leaves) ⌝ }
+    ensures { λ r. ⌜ r ≡ all-from (slot-clear 1 width (bits (now (sv .entry)) (leaves * width))) (from .0) (to .0 - from .0) ⌝ }
+{
+    if width <= 8 {
+        return true;
+    }
+    let mut v = from.0;
+    while v < to.0 {
+        let at = v * width;
+        if !bits_clear(sv, BitPos(at + 8), BitPos(at + width)) {
+            return false;
+        }
+        v = v + 1;
+    }
+    true
+}

@@ -1,0 +1,138 @@
+-- How long what a call writes can get: an image, replies, records. Each is shorter than 2^32 bytes, so that one number can give a refusal's number and the bytes written.
+use Prim.Native.Nat.{ℕ, suc, _+_, _*_, _/_, _<_, _≤_}
+use mathlib.Core.Path.{_≡_, sym, ap, _∙_}
+use mathlib.Core.Bool.{Bool, true, false, cond}
+use mathlib.Core.List.{List, [], _∷_, _++_, map}
+use native.Mathlib.Omega.{arith}
+use lib.ListN.{length, take, length-append}
+use lib.Seq.{length-take-le}
+use Rattle.spec.specs.Bytes.{Bytes, concat, le32}
+use Rattle.spec.specs.Keys.{below, keys-of}
+use Rattle.spec.specs.Leaves.{Leaf, leaves, lowest, highest}
+use Rattle.spec.specs.Image.{Settings, Counts, Row, rows, in-order, marked, write-records, header, image}
+use Rattle.spec.specs.Nodes.{read-leaves}
+use Rattle.spec.specs.Questions.{Question, QP, QS, QB, QR, QC, Reply, found, keyless, sought, greater, seek-from, seek, reply, reply-bytes, replies, taken, parse-questions, questions-of}
+use Rattle.spec.specs.Answer.{written, refusal-weight}
+use Rattle.spec.specs.Build.{build}
+use Rattle.spec.specs.Ask.{ask}
+use Rattle.spec.specs.WalkRecords.{record-size, walk-records}
+use Rattle.theory.specs.Terms.{All, Is-bytes, Proper}
+use Rattle.theory.specs.LeafLists.{All-well-sized}
+use Rattle.theory.specs.Intervals.{lowest-key}
+use Rattle.theory.specs.QuestionFiles.{questions-exactly}
+use Rattle.theory.specs.NodeBits.{bodies, node-counts}
+use Rattle.theory.specs.ImageParts.{image-holds, bodies-small}
+use Rattle.theory.specs.BuildLaws.{Built-from, built-from, built-fits, build-writes-image}
+use Rattle.theory.specs.RefusalNumbers.{check-accepts}
+use Rattle.theory.specs.RefusalLaws.{ask-writes-replies, build-kept, ask-kept}
+use Rattle.theory.specs.WalkRecordLaws.{records-few, records-answered}
+use Rattle.theory.specs.Accept as Accept
+use Rattle.theory.specs.ReadBack.{read-back}
+
+-- ---- images
+
+-- records of small bodies
+records-small : (rs : List Row) (bs : List Bytes) → All (λ b. length b < 16777216) bs → length (write-records rs bs) ≤ 16777222 * length bs
+unfolding write-records marked le32
+records-small [] bs h = omega arith
+records-small (r ∷ rs) [] h = omega arith
+records-small (r ∷ rs) (b ∷ bs) h = omega (arith, length-append (marked (r .first) (r .second) b) (write-records rs bs), h .0, records-small rs bs (h .1))
+
+header-length : (st : Settings) (c : Counts) → length (header st c) ≡ 22
+unfolding header le32
+header-length st c = omega arith
+
+-- The image of a key list has fewer than 2^28 bytes.
+pub image-short : (st : Settings) (ks : List Bytes) → Built-from st ks → length (image st (leaves (st .width) ks)) < 268435456
+image-short st ks b =
+    let i = image-holds st (leaves (st .width) ks) (built-fits st ks b) in
+    let n : ℕ = length (leaves (st .width) ks) in
+    omega (
+      arith,
+      ap length (i .image-is),
+      length-append (header st (node-counts n (i .dense-nodes) (i .sparse-nodes))) (write-records rows (in-order (bodies (i .dense-nodes) (i .sparse-nodes)))),
+      header-length st (node-counts n (i .dense-nodes) (i .sparse-nodes)),
+      records-small rows (in-order (bodies (i .dense-nodes) (i .sparse-nodes))) (bodies-small (st .width) n (i .dense-nodes) (i .sparse-nodes) (i .writable)),
+    )
+
+-- ---- replies
+
+-- the greater of two keys of at most 64 bytes
+greater-small : (a b : Bytes) → length a ≤ 64 → length b ≤ 64 → length (greater a b) ≤ 64
+unfolding greater
+greater-small a b h l = go (below a b)
+  where
+    go : (t : Bool) → length (cond t b a) ≤ 64
+    go true = l
+    go false = h
+
+-- the key of a seek's reply
+sought-small : (w i : ℕ) (ls : List Leaf) (start : Bytes) → All-well-sized w ls → length start ≤ 64 → length (sought (seek-from i ls start) .key) ≤ 64
+unfolding seek-from sought keyless
+sought-small w i [] start o h = omega arith
+sought-small w i (l ∷ ls) start o h = go (below (highest l) start) (sought-small w (suc i) ls start (o .1) h)
+  where
+    go : (b : Bool) → length (sought (seek-from (suc i) ls start) .key) ≤ 64 → length (sought (cond b (seek-from (suc i) ls start) (found i (greater start (lowest l)))) .key) ≤ 64
+    go true ih = ih
+    go false ih = greater-small start (lowest l) h (lowest-key l (o .0) .fits)
+
+-- the key of any reply
+key-small : (w : ℕ) (ls : List Leaf) (q : Question) → All-well-sized w ls → Proper q → length (reply ls q .key) ≤ 64
+unfolding reply keyless seek
+key-small w ls (QP k) o p = omega arith
+key-small w ls (QS start) o p = sought-small w 0 ls start o (p .fits)
+key-small w ls (QB stem) o p = omega arith
+key-small w ls (QR lo hi) o p = omega arith
+key-small w ls (QC lo hi) o p = omega arith
+
+-- the bytes of a reply: mark, letter, number, length and key
+abbrev pub longest-reply : ℕ
+longest-reply = 72
+
+reply-small : (r : Reply) → length (r .key) ≤ 64 → length (reply-bytes r) ≤ longest-reply
+unfolding reply-bytes le32
+reply-small r h = omega arith
+
+replies-small : (w : ℕ) (ls : List Leaf) (qs : List Question) → All-well-sized w ls → All Proper qs → length (replies ls qs) ≤ longest-reply * length qs
+unfolding replies concat
+replies-small w ls [] o p = omega arith
+replies-small w ls (q ∷ qs) o p =
+    omega (arith, length-append (reply-bytes (reply ls q)) (replies ls qs), reply-small (reply ls q) (key-small w ls q o (p .0)), replies-small w ls qs o (p .1))
+
+-- The replies to a file that is taken have at most 72 bytes for each question.
+pub replies-bound : (w : ℕ) (ls : List Leaf) (file : Bytes) (qs : List Question) → All-well-sized w ls → Is-bytes file → parse-questions file ≡ taken qs → length (replies ls qs) ≤ longest-reply * length qs
+replies-bound w ls file qs o small h = replies-small w ls qs o (questions-exactly file qs small .0 h .each)
+
+-- ---- what the calls write
+
+-- an accepted image's leaves are read back
+pub leaves-are : (b : Bytes) (o : Accept.Image-of-leaves b) → read-leaves b ≡ o .leaves
+leaves-are b o = ap read-leaves (o .image-is) ∙ read-back (o .settings) (o .leaves) (o .fits)
+
+-- Build writes fewer than 2^32 bytes.
+pub build-short : (list : Bytes) → Is-bytes list → (st : Settings) (out : Bytes) (n : ℕ) → build list st out .answer ≡ written n → n < refusal-weight
+build-short list w st out n h =
+    let i = build-writes-image list w st out n h in
+    let k = build-kept list st out .success n h in
+    omega (arith, image-short st (keys-of list) (built-from st list (keys-of list) (i .0) (i .1)), sym (length-take-le n (build list st out .final) (omega arith)) ∙ ap length (i .2))
+
+-- Ask writes fewer.
+pub ask-short : (b file : Bytes) → Is-bytes b → Is-bytes file → (out : Bytes) (n : ℕ) → ask b file out .answer ≡ written n → n < refusal-weight
+ask-short b file s w out n h =
+    let r = ask-writes-replies b file out n h in
+    let o = Accept.accepted-is-image b s (check-accepts b .0 (r .0)) in
+    let k = ask-kept b file out .success n h in
+    let q = questions-exactly file (questions-of file) w .0 (r .1) in
+    omega (
+      arith,
+      q .few,
+      replies-bound (o .settings .width) (o .leaves) file (questions-of file) (o .fits .well-sized) w (r .1),
+      sym (length-take-le n (ask b file out .final) (omega arith)) ∙ ap length (r .2) ∙ ap (λ (z : List Leaf). length (replies z (questions-of file))) (leaves-are b o),
+    )
+
+-- A walk writes fewer.
+pub walk-records-short : (b : Bytes) → Is-bytes b → (place : ℕ) (out : Bytes) (n : ℕ) → walk-records b place out .answer ≡ written n → n < refusal-weight
+walk-records-short b s place out n h =
+    let w = records-answered b place out n h in
+    let o = Accept.accepted-is-image b s (w .0) in
+    omega (arith, w .2, records-few (read-leaves b) place (length out / record-size), ap length (leaves-are b o), o .fits .few)
