@@ -4,7 +4,7 @@ ghost use Rattle.spec.specs.Check.{verdict};
 ghost use Rattle.spec.specs.Ask.{ask};
 ghost use Rattle.image_types.specs.FrameOf.{FrameOf};
 ghost use Rattle.image_types.specs.Outcomes.{outcome};
-use ask_files::file::Judged;
+use ask_files::file::QuestionFile;
 use ask_files::file::judge_file;
 use check_image::accept;
 use image_types::Frame;
@@ -16,16 +16,19 @@ use replies::write_replies;
 pub mod lengths; // lengths.rt: whether all replies fit into the buffer
 pub mod replies; // replies.rt: the reply to a question, and all replies in the buffer
 
+// The number of a reply buffer that is too short for the replies.
+const REPLIES_TOO_LONG: u32 = 25;
+
 // Replies to a question file over an accepted image: by question 24, 21, 22, 23; then 25, the replies are longer than the buffer.
 fn ask_accepted(image: &[u8], f: Frame, questions: &[u8], replies: &mut [u8]) -> Written
     requires { ⌜ FrameOf (now image) f × (verdict (now image) ≡ 0) ⌝ }
     ensures { λ r. ⌜ outcome r (now (replies .exit)) ≡ ask (now (image .entry)) (now (questions .entry)) (now (replies .entry)) ⌝ }
 {
     match judge_file(questions) {
-        Judged::Refused(r) => Written::Refused(r),
-        Judged::Taken(count) => {
+        QuestionFile::Refused(r) => Written::Refused(r),
+        QuestionFile::Questions(count) => {
             if !replies_fit(image, f, questions, count, replies.len()) {
-                return Written::Refused(25);
+                return Written::Refused(REPLIES_TOO_LONG);
             }
             let n = write_replies(image, f, questions, replies);
             Written::Bytes(n)

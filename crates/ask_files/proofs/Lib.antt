@@ -1,4 +1,4 @@
 pub mod PlacedLaws
 pub mod AnswerLaws
 pub mod JudgeLaws
-pub mod StepLaws
+pub mod ReadLaws

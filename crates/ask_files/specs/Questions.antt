@@ -11,12 +11,12 @@ use Rattle.bits_laws.specs.Bits.{key}
 use Rattle.ask_laws.specs.QuestionAt.{One-key, Two-keys, No-keys}
 use Rattle.ask_laws.specs.AskedAt.{Key-part, Followed}
 use Rattle.ask_laws.specs.ReplyLaws.{answer}
-use Rattle.ask_files.specs.declared.file.Step.{Step}
-use Rattle.ask_files.specs.declared.file.Step.the-variants.{End, Number}
+use Rattle.ask_files.specs.declared.file.Read.{Read}
+use Rattle.ask_files.specs.declared.file.Read.the-variants.{End, Refused as Read-refused}
 use Rattle.ask_files.specs.declared.file.Keys.{Keys}
 use Rattle.ask_files.specs.declared.file.Keys.the-variants.{One, Two, Wrong}
-use Rattle.ask_files.specs.declared.file.Judged.{Judged}
-use Rattle.ask_files.specs.declared.file.Judged.the-variants.{Taken, Refused}
+use Rattle.ask_files.specs.declared.file.QuestionFile.{QuestionFile}
+use Rattle.ask_files.specs.declared.file.QuestionFile.the-variants.{Questions, Refused}
 use Rattle.ask_files.specs.declared.file.QuestionAt.{QuestionAt}
 use Rattle.ask_files.specs.declared.file.QuestionAt.the-variants.{Point, Seek, Begins, Range, Count}
 use Rattle.ask_files.specs.declared.file.Asked.{Asked}
@@ -26,21 +26,21 @@ use Rattle.ask_files.specs.declared.reply.Answered.{Answered}
 abbrev pub part : Bytes → ℕ → ℕ → Bytes
 part s a e = key s a (e - a)
 
--- what a step says of the key at `at`
-abbrev pub Reads-key : Bytes → ℕ → Step → Type 0
-Reads-key s at (Number r) = read-key (drop at s) ≡ bad r
+-- what reading says of the key at `at`
+abbrev pub Reads-key : Bytes → ℕ → Read → Type 0
+Reads-key s at (Read-refused r) = read-key (drop at s) ≡ bad r
 Reads-key s at (End e) = (at < e) × (e ≤ length s) × (read-key (drop at s) ≡ got (part s (at + 1) e) (drop e s))
 
--- what a step says of the upper bound at m, behind the lower bound from a to m: of every byte string that begins with that lower bound
-abbrev pub Reads-upper : Bytes → ℕ → ℕ → Step → Type 0
-Reads-upper s a m (Number r) = (c : Bytes → Bytes → Question) (t : Bytes) → read-key t ≡ got (part s a m) (drop m s) → two-keys c t ≡ bad r
+-- what reading says of the upper bound at m, behind the lower bound from a to m: of every byte string that begins with that lower bound
+abbrev pub Reads-upper : Bytes → ℕ → ℕ → Read → Type 0
+Reads-upper s a m (Read-refused r) = (c : Bytes → Bytes → Question) (t : Bytes) → read-key t ≡ got (part s a m) (drop m s) → two-keys c t ≡ bad r
 Reads-upper s a m (End e) =
     (m < e) × (e ≤ length s)
     × ((c : Bytes → Bytes → Question) (t : Bytes) → read-key t ≡ got (part s a m) (drop m s) → two-keys c t ≡ got (c (part s a m) (part s (m + 1) e)) (drop e s))
 
--- what a step says of the two bounds at `at`
-abbrev pub Reads-bounds : Bytes → ℕ → Step → Type 0
-Reads-bounds s at (Number r) = (c : Bytes → Bytes → Question) → two-keys c (drop at s) ≡ bad r
+-- what reading says of the two bounds at `at`
+abbrev pub Reads-bounds : Bytes → ℕ → Read → Type 0
+Reads-bounds s at (Read-refused r) = (c : Bytes → Bytes → Question) → two-keys c (drop at s) ≡ bad r
 Reads-bounds s at (End e) = (lo hi : Bytes) × (at < e) × (e ≤ length s) × ((c : Bytes → Bytes → Question) → two-keys c (drop at s) ≡ got (c lo hi) (drop e s))
 
 -- what the keys asked for say of a letter
@@ -49,20 +49,20 @@ Asks x One = One-key x
 Asks x Two = Two-keys x
 Asks x Wrong = No-keys x
 
--- what a step says of the question at `at`
-abbrev pub Reads-question : Bytes → ℕ → Step → Type 0
-Reads-question s at (Number r) = read-question (drop at s) ≡ bad r
+-- what reading says of the question at `at`
+abbrev pub Reads-question : Bytes → ℕ → Read → Type 0
+Reads-question s at (Read-refused r) = read-question (drop at s) ≡ bad r
 Reads-question s at (End e) = (q : Question) × (at < e) × (e ≤ length s) × (read-question (drop at s) ≡ got q (drop e s))
 
 -- the questions read so far, and what the rest of the file is
-unfoldable pub counted : ℕ → Parsed-questions → Judged
+unfoldable pub counted : ℕ → Parsed-questions → QuestionFile
 counted n (refused r) = Refused r
-counted n (taken qs) = Taken (n + length qs)
+counted n (taken qs) = Questions (n + length qs)
 
 -- the answer to a file: how many questions it has, or the number that turns it down
-unfoldable pub judgement : Parsed-questions → Judged
+unfoldable pub question-file : Parsed-questions → QuestionFile
 unfolding counted
-judgement p = counted 0 p
+question-file p = counted 0 p
 
 -- ---- a question by the offsets of its keys
 

@@ -6,15 +6,31 @@ ghost use Rattle.spec.specs.Questions.{parse-questions};
 ghost use Rattle.bits_laws.specs.Bits.{key};
 ghost use Rattle.ask_laws.specs.FileLaws.{Taken-from};
 ghost use Rattle.ask_laws.specs.AskedAt.{Key-part};
-ghost use Rattle.ask_files.specs.Questions.{Reads-key, Reads-upper, Reads-bounds, Asks, Reads-question, judgement, Located};
+ghost use Rattle.ask_files.specs.Questions.{Reads-key, Reads-upper, Reads-bounds, Asks, Reads-question, question-file, Located};
 use bits::numbers::wide;
+use keys::MAX_KEY_BYTES;
 use keys::compare::Order;
 use keys::compare::compare;
 
-// Where what was read ends, or the number that turns the file down.
-pub enum Step {
+// The number of a file that has a wrong mark or too few bytes.
+const MALFORMED: u32 = 21;
+
+// The number of a file that has a key over 64 bytes.
+const KEY_TOO_LONG: u32 = 22;
+
+// The number of a file that has a lower bound above its upper bound.
+const BOUNDS_REVERSED: u32 = 23;
+
+// The number of a file that has more questions than MAX_QUESTIONS.
+const TOO_MANY_QUESTIONS: u32 = 24;
+
+// No file has more questions.
+const MAX_QUESTIONS: usize = 1024;
+
+// A key, two bounds or a question, read at an offset: the offset behind it, or the number that turns the file down.
+pub enum Read {
     End(usize),
-    Number(u32),
+    Refused(u32),
 }
 
 // How many keys the second letter of a mark asks for.
@@ -24,9 +40,9 @@ pub enum Keys {
     Wrong,
 }
 
-// How many questions a file has, or the number that turns it down.
-pub enum Judged {
-    Taken(usize),
+// A question file: how many questions it has, or the number that turns it down.
+pub enum QuestionFile {
+    Questions(usize),
     Refused(u32),
 }
 
@@ -46,50 +62,50 @@ pub struct Asked {
 }
 
 // The key at `at`, a length byte and the key's bytes: 21, bytes missing; 22, a length over 64.
-fn read_key(s: &[u8], at: usize) -> Step
+fn read_key(s: &[u8], at: usize) -> Read
     ensures { λ r. ⌜ Reads-key (now (s .entry)) at r ⌝ }
 {
     if s.len() <= at {
-        return Step::Number(21);
+        return Read::Refused(MALFORMED);
     }
     let n = wide(s[at]);
-    if 64 < n {
-        return Step::Number(22);
+    if MAX_KEY_BYTES < n {
+        return Read::Refused(KEY_TOO_LONG);
     }
     if s.len() - (at + 1) < n {
-        return Step::Number(21);
+        return Read::Refused(MALFORMED);
     }
-    Step::End(at + 1 + n)
+    Read::End(at + 1 + n)
 }
 
 // The upper bound at `middle`, behind the lower bound from `lower` on: the numbers of the key itself; then 23, lower bound above upper.
-fn read_upper(s: &[u8], lower: usize, middle: usize) -> Step
+fn read_upper(s: &[u8], lower: usize, middle: usize) -> Read
     requires { ⌜ (lower ≤ middle) × (middle ≤ length (now s)) ⌝ }
     ensures { λ r. ⌜ Reads-upper (now (s .entry)) lower middle r ⌝ }
 {
-    let step = read_key(s, middle);
-    match step {
-        Step::Number(r) => Step::Number(r),
-        Step::End(end) => {
+    let found = read_key(s, middle);
+    match found {
+        Read::Refused(r) => Read::Refused(r),
+        Read::End(end) => {
             let upper = middle + 1;
             let o = compare(&s[upper..end], &s[lower..middle]);
             match o {
-                Order::Below => Step::Number(23),
-                Order::Equal => Step::End(end),
-                Order::Above => Step::End(end),
+                Order::Below => Read::Refused(BOUNDS_REVERSED),
+                Order::Equal => Read::End(end),
+                Order::Above => Read::End(end),
             }
         }
     }
 }
 
 // The two bounds at `at`, from left to right.
-fn read_bounds(s: &[u8], at: usize) -> Step
+fn read_bounds(s: &[u8], at: usize) -> Read
     ensures { λ r. ⌜ Reads-bounds (now (s .entry)) at r ⌝ }
 {
-    let step = read_key(s, at);
-    match step {
-        Step::Number(r) => Step::Number(r),
-        Step::End(middle) => read_upper(s, at + 1, middle),
+    let found = read_key(s, at);
+    match found {
+        Read::Refused(r) => Read::Refused(r),
+        Read::End(middle) => read_upper(s, at + 1, middle),
     }
 }
 
@@ -116,46 +132,46 @@ fn keys_asked(letter: u8) -> Keys
 }
 
 // The question at `at`: 21, a wrong mark or bytes missing; then the numbers of its keys.
-fn judge_question(s: &[u8], at: usize) -> Step
+fn judge_question(s: &[u8], at: usize) -> Read
     requires { ⌜ at < length (now s) ⌝ }
     ensures { λ r. ⌜ Reads-question (now (s .entry)) at r ⌝ }
 {
     if s.len() - at < 2 {
-        return Step::Number(21);
+        return Read::Refused(MALFORMED);
     }
     if s[at] != b'Q' {
-        return Step::Number(21);
+        return Read::Refused(MALFORMED);
     }
     let keys = keys_asked(s[at + 1]);
     match keys {
         Keys::One => read_key(s, at + 2),
         Keys::Two => read_bounds(s, at + 2),
-        Keys::Wrong => Step::Number(21),
+        Keys::Wrong => Read::Refused(MALFORMED),
     }
 }
 
 // The file's number of questions, or the first number that applies, question by question: 24, it follows 1,024 others; then the question's own.
-pub fn judge_file(s: &[u8]) -> Judged
-    ensures { λ r. ⌜ r ≡ judgement (parse-questions (now (s .entry))) ⌝ }
+pub fn judge_file(s: &[u8]) -> QuestionFile
+    ensures { λ r. ⌜ r ≡ question-file (parse-questions (now (s .entry))) ⌝ }
 {
     let mut at = 0usize;
     let mut count = 0usize;
     while at < s.len() {
-        if count == 1024 {
-            return Judged::Refused(24);
+        if count == MAX_QUESTIONS {
+            return QuestionFile::Refused(TOO_MANY_QUESTIONS);
         }
-        let step = judge_question(s, at);
-        match step {
-            Step::Number(r) => {
-                return Judged::Refused(r);
+        let found = judge_question(s, at);
+        match found {
+            Read::Refused(r) => {
+                return QuestionFile::Refused(r);
             }
-            Step::End(end) => {
+            Read::End(end) => {
                 at = end;
                 count = count + 1;
             }
         }
     }
-    Judged::Taken(count)
+    QuestionFile::Questions(count)
 }
 
 // The question at `at` of a file whose bytes from there on are taken: read again by its letter and its length bytes.

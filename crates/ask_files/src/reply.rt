@@ -9,12 +9,13 @@ ghost use Rattle.ask_laws.specs.ReplyLaws.{answer};
 ghost use Rattle.ask_files.specs.Questions.{reply-mark, reply-head, reply-of, Sized};
 use bits::copy::write_bytes;
 use bits::numbers::write32;
+use keys::MAX_KEY_BYTES;
 
 // A reply by value: its letter, its number, and its key in the first n bytes of an array.
 pub struct Answered {
     pub letter: u8,
     pub number: usize,
-    pub key: [u8; 64],
+    pub key: [u8; MAX_KEY_BYTES],
     pub n: usize,
 }
 
@@ -55,7 +56,7 @@ pub fn keyless(letter: u8, number: usize) -> Answered
     Answered {
         letter,
         number,
-        key: [0u8; 64],
+        key: [0u8; MAX_KEY_BYTES],
         n: 0,
     }
 }

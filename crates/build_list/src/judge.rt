@@ -5,17 +5,28 @@ ghost use lib.ListN.{length};
 ghost use Rattle.spec.specs.Keys.{parse-keys};
 ghost use Rattle.bits_laws.specs.Bits.{key};
 ghost use Rattle.build_laws.specs.KeyList.{Record-read, Record-judged, key-list};
+use super::BEFORE_KEY;
 use bits::numbers::wide;
 use build_laws::KeyList;
 use build_laws::Record;
+use keys::MAX_KEY_BYTES;
 use keys::compare::Order;
 use keys::compare::compare;
 
+// The number of a list that has a wrong mark or too few bytes.
+const MALFORMED: u32 = 1;
+
+// The number of a list that has an empty key or a key over 64 bytes.
+const KEY_LENGTH_WRONG: u32 = 2;
+
+// The number of a list that has a key not above the one before it.
+const KEYS_UNORDERED: u32 = 3;
+
+// The number of a list that has more keys than MAX_KEYS.
+const TOO_MANY_KEYS: u32 = 4;
+
 // No list has more keys.
 const MAX_KEYS: usize = 65535;
-
-// No key has more bytes.
-const MAX_KEY_BYTES: usize = 64;
 
 // The record at `at`, behind `done` others: 4, a record follows 65,535 others; 1, fewer than three bytes or a wrong mark; 2, length 0 or over 64; 1, key bytes missing.
 fn read_record(s: &[u8], at: usize, done: usize) -> Record
@@ -23,26 +34,26 @@ fn read_record(s: &[u8], at: usize, done: usize) -> Record
     ensures { λ r. ⌜ Record-read (now (s .entry)) at done r ⌝ }
 {
     if done == MAX_KEYS {
-        return Record::Refused(4);
+        return Record::Refused(TOO_MANY_KEYS);
     }
-    if s.len() - at < 3 {
-        return Record::Refused(1);
+    if s.len() - at < BEFORE_KEY {
+        return Record::Refused(MALFORMED);
     }
     if s[at] != b'K' {
-        return Record::Refused(1);
+        return Record::Refused(MALFORMED);
     }
     if s[at + 1] != b'Y' {
-        return Record::Refused(1);
+        return Record::Refused(MALFORMED);
     }
     let n = wide(s[at + 2]);
     if n == 0 {
-        return Record::Refused(2);
+        return Record::Refused(KEY_LENGTH_WRONG);
     }
     if MAX_KEY_BYTES < n {
-        return Record::Refused(2);
+        return Record::Refused(KEY_LENGTH_WRONG);
     }
-    if s.len() - (at + 3) < n {
-        return Record::Refused(1);
+    if s.len() - (at + BEFORE_KEY) < n {
+        return Record::Refused(MALFORMED);
     }
     Record::Key(n)
 }
@@ -57,13 +68,13 @@ fn judge_record(s: &[u8], at: usize, done: usize, last: usize, m: usize) -> Reco
         Record::Refused(r) => Record::Refused(r),
         Record::Key(n) => {
             let last_end = last + m;
-            let start = at + 3;
+            let start = at + BEFORE_KEY;
             let end = start + n;
             let o = compare(&s[last..last_end], &s[start..end]);
             match o {
                 Order::Below => Record::Key(n),
-                Order::Equal => Record::Refused(3),
-                Order::Above => Record::Refused(3),
+                Order::Equal => Record::Refused(KEYS_UNORDERED),
+                Order::Above => Record::Refused(KEYS_UNORDERED),
             }
         }
     }
@@ -84,9 +95,9 @@ pub fn judge_list(s: &[u8]) -> KeyList
                 return KeyList::Refused(r);
             }
             Record::Key(n) => {
-                last = at + 3;
+                last = at + BEFORE_KEY;
                 m = n;
-                at = at + 3 + n;
+                at = at + BEFORE_KEY + n;
                 count = count + 1;
             }
         }

@@ -2,3 +2,6 @@
 
 pub mod judge; // judge.rt: a key list, judged record by record
 pub mod read; // read.rt: the key of a record, and what it shares with the next
+
+// The bytes before a record's key: its mark and the key's length.
+const BEFORE_KEY: usize = 3;

@@ -3,6 +3,7 @@ ghost use mathlib.Core.Path.{_≡_};
 ghost use Prim.Native.Nat.{_+_, _≤_, _<_};
 ghost use lib.ListN.{length};
 ghost use Rattle.build_laws.specs.KeyRecords.{record-end, Whole-records, shared-behind, key-at};
+use super::BEFORE_KEY;
 use bits::numbers::wide;
 use build_laws::Key;
 use keys::compare::shared;
@@ -14,7 +15,7 @@ fn next_shared(s: &[u8], a: usize, n: usize) -> usize
 {
     let end = a + n;
     if end < s.len() {
-        let start = end + 3;
+        let start = end + BEFORE_KEY;
         let stop = start + wide(s[end + 2]);
         return shared(&s[a..end], &s[start..stop]);
     }
@@ -26,7 +27,7 @@ pub fn read_key(s: &[u8], at: usize, first: usize) -> Key
     requires { ⌜ Whole-records (now s) at ⌝ }
     ensures { λ r. ⌜ r ≡ key-at (now (s .entry)) at first ⌝ }
 {
-    let a = at + 3;
+    let a = at + BEFORE_KEY;
     let n = wide(s[at + 2]);
     let q = next_shared(s, a, n);
     Key {

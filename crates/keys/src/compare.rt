@@ -5,6 +5,7 @@ ghost use lib.ListN.{length, take};
 ghost use Rattle.spec.specs.Bytes.{shared};
 ghost use Rattle.keys.specs.Order.{order};
 use bits::numbers::read64;
+use bits::numbers::smaller;
 
 // How a key stands to another.
 pub enum Order {
@@ -18,15 +19,6 @@ fn equal_bytes(x: u64, y: u64) -> usize
     ensures { λ r. ⌜ (r ≤ 8) × (x % 2 ^ (8 * r) ≡ y % 2 ^ (8 * r)) ⌝ }
 {
     (u64::trailing_zeros(x ^ y) / 8) as usize
-}
-
-// The length of the shorter key.
-fn shorter(p: &[u8], q: &[u8]) -> usize
-    ensures { λ r. ⌜ r ≡ min (length (now (p .entry))) (length (now (q .entry))) ⌝ }
-{
-    let m = p.len();
-    let n = q.len();
-    if m < n { m } else { n }
 }
 
 // So many of the first n bytes are the same in both keys: whole words, and those before the first difference in a word.
@@ -64,7 +56,7 @@ fn shared_from(p: &[u8], q: &[u8], n: usize, from: usize) -> usize
 pub fn shared(p: &[u8], q: &[u8]) -> usize
     ensures { λ r. ⌜ r ≡ shared (now (p .entry)) (now (q .entry)) ⌝ }
 {
-    let n = shorter(p, q);
+    let n = smaller(p.len(), q.len());
     let i = shared_words(p, q, n);
     shared_from(p, q, n, i)
 }

@@ -8,7 +8,7 @@ use Rattle.spec.specs.Questions.{questions-of}
 use Rattle.nav_laws.specs.FromCheck.{checked-accepted}
 use Rattle.query_laws.specs.Answers.{all-small}
 use Rattle.ask_laws.specs.AskJoined.{ask-joined}
-use Rattle.ask_files.proofs.JudgeLaws.{judged-taken, judged-refused}
+use Rattle.ask_files.proofs.JudgeLaws.{file-taken, file-refused}
 use Rattle.ask.specs.Replies.{file-replies}
 use Rattle.ask.proofs.ask_accepted.Statement.{statement}
 use Rattle.ask.proofs.ask_accepted.Tie as tie
@@ -26,14 +26,14 @@ replies-fit-requires : tie.Need-replies-fit-requires
 replies-fit-requires c κs =
     let a = c .before .before .before .before .before .before .before .args in
     let p = c .before .before .before .before .before .before .before .pre in
-    let t = judged-taken (a .questions .now) _ (sym (c .before .count .given .1) ∙ c .before .before .before .judge-file .ensures) in
+    let t = file-taken (a .questions .now) _ (sym (c .before .count .given .1) ∙ c .before .before .before .judge-file .ensures) in
     (checked-accepted (a .image .now) (a .f) (all-small (a .image .now) (λ i. omega (arith, c .before .before .before .before .before .before .shared-slice-known .given i))) (p .0) (p .1), t .0, sym (t .1))
 
 returns : tie.Need-returns
 returns c =
     let a = c .before .before .before .before .before .before .before .before .before .args in
     let p = c .before .before .before .before .before .before .before .before .before .pre in
-    let t = judged-taken (a .questions .now) _ (sym (c .before .before .before .count .given .1) ∙ c .before .before .before .before .before .judge-file .ensures) in
+    let t = file-taken (a .questions .now) _ (sym (c .before .before .before .count .given .1) ∙ c .before .before .before .before .before .judge-file .ensures) in
     let short = leb-false _ _ (sym (c .before .replies-fit .ensures) ∙ not-true _ (c .if1 .taken)) in
     sym (ask-joined (a .image .now) (a .questions .now) (a .replies .now) .too-long (questions-of (a .questions .now)) (p .1) (t .0) short)
 
@@ -41,14 +41,14 @@ write-replies-requires : tie.Need-write-replies-requires
 write-replies-requires c κs =
     let a = c .before .before .before .before .before .before .before .before .before .before .args in
     let p = c .before .before .before .before .before .before .before .before .before .before .pre in
-    let t = judged-taken (a .questions .now) _ (sym (c .before .before .before .before .count .given .1) ∙ c .before .before .before .before .before .before .judge-file .ensures) in
+    let t = file-taken (a .questions .now) _ (sym (c .before .before .before .before .count .given .1) ∙ c .before .before .before .before .before .before .judge-file .ensures) in
     (checked-accepted (a .image .now) (a .f) (all-small (a .image .now) (λ i. omega (arith, c .before .before .before .before .before .before .before .before .before .shared-slice-known .given i))) (p .0) (p .1), t .0, leb-true _ _ (sym (c .before .before .replies-fit .ensures) ∙ not-false _ (c .before .if1 .left)))
 
 returns-2 : tie.Need-returns-2
 returns-2 c =
     let a = c .before .before .before .before .before .before .before .args in
     let g = c .before .r .given in
-    sym (ask-joined (a .image .now) (a .questions .now) (a .replies .now) .turned-down _ (c .before .before .before .before .before .before .before .pre .1) (judged-refused (a .questions .now) _ (sym (g .1) ∙ c .before .before .before .judge-file .ensures)))
+    sym (ask-joined (a .image .now) (a .questions .now) (a .replies .now) .turned-down _ (c .before .before .before .before .before .before .before .pre .1) (file-refused (a .questions .now) _ (sym (g .1) ∙ c .before .before .before .judge-file .ensures)))
 
 same-length : tie.Need-same-length
 same-length c = search needs
@@ -57,7 +57,7 @@ returns-3 : tie.Need-returns-3
 returns-3 c =
     let a = c .before .before .before .before .before .before .before .before .before .before .before .before .before .args in
     let p = c .before .before .before .before .before .before .before .before .before .before .before .before .before .pre in
-    let t = judged-taken (a .questions .now) _ (sym (c .before .before .before .before .before .before .before .count .given .1) ∙ c .before .before .before .before .before .before .before .before .before .judge-file .ensures) in
+    let t = file-taken (a .questions .now) _ (sym (c .before .before .before .before .before .before .before .count .given .1) ∙ c .before .before .before .before .before .before .before .before .before .judge-file .ensures) in
     let room = leb-true (length (file-replies (a .image .now) (a .questions .now))) (length (a .replies .now)) (sym (c .before .before .before .before .before .replies-fit .ensures) ∙ not-false _ (c .before .before .before .before .if1 .left)) in
     let w = c .before .before .write-replies .ensures in
     sym (ask-joined (a .image .now) (a .questions .now) (a .replies .now) .answered (questions-of (a .questions .now)) _ _ (p .1) (t .0) (w .0) (omega (arith, w .0, room)) (w .1))

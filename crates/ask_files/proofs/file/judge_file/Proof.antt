@@ -5,14 +5,14 @@ use native.Mathlib.Omega.{arith}
 use borrow.Author.Needs.{needs}
 use lib.ListN.{length, drop}
 use Rattle.spec.specs.Questions.{parse-questions, parse-from}
-use Rattle.ask_files.specs.Questions.{counted, judgement}
-use Rattle.ask_files.proofs.StepLaws.{question-ended, question-refused}
-use Rattle.ask_files.proofs.JudgeLaws.{judge-start, judge-end, judge-many, judge-number, judge-more}
+use Rattle.ask_files.specs.Questions.{counted, question-file}
+use Rattle.ask_files.proofs.ReadLaws.{question-ended, question-refused}
+use Rattle.ask_files.proofs.JudgeLaws.{judge-start, judge-end, judge-many, judge-refused, judge-more}
 use Rattle.ask_files.proofs.file.judge_file.Statement.{statement}
 use Rattle.ask_files.proofs.file.judge_file.Tie as tie
 
 abbrev Inv-loop : tie.InvT-loop
-Inv-loop s at₀ count₀ at count = (count ≤ at) × (at ≤ length s) × (count ≤ 1024) × (judgement (parse-questions s) ≡ counted count (parse-from (length s - count) count (drop at s)))
+Inv-loop s at₀ count₀ at count = (count ≤ at) × (at ≤ length s) × (count ≤ 1024) × (question-file (parse-questions s) ≡ counted count (parse-from (length s - count) count (drop at s)))
 
 abbrev μ-loop : tie.MeasureT-loop
 μ-loop s at₀ count₀ at count = length s - at
@@ -29,19 +29,19 @@ returns c =
 judge-question-requires : tie.Need-judge-question-requires Inv-loop μ-loop
 judge-question-requires c κs = search needs
 
-enum-known-step : tie.Need-enum-known-step Inv-loop μ-loop
-enum-known-step c = search needs
+enum-known-found : tie.Need-enum-known-found Inv-loop μ-loop
+enum-known-found c = search needs
 
 returns-2 : tie.Need-returns-2 Inv-loop μ-loop
 returns-2 c =
     let a = c .before .before .before .before .before .before .before .before .args in
     let l = c .before .before .before .before .before .before .loop in
-    let r = c .before .step .given .0 .0 in
-    let k = question-refused (a .s .now) (l .at) (c .before .step .given .1) (c .before .before .before .judge-question .ensures) in
-    sym (l .inv .3 ∙ judge-number (a .s .now) (l .at) (l .count) (c .before .before .before .before .before .loop-test .taken) (c .before .before .before .before .if1 .left) (length (a .s .now) - l .count) r (omega arith) k)
+    let r = c .before .found .given .0 .0 in
+    let k = question-refused (a .s .now) (l .at) (c .before .found .given .1) (c .before .before .before .judge-question .ensures) in
+    sym (l .inv .3 ∙ judge-refused (a .s .now) (l .at) (l .count) (c .before .before .before .before .before .loop-test .taken) (c .before .before .before .before .if1 .left) (length (a .s .now) - l .count) r (omega arith) k)
 
-enum-known-step-2 : tie.Need-enum-known-step-2 Inv-loop μ-loop
-enum-known-step-2 c = search needs
+enum-known-found-2 : tie.Need-enum-known-found-2 Inv-loop μ-loop
+enum-known-found-2 c = search needs
 
 add-count : tie.Need-add-count Inv-loop μ-loop
 add-count c = search needs
@@ -50,15 +50,15 @@ loop-less : tie.Need-loop-less Inv-loop μ-loop
 loop-less c =
     let a = c .before .before .before .before .before .before .before .before .args in
     let l = c .before .before .before .before .before .before .loop in
-    let k = question-ended (a .s .now) (l .at) (c .before .step2 .given .1) (c .before .before .before .judge-question .ensures) in
+    let k = question-ended (a .s .now) (l .at) (c .before .found2 .given .1) (c .before .before .before .judge-question .ensures) in
     omega (arith, k .1, k .2)
 
 loop-again : tie.Need-loop-again Inv-loop μ-loop
 loop-again c =
     let a = c .before .before .before .before .before .before .before .before .args in
     let l = c .before .before .before .before .before .before .loop in
-    let e = c .before .step2 .given .0 .0 in
-    let k = question-ended (a .s .now) (l .at) (c .before .step2 .given .1) (c .before .before .before .judge-question .ensures) in
+    let e = c .before .found2 .given .0 .0 in
+    let k = question-ended (a .s .now) (l .at) (c .before .found2 .given .1) (c .before .before .before .judge-question .ensures) in
     let room = c .before .before .before .before .if1 .left in
     let f : length (a .s .now) - l .count - 1 ≡ length (a .s .now) - (l .count + 1) = omega arith in (
       omega (arith, k .1),
@@ -83,9 +83,9 @@ judge-file-spec =
     loop-holds
     returns
     judge-question-requires
-    enum-known-step
+    enum-known-found
     returns-2
-    enum-known-step-2
+    enum-known-found-2
     add-count
     loop-less
     loop-again

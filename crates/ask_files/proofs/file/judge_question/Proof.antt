@@ -4,7 +4,7 @@ use Prim.Native.Nat.{_+_}
 use lib.ListN.{getD}
 use Rattle.ask_laws.specs.QuestionAt.{question-short, question-unmarked}
 use Rattle.ask_files.specs.Questions.{Asks}
-use Rattle.ask_files.proofs.StepLaws.{one-step, two-step, wrong-step}
+use Rattle.ask_files.proofs.ReadLaws.{one-key-read, two-keys-read, wrong-letter}
 use borrow.Author.Needs.{needs}
 use Rattle.ask_files.proofs.file.judge_question.Statement.{statement}
 use Rattle.ask_files.proofs.file.judge_question.Tie as tie
@@ -58,17 +58,17 @@ enum-told-3 c = search needs
 returns-3 : tie.Need-returns-3
 returns-3 c =
     let a = c .before .before .before .before .before .before .before .before .before .args in
-    one-step (a .s .now) (a .at) (c .before .before .before .before .before .before .before .if1 .left) (c .before .before .before .before .before .if2 .left) (subst (Asks (getD (a .s .now) (a .at + 1) 0)) (c .before .enum-told .given .1) (c .before .before .before .keys-asked .ensures)) (c .read-key .result) (c .read-key .ensures)
+    one-key-read (a .s .now) (a .at) (c .before .before .before .before .before .before .before .if1 .left) (c .before .before .before .before .before .if2 .left) (subst (Asks (getD (a .s .now) (a .at + 1) 0)) (c .before .enum-told .given .1) (c .before .before .before .keys-asked .ensures)) (c .read-key .result) (c .read-key .ensures)
 
 returns-4 : tie.Need-returns-4
 returns-4 c =
     let a = c .before .before .before .before .before .before .before .before .before .args in
-    two-step (a .s .now) (a .at) (c .before .before .before .before .before .before .before .if1 .left) (c .before .before .before .before .before .if2 .left) (subst (Asks (getD (a .s .now) (a .at + 1) 0)) (c .before .enum-told2 .given .1) (c .before .before .before .keys-asked .ensures)) (c .read-bounds .result) (c .read-bounds .ensures)
+    two-keys-read (a .s .now) (a .at) (c .before .before .before .before .before .before .before .if1 .left) (c .before .before .before .before .before .if2 .left) (subst (Asks (getD (a .s .now) (a .at + 1) 0)) (c .before .enum-told2 .given .1) (c .before .before .before .keys-asked .ensures)) (c .read-bounds .result) (c .read-bounds .ensures)
 
 returns-5 : tie.Need-returns-5
 returns-5 c =
     let a = c .before .before .before .before .before .before .before .before .args in
-    wrong-step (a .s .now) (a .at) (c .before .before .before .before .before .before .if1 .left) (c .before .before .before .before .if2 .left) (subst (Asks (getD (a .s .now) (a .at + 1) 0)) (c .enum-told3 .given .1) (c .before .before .keys-asked .ensures))
+    wrong-letter (a .s .now) (a .at) (c .before .before .before .before .before .before .if1 .left) (c .before .before .before .before .if2 .left) (subst (Asks (getD (a .s .now) (a .at + 1) 0)) (c .enum-told3 .given .1) (c .before .before .keys-asked .ensures))
 
 pub judge-question-spec : {M : Type 1} → statement M
 judge-question-spec =

@@ -1,7 +1,7 @@
 -- The tests on the key at an offset, in their order.
 use native.Mathlib.Omega.{arith}
 use Rattle.ask_laws.specs.KeyAt.{key-none, key-long, key-missing}
-use Rattle.ask_files.proofs.StepLaws.{key-end}
+use Rattle.ask_files.proofs.ReadLaws.{key-end}
 use borrow.Author.Needs.{needs}
 use Rattle.ask_files.proofs.file.read_key.Statement.{statement}
 use Rattle.ask_files.proofs.file.read_key.Tie as tie

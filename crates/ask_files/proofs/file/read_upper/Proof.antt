@@ -1,8 +1,8 @@
--- The upper bound's step, and the order of the two bounds.
+-- The upper bound is read, and the order of the two bounds decides.
 use mathlib.Core.Path.{sym, _∙_}
 use mathlib.Core.Logic.{inl, inr}
 use native.Mathlib.Omega.{arith}
-use Rattle.ask_files.proofs.StepLaws.{key-ended, key-refused, upper-number, upper-turned, upper-end}
+use Rattle.ask_files.proofs.ReadLaws.{key-ended, key-refused, upper-refused, upper-turned, upper-end}
 use borrow.Author.Needs.{needs}
 use Rattle.ask_files.proofs.file.read_upper.Statement.{statement}
 use Rattle.ask_files.proofs.file.read_upper.Tie as tie
@@ -10,11 +10,11 @@ use Rattle.ask_files.proofs.file.read_upper.Tie as tie
 read-key-requires : tie.Need-read-key-requires
 read-key-requires c κs = search needs
 
-enum-known-step : tie.Need-enum-known-step
-enum-known-step c = search needs
+enum-known-found : tie.Need-enum-known-found
+enum-known-found c = search needs
 
-enum-known-step-2 : tie.Need-enum-known-step-2
-enum-known-step-2 c = search needs
+enum-known-found-2 : tie.Need-enum-known-found-2
+enum-known-found-2 c = search needs
 
 add-upper : tie.Need-add-upper
 add-upper c = search needs
@@ -22,37 +22,37 @@ add-upper c = search needs
 sub-compare : tie.Need-sub-compare
 sub-compare c =
     let a = c .before .before .before .before .before .args in
-    let k = key-ended (a .s .now) (a .middle) (c .before .step2 .given .1) (c .before .before .before .read-key .ensures) in
+    let k = key-ended (a .s .now) (a .middle) (c .before .found2 .given .1) (c .before .before .before .read-key .ensures) in
     omega (arith, k .0)
 
 part-compare-start : tie.Need-part-compare-start
 part-compare-start c =
     let a = c .before .before .before .before .before .args in
-    let k = key-ended (a .s .now) (a .middle) (c .before .step2 .given .1) (c .before .before .before .read-key .ensures) in
+    let k = key-ended (a .s .now) (a .middle) (c .before .found2 .given .1) (c .before .before .before .read-key .ensures) in
     omega (arith, k .0, k .1)
 
 part-compare-end : tie.Need-part-compare-end
 part-compare-end c =
     let a = c .before .before .before .before .before .args in
-    let k = key-ended (a .s .now) (a .middle) (c .before .step2 .given .1) (c .before .before .before .read-key .ensures) in
+    let k = key-ended (a .s .now) (a .middle) (c .before .found2 .given .1) (c .before .before .before .read-key .ensures) in
     omega (arith, k .0, k .1)
 
 sub-compare-2 : tie.Need-sub-compare-2
 sub-compare-2 c =
     let a = c .before .before .before .before .before .before .args in
-    let k = key-ended (a .s .now) (a .middle) (c .before .before .step2 .given .1) (c .before .before .before .before .read-key .ensures) in
+    let k = key-ended (a .s .now) (a .middle) (c .before .before .found2 .given .1) (c .before .before .before .before .read-key .ensures) in
     omega (arith, k .0)
 
 part-compare-start-2 : tie.Need-part-compare-start-2
 part-compare-start-2 c =
     let a = c .before .before .before .before .before .before .args in
-    let k = key-ended (a .s .now) (a .middle) (c .before .before .step2 .given .1) (c .before .before .before .before .read-key .ensures) in
+    let k = key-ended (a .s .now) (a .middle) (c .before .before .found2 .given .1) (c .before .before .before .before .read-key .ensures) in
     omega (arith, k .0)
 
 part-compare-end-2 : tie.Need-part-compare-end-2
 part-compare-end-2 c =
     let a = c .before .before .before .before .before .before .args in
-    let k = key-ended (a .s .now) (a .middle) (c .before .before .step2 .given .1) (c .before .before .before .before .read-key .ensures) in
+    let k = key-ended (a .s .now) (a .middle) (c .before .before .found2 .given .1) (c .before .before .before .before .read-key .ensures) in
     omega (arith, k .0, k .1)
 
 compare-requires : tie.Need-compare-requires
@@ -70,28 +70,28 @@ enum-told-3 c = search needs
 returns : tie.Need-returns
 returns c =
     let a = c .before .before .before .before .before .args in
-    let r = c .before .step .given .0 .0 in
-    upper-number (a .s .now) (a .lower) (a .middle) r (key-refused (a .s .now) (a .middle) (c .before .step .given .1) (c .before .before .before .read-key .ensures))
+    let r = c .before .found .given .0 .0 in
+    upper-refused (a .s .now) (a .lower) (a .middle) r (key-refused (a .s .now) (a .middle) (c .before .found .given .1) (c .before .before .before .read-key .ensures))
 
 returns-2 : tie.Need-returns-2
 returns-2 c =
     let a = c .before .before .before .before .before .before .before .before .before .before .args in
-    let e = c .before .before .before .before .before .before .step2 .given .0 .0 in
-    let k = key-ended (a .s .now) (a .middle) (c .before .before .before .before .before .before .step2 .given .1) (c .before .before .before .before .before .before .before .before .read-key .ensures) in
+    let e = c .before .before .before .before .before .before .found2 .given .0 .0 in
+    let k = key-ended (a .s .now) (a .middle) (c .before .before .before .before .before .before .found2 .given .1) (c .before .before .before .before .before .before .before .before .read-key .ensures) in
     upper-turned (a .s .now) (a .lower) (a .middle) e k (sym (c .before .before .compare .ensures) ∙ c .enum-told .given .1)
 
 returns-3 : tie.Need-returns-3
 returns-3 c =
     let a = c .before .before .before .before .before .before .before .before .before .before .args in
-    let e = c .before .before .before .before .before .before .step2 .given .0 .0 in
-    let k = key-ended (a .s .now) (a .middle) (c .before .before .before .before .before .before .step2 .given .1) (c .before .before .before .before .before .before .before .before .read-key .ensures) in
+    let e = c .before .before .before .before .before .before .found2 .given .0 .0 in
+    let k = key-ended (a .s .now) (a .middle) (c .before .before .before .before .before .before .found2 .given .1) (c .before .before .before .before .before .before .before .before .read-key .ensures) in
     upper-end (a .s .now) (a .lower) (a .middle) e k (inl (sym (c .before .before .compare .ensures) ∙ c .enum-told2 .given .1))
 
 returns-4 : tie.Need-returns-4
 returns-4 c =
     let a = c .before .before .before .before .before .before .before .before .before .before .args in
-    let e = c .before .before .before .before .before .before .step2 .given .0 .0 in
-    let k = key-ended (a .s .now) (a .middle) (c .before .before .before .before .before .before .step2 .given .1) (c .before .before .before .before .before .before .before .before .read-key .ensures) in
+    let e = c .before .before .before .before .before .before .found2 .given .0 .0 in
+    let k = key-ended (a .s .now) (a .middle) (c .before .before .before .before .before .before .found2 .given .1) (c .before .before .before .before .before .before .before .before .read-key .ensures) in
     upper-end (a .s .now) (a .lower) (a .middle) e k (inr (sym (c .before .before .compare .ensures) ∙ c .enum-told3 .given .1))
 
 pub read-upper-spec : {M : Type 1} → statement M
@@ -99,8 +99,8 @@ read-upper-spec =
     tie.close
     (tie.spec
     read-key-requires
-    enum-known-step
-    enum-known-step-2
+    enum-known-found
+    enum-known-found-2
     add-upper
     sub-compare
     part-compare-start
