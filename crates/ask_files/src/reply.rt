@@ -11,6 +11,9 @@ use bits::copy::write_bytes;
 use bits::numbers::write32;
 use keys::MAX_KEY_BYTES;
 
+// The bytes of a reply before its key: the mark, the letter, the number and the key's length.
+pub const REPLY_HEAD: usize = 8;
+
 // A reply by value: its letter, its number, and its key in the first n bytes of an array.
 pub struct Answered {
     pub letter: u8,
@@ -45,8 +48,8 @@ pub fn write_reply(out: &mut [u8], at: usize, letter: u8, number: usize, key: &[
     ensures { λ r. ⌜ (r ≡ at + 8 + length (now (key .entry))) × (now (out .exit) ≡ placed (now (out .entry)) at (reply-bytes (answer letter number (now (key .entry))))) ⌝ }
 {
     write_head(out, at, letter, number, key.len());
-    write_bytes(out, at + 8, key);
-    at + 8 + key.len()
+    write_bytes(out, at + REPLY_HEAD, key);
+    at + REPLY_HEAD + key.len()
 }
 
 // A reply without a key.

@@ -1,9 +1,12 @@
-// Numbers of four and of eight bytes in a slice, the low byte first; numbers widened, the smaller and the larger of two, and counts of begun blocks.
+// Numbers of four and of eight bytes in a slice, the low byte first; numbers widened, the smaller and the larger of two, and how many blocks hold so many bits.
 ghost use mathlib.Core.Path.{_≡_};
 ghost use Prim.Native.Nat.{_+_, _*_, _^_, _≤_, _<_, min, max};
 ghost use lib.ListN.{length, drop};
 ghost use Rattle.spec.specs.Bytes.{bit, blocks, from32, le32};
 ghost use Rattle.bits_laws.specs.Bits.{word, placed};
+
+// 2^32: a number of four bytes is below it, and four bytes hold a larger number modulo it.
+pub const MODULUS_32: usize = 4294967296;
 
 // A byte as a usize.
 pub fn wide(x: u8) -> usize
@@ -47,7 +50,7 @@ pub fn larger(a: usize, b: usize) -> usize
     if a < b { b } else { a }
 }
 
-// How many blocks of w bits n bits begin.
+// How many blocks of w bits hold n bits. The last block may not be full.
 pub fn blocks_for(w: usize, n: usize) -> usize
     requires { ⌜ (0 < w) × (w ≤ 512) × (n < 2 ^ 63) ⌝ }
     ensures { λ r. ⌜ r ≡ blocks w n ⌝ }
@@ -55,7 +58,7 @@ pub fn blocks_for(w: usize, n: usize) -> usize
     (n + (w - 1)) / w
 }
 
-// How many bytes so many bits begin.
+// How many bytes hold so many bits. The last byte may not be full.
 pub fn bytes_for(bits: usize) -> usize
     ensures { λ r. ⌜ r ≡ blocks 8 bits ⌝ }
 {

@@ -1,4 +1,4 @@
-// The position of a one by its number, and the next one from a position: by 64-bit words, then inside a word.
+// The position of the m-th set bit, and of the next set bit from a position on: by 64-bit words, then inside a word.
 ghost use mathlib.Core.Path.{_≡_};
 ghost use Prim.Native.Nat.{_+_, _*_, _%_, _^_, _≤_, _<_};
 ghost use lib.ListN.{length};
@@ -8,7 +8,7 @@ use super::numbers::read_word;
 use super::numbers::smaller;
 use super::ones::ones_before;
 
-// The position of the lowest one of a word that is not zero.
+// The position of the lowest set bit of a word that is not zero.
 fn lowest_one(x: u64) -> usize
     requires { ⌜ 0 < x ⌝ }
     ensures { λ r. ⌜ (ones (x % 2 ^ r) ≡ 0) × (0 < ones (x % 2 ^ (r + 1))) × (2 ^ r ≤ x) × (r < 64) ⌝ }
@@ -16,7 +16,7 @@ fn lowest_one(x: u64) -> usize
     u64::trailing_zeros(x) as usize
 }
 
-// The position of one number m, from 0, of a word that has more than m: the lowest one that is left when m are cleared from below.
+// The position of the m-th set bit, counted from 0, of a word that has more than m: the lowest that is left when the m below it are cleared.
 fn select_in_word(x: u64, m: usize) -> usize
     requires { ⌜ m < ones x ⌝ }
     ensures { λ r. ⌜ (ones (x % 2 ^ r) ≤ m) × (m < ones (x % 2 ^ (r + 1))) × (r < 64) ⌝ }
@@ -30,7 +30,7 @@ fn select_in_word(x: u64, m: usize) -> usize
     lowest_one(w)
 }
 
-// The first one from word `from` on among the first n bits, or n where there is no such one.
+// The position of the first set bit from word `from` on among the first n bits, or n where there is none.
 fn next_from(s: &[u8], n: usize, from: usize) -> usize
     requires { ⌜ (n ≤ 8 * length (now s)) × (64 * from ≤ n + 64) ⌝ }
     ensures { λ r. ⌜ r ≡ select (now (s .entry)) n (rank (now (s .entry)) (64 * from)) ⌝ }
@@ -46,7 +46,7 @@ fn next_from(s: &[u8], n: usize, from: usize) -> usize
     n
 }
 
-// The first one from position `from` on among the first n bits, or n where there is no such one.
+// The position of the first set bit from position `from` on among the first n bits, or n where there is none.
 pub fn next_one(s: &[u8], n: usize, from: usize) -> usize
     requires { ⌜ (n ≤ 8 * length (now s)) × (from ≤ n) ⌝ }
     ensures { λ r. ⌜ (r ≡ select (now (s .entry)) n (rank (now (s .entry)) from)) × (from ≤ r) × (r ≤ n) ⌝ }
@@ -58,7 +58,7 @@ pub fn next_one(s: &[u8], n: usize, from: usize) -> usize
     next_from(s, n, from / 64 + 1)
 }
 
-// The position of one number m, from 0, among the first n bits, or n where there is no such one; from a position at or before it, with the ones before that.
+// The position of the m-th set bit, counted from 0, among the first n bits, or n where there is none. The search starts at a position at or before it, with the number of set bits before that position.
 pub fn select_from(s: &[u8], n: usize, from: usize, before: usize, m: usize) -> usize
     requires { ⌜ (n ≤ 8 * length (now s)) × (from ≤ n) × (before ≡ rank (now s) from) × (before ≤ m) ⌝ }
     ensures { λ r. ⌜ (r ≡ select (now (s .entry)) n m) × (r ≤ n) ⌝ }

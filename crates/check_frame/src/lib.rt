@@ -12,13 +12,16 @@ ghost use Rattle.check_frame_laws.specs.FrameLaws.{settings-valid, Records-stan
 ghost use Rattle.check_frame.specs.Found.{Record-found, end-found, Framed-as};
 use bits::numbers::read32;
 use bits::ones::rank_from;
-use image_records::header::MOST_BITS;
-use image_records::header::MOST_LEAVES;
-use image_records::header::MOST_LEVELS;
+use image_records::header::MAX_DENSE_LEVELS;
+use image_records::header::MAX_LEAVES;
+use image_records::header::MAX_SUFFIX_BITS;
 use image_records::header::VERSION;
+use image_records::header::VERSION_AT;
+use image_records::header::ZERO_AT;
 use image_records::header::read_header;
 use image_records::table::BEFORE_BODY;
 use image_records::table::HEADER;
+use image_records::table::MARK_BYTES;
 use image_records::table::RECORDS;
 use image_records::table::body_size;
 use image_records::table::mark;
@@ -27,6 +30,7 @@ use image_types::DenseTotals;
 use image_types::Frame;
 use image_types::Framed;
 use image_types::Header;
+use image_types::ROW_BITS;
 
 // The number of an image whose header or records do not stand.
 const FRAME_MISSING: u32 = 11;
@@ -40,7 +44,7 @@ pub enum RecordEnd {
     Missing,
 }
 
-// The record number i at an offset: its mark, its length and its body within the end.
+// Where record number i ends, if it stands at an offset: its mark, its length, and its body within the image.
 fn record_end(image: &[u8], i: usize, at: usize) -> RecordEnd
     requires { ⌜ (i < 12) × (at ≤ length (now image)) ⌝ }
     ensures { λ r. ⌜ Record-found (now (image .entry)) i at r ⌝ }
@@ -50,7 +54,7 @@ fn record_end(image: &[u8], i: usize, at: usize) -> RecordEnd
     if left < BEFORE_BODY {
         return RecordEnd::Missing;
     }
-    let len = read32(image, at + 2);
+    let len = read32(image, at + MARK_BYTES);
     if left - BEFORE_BODY < len {
         return RecordEnd::Missing;
     }
@@ -85,11 +89,11 @@ fn settings_valid(image: &[u8], h: Header) -> bool
     requires { ⌜ 22 ≤ length (now image) ⌝ }
     ensures { λ r. ⌜ r ≡ settings-valid (now (image .entry)) h ⌝ }
 {
-    (image[2] == VERSION)
-        & (h.dense.levels <= MOST_LEVELS)
-        & (h.width <= MOST_BITS)
-        & (image[5] == 0)
-        & (h.leaves <= MOST_LEAVES)
+    (image[VERSION_AT] == VERSION)
+        & (h.dense.levels <= MAX_DENSE_LEVELS)
+        & (h.width <= MAX_SUFFIX_BITS)
+        & (image[ZERO_AT] == 0)
+        & (h.leaves <= MAX_LEAVES)
 }
 
 // Each record has just the body length that the header gives.
@@ -100,7 +104,7 @@ fn lengths_valid(image: &[u8], h: Header) -> bool
     let mut at = HEADER;
     let mut i = 0usize;
     while i < RECORDS {
-        let len = read32(image, at + 2);
+        let len = read32(image, at + MARK_BYTES);
         if len != body_size(h, i) {
             return false;
         }
@@ -124,8 +128,8 @@ fn dense_totals(image: &[u8], dl: usize, dc: usize, dp: usize, n: usize) -> Dens
     ensures { λ r. ⌜ Totals (now (image .entry)) dl dc dp n r ⌝ }
 {
     DenseTotals {
-        children: count_ones(image, dc, 256 * n),
-        entries: count_ones(image, dl, 256 * n) + count_ones(image, dp, n),
+        children: count_ones(image, dc, ROW_BITS * n),
+        entries: count_ones(image, dl, ROW_BITS * n) + count_ones(image, dp, n),
     }
 }
 

@@ -7,12 +7,10 @@ use super::step::level_at;
 use check_trie_laws::Level;
 use image_types::BitPos;
 use image_types::Frame;
+use image_types::MAX_LEVELS;
 use image_types::NodeNum;
 
-// The most levels of nodes that a trie has: keys have at most as many bytes.
-const MAX_LEVELS: usize = 64;
-
-// One of two numbers.
+// The first of two numbers, or the second.
 fn pick(first: bool, x: usize, y: usize) -> usize
     ensures { λ r. ⌜ r ≡ cond first x y ⌝ }
 {

@@ -10,6 +10,8 @@ use check_trie_laws::Level;
 use image_types::BitPos;
 use image_types::Frame;
 use image_types::NodeNum;
+use image_types::ROW_BITS;
+use image_types::ROW_BYTES;
 
 // How much a number is above another, 0 where it is not.
 fn excess(x: usize, y: usize) -> usize
@@ -26,8 +28,8 @@ fn dense_level(image: &[u8], f: Frame, from: Level, node: NodeNum) -> Level
     requires { ⌜ Louds-valid (now image) f × LevelOf (now image) f from × Behind f from (node .0) × (node .0 ≤ f .dense .nodes) ⌝ }
     ensures { λ r. ⌜ LevelOf (now (image .entry)) f r × (r .node .0 ≡ node .0) ⌝ }
 {
-    let dc = part(image, f.dc, 32 * f.dense.nodes);
-    let branches = rank_on(dc, 256 * from.node.0, from.branches, 256 * node.0);
+    let dc = part(image, f.dc, ROW_BYTES * f.dense.nodes);
+    let branches = rank_on(dc, ROW_BITS * from.node.0, from.branches, ROW_BITS * node.0);
     Level {
         node,
         entry: BitPos(0),

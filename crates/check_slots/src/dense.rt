@@ -7,6 +7,7 @@ ghost use Rattle.check_slots_laws.specs.Passed.{Passed-to-15};
 ghost use Rattle.check_slots_laws.specs.DenseSlots.{Dense-node, Exact-from, exact-slot-of};
 ghost use Rattle.check_slots_laws.specs.SlotTests.{clear-at, dense-clear};
 use super::clear::slot_clear;
+use bits::numbers::MODULUS_32;
 use bits::numbers::bytes_for;
 use bits::numbers::read32;
 use bits::parts::part;
@@ -15,17 +16,17 @@ use image_types::Frame;
 use image_types::NodeNum;
 use image_types::ValuePos;
 
-// Table entries hold counts modulo 2^32.
-const TABLE_MODULUS: usize = 4294967296;
+// The bytes of a dense node's entries in RL or RC: four bytes for each word of its row.
+const NODE_RANK_BYTES: usize = 16;
 
-// The slot of the exact leaf that a dense node is, before which stand so many exact leaves: the leaves before it, which are fewer than 2^32.
+// The slot of the exact leaf that a dense node is, before which stand so many exact leaves: the leaves before it, which are fewer than 2^32, by table entries modulo 2^32.
 fn dense_slot(image: &[u8], f: Frame, node: NodeNum, exacts: usize) -> ValuePos
     requires { ⌜ Passed-to-15 (now image) f × (0 < f .leaves) × Dense-node (now image) f (node .0) exacts ⌝ }
     ensures { λ r. ⌜ r .0 ≡ exact-slot-of (now (image .entry)) f (node .0) ⌝ }
 {
-    let labels = read32(image, f.rl + 16 * node.0);
-    let children = read32(image, f.rc + 16 * node.0);
-    ValuePos((labels + TABLE_MODULUS + exacts - children) % TABLE_MODULUS)
+    let labels = read32(image, f.rl + NODE_RANK_BYTES * node.0);
+    let children = read32(image, f.rc + NODE_RANK_BYTES * node.0);
+    ValuePos((labels + MODULUS_32 + exacts - children) % MODULUS_32)
 }
 
 // Whether the slot of the exact leaf that a dense node is, before which stand so many exact leaves, is clear.

@@ -16,8 +16,12 @@ use bits::ones::ones_before;
 use bits::ones::ones_word;
 use bits::parts::part;
 use image_types::BitPos;
+use image_types::EXTRA_LABEL;
 use image_types::Frame;
 use image_types::ValuePos;
+
+// 2^63: the highest bit of a word.
+const HIGHEST_BIT: u64 = 9223372036854775808;
 
 // By what the slot of a sparse entry is found and read: the counts of leaves and of sparse entries, the width of a slot, and the slot of the first sparse leaf.
 pub struct SparseSlots {
@@ -50,7 +54,7 @@ fn several(sb: &[u8], q: usize) -> u64
 {
     let w = read_word(sb, q);
     let next = low_bit(sb, q * 8 + 8);
-    w ^ (w & (w / 2 + next * 9223372036854775808))
+    w ^ (w & (w / 2 + next * HIGHEST_BIT))
 }
 
 // Whether the entry at a position of a word, the start of a node with several entries, has another label than FF, or the exact leaf's slot is clear.
@@ -59,7 +63,7 @@ fn entry_clear(sl: &[u8], sc: &[u8], sv: &[u8], z: SparseSlots, word: EntryWord,
     ensures { λ r. ⌜ r ≡ entry-clear (now (sl .entry)) (now (sc .entry)) (now (sv .entry)) z (64 * word .number + at .0) ⌝ }
 {
     let p = 64 * word.number + at.0;
-    if sl[p] != 255 {
+    if sl[p] != EXTRA_LABEL {
         return true;
     }
     let slot = z.first.0 + (p - (word.children + ones_before(sc, word.number, at.0)));

@@ -8,7 +8,11 @@ ghost use Rattle.check_tables_laws.specs.Tables.{Ranks-placed, Samples-placed, 
 use bits::numbers::blocks_for;
 use bits::numbers::bytes_for;
 use bits::parts::part;
+use image_types::DENSE_BLOCK_WORDS;
 use image_types::Frame;
+use image_types::ROW_BITS;
+use image_types::SAMPLE_RATE;
+use image_types::SPARSE_BLOCK_WORDS;
 use rank_tables::rank_compare::ranks_valid;
 use rank_tables::sample_compare::samples_valid;
 
@@ -38,15 +42,27 @@ pub fn tables_valid(image: &[u8], f: Frame) -> bool
     requires { ⌜ FrameOf (now image) f ⌝ }
     ensures { λ r. ⌜ r ≡ ranks-valid (parts (now (image .entry)) (frame-named (now (image .entry)) f)) (frame-named (now (image .entry)) f) ⌝ }
 {
-    ranks_at(image, f.dl, 256 * f.dense.nodes, f.rl, 1)
-        & ranks_at(image, f.dc, 256 * f.dense.nodes, f.rc, 1)
-        & ranks_at(image, f.dp, f.dense.nodes, f.rp, 1)
-        & ranks_at(image, f.sc, f.sparse.entries, f.rs, 8)
+    ranks_at(
+        image,
+        f.dl,
+        ROW_BITS * f.dense.nodes,
+        f.rl,
+        DENSE_BLOCK_WORDS,
+    )
+        & ranks_at(
+            image,
+            f.dc,
+            ROW_BITS * f.dense.nodes,
+            f.rc,
+            DENSE_BLOCK_WORDS,
+        )
+        & ranks_at(image, f.dp, f.dense.nodes, f.rp, DENSE_BLOCK_WORDS)
+        & ranks_at(image, f.sc, f.sparse.entries, f.rs, SPARSE_BLOCK_WORDS)
         & samples_at(
             image,
             f.sb,
             f.sparse.entries,
             f.ts,
-            4 * blocks_for(64, f.sparse.nodes),
+            4 * blocks_for(SAMPLE_RATE, f.sparse.nodes),
         )
 }

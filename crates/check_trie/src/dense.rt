@@ -7,6 +7,7 @@ ghost use Rattle.bits_laws.specs.Bits.{rank};
 ghost use Rattle.check_trie_laws.specs.DenseNodes.{dense-valid, dense-nodes-valid};
 ghost use Rattle.check_trie_laws.specs.Positions.{bits};
 ghost use Rattle.check_trie_laws.specs.DensePositions.{Dense-sized};
+use super::ROW_WORDS;
 use bits::ones::bit_at;
 use bits::ones::ones_word;
 use image_types::NodeNum;
@@ -16,7 +17,7 @@ fn node_ones(s: &[u8], node: NodeNum) -> usize
     requires { ⌜ 32 * node .0 + 32 ≤ length (now s) ⌝ }
     ensures { λ r. ⌜ rank (now (s .entry)) (256 * node .0 + 256) ≡ rank (now (s .entry)) (256 * node .0) + r ⌝ }
 {
-    let word = 4 * node.0;
+    let word = ROW_WORDS * node.0;
     ones_word(s, word) + ones_word(s, word + 1) + ones_word(s, word + 2) + ones_word(s, word + 3)
 }
 

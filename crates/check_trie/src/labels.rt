@@ -1,4 +1,4 @@
-// Masks of 64 labels: which are below the next one, and which are FF. Eight labels go at once, in lanes of 16 bits.
+// Masks of 64 labels: which are below the next one, and which are FF. Eight labels are compared at once, in lanes of 16 bits.
 ghost use mathlib.Core.Path.{_≡_};
 ghost use Prim.Native.Nat.{_+_, _≤_, _<_};
 ghost use lib.Bits.{bitAnd};
@@ -32,7 +32,7 @@ fn even_bytes(w: u64) -> u64
     w & LOW_BYTES
 }
 
-// The mask of the labels, of eight from at on, that are below the next one: the next one and the label's complement carry.
+// The mask of those of the eight labels from at on that are below the next one: the sum of the next one and the label's complement carries.
 fn ascents_of_eight(sl: &[u8], at: usize) -> u64
     requires { ⌜ at + 8 < length (now sl) ⌝ }
     ensures { λ r. ⌜ r ≡ mask (ascends (now (sl .entry)) at) 8 ⌝ }
@@ -44,7 +44,7 @@ fn ascents_of_eight(sl: &[u8], at: usize) -> u64
     gather(odd + (LOW_BYTES - even), next + (LOW_BYTES - odd))
 }
 
-// The mask of the labels, of 64 from at on, that are below the next one.
+// The mask of those of the 64 labels from at on that are below the next one.
 pub fn ascents(sl: &[u8], at: usize) -> u64
     requires { ⌜ at + 64 < length (now sl) ⌝ }
     ensures { λ r. ⌜ r ≡ mask (ascends (now (sl .entry)) at) 64 ⌝ }
@@ -58,7 +58,7 @@ pub fn ascents(sl: &[u8], at: usize) -> u64
     m
 }
 
-// The mask of the labels, of eight from at on, that are FF: one more carries.
+// The mask of those of the eight labels from at on that are FF: one more than FF carries.
 fn full_of_eight(sl: &[u8], at: usize) -> u64
     requires { ⌜ at + 8 ≤ length (now sl) ⌝ }
     ensures { λ r. ⌜ r ≡ mask (full (now (sl .entry)) at) 8 ⌝ }
@@ -69,7 +69,7 @@ fn full_of_eight(sl: &[u8], at: usize) -> u64
     gather(even + UNITS, odd + UNITS)
 }
 
-// The mask of the labels, of 64 from at on, that are FF.
+// The mask of those of the 64 labels from at on that are FF.
 pub fn full_labels(sl: &[u8], at: usize) -> u64
     requires { ⌜ at + 64 ≤ length (now sl) ⌝ }
     ensures { λ r. ⌜ r ≡ mask (full (now (sl .entry)) at) 64 ⌝ }

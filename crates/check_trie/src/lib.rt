@@ -6,3 +6,6 @@ pub mod labels; // labels.rt: masks of 64 labels
 pub mod sparse; // sparse.rt: the sparse entries
 pub mod dense; // dense.rt: the dense nodes
 pub mod trie; // trie.rt: all tests together
+
+// The words of a dense node's row.
+const ROW_WORDS: usize = 4;

@@ -1,5 +1,5 @@
 // The sparse entries by 64-bit words: labels ascend, the extra FF does not continue, a sole entry continues.
-// The first entry, which may be in the root, and those before and behind the whole words go one by one.
+// The first entry, which may be in the root, and those before and behind the whole words are tested one by one.
 ghost use mathlib.Core.Path.{_≡_};
 ghost use mathlib.Core.Bool.{false};
 ghost use Prim.Native.Nat.{_+_, _-_, _*_, _≤_, _<_};
@@ -15,8 +15,9 @@ use bits::numbers::read_word;
 use bits::numbers::read64;
 use bits::ones::bit_at;
 use image_types::BitPos;
+use image_types::EXTRA_LABEL;
 
-// Whether the entry at a position, in the root or not, the first of its node or not, is valid, where the next one begins a node or not.
+// Whether the entry at a position is valid: `root`, it is in the root; `start`, it is the first of its node; `begins`, the next entry begins a node.
 fn entry_valid(sl: &[u8], sc: &[u8], at: BitPos, root: bool, start: bool, begins: bool) -> bool
     requires { ⌜ (at .0 + 1 < length (now sl)) × (at .0 < 8 * length (now sc)) ⌝ }
     ensures { λ r. ⌜ r ≡ entry-valid (now (sl .entry)) (now (sc .entry)) root start (at .0) begins ⌝ }
@@ -26,7 +27,7 @@ fn entry_valid(sl: &[u8], sc: &[u8], at: BitPos, root: bool, start: bool, begins
     if begins {
         return !start | continues | root;
     }
-    if start & (sl[j] == 255) {
+    if start & (sl[j] == EXTRA_LABEL) {
         return !continues & !root;
     }
     sl[j] < sl[j + 1]

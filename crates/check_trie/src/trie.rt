@@ -10,6 +10,7 @@ ghost use Rattle.check_trie_laws.specs.Positions.{is-set};
 ghost use Rattle.check_trie_laws.specs.BitTests.{counts-valid};
 ghost use Rattle.check_trie_laws.specs.Levels.{Louds-valid};
 ghost use Rattle.check_trie_laws.specs.BodyTests.{louds-test, dense-test, sparse-test, sums-test, Counts-few};
+use super::ROW_WORDS;
 use super::cover::covered;
 use super::dense::dense_valid;
 use super::sparse::sparse_valid;
@@ -19,6 +20,7 @@ use bits::ones::ones_of;
 use bits::parts::part;
 use check_levels::judge::levels_valid;
 use image_types::Frame;
+use image_types::ROW_BYTES;
 
 // Whether the first of n bits is set, or there is none.
 fn first_set(s: &[u8], n: usize) -> bool
@@ -47,10 +49,10 @@ fn dense_part_valid(image: &[u8], f: Frame) -> bool
     ensures { λ r. ⌜ r ≡ dense-test (now (image .entry)) f ⌝ }
 {
     let nodes = f.dense.nodes;
-    let dl = part(image, f.dl, 32 * nodes);
-    let dc = part(image, f.dc, 32 * nodes);
+    let dl = part(image, f.dl, ROW_BYTES * nodes);
+    let dc = part(image, f.dc, ROW_BYTES * nodes);
     let dp = part(image, f.dp, bytes_for(nodes));
-    covered(dc, dl, 4 * nodes) & dense_valid(dl, dc, dp, nodes)
+    covered(dc, dl, ROW_WORDS * nodes) & dense_valid(dl, dc, dp, nodes)
 }
 
 // Whether the sparse entries are valid.
@@ -65,7 +67,7 @@ fn sparse_part_valid(image: &[u8], f: Frame) -> bool
     sparse_valid(sl, sc, sb, entries, f.dense.nodes == 0)
 }
 
-// Whether the counts agree, of which so many branches continue: the entries are leaves and continuing branches, there is a leaf,
+// Whether the counts agree, where so many branches continue: the entries are leaves and continuing branches, there is a leaf,
 // and the nodes are the root and one for each continuing branch.
 fn sums_valid(f: Frame, children: usize) -> bool
     requires { ⌜ Counts-few f children ⌝ }

@@ -7,6 +7,7 @@ ghost use Rattle.spec.specs.Bytes.{le32};
 ghost use Rattle.spec.specs.Image.{header};
 ghost use Rattle.bits_laws.specs.Bits.{placed};
 ghost use Rattle.image_types.specs.Header.{settings-of, counts-of, Short-fields, Reads-header, mark-bytes, first-bytes};
+use super::table::MARK_BYTES;
 use bits::numbers::read32;
 use bits::numbers::wide;
 use bits::numbers::write32;
@@ -17,15 +18,41 @@ use image_types::Sparse;
 // The version of the format, which the header says.
 pub const VERSION: u8 = 1;
 
-// The most dense levels, bits of a suffix and leaves of an image.
-pub const MOST_LEVELS: usize = 4;
+// No image has more dense levels.
+pub const MAX_DENSE_LEVELS: usize = 4;
 
-pub const MOST_BITS: usize = 16;
+// No suffix has more bits.
+pub const MAX_SUFFIX_BITS: usize = 16;
 
-pub const MOST_LEAVES: usize = 65535;
+// No image has more leaves.
+pub const MAX_LEAVES: usize = 65535;
+
+// The offset of the version in a header.
+pub const VERSION_AT: usize = 2;
+
+// The offset of the number of dense levels in a header.
+const DENSE_LEVELS_AT: usize = 3;
+
+// The offset of the suffix width in a header.
+const WIDTH_AT: usize = 4;
+
+// The offset of the byte of a header that is zero.
+pub const ZERO_AT: usize = 5;
+
+// The offset of the number of leaves in a header.
+const LEAVES_AT: usize = 6;
+
+// The offset of the number of dense nodes in a header.
+const DENSE_NODES_AT: usize = 10;
+
+// The offset of the number of sparse entries in a header.
+const SPARSE_ENTRIES_AT: usize = 14;
+
+// The offset of the number of sparse nodes in a header.
+const SPARSE_NODES_AT: usize = 18;
 
 // The mark's two bytes go to out from at, and all else stays.
-fn write_mark(out: &mut [u8], at: usize, mark: &[u8; 2])
+fn write_mark(out: &mut [u8], at: usize, mark: &[u8; MARK_BYTES])
     requires { ⌜ at + 2 ≤ length (now out) ⌝ }
     ensures { λ _. ⌜ now (out .exit) ≡ placed (now (out .entry)) at (mark-bytes (now (mark .entry))) ⌝ }
 {
@@ -34,12 +61,12 @@ fn write_mark(out: &mut [u8], at: usize, mark: &[u8; 2])
 }
 
 // A record begins at `at`: its mark and the length of its body, which goes behind them.
-pub fn begin_record(out: &mut [u8], at: usize, mark: &[u8; 2], len: usize)
+pub fn begin_record(out: &mut [u8], at: usize, mark: &[u8; MARK_BYTES], len: usize)
     requires { ⌜ at + 6 ≤ length (now out) ⌝ }
     ensures { λ _. ⌜ now (out .exit) ≡ placed (now (out .entry)) at (mark-bytes (now (mark .entry)) ++ le32 len) ⌝ }
 {
     write_mark(out, at, mark);
-    write32(out, at + 2, len);
+    write32(out, at + MARK_BYTES, len);
 }
 
 // The header's first six bytes: its mark, the version, the settings and a zero byte.
@@ -48,10 +75,10 @@ fn write_settings(out: &mut [u8], dense: u8, n: u8)
     ensures { λ _. ⌜ now (out .exit) ≡ placed (now (out .entry)) 0 (first-bytes dense n) ⌝ }
 {
     write_mark(out, 0, b"HD");
-    out[2] = VERSION;
-    out[3] = dense;
-    out[4] = n;
-    out[5] = 0;
+    out[VERSION_AT] = VERSION;
+    out[DENSE_LEVELS_AT] = dense;
+    out[WIDTH_AT] = n;
+    out[ZERO_AT] = 0;
 }
 
 // The header.
@@ -60,10 +87,10 @@ pub fn write_header(out: &mut [u8], h: Header)
     ensures { λ _. ⌜ now (out .exit) ≡ placed (now (out .entry)) 0 (header (settings-of h) (counts-of h)) ⌝ }
 {
     write_settings(out, h.dense.levels as u8, h.width as u8);
-    write32(out, 6, h.leaves);
-    write32(out, 10, h.dense.nodes);
-    write32(out, 14, h.sparse.entries);
-    write32(out, 18, h.sparse.nodes);
+    write32(out, LEAVES_AT, h.leaves);
+    write32(out, DENSE_NODES_AT, h.dense.nodes);
+    write32(out, SPARSE_ENTRIES_AT, h.sparse.entries);
+    write32(out, SPARSE_NODES_AT, h.sparse.nodes);
 }
 
 // What the first 22 bytes say as a header.
@@ -72,15 +99,15 @@ pub fn read_header(image: &[u8]) -> Header
     ensures { λ r. ⌜ Reads-header (now (image .entry)) r ⌝ }
 {
     Header {
-        width: wide(image[4]),
-        leaves: read32(image, 6),
+        width: wide(image[WIDTH_AT]),
+        leaves: read32(image, LEAVES_AT),
         dense: Dense {
-            levels: wide(image[3]),
-            nodes: read32(image, 10),
+            levels: wide(image[DENSE_LEVELS_AT]),
+            nodes: read32(image, DENSE_NODES_AT),
         },
         sparse: Sparse {
-            nodes: read32(image, 18),
-            entries: read32(image, 14),
+            nodes: read32(image, SPARSE_NODES_AT),
+            entries: read32(image, SPARSE_ENTRIES_AT),
         },
     }
 }

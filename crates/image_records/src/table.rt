@@ -7,7 +7,13 @@ ghost use Rattle.image_types.specs.Header.{settings-of, counts-of, Short-fields
 ghost use Rattle.image_types.specs.Records.{row-at, row-mark, starts};
 use bits::numbers::blocks_for;
 use bits::numbers::bytes_for;
+use image_types::DENSE_BLOCK_BITS;
 use image_types::Header;
+use image_types::ROW_BITS;
+use image_types::ROW_BYTES;
+use image_types::SAMPLE_RATE;
+use image_types::SPARSE_BLOCK_BITS;
+use image_types::STARTS;
 
 // The number of records.
 pub const RECORDS: usize = 12;
@@ -15,11 +21,14 @@ pub const RECORDS: usize = 12;
 // The bytes of a header, behind which the first record starts.
 pub const HEADER: usize = 22;
 
+// The bytes of a mark.
+pub const MARK_BYTES: usize = 2;
+
 // The bytes before a record's body: its mark and its length.
 pub const BEFORE_BODY: usize = 6;
 
 // The mark of record i, from 0.
-pub fn mark(i: usize) -> [u8; 2]
+pub fn mark(i: usize) -> [u8; MARK_BYTES]
     requires { ⌜ i < 12 ⌝ }
     ensures { λ r. ⌜ r ≡ row-mark i ⌝ }
 {
@@ -53,28 +62,28 @@ pub fn body_size(h: Header, i: usize) -> usize
     ensures { λ r. ⌜ (r ≡ row-at i .size (settings-of h) (counts-of h)) × (r < 2 ^ 40) ⌝ }
 {
     match i {
-        0 => 32 * h.dense.nodes,
-        1 => 32 * h.dense.nodes,
+        0 => ROW_BYTES * h.dense.nodes,
+        1 => ROW_BYTES * h.dense.nodes,
         2 => bytes_for(h.dense.nodes),
         3 => h.sparse.entries,
         4 => bytes_for(h.sparse.entries),
         5 => bytes_for(h.sparse.entries),
         6 => bytes_for(h.leaves * h.width),
-        7 => table_size(64, 256 * h.dense.nodes),
-        8 => table_size(64, 256 * h.dense.nodes),
-        9 => table_size(64, h.dense.nodes),
-        10 => table_size(512, h.sparse.entries),
-        _ => table_size(64, h.sparse.nodes),
+        7 => table_size(DENSE_BLOCK_BITS, ROW_BITS * h.dense.nodes),
+        8 => table_size(DENSE_BLOCK_BITS, ROW_BITS * h.dense.nodes),
+        9 => table_size(DENSE_BLOCK_BITS, h.dense.nodes),
+        10 => table_size(SPARSE_BLOCK_BITS, h.sparse.entries),
+        _ => table_size(SAMPLE_RATE, h.sparse.nodes),
     }
 }
 
 // Where each record starts, and where the last one ends.
-pub fn record_starts(h: Header) -> [usize; 13]
+pub fn record_starts(h: Header) -> [usize; STARTS]
     requires { ⌜ Short-fields h ⌝ }
     ensures { λ r. ⌜ r ≡ starts (settings-of h) (counts-of h) rows 22 ⌝ }
 {
     let mut at = HEADER;
-    let mut out = [0usize; 13];
+    let mut out = [0usize; STARTS];
     let mut i = 0usize;
     while i < RECORDS {
         out[i] = at;

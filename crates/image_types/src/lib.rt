@@ -1,4 +1,34 @@
-// The types of an image: the three kinds of positions, what a header says, the frame, the answers of a call that reads one and of a call that writes, and a leaf by value. No function is declared here, so that laws may rest on them.
+// The types and the numbers of an image: the three kinds of positions, what a header says, the frame, the answers of a call that reads one and of a call that writes, and a leaf by value. No function is declared here, so that laws may rest on them.
+
+// No trie has more levels, and no cut key more bytes.
+pub const MAX_LEVELS: usize = 64;
+
+// The bits of a dense node's row in D-Labels and in D-HasChild, one for each label.
+pub const ROW_BITS: usize = 256;
+
+// The bytes of a dense node's row.
+pub const ROW_BYTES: usize = 32;
+
+// The extra label of a sparse node that is an exact leaf: it stands before the node's other labels.
+pub const EXTRA_LABEL: u8 = 255;
+
+// The bits of a dense body that one rank entry stands for.
+pub const DENSE_BLOCK_BITS: usize = 64;
+
+// The words of a dense body that one rank entry stands for.
+pub const DENSE_BLOCK_WORDS: usize = 1;
+
+// The bits of S-HasChild that one rank entry stands for.
+pub const SPARSE_BLOCK_BITS: usize = 512;
+
+// The words of S-HasChild that one rank entry stands for.
+pub const SPARSE_BLOCK_WORDS: usize = 8;
+
+// S-LOUDS has a sample for every 64th set bit, from the first on.
+pub const SAMPLE_RATE: usize = 64;
+
+// A start for each of the 12 records, and the end of the last.
+pub const STARTS: usize = 13;
 
 // A bit position.
 pub struct BitPos(pub usize);
@@ -64,7 +94,7 @@ pub enum Framed {
 
 // A leaf by value: the cut key is the first len bytes of cut; the suffix bits are the low width bits of suffix, the first one lowest, as the suffix slots hold them.
 pub struct Leaf {
-    pub cut: [u8; 64],
+    pub cut: [u8; MAX_LEVELS],
     pub len: usize,
     pub exact: bool,
     pub suffix: usize,

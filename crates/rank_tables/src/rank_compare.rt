@@ -6,9 +6,10 @@ ghost use Rattle.bits_laws.specs.Bits.{rank};
 ghost use Rattle.rank_tables_laws.specs.Entries.{entries};
 ghost use Rattle.rank_tables_laws.specs.Tables.{Ranked};
 use super::words::whole_word_ones;
+use bits::numbers::MODULUS_32;
 use bits::numbers::read32;
 
-// Whether entry b, for each b below n, is the ones before the block b of so many words of the body, as 32 bits hold it.
+// Whether entry b, for each b below n, is the number of ones before block b of the body, modulo 2^32. A block has so many words.
 // The last block is never counted, so every word that is counted is whole.
 pub fn ranks_valid(body: &[u8], table: &[u8], n: usize, words: usize) -> bool
     requires { ⌜ Ranked (now body) (now table) n words ⌝ }
@@ -28,7 +29,7 @@ pub fn ranks_valid(body: &[u8], table: &[u8], n: usize, words: usize) -> bool
         ones = ones + whole_word_ones(body, q);
         q = q + 1;
         if q == start {
-            if read32(table, 4 * b) != ones % 4294967296 {
+            if read32(table, 4 * b) != ones % MODULUS_32 {
                 return false;
             }
             b = b + 1;

@@ -8,7 +8,7 @@ use bits::numbers::write32;
 use bits::ones::rank_from;
 use rank_tables_laws::Span;
 
-// The table of n ranks goes to out from `table`: entry b is the ones before block b, of so many words, of the finished body.
+// The table of n ranks goes to out from `table`: entry b is the number of ones before block b of the finished body. A block has so many words.
 // The ones are counted in a shared part, the body; then the part from the table's start is lent to write the entry.
 pub fn fill_ranks(out: &mut [u8], body: Span, table: usize, n: usize, words: usize)
     requires { ⌜ Ranks-room (now out) body table n words ⌝ }

@@ -11,8 +11,9 @@ use super::words::whole_word_ones;
 use bits::numbers::read32;
 use bits::ones::bit_at;
 use bits::ones::ones_before;
+use image_types::SAMPLE_RATE;
 
-// The ones in word q of s that are among its first n bits.
+// The number of ones in word q of s that stand among the first n bits of s.
 fn ones_among(s: &[u8], q: usize, n: usize) -> usize
     requires { ⌜ (n ≤ 8 * length (now s)) × (64 * q < n) ⌝ }
     ensures { λ r. ⌜ (rank (now (s .entry)) (min (64 * q + 64) n) ≡ rank (now (s .entry)) (64 * q) + r) × (r ≤ 64) ⌝ }
@@ -24,8 +25,8 @@ fn ones_among(s: &[u8], q: usize, n: usize) -> usize
     whole_word_ones(s, q)
 }
 
-// Whether entry t is there and is the position of one number 64 t, from 0, which word q holds among the first n bits, with so many ones before the word.
-// The entry is tested at its own place: it lies in the word, is set, and has just 64 t ones before it.
+// Whether entry t is there and is the position of the set bit number 64 t, counted from 0, which word q holds among the first n bits. So many set bits stand before the word.
+// The position is tested itself: it lies in the word, its bit is set, and just 64 t set bits stand before it.
 fn sample_valid(s: &[u8], n: usize, q: usize, before: usize, table: &[u8], t: usize) -> bool
     requires { ⌜ Held (now s) n q before t ⌝ }
     ensures { λ r. ⌜ r ≡ sampled (now (s .entry)) n (now (table .entry)) t ⌝ }
@@ -44,13 +45,13 @@ fn sample_valid(s: &[u8], n: usize, q: usize, before: usize, table: &[u8], t: us
     if n <= p {
         return false;
     }
-    if ones_before(s, q, j) != 64 * t - before {
+    if ones_before(s, q, j) != SAMPLE_RATE * t - before {
         return false;
     }
     bit_at(s, p) == 1
 }
 
-// Whether the table is that of the positions of one number 64 t, from 0, among the first n bits, for each begun 64 ones.
+// Whether the table holds the position of every 64th set bit among the first n bits, the first among them.
 // A word has at most 64 ones, so at most one of these stands in it.
 pub fn samples_valid(s: &[u8], n: usize, table: &[u8]) -> bool
     requires { ⌜ (n ≤ 8 * length (now s)) × (n < 4294967296) ⌝ }
@@ -64,7 +65,7 @@ pub fn samples_valid(s: &[u8], n: usize, table: &[u8]) -> bool
         let before = ones;
         q = word + 1;
         ones = before + ones_among(s, word, n);
-        if 64 * t < ones {
+        if SAMPLE_RATE * t < ones {
             if !sample_valid(s, n, word, before, table, t) {
                 return false;
             }

@@ -8,9 +8,10 @@ use bits::numbers::smaller;
 use bits::numbers::write32;
 use bits::ones::rank_from;
 use bits::select::select_from;
+use image_types::SAMPLE_RATE;
 use rank_tables_laws::Span;
 
-// The table of samples goes to out from `table`: entry t is the position of one number 64 t, from 0, among the first bits of the finished body, for each begun 64 ones.
+// The table of samples goes to out from `table`: entry t is the position of the set bit number 64 t, counted from 0, among the first bits of the finished body.
 // The ones are counted in a shared part, the body; then the part from the table's start is lent to write the entry.
 pub fn fill_samples(out: &mut [u8], body: Span, bits: usize, table: usize)
     requires { ⌜ Samples-room (now out) body bits table ⌝ }
@@ -26,8 +27,8 @@ pub fn fill_samples(out: &mut [u8], body: Span, bits: usize, table: usize)
         let before = r;
         at = smaller(start + 64, bits);
         r = rank_from(&out[from..end], start / 64, before, at);
-        if 64 * t < r {
-            let p = select_from(&out[from..end], bits, start, before, 64 * t);
+        if SAMPLE_RATE * t < r {
+            let p = select_from(&out[from..end], bits, start, before, SAMPLE_RATE * t);
             write32(&mut out[table..], 4 * t, p);
             t = t + 1;
         }

@@ -5,7 +5,7 @@ ghost use lib.ListN.{length};
 ghost use Rattle.bits_laws.specs.Bits.{rank};
 use bits::numbers::read64;
 
-// The ones in word q of s, all of which is there.
+// The number of ones in word q of s, which lies whole within s.
 pub fn whole_word_ones(s: &[u8], q: usize) -> usize
     requires { ⌜ 8 * q + 8 ≤ length (now s) ⌝ }
     ensures { λ r. ⌜ (rank (now (s .entry)) (64 * q + 64) ≡ rank (now (s .entry)) (64 * q) + r) × (r ≤ 64) ⌝ }
