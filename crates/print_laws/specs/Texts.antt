@@ -18,78 +18,78 @@ use Rattle.spec.specs.Check.{verdict}
 use Rattle.bits_laws.specs.UnpackLaws.{length-low-bits}
 use Rattle.spec.specs.Print.{longest-input, digits, decimal, hex-digit, hex, suffix-text, line, lines, listing, print}
 
--- ---- numbers in decimal figures
+-- ---- numbers in decimal digits
 
--- the last figure to write
-figures-one : (fuel n : ℕ) (done : Bytes) → n < 10 → digits (suc fuel) n done ≡ (letter "0" + n) ∷ done
+-- the last digit to write
+digits-one : (fuel n : ℕ) (done : Bytes) → n < 10 → digits (suc fuel) n done ≡ (letter "0" + n) ∷ done
 unfolding digits
-figures-one fuel n done h = go (ltb n 10) (lt-ltb n 10 h)
+digits-one fuel n done h = go (ltb n 10) (lt-ltb n 10 h)
   where
     go : (b : Bool) → b ≡ true → _≡_ {A = Bytes} (elim b [ true ↦ (letter "0" + n) ∷ done | false ↦ digits fuel (n / 10) ((letter "0" + n % 10) ∷ done) ]) ((letter "0" + n) ∷ done)
     go true e = refl
     go false e = absurd (true≢false (sym e))
 
--- a figure with more in front of it
-figures-more : (fuel n : ℕ) (done : Bytes) → 10 ≤ n → digits (suc fuel) n done ≡ digits fuel (n / 10) ((letter "0" + n % 10) ∷ done)
+-- a digit with more in front of it
+digits-more : (fuel n : ℕ) (done : Bytes) → 10 ≤ n → digits (suc fuel) n done ≡ digits fuel (n / 10) ((letter "0" + n % 10) ∷ done)
 unfolding digits
-figures-more fuel n done h = go (ltb n 10) (le-ltb n 10 h)
+digits-more fuel n done h = go (ltb n 10) (le-ltb n 10 h)
   where
     go : (b : Bool) → b ≡ false → _≡_ {A = Bytes} (elim b [ true ↦ (letter "0" + n) ∷ done | false ↦ digits fuel (n / 10) ((letter "0" + n % 10) ∷ done) ]) (digits fuel (n / 10) ((letter "0" + n % 10) ∷ done))
     go true e = absurd (true≢false e)
     go false e = refl
 
--- the figures stand in front of what is done
-figures-front : (fuel n : ℕ) (done : Bytes) → digits fuel n done ≡ digits fuel n [] ++ done
+-- the digits stand in front of what is done
+digits-front : (fuel n : ℕ) (done : Bytes) → digits fuel n done ≡ digits fuel n [] ++ done
 unfolding digits
-figures-front zero n done = refl
-figures-front (suc fuel) n done = go (ltb n 10) refl (figures-front fuel (n / 10))
+digits-front zero n done = refl
+digits-front (suc fuel) n done = go (ltb n 10) refl (digits-front fuel (n / 10))
   where
     go : (b : Bool) → ltb n 10 ≡ b → ((d : Bytes) → digits fuel (n / 10) d ≡ digits fuel (n / 10) [] ++ d) → digits (suc fuel) n done ≡ digits (suc fuel) n [] ++ done
     go true e ih =
         let l : n < 10 = ltb-true n 10 e in
-        figures-one fuel n done l ∙ ap (λ (z : Bytes). z ++ done) (sym (figures-one fuel n [] l))
+        digits-one fuel n done l ∙ ap (λ (z : Bytes). z ++ done) (sym (digits-one fuel n [] l))
     go false e ih =
         let l = ltb-false n 10 e in
         let x : Bytes = (letter "0" + n % 10) ∷ [] in
-        figures-more fuel n done l ∙ ih (x ++ done) ∙ sym (append-assoc (digits fuel (n / 10) []) x done)
-        ∙ ap (λ (z : Bytes). z ++ done) (sym (figures-more fuel n [] l ∙ ih x))
+        digits-more fuel n done l ∙ ih (x ++ done) ∙ sym (append-assoc (digits fuel (n / 10) []) x done)
+        ∙ ap (λ (z : Bytes). z ++ done) (sym (digits-more fuel n [] l ∙ ih x))
 
--- any fuel above the number gives the same figures
-figures-fuel : (f g n : ℕ) (done : Bytes) → n < f → n < g → digits f n done ≡ digits g n done
-figures-fuel zero g n done h k = absurd (omega arith)
-figures-fuel (suc f) zero n done h k = absurd (omega arith)
-figures-fuel (suc f) (suc g) n done h k = go (ltb n 10) refl (figures-fuel f g (n / 10) ((letter "0" + n % 10) ∷ done))
+-- any fuel above the number gives the same digits
+digits-fuel : (f g n : ℕ) (done : Bytes) → n < f → n < g → digits f n done ≡ digits g n done
+digits-fuel zero g n done h k = absurd (omega arith)
+digits-fuel (suc f) zero n done h k = absurd (omega arith)
+digits-fuel (suc f) (suc g) n done h k = go (ltb n 10) refl (digits-fuel f g (n / 10) ((letter "0" + n % 10) ∷ done))
   where
     go : (b : Bool) → ltb n 10 ≡ b → (n / 10 < f → n / 10 < g → digits f (n / 10) ((letter "0" + n % 10) ∷ done) ≡ digits g (n / 10) ((letter "0" + n % 10) ∷ done))
         → digits (suc f) n done ≡ digits (suc g) n done
     go true e ih =
         let l : n < 10 = ltb-true n 10 e in
-        figures-one f n done l ∙ sym (figures-one g n done l)
+        digits-one f n done l ∙ sym (digits-one g n done l)
     go false e ih =
         let l = ltb-false n 10 e in
-        figures-more f n done l ∙ ih (omega arith) (omega arith) ∙ sym (figures-more g n done l)
+        digits-more f n done l ∙ ih (omega arith) (omega arith) ∙ sym (digits-more g n done l)
 
--- a number of one figure
+-- a number of one digit
 pub decimal-one : (n : ℕ) → n < 10 → decimal n ≡ (letter "0" + n) ∷ []
 unfolding decimal
-decimal-one n h = figures-one n n [] h
+decimal-one n h = digits-one n n [] h
 
--- a number's last figure stands behind those of its tenth
+-- a number's last digit stands behind those of its tenth
 pub decimal-last : (n : ℕ) → 10 ≤ n → decimal n ≡ decimal (n / 10) ++ (letter "0" + n % 10) ∷ []
 unfolding decimal
 decimal-last n h =
     let x : Bytes = (letter "0" + n % 10) ∷ [] in
-    figures-more n n [] h ∙ figures-front n (n / 10) x ∙ ap (λ (z : Bytes). z ++ x) (figures-fuel n (suc (n / 10)) (n / 10) [] (omega arith) (omega arith))
+    digits-more n n [] h ∙ digits-front n (n / 10) x ∙ ap (λ (z : Bytes). z ++ x) (digits-fuel n (suc (n / 10)) (n / 10) [] (omega arith) (omega arith))
 
--- how many figures that is
+-- how many digits that is
 pub length-decimal-one : (n : ℕ) → n < 10 → length (decimal n) ≡ 1
 length-decimal-one n h = ap length (decimal-one n h)
 
--- one figure more than its tenth has
+-- one digit more than its tenth has
 pub length-decimal-last : (n : ℕ) → 10 ≤ n → length (decimal n) ≡ length (decimal (n / 10)) + 1
 length-decimal-last n h = ap length (decimal-last n h) ∙ length-append (decimal (n / 10)) ((letter "0" + n % 10) ∷ [])
 
--- a number below 10 ^ (k + 1) has at most k + 1 figures
+-- a number below 10 ^ (k + 1) has at most k + 1 digits
 pub length-decimal : (k n : ℕ) → n < 10 ^ suc k → length (decimal n) ≤ suc k
 length-decimal zero n h = omega (arith, length-decimal-one n (omega arith))
 length-decimal (suc k) n h = go (ltb n 10) refl (length-decimal k (n / 10))
@@ -102,14 +102,14 @@ length-decimal (suc k) n h = go (ltb n 10) refl (length-decimal k (n / 10))
         let m = ih (omega arith) in
         omega (arith, length-decimal-last n l)
 
--- ---- keys in hexadecimal figures
+-- ---- keys in hexadecimal digits
 
--- no bytes, no figures
+-- no bytes, no digits
 pub hex-none : hex [] ≡ []
 unfolding hex
 hex-none = refl
 
--- the figures of two keys, one behind the other
+-- the digits of two keys, one behind the other
 hex-append : (xs ys : Bytes) → hex (xs ++ ys) ≡ hex xs ++ hex ys
 unfolding hex
 hex-append [] ys = refl
@@ -119,29 +119,29 @@ hex-append (x ∷ xs) ys = ap (λ (z : Bytes). hex-digit (x / 16) ∷ hex-digit 
 pub hex-more : (k : Bytes) (i : ℕ) → i < length k → hex (take (suc i) k) ≡ hex (take i k) ++ hex (getD k i 0 ∷ [])
 hex-more k i h = ap hex (take-suc k i 0 h) ∙ hex-append (take i k) (getD k i 0 ∷ [])
 
--- two figures a byte
+-- two digits a byte
 pub length-hex : (k : Bytes) → length (hex k) ≡ 2 * length k
 unfolding hex
 length-hex [] = refl
 length-hex (x ∷ k) = omega (arith, length-hex k)
 
--- the figures of the first i bytes
+-- the digits of the first i bytes
 pub length-hex-take : (k : Bytes) (i : ℕ) → i ≤ length k → length (hex (take i k)) ≡ 2 * i
 length-hex-take k i h = length-hex (take i k) ∙ ap (λ (n : ℕ). 2 * n) (length-take-le i k h)
 
--- the figures of one byte
+-- the digits of one byte
 pub hex-byte : (x : ℕ) → hex (x ∷ []) ≡ hex-digit (x / 16) ∷ hex-digit (x % 16) ∷ []
 unfolding hex
 hex-byte x = refl
 
--- a figure is a decimal one, or a capital letter
+-- a digit is a decimal one, or a capital letter
 pub hex-digit-is : (x : ℕ) → hex-digit x ≡ cond (ltb x 10) (letter "0" + x) (letter "A" + (x - 10))
 unfolding hex-digit
 hex-digit-is x = refl
 
 -- ---- suffix bits
 
--- a bit as a figure
+-- a bit as a digit
 abbrev pub bit-digit : Bool → ℕ
 bit-digit c = letter "0" + bit c
 
@@ -160,7 +160,7 @@ suffix-open true n x h k = absurd (true≢false h)
 suffix-open false zero x h k = absurd (k refl)
 suffix-open false (suc n) x h k = refl
 
--- no bits, no figures
+-- no bits, no digits
 pub bit-digits-none : (x : ℕ) → map bit-digit (low-bits 0 x) ≡ []
 unfolding low-bits
 bit-digits-none x = refl
@@ -173,7 +173,7 @@ low-bits-more (suc k) x =
     let w : 1 + k ≡ suc k = omega arith in
     ap (λ (z : Bits). eqb (x % 2) 1 ∷ z) (low-bits-more k (x / 2) ∙ ap (λ (n : ℕ). low-bits k (x / 2) ++ eqb (n % 2) 1 ∷ []) (shr-shr x 1 k ∙ ap (λ (z : ℕ). x / 2 ^ z) w))
 
--- a bit of a number, as a figure
+-- a bit of a number, as a digit
 digit-mod : (x : ℕ) → bit-digit (eqb (x % 2) 1) ≡ letter "0" + x % 2
 digit-mod x = go (eqb (x % 2) 1) refl
   where
@@ -181,7 +181,7 @@ digit-mod x = go (eqb (x % 2) 1) refl
     go true e = omega (arith, eqb-true (x % 2) 1 e)
     go false e = let n = eqb-false (x % 2) 1 e in omega arith
 
--- one figure more
+-- one digit more
 pub bit-digits-more : (k x : ℕ) → map bit-digit (low-bits (suc k) x) ≡ map bit-digit (low-bits k x) ++ (letter "0" + x / 2 ^ k % 2) ∷ []
 bit-digits-more k x =
     ap (map bit-digit) (low-bits-more k x) ∙ map-append bit-digit (low-bits k x) (eqb (x / 2 ^ k % 2) 1 ∷ [])
@@ -192,7 +192,7 @@ pub length-map : {A : Type 0} (f : A → ℕ) (s : List A) → length (map f s) 
 length-map f [] = refl
 length-map f (b ∷ s) = ap suc (length-map f s)
 
--- a figure a bit
+-- a digit a bit
 pub length-bit-digits : (k x : ℕ) → length (map bit-digit (low-bits k x)) ≡ k
 length-bit-digits k x = length-map bit-digit (low-bits k x) ∙ length-low-bits k x
 
@@ -227,11 +227,11 @@ pub length-pieces : (i : ℕ) (l : Leaf) → length (line i l) ≡ length (decim
 length-pieces i l =
     omega (arith, ap length (line-is i l) ∙ length-append (decimal i ++ cut-text l ++ slot-text l) (10 ∷ []), length-append (decimal i ++ cut-text l) (slot-text l), length-append (decimal i) (cut-text l))
 
--- the bytes of a line at most: 10 figures, blanks and the kind, 128 figures of the key, 16 suffix bits, the line feed
+-- the bytes of a line at most: 10 digits, blanks and the kind, 128 digits of the key, 16 suffix bits, the line feed
 abbrev pub longest-line : ℕ
 longest-line = 159
 
--- no line is longer, for a leaf number of at most 10 figures
+-- no line is longer, for a leaf number of at most 10 digits
 pub length-line : (i : ℕ) (l : Leaf) → i < 10 ^ 10 → length (l .cut) ≤ 64 → length (l .suffix) ≤ 16 → length (line i l) ≤ longest-line
 length-line i l h k n = omega (arith, length-pieces i l, length-decimal 9 i h, length-hex (l .cut), length-suffix (l .exact) (l .suffix) n)
 

@@ -1,4 +1,4 @@
-// Bytes, numbers in decimal figures and keys in capital hexadecimal ones.
+// Bytes; numbers in decimal digits; keys in capital hexadecimal digits.
 ghost use mathlib.Core.Path.{_≡_};
 ghost use mathlib.Core.List.{[], _∷_};
 ghost use Prim.Native.Nat.{_+_, _*_, _≤_, _<_};
@@ -26,7 +26,7 @@ pub fn write_text(out: &mut [u8], at: usize, text: &[u8]) -> usize
     at + text.len()
 }
 
-// The decimal figure of a number below ten.
+// The decimal digit of a number below ten.
 pub fn digit(x: usize) -> u8
     requires { ⌜ x < 10 ⌝ }
     ensures { λ r. ⌜ r ≡ letter "0" + x ⌝ }
@@ -34,7 +34,7 @@ pub fn digit(x: usize) -> u8
     b'0' + x as u8
 }
 
-// A number in decimal figures: those of its tenth, then its last.
+// A number in decimal digits: those of its tenth, then its last.
 pub fn write_decimal(out: &mut [u8], at: usize, n: usize) -> usize
     requires { ⌜ at + length (decimal n) ≤ length (now out) ⌝ }
     ensures { λ r. ⌜ Written (now (out .entry)) at (decimal n) (now (out .exit)) r ⌝ }
@@ -46,7 +46,7 @@ pub fn write_decimal(out: &mut [u8], at: usize, n: usize) -> usize
     write_byte(out, next, digit(n % 10))
 }
 
-// The capital hexadecimal figure of a number below sixteen.
+// The capital hexadecimal digit of a number below sixteen.
 fn hex_digit(x: u8) -> u8
     requires { ⌜ x < 16 ⌝ }
     ensures { λ r. ⌜ r ≡ hex-digit x ⌝ }
@@ -57,7 +57,7 @@ fn hex_digit(x: u8) -> u8
     b'A' + (x - 10)
 }
 
-// The two hexadecimal figures of a byte, the high one first.
+// The two hexadecimal digits of a byte, the high one first.
 fn write_hex_byte(out: &mut [u8], at: usize, x: u8) -> usize
     requires { ⌜ at + 2 ≤ length (now out) ⌝ }
     ensures { λ r. ⌜ Written (now (out .entry)) at (hex (x ∷ [])) (now (out .exit)) r ⌝ }
@@ -66,7 +66,7 @@ fn write_hex_byte(out: &mut [u8], at: usize, x: u8) -> usize
     write_byte(out, next, hex_digit(x % 16))
 }
 
-// A key in capital hexadecimal figures.
+// A key in capital hexadecimal digits.
 pub fn write_hex(out: &mut [u8], at: usize, key: &[u8]) -> usize
     requires { ⌜ at + 2 * length (now key) ≤ length (now out) ⌝ }
     ensures { λ r. ⌜ Written (now (out .entry)) at (hex (now (key .entry))) (now (out .exit)) r ⌝ }

@@ -14,7 +14,7 @@ use super::digits::write_hex;
 use super::digits::write_text;
 use image_types::Leaf;
 
-// Bits as figures: the low width bits of suffix, the lowest first.
+// Bits as digits: the low width bits of suffix, the lowest first.
 fn write_bits(out: &mut [u8], at: usize, suffix: usize, width: usize) -> usize
     requires { ⌜ (width ≤ 16) × (at + width ≤ length (now out)) ⌝ }
     ensures { λ r. ⌜ Written (now (out .entry)) at (map bit-digit (low-bits width suffix)) (now (out .exit)) r ⌝ }
