@@ -16,7 +16,7 @@ unfoldable pub rank : Bytes → ℕ → ℕ
 rank s zero = zero
 rank s (suc k) = rank s k + bit-at s k
 
--- the last position up to n before which stand at most m ones: the position of one number m, from 0, or n where there is no such one
+-- the last position up to n before which stand at most m ones: the position of the m-th one, counted from 0, or n where there is none
 unfoldable pub select : Bytes → ℕ → ℕ → ℕ
 unfolding rank
 select s zero m = zero

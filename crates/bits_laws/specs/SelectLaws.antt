@@ -77,7 +77,7 @@ select-behind s n m p l h = go (leb p (select s n m)) refl
         let f = select-is s n m in
         absurd (omega (arith, f .2 (omega arith), rank-up s (select s n m + 1) p (omega arith)))
 
--- one number m, where there is such a one, and the ones up to and with it
+-- where there is an m-th one, counted from 0, it stands below n, and m + 1 ones stand up to and with it
 pub select-found : (s : Bytes) (n m : ℕ) → m < rank s n → (select s n m < n) × (rank s (select s n m + 1) ≡ m + 1)
 select-found s n m h = go (ltb (select s n m) n) refl
   where
@@ -92,7 +92,7 @@ select-found s n m h = go (ltb (select s n m) n) refl
         let w : select s n m ≡ n = omega (arith, f .0, ltb-false (select s n m) n e) in
         absurd (omega (arith, f .1, ap (rank s) w))
 
--- by the position of one number m, which may lie behind n
+-- by the position of the m-th one, counted from 0, which may lie behind n
 pub select-min : (s : Bytes) (n m p : ℕ) → rank s p ≤ m → m < rank s (p + 1) → min p n ≡ select s n m
 select-min s n m p l g = go (leb p n) refl
   where

@@ -21,7 +21,7 @@ fn equal_bytes(x: u64, y: u64) -> usize
     (u64::trailing_zeros(x ^ y) / 8) as usize
 }
 
-// So many of the first n bytes are the same in both keys: whole words, and those before the first difference in a word.
+// How many bytes, at most n, both keys are found to share by whole words: all words before the first that differs, and its bytes before the difference.
 fn shared_words(p: &[u8], q: &[u8], n: usize) -> usize
     requires { ⌜ (n ≤ length (now p)) × (n ≤ length (now q)) ⌝ }
     ensures { λ r. ⌜ (r ≤ n) × (take r (now (p .entry)) ≡ take r (now (q .entry))) ⌝ }
@@ -37,7 +37,7 @@ fn shared_words(p: &[u8], q: &[u8], n: usize) -> usize
     i
 }
 
-// The length of the longest prefix that two keys share, the shorter of n bytes, from a length that they are known to share.
+// The length of the longest prefix that two keys share. The shorter key has n bytes, and the first `from` bytes are known to be shared.
 fn shared_from(p: &[u8], q: &[u8], n: usize, from: usize) -> usize
     requires { ⌜ (n ≡ min (length (now p)) (length (now q))) × (from ≤ n) × (take from (now p) ≡ take from (now q)) ⌝ }
     ensures { λ r. ⌜ r ≡ shared (now (p .entry)) (now (q .entry)) ⌝ }

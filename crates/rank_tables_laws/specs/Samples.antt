@@ -36,7 +36,7 @@ position-at i (false ∷ bs) (suc j) e =
     let w : 0 + ones (take j bs) ≡ ones (take j bs) = omega arith in
     ap (λ (k : ℕ). getD (positions (suc i) bs) k 0) w ∙ position-at (suc i) bs j (omega arith) ∙ omega arith
 
--- ---- one number m, from 0, among the first n bits of a body that has more than m ones there
+-- ---- the m-th one, counted from 0, among the first n bits of a body that has more than m ones there
 
 -- where it stands: below n, with m ones before it, and set
 pub record One-at (s : Bytes) (n m p : ℕ) : Type 0 where
@@ -87,7 +87,7 @@ module _ (s : Bytes) (n m : ℕ) where
 
 -- ---- samples
 
--- The samples of the first n bits of a body: entry t is the position of one number 64 t, from 0.
+-- The samples of the first n bits of a body: entry t is the position of the set bit number 64 t, counted from 0.
 pub samples-are : (n : ℕ) (s : Bytes) → n ≤ 8 * length s → samples (take n (unpack s)) ≡ entries (λ t. select s n (64 * t)) (blocks 64 (rank s n))
 unfolding samples entries
 samples-are n s h =
@@ -107,7 +107,7 @@ samples-are n s h =
 
 -- ---- a table of samples, entry by entry
 
--- entry t is there and is the position of one number 64 t, from 0, among the first n bits
+-- entry t is there and is the position of the set bit number 64 t, counted from 0, among the first n bits
 abbrev pub sampled : Bytes → ℕ → Bytes → ℕ → Bool
 sampled s n table t = leb (4 * t + 4) (length table) && eqb (entry table t) (select s n (64 * t))
 

@@ -43,7 +43,7 @@ pub record Ranked (body table : Bytes) (n words : ℕ) : Type 0 where
   pub sized : length table ≡ 4 * n
   pub starts : (b : ℕ) → b < n → 8 * (words * b) ≤ length body
 
--- word q holds one number 64 t, from 0, of the first n bits, with so many ones before the word
+-- word q holds the set bit number 64 t, counted from 0, of the first n bits; so many ones stand before the word
 pub record Held (s : Bytes) (n q before t : ℕ) : Type 0 where
   pub within : n ≤ 8 * length s
   pub short : n < 4294967296

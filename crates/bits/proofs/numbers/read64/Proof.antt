@@ -5,155 +5,117 @@ use borrow.Author.Needs.{needs}
 use Rattle.bits.proofs.numbers.read64.Statement.{statement}
 use Rattle.bits.proofs.numbers.read64.Tie as tie
 
--- src/numbers.rt:46:21
 shared-slice-read-wide64 : tie.Need-shared-slice-read-wide64
 shared-slice-read-wide64 c = search needs
 
--- src/numbers.rt:46:14
 wide64-requires : tie.Need-wide64-requires
 wide64-requires c κs = search needs
 
--- src/numbers.rt:46:45
 add-wide64 : tie.Need-add-wide64
 add-wide64 c = search needs
 
--- src/numbers.rt:46:43
 shared-slice-read-wide64-2 : tie.Need-shared-slice-read-wide64-2
 shared-slice-read-wide64-2 c = search needs
 
--- src/numbers.rt:46:36
 wide64-requires-2 : tie.Need-wide64-requires-2
 wide64-requires-2 c κs = search needs
 
--- src/numbers.rt:46:30
 mul-lo : tie.Need-mul-lo
 mul-lo c = search needs
 
--- src/numbers.rt:46:14
 add-lo : tie.Need-add-lo
 add-lo c = search needs
 
--- src/numbers.rt:46:73
 add-wide64-2 : tie.Need-add-wide64-2
 add-wide64-2 c = search needs
 
--- src/numbers.rt:46:71
 shared-slice-read-wide64-3 : tie.Need-shared-slice-read-wide64-3
 shared-slice-read-wide64-3 c = search needs
 
--- src/numbers.rt:46:64
 wide64-requires-3 : tie.Need-wide64-requires-3
 wide64-requires-3 c κs = search needs
 
--- src/numbers.rt:46:56
 mul-lo-2 : tie.Need-mul-lo-2
 mul-lo-2 c = search needs
 
--- src/numbers.rt:46:14
 add-lo-2 : tie.Need-add-lo-2
 add-lo-2 c = search needs
 
--- src/numbers.rt:46:104
 add-wide64-3 : tie.Need-add-wide64-3
 add-wide64-3 c = search needs
 
--- src/numbers.rt:46:102
 shared-slice-read-wide64-4 : tie.Need-shared-slice-read-wide64-4
 shared-slice-read-wide64-4 c = search needs
 
--- src/numbers.rt:46:95
 wide64-requires-4 : tie.Need-wide64-requires-4
 wide64-requires-4 c κs = search needs
 
--- src/numbers.rt:46:84
 mul-lo-3 : tie.Need-mul-lo-3
 mul-lo-3 c = search needs
 
--- src/numbers.rt:46:14
 add-lo-3 : tie.Need-add-lo-3
 add-lo-3 c = search needs
 
--- src/numbers.rt:47:23
 add-wide64-4 : tie.Need-add-wide64-4
 add-wide64-4 c = search needs
 
--- src/numbers.rt:47:21
 shared-slice-read-wide64-5 : tie.Need-shared-slice-read-wide64-5
 shared-slice-read-wide64-5 c = search needs
 
--- src/numbers.rt:47:14
 wide64-requires-5 : tie.Need-wide64-requires-5
 wide64-requires-5 c κs = search needs
 
--- src/numbers.rt:47:49
 add-wide64-5 : tie.Need-add-wide64-5
 add-wide64-5 c = search needs
 
--- src/numbers.rt:47:47
 shared-slice-read-wide64-6 : tie.Need-shared-slice-read-wide64-6
 shared-slice-read-wide64-6 c = search needs
 
--- src/numbers.rt:47:40
 wide64-requires-6 : tie.Need-wide64-requires-6
 wide64-requires-6 c κs = search needs
 
--- src/numbers.rt:47:34
 mul-hi : tie.Need-mul-hi
 mul-hi c = search needs
 
--- src/numbers.rt:47:14
 add-hi : tie.Need-add-hi
 add-hi c = search needs
 
--- src/numbers.rt:47:77
 add-wide64-6 : tie.Need-add-wide64-6
 add-wide64-6 c = search needs
 
--- src/numbers.rt:47:75
 shared-slice-read-wide64-7 : tie.Need-shared-slice-read-wide64-7
 shared-slice-read-wide64-7 c = search needs
 
--- src/numbers.rt:47:68
 wide64-requires-7 : tie.Need-wide64-requires-7
 wide64-requires-7 c κs = search needs
 
--- src/numbers.rt:47:60
 mul-hi-2 : tie.Need-mul-hi-2
 mul-hi-2 c = search needs
 
--- src/numbers.rt:47:14
 add-hi-2 : tie.Need-add-hi-2
 add-hi-2 c = search needs
 
--- src/numbers.rt:47:108
 add-wide64-7 : tie.Need-add-wide64-7
 add-wide64-7 c = search needs
 
--- src/numbers.rt:47:106
 shared-slice-read-wide64-8 : tie.Need-shared-slice-read-wide64-8
 shared-slice-read-wide64-8 c = search needs
 
--- src/numbers.rt:47:99
 wide64-requires-8 : tie.Need-wide64-requires-8
 wide64-requires-8 c κs = search needs
 
--- src/numbers.rt:47:88
 mul-hi-3 : tie.Need-mul-hi-3
 mul-hi-3 c = search needs
 
--- src/numbers.rt:47:14
 add-hi-3 : tie.Need-add-hi-3
 add-hi-3 c = search needs
 
--- src/numbers.rt:48:10
 mul-result : tie.Need-mul-result
 mul-result c = search needs
 
--- src/numbers.rt:48:5
 add-result : tie.Need-add-result
 add-result c = search needs
 
--- src/numbers.rt:42:1
 returns : tie.Need-returns
 returns c =
     let a = c .before .before .before .before .before .before .before .before .before .before .before .before .before .before .before .before .before .args in

@@ -15,42 +15,34 @@ Inv-loop s at w₀ i₀ w i = (at ≤ i) × (i ≤ length s) × (w ≡ value (dr
 abbrev μ-loop : tie.MeasureT-loop
 μ-loop s at w₀ i₀ w i = i - at
 
--- src/numbers.rt:58:5
 loop-holds : tie.Need-loop-holds Inv-loop μ-loop
 unfolding value
 loop-holds c = (omega arith, omega arith, ap value (sym (drop-length (c .before .args .s .now))))
 
--- src/numbers.rt:59:13
 sub-i : tie.Need-sub-i Inv-loop μ-loop
 sub-i c = search needs
 
--- src/numbers.rt:60:13
 mul-w : tie.Need-mul-w Inv-loop μ-loop
 mul-w c =
     let a = c .before .before .before .args in
     let small : Small (a .s .now) = λ i. c .before .before .shared-slice-known .given i .fits in
     omega (arith, value-end 7 (c .before .loop .i) (a .s .now) small (omega arith))
 
--- src/numbers.rt:60:30
 shared-slice-read-wide64 : tie.Need-shared-slice-read-wide64 Inv-loop μ-loop
 shared-slice-read-wide64 c = search needs
 
--- src/numbers.rt:60:23
 wide64-requires : tie.Need-wide64-requires Inv-loop μ-loop
 wide64-requires c κs = search needs
 
--- src/numbers.rt:60:13
 add-w : tie.Need-add-w Inv-loop μ-loop
 add-w c =
     let a = c .before .before .before .before .before .args in
     let small : Small (a .s .now) = λ i. c .before .before .before .before .shared-slice-known .given i .fits in
     omega (arith, value-end 7 (c .before .before .before .loop .i) (a .s .now) small (omega arith))
 
--- src/numbers.rt:58:5
 loop-less : tie.Need-loop-less Inv-loop μ-loop
 loop-less c = search needs
 
--- src/numbers.rt:58:5
 loop-again : tie.Need-loop-again Inv-loop μ-loop
 loop-again c =
     let a = c .before .before .before .before .before .args in
@@ -58,7 +50,6 @@ loop-again c =
     let e : i - 1 + 1 ≡ i = omega arith in
     (omega arith, omega arith, omega (arith, value-front (a .s .now) (i - 1) (omega arith), ap (λ (k : ℕ). value (drop k (a .s .now))) e, c .wide64 .ensures .0))
 
--- src/numbers.rt:52:1
 returns : tie.Need-returns Inv-loop μ-loop
 returns c =
     let a = c .before .before .before .args in

@@ -7,55 +7,42 @@ use borrow.Author.Needs.{needs}
 use Rattle.bits.proofs.numbers.write32.Statement.{statement}
 use Rattle.bits.proofs.numbers.write32.Tie as tie
 
--- src/numbers.rt:35:13
 cast-s : tie.Need-cast-s
 cast-s c = search needs
 
--- src/numbers.rt:35:5
 slice-write-s : tie.Need-slice-write-s
 slice-write-s c = search needs
 
--- src/numbers.rt:36:17
 cast-s-2 : tie.Need-cast-s-2
 cast-s-2 c = search needs
 
--- src/numbers.rt:36:7
 add-s : tie.Need-add-s
 add-s c = search needs
 
--- src/numbers.rt:36:5
 slice-write-s-2 : tie.Need-slice-write-s-2
 slice-write-s-2 c = simp length-set (omega arith)
 
--- src/numbers.rt:37:17
 cast-s-3 : tie.Need-cast-s-3
 cast-s-3 c = search needs
 
--- src/numbers.rt:37:7
 add-s-2 : tie.Need-add-s-2
 add-s-2 c = search needs
 
--- src/numbers.rt:37:5
 slice-write-s-3 : tie.Need-slice-write-s-3
 slice-write-s-3 c = simp length-set (omega arith)
 
--- src/numbers.rt:38:17
 cast-s-4 : tie.Need-cast-s-4
 cast-s-4 c = search needs
 
--- src/numbers.rt:38:7
 add-s-3 : tie.Need-add-s-3
 add-s-3 c = search needs
 
--- src/numbers.rt:38:5
 slice-write-s-4 : tie.Need-slice-write-s-4
 slice-write-s-4 c = simp length-set (omega arith)
 
--- src/numbers.rt:31:1
 same-length : tie.Need-same-length
 same-length c = search needs
 
--- src/numbers.rt:31:1
 returns : tie.Need-returns
 unfolding le32
 returns c =

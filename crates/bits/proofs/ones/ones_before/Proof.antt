@@ -9,27 +9,22 @@ use borrow.Author.Needs.{needs}
 use Rattle.bits.proofs.ones.ones_before.Statement.{statement}
 use Rattle.bits.proofs.ones.ones_before.Tie as tie
 
--- src/ones.rt:46:21
 read-word-requires : tie.Need-read-word-requires
 read-word-requires c κs = search needs
 
--- src/ones.rt:46:40
 shl-result : tie.Need-shl-result
 shl-result c = search needs
 
--- src/ones.rt:46:21
 rem-result : tie.Need-rem-result
 rem-result c =
     let j = c .before .before .args .j in
     rw (one-shl 64 j (omega arith)) (pow-pos j)
 
--- src/ones.rt:46:5
 cast-result : tie.Need-cast-result
 cast-result c =
     let a = c .before .before .args in
     rw (one-shl 64 (a .j) (omega arith)) (omega (arith, ones-le (a .j) (c .read-word .result % 2 ^ a .j) (mod-lt (c .read-word .result) (pow-pos (a .j)))))
 
--- src/ones.rt:42:1
 returns : tie.Need-returns
 returns c =
     let a = c .before .before .args in

@@ -7,17 +7,14 @@ use borrow.Author.Needs.{needs}
 use Rattle.bits.proofs.ones.ones_word.Statement.{statement}
 use Rattle.bits.proofs.ones.ones_word.Tie as tie
 
--- src/ones.rt:38:21
 read-word-requires : tie.Need-read-word-requires
 read-word-requires c κs = search needs
 
--- src/ones.rt:38:5
 cast-result : tie.Need-cast-result
 cast-result c =
     let a = c .before .before .args in
     omega (arith, ones-le 64 (c .read-word .result) (rw (c .read-word .ensures) (word-lt (a .s .now) (a .q * 8))))
 
--- src/ones.rt:34:1
 returns : tie.Need-returns
 returns c =
     let a = c .before .before .args in

@@ -7,27 +7,21 @@ use borrow.Author.Needs.{needs}
 use Rattle.bits.proofs.ones.set_bit.Statement.{statement}
 use Rattle.bits.proofs.ones.set_bit.Tie as tie
 
--- src/ones.rt:22:14
 slice-read-out : tie.Need-slice-read-out
 slice-read-out c = search needs
 
--- src/ones.rt:22:32
 cast-out : tie.Need-cast-out
 cast-out c = search needs
 
--- src/ones.rt:22:24
 shl-out : tie.Need-shl-out
 shl-out c = search needs
 
--- src/ones.rt:22:5
 slice-write-out : tie.Need-slice-write-out
 slice-write-out c = search needs
 
--- src/ones.rt:17:1
 same-length : tie.Need-same-length
 same-length c = search needs
 
--- src/ones.rt:17:1
 returns : tie.Need-returns
 returns c =
     let a = c .before .args in

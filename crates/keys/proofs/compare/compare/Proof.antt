@@ -4,43 +4,35 @@ use borrow.Author.Needs.{needs}
 use Rattle.keys.proofs.compare.compare.Statement.{statement}
 use Rattle.keys.proofs.compare.compare.Tie as tie
 
--- src/compare.rt:65:9
 shared-requires : tie.Need-shared-requires
 shared-requires c κs = search needs
 
--- src/compare.rt:68:13
 returns : tie.Need-returns
 returns c =
     let a = c .before .before .before .before .before .args in
     sym (order-equal (a .p .now) (a .q .now) (c .before .before .shared .result) (c .before .before .shared .ensures) (c .before .if1 .taken) (c .if2 .taken))
 
--- src/compare.rt:70:9
 returns-2 : tie.Need-returns-2
 returns-2 c =
     let a = c .before .before .before .before .before .args in
     sym (order-above (a .p .now) (a .q .now) (c .before .before .shared .result) (c .before .before .shared .ensures) (c .before .if1 .taken) (c .if2 .left))
 
--- src/compare.rt:73:9
 returns-3 : tie.Need-returns-3
 returns-3 c =
     let a = c .before .before .before .before .before .args in
     sym (order-below (a .p .now) (a .q .now) (c .before .before .shared .result) (c .before .before .shared .ensures) (c .before .if1 .left) (c .if3 .taken))
 
--- src/compare.rt:75:8
 shared-slice-read-if4 : tie.Need-shared-slice-read-if4
 shared-slice-read-if4 c = search needs
 
--- src/compare.rt:75:15
 shared-slice-read-if4-2 : tie.Need-shared-slice-read-if4-2
 shared-slice-read-if4-2 c = search needs
 
--- src/compare.rt:76:9
 returns-4 : tie.Need-returns-4
 returns-4 c =
     let a = c .before .before .before .before .before .before .before .before .args in
     sym (order-byte-below (a .p .now) (a .q .now) (c .before .before .before .before .before .shared .result) (c .before .before .before .before .before .shared .ensures) (c .before .before .before .if3 .left) (c .before .before .before .before .if1 .left) (c .if4 .taken))
 
--- src/compare.rt:62:1
 returns-5 : tie.Need-returns-5
 returns-5 c =
     let a = c .before .before .before .before .before .before .before .before .args in

@@ -6,11 +6,9 @@ use lib.Bits.{bitXor}
 use Rattle.keys.proofs.compare.equal_bytes.Statement.{statement}
 use Rattle.keys.proofs.compare.equal_bytes.Tie as tie
 
--- src/compare.rt:20:5
 cast-result : tie.Need-cast-result
 cast-result c = omega (arith, trailing-le 64 (bitXor (c .args .x) (c .args .y)))
 
--- src/compare.rt:17:1
 returns : tie.Need-returns
 returns c =
     let z = bitXor (c .args .x) (c .args .y) in

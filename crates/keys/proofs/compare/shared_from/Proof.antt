@@ -13,41 +13,33 @@ Inv-loop p q n from i₀ i = (i ≤ n) × (take i p ≡ take i q)
 abbrev μ-loop : tie.MeasureT-loop
 μ-loop p q n from i₀ i = n - i
 
--- src/compare.rt:54:5
 loop-holds : tie.Need-loop-holds Inv-loop μ-loop
 loop-holds c = search needs
 
--- src/compare.rt:55:12
 shared-slice-read-if1 : tie.Need-shared-slice-read-if1 Inv-loop μ-loop
 shared-slice-read-if1 c = search needs
 
--- src/compare.rt:55:20
 shared-slice-read-if1-2 : tie.Need-shared-slice-read-if1-2 Inv-loop μ-loop
 shared-slice-read-if1-2 c = search needs
 
--- src/compare.rt:56:13
 returns : tie.Need-returns Inv-loop μ-loop
 returns c =
     let a = c .before .before .before .before .before .args in
     let l = c .before .before .before .before .loop in
     sym (shared-differ (a .p .now) (a .q .now) (l .i) (omega arith) (omega arith) (l .inv .1) (omega arith) (omega arith) (c .if1 .taken))
 
--- src/compare.rt:58:13
 add-i : tie.Need-add-i Inv-loop μ-loop
 add-i c = search needs
 
--- src/compare.rt:54:5
 loop-less : tie.Need-loop-less Inv-loop μ-loop
 loop-less c = search needs
 
--- src/compare.rt:54:5
 loop-again : tie.Need-loop-again Inv-loop μ-loop
 loop-again c =
     let a = c .before .before .before .before .before .args in
     let l = c .before .before .before .before .loop in
     (omega arith, same-next (a .p .now) (a .q .now) (l .i) (omega arith) (omega arith) (l .inv .1) (omega arith) (omega arith) (c .if1 .left))
 
--- src/compare.rt:49:1
 returns-2 : tie.Need-returns-2 Inv-loop μ-loop
 returns-2 c =
     let a = c .before .before .args in

@@ -14,31 +14,24 @@ Inv-loop p q n i₀ i = (i ≤ n) × (take i p ≡ take i q)
 abbrev μ-loop : tie.MeasureT-loop
 μ-loop p q n i₀ i = n - i
 
--- src/compare.rt:38:5
 loop-holds : tie.Need-loop-holds Inv-loop μ-loop
 loop-holds c = (omega arith, refl)
 
--- src/compare.rt:38:16
 sub-loop : tie.Need-sub-loop Inv-loop μ-loop
 sub-loop c = search needs
 
--- src/compare.rt:39:29
 read64-requires : tie.Need-read64-requires Inv-loop μ-loop
 read64-requires c κs = search needs
 
--- src/compare.rt:39:43
 read64-requires-2 : tie.Need-read64-requires-2 Inv-loop μ-loop
 read64-requires-2 c κs = search needs
 
--- src/compare.rt:39:13
 equal-bytes-requires : tie.Need-equal-bytes-requires Inv-loop μ-loop
 equal-bytes-requires c κs = search needs
 
--- src/compare.rt:40:13
 add-i : tie.Need-add-i Inv-loop μ-loop
 add-i c = search needs
 
--- src/compare.rt:42:13
 returns : tie.Need-returns Inv-loop μ-loop
 returns c =
     let a = c .before .before .before .before .before .before .before .before .args in
@@ -49,11 +42,9 @@ returns c =
     let e = ap (λ (x : ℕ). x % 2 ^ (8 * k .result)) (sym (c .before .before .before .read64 .ensures)) ∙ k .ensures .1 ∙ ap (λ (x : ℕ). x % 2 ^ (8 * k .result)) (c .before .before .read642 .ensures) in
     (omega arith, same-word (a .p .now) (a .q .now) small₁ small₂ (l .i) (k .result) (k .ensures .0) (omega arith) (omega arith) (l .inv .1) e)
 
--- src/compare.rt:38:5
 loop-less : tie.Need-loop-less Inv-loop μ-loop
 loop-less c = search needs
 
--- src/compare.rt:38:5
 loop-again : tie.Need-loop-again Inv-loop μ-loop
 loop-again c =
     let a = c .before .before .before .before .before .before .before .before .args in
@@ -64,7 +55,6 @@ loop-again c =
     let e = ap (λ (x : ℕ). x % 2 ^ (8 * k .result)) (sym (c .before .before .before .read64 .ensures)) ∙ k .ensures .1 ∙ ap (λ (x : ℕ). x % 2 ^ (8 * k .result)) (c .before .before .read642 .ensures) in
     (omega arith, same-word (a .p .now) (a .q .now) small₁ small₂ (l .i) (k .result) (k .ensures .0) (omega arith) (omega arith) (l .inv .1) e)
 
--- src/compare.rt:33:1
 returns-2 : tie.Need-returns-2 Inv-loop μ-loop
 returns-2 c = c .before .loop .inv
 
