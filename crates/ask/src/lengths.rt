@@ -14,6 +14,7 @@ use super::replies::seek_reply;
 use ask_files::file::QuestionAt;
 use ask_files::file::key_at;
 use ask_files::file::question_at;
+use ask_files::reply::REPLY_HEAD;
 use image_types::Frame;
 use query_count::levels::level_starts;
 
@@ -45,7 +46,7 @@ fn replies_length(image: &[u8], f: Frame, file: &[u8]) -> usize
     while at < file.len() {
         let asked = question_at(file, at);
         let question = asked.question;
-        total = total + 8 + key_length(image, f, starts, file, question);
+        total = total + REPLY_HEAD + key_length(image, f, starts, file, question);
         at = asked.next;
     }
     total

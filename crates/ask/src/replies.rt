@@ -1,15 +1,14 @@
 // The reply to a question by value, and the replies to all questions of a file in the reply buffer.
 ghost use mathlib.Core.Path.{_≡_};
-ghost use mathlib.Core.List.{_++_};
 ghost use Prim.Native.Nat.{_≤_};
-ghost use lib.ListN.{length, drop};
+ghost use lib.ListN.{length};
 ghost use Rattle.spec.specs.Nodes.{read-leaves};
 ghost use Rattle.spec.specs.Questions.{QS, reply};
 ghost use Rattle.nav_laws.specs.Accepted.{Accepted};
 ghost use Rattle.query_laws.specs.Summed.{level-starts};
 ghost use Rattle.ask_laws.specs.FileLaws.{Taken-from};
 ghost use Rattle.ask_files.specs.Questions.{Inside, question-of, Sized, reply-of};
-ghost use Rattle.ask.specs.Replies.{file-replies};
+ghost use Rattle.ask.specs.Replies.{file-replies, Replies-written};
 use ask_files::file::QuestionAt;
 use ask_files::file::key_at;
 use ask_files::file::question_at;
@@ -24,6 +23,9 @@ use query_seek::range::begins_with;
 use query_seek::range::range;
 use query_seek::seek::seek;
 
+// The number in the reply to a seek that finds no leaf.
+const NO_LEAF: usize = 0xFFFFFFFF;
+
 // The reply to a seek: the leaf's number and key, or none, FFFFFFFF without a key. `starts` is the sum of slot numbers for the empty key.
 pub fn seek_reply(image: &[u8], f: Frame, starts: usize, start: &[u8]) -> Answered
     requires { ⌜ Accepted (now image) f × (starts ≡ level-starts (now image) f) × (length (now start) ≤ 64) ⌝ }
@@ -31,7 +33,7 @@ pub fn seek_reply(image: &[u8], f: Frame, starts: usize, start: &[u8]) -> Answer
 {
     let s = seek(image, f, starts, start);
     if s.some == 0 {
-        return keyless(b'S', 0xFFFFFFFF);
+        return keyless(b'S', NO_LEAF);
     }
     let key = s.key;
     Answered {
@@ -71,7 +73,7 @@ fn reply_to(image: &[u8], f: Frame, starts: usize, file: &[u8], question: Questi
 // The replies to all questions of a file that is taken go to the start of out, one behind the other, and all else stays; their length.
 pub fn write_replies(image: &[u8], f: Frame, file: &[u8], out: &mut [u8]) -> usize
     requires { ⌜ Accepted (now image) f × Taken-from (now file) 0 × (length (file-replies (now image) (now file)) ≤ length (now out)) ⌝ }
-    ensures { λ r. ⌜ (r ≡ length (file-replies (now (image .entry)) (now (file .entry)))) × (now (out .exit) ≡ file-replies (now (image .entry)) (now (file .entry)) ++ drop r (now (out .entry))) ⌝ }
+    ensures { λ r. ⌜ Replies-written (now (image .entry)) (now (file .entry)) (now (out .entry)) (now (out .exit)) r ⌝ }
 {
     let starts = level_starts(image, f);
     let mut at = 0usize;

@@ -60,7 +60,7 @@ returns-3 c =
     let t = file-taken (a .questions .now) _ (sym (c .before .before .before .before .before .before .before .count .given .1) ∙ c .before .before .before .before .before .before .before .before .before .judge-file .ensures) in
     let room = leb-true (length (file-replies (a .image .now) (a .questions .now))) (length (a .replies .now)) (sym (c .before .before .before .before .before .replies-fit .ensures) ∙ not-false _ (c .before .before .before .before .if1 .left)) in
     let w = c .before .before .write-replies .ensures in
-    sym (ask-joined (a .image .now) (a .questions .now) (a .replies .now) .answered (questions-of (a .questions .now)) _ _ (p .1) (t .0) (w .0) (omega (arith, w .0, room)) (w .1))
+    sym (ask-joined (a .image .now) (a .questions .now) (a .replies .now) .answered (questions-of (a .questions .now)) _ _ (p .1) (t .0) (w .sized) (omega (arith, w .sized, room)) (w .bytes))
 
 pub ask-accepted-spec : {M : Type 1} → statement M
 ask-accepted-spec =

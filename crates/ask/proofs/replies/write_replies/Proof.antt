@@ -66,11 +66,12 @@ returns : tie.Need-returns Inv-loop μ-loop
 returns c =
     let a = c .before .before .before .before .before .before .args in
     let l = c .before .loop in
-    let e = replied-size (read-leaves (a .image .now)) (a .file .now) (a .out .now) (l .at) (l .to) (l .out) (l .inv .1) (c .loop-test .left) in (
-      e,
-      replied-end (read-leaves (a .image .now)) (a .file .now) (a .out .now) (l .at) (l .to) (l .out) (l .inv .1) (c .loop-test .left)
-          ∙ ap (λ (n : ℕ). file-replies (a .image .now) (a .file .now) ++ drop n (a .out .now)) (sym e),
-    )
+    let e = replied-size (read-leaves (a .image .now)) (a .file .now) (a .out .now) (l .at) (l .to) (l .out) (l .inv .1) (c .loop-test .left) in
+    record {
+      sized = e;
+      bytes = replied-end (read-leaves (a .image .now)) (a .file .now) (a .out .now) (l .at) (l .to) (l .out) (l .inv .1) (c .loop-test .left)
+          ∙ ap (λ (n : ℕ). file-replies (a .image .now) (a .file .now) ++ drop n (a .out .now)) (sym e);
+    }
 
 pub write-replies-spec : {M : Type 1} → statement M
 write-replies-spec =
