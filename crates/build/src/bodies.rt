@@ -19,6 +19,9 @@ use build_passes::starts::start_levels;
 use image_records::header::clear;
 use image_records::table::BEFORE_BODY;
 use image_records::table::body_size;
+use image_types::DENSE_BLOCK_WORDS;
+use image_types::MAX_LEVELS;
+use image_types::SPARSE_BLOCK_WORDS;
 use rank_tables::rank_write::fill_ranks;
 use rank_tables::sample_write::fill_samples;
 use rank_tables_laws::Span;
@@ -36,10 +39,10 @@ fn source_of(i: usize) -> Source
         4 => Source::Keys(Body::Entries(Kind::SC)),
         5 => Source::Keys(Body::Entries(Kind::SB)),
         6 => Source::Keys(Body::Slots),
-        7 => Source::Ranks(0, 1),
-        8 => Source::Ranks(1, 1),
-        9 => Source::Ranks(2, 1),
-        10 => Source::Ranks(4, 8),
+        7 => Source::Ranks(0, DENSE_BLOCK_WORDS),
+        8 => Source::Ranks(1, DENSE_BLOCK_WORDS),
+        9 => Source::Ranks(2, DENSE_BLOCK_WORDS),
+        10 => Source::Ranks(4, SPARSE_BLOCK_WORDS),
         _ => Source::Samples(5),
     }
 }
@@ -49,14 +52,26 @@ fn levels_of(body: Body, dense: usize) -> Levels
     ensures { λ r. ⌜ r ≡ levels-of body dense ⌝ }
 {
     match body {
-        Body::Slots => Levels { lo: 0, hi: 64 },
+        Body::Slots => Levels {
+            lo: 0,
+            hi: MAX_LEVELS,
+        },
         Body::Entries(kind) => match kind {
             Kind::DL => Levels { lo: 0, hi: dense },
             Kind::DC => Levels { lo: 0, hi: dense },
             Kind::DP => Levels { lo: 0, hi: dense },
-            Kind::SL => Levels { lo: dense, hi: 64 },
-            Kind::SC => Levels { lo: dense, hi: 64 },
-            Kind::SB => Levels { lo: dense, hi: 64 },
+            Kind::SL => Levels {
+                lo: dense,
+                hi: MAX_LEVELS,
+            },
+            Kind::SC => Levels {
+                lo: dense,
+                hi: MAX_LEVELS,
+            },
+            Kind::SB => Levels {
+                lo: dense,
+                hi: MAX_LEVELS,
+            },
         },
     }
 }

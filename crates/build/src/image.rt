@@ -25,8 +25,12 @@ use image_records::table::mark;
 use image_records::table::record_starts;
 use image_types::Dense;
 use image_types::Header;
+use image_types::MAX_LEVELS;
 use image_types::Sparse;
 use image_types::Written;
+
+// The number of an output that is too short for the image.
+const IMAGE_TOO_LONG: u32 = 7;
 
 // The plan of an accepted list of so many keys: each level's entries, nodes and leaves are counted in one pass, and give the header's counts and the records' starts.
 fn lay_out(list: &[u8], st: Settings, count: usize) -> Plan
@@ -45,8 +49,8 @@ fn lay_out(list: &[u8], st: Settings, count: usize) -> Plan
             nodes: total(&nodes, 0, st.levels),
         },
         sparse: Sparse {
-            nodes: total(&nodes, st.levels, 64),
-            entries: total(&entries, st.levels, 64),
+            nodes: total(&nodes, st.levels, MAX_LEVELS),
+            entries: total(&entries, st.levels, MAX_LEVELS),
         },
     };
     Plan {
@@ -82,7 +86,7 @@ fn write_records(out: &mut [u8], list: &[u8], plan: Plan)
     }
 }
 
-// The image of an accepted list of so many keys goes to the front of out, or 7, it is longer than the output.
+// The image of an accepted list of so many keys goes to the front of out; or the answer is 7, the image is longer than the output.
 pub fn build_image(list: &[u8], st: Settings, count: usize, out: &mut [u8]) -> Written
     requires { ⌜ Ready (now list) (settings-of st) × (count ≡ length (keys-of (now list))) ⌝ }
     ensures { λ r. ⌜ outcome r (now (out .exit)) ≡ write 7 (image (settings-of st) (leaves (st .width) (keys-of (now (list .entry))))) (now (out .entry)) ⌝ }
@@ -91,7 +95,7 @@ pub fn build_image(list: &[u8], st: Settings, count: usize, out: &mut [u8]) -> W
     let starts = plan.starts;
     let end = starts[RECORDS];
     if out.len() < end {
-        return Written::Refused(7);
+        return Written::Refused(IMAGE_TOO_LONG);
     }
     let h = plan.header;
     write_header(out, h);

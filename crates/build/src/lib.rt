@@ -6,10 +6,15 @@ ghost use Rattle.image_types.specs.Outcomes.{outcome};
 use build_laws::KeyList;
 use build_list::judge::judge_list;
 use image::build_image;
+use image_records::header::MAX_DENSE_LEVELS;
+use image_records::header::MAX_SUFFIX_BITS;
 use image_types::Written;
 
 pub mod bodies; // bodies.rt: a record's body, filled from the keys or counted in an earlier body
 pub mod image; // image.rt: the plan of an image, its header and its records
+
+// The number of a setting out of range.
+const SETTING_OUT_OF_RANGE: u32 = 5;
 
 // Dense levels and the suffix width, in range.
 pub struct Settings {
@@ -22,11 +27,11 @@ pub struct Settings {
 pub fn build(list: &[u8], dense: u64, n: u64, out: &mut [u8]) -> Written
     ensures { λ r. ⌜ outcome r (now (out .exit)) ≡ build (now (list .entry)) (settings dense n) (now (out .entry)) ⌝ }
 {
-    if 4 < dense {
-        return Written::Refused(5);
+    if (MAX_DENSE_LEVELS as u64) < dense {
+        return Written::Refused(SETTING_OUT_OF_RANGE);
     }
-    if 16 < n {
-        return Written::Refused(5);
+    if (MAX_SUFFIX_BITS as u64) < n {
+        return Written::Refused(SETTING_OUT_OF_RANGE);
     }
     let keys = judge_list(list);
     match keys {

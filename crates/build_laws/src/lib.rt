@@ -1,5 +1,6 @@
 // The types that the laws of the builder speak of: a record of the list, the list as a whole, a key with its neighbours, an entry and its cell, the bodies that a pass fills, a range of levels, a pass, a level's counters, where a record's body comes from, and the plan of an image. No function is declared here.
 use image_types::Header;
+use image_types::STARTS;
 
 // A counter for each of the 64 levels, and one for the end.
 pub const COUNTERS: usize = 65;
@@ -81,7 +82,7 @@ pub enum Source {
 // What is known of an image before a byte is written: its header, where each record starts and the last one ends, and what is counted on each level.
 pub struct Plan {
     pub header: Header,
-    pub starts: [usize; 13],
+    pub starts: [usize; STARTS],
     pub entries: Counters,
     pub nodes: Counters,
     pub leaves: Counters,

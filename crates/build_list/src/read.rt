@@ -8,7 +8,7 @@ use bits::numbers::wide;
 use build_laws::Key;
 use keys::compare::shared;
 
-// The length of the prefix that the key of n bytes from a shares with the key of the record behind it, 0 if there is none.
+// The length of the prefix that the key of n bytes from offset a on shares with the key of the record behind it, 0 if there is none.
 fn next_shared(s: &[u8], a: usize, n: usize) -> usize
     requires { ⌜ (a + n ≤ length (now s)) × (a + n < length (now s) → record-end (now s) (a + n) ≤ length (now s)) ⌝ }
     ensures { λ r. ⌜ r ≡ shared-behind (now (s .entry)) a n ⌝ }

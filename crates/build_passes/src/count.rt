@@ -23,8 +23,9 @@ use build_laws::Counters;
 use build_laws::Key;
 use build_laws::Levels;
 use build_list::read::read_key;
+use image_types::MAX_LEVELS;
 
-// The counter of level d goes on by one if b.
+// The counter of level d is raised by one if b holds.
 fn count_if(cnt: &mut Counters, d: usize, b: bool)
     requires { ⌜ (d < counters) × (getD (now cnt) d 0 + bit b ≤ counter-max) ⌝ }
     ensures { λ _. ⌜ now (cnt .exit) ≡ set (now (cnt .entry)) d (getD (now (cnt .entry)) d 0 + bit b) ⌝ }
@@ -32,21 +33,27 @@ fn count_if(cnt: &mut Counters, d: usize, b: bool)
     cnt[d] = cnt[d] + (one_if(b) as u32);
 }
 
-// The entries of a key are counted on their levels, and the nodes that it starts.
+// The entries of a key, and the nodes that it starts, are counted on their levels.
 fn count_entries(entries: &mut Counters, nodes: &mut Counters, k: Key)
     requires { ⌜ Key-numbers (pred (k .first)) (k .next) (k .len) ⌝ }
     requires { ⌜ Counter-room one-step (starts-of k) (now entries) × Counter-room bit (starts-of k) (now nodes) ⌝ }
     ensures { λ _. ⌜ (now (entries .exit) ≡ counts one-step (starts-of k) (now (entries .entry))) × (now (nodes .exit) ≡ counts bit (starts-of k) (now (nodes .entry))) ⌝ }
 {
     let b = one_less(k.first);
-    let end = smaller(cut_length(b, k.next, k.len), 64);
+    let end = smaller(cut_length(b, k.next, k.len), MAX_LEVELS);
     let mut d = larger(b, 0);
     while d < end {
         count_if(entries, d, true);
         count_if(nodes, d, k.first <= d);
         d = d + 1;
     }
-    if has_exact(k, Levels { lo: 0, hi: 64 }) {
+    if has_exact(
+        k,
+        Levels {
+            lo: 0,
+            hi: MAX_LEVELS,
+        },
+    ) {
         count_if(entries, k.len, true);
         count_if(nodes, k.len, true);
     }

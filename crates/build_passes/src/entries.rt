@@ -18,8 +18,9 @@ use build_laws::Entry;
 use build_laws::Key;
 use build_laws::Kind;
 use build_laws::Levels;
+use image_types::EXTRA_LABEL;
 
-// Whether the branch on level d of a key continues, c the length of its cut key.
+// Whether the branch on level d of a key continues. The cut key has c bytes.
 fn continues(k: Key, c: usize, d: usize) -> bool
     requires { ⌜ (d < 64) × (c ≡ cut-length (pred (k .first)) (k .next) (k .len)) ⌝ }
     ensures { λ r. ⌜ r ≡ continues-at (k .first) (k .next) (k .len) d ⌝ }
@@ -30,7 +31,7 @@ fn continues(k: Key, c: usize, d: usize) -> bool
     d + 1 < c
 }
 
-// The branch of a key on level d, c the length of its cut key.
+// The branch of a key on level d. The cut key has c bytes.
 fn branch(s: &[u8], k: Key, c: usize, d: usize) -> Entry
     requires { ⌜ (k .at + k .len ≤ length (now s)) × (d < c) × (c ≤ k .len) × (k .len ≤ 64) × (c ≡ cut-length (pred (k .first)) (k .next) (k .len)) ⌝ }
     ensures { λ r. ⌜ r ≡ entry-at (k .first) (k .next) (key-bytes (now (s .entry)) k) d ⌝ }
@@ -53,7 +54,7 @@ fn exact_leaf() -> Entry
         start: true,
         exact: true,
         child: false,
-        label: 255,
+        label: EXTRA_LABEL,
     }
 }
 
@@ -64,7 +65,7 @@ pub fn has_exact(k: Key, l: Levels) -> bool
     k.next == k.len && (l.lo <= k.len && k.len < l.hi)
 }
 
-// What a body has of a key's entries on the levels goes to the levels' cursors.
+// What a body holds of a key's entries on the levels is written at the levels' cursors.
 pub fn write_entries(out: &mut [u8], cur: &mut Counters, s: &[u8], k: Key, l: Levels, kind: Kind)
     requires { ⌜ Listed-key (now s) k × (length (now cur) ≡ counters) × Entries-room kind (listed-entries l k (key-bytes (now s) k)) (length (now out)) (now cur) ⌝ }
     ensures { λ _. ⌜ byte-state (now (out .exit)) (now (cur .exit)) ≡ write-entries kind (listed-entries l k (key-bytes (now (s .entry)) k)) (byte-state (now (out .entry)) (now (cur .entry))) ⌝ }

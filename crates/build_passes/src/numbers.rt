@@ -6,7 +6,7 @@ ghost use Rattle.build_laws.specs.NeighbourLeaves.{cut-length};
 ghost use Rattle.build_laws.specs.PassEmissions.{leaf-level, Key-numbers};
 use bits::numbers::larger;
 
-// One less, but 0 stays.
+// One less than a number, or 0 for 0.
 pub fn one_less(p: usize) -> usize
     ensures { λ r. ⌜ r ≡ pred p ⌝ }
 {
@@ -16,7 +16,7 @@ pub fn one_less(p: usize) -> usize
     p - 1
 }
 
-// How long the cut key is of a key of n bytes that shares p bytes with the key before and q with the key behind.
+// The length of the cut key of a key of n bytes that shares p bytes with the key before it and q bytes with the key behind it.
 pub fn cut_length(p: usize, q: usize, n: usize) -> usize
     requires { ⌜ Key-numbers p q n ⌝ }
     ensures { λ r. ⌜ (r ≡ cut-length p q n) × (r ≤ n) ⌝ }

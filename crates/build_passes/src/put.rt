@@ -1,4 +1,4 @@
-// A byte or a bit at a level's cursor, which goes on.
+// A byte or a bit written at a level's cursor, which moves on.
 ghost use mathlib.Core.Path.{_≡_};
 ghost use mathlib.Core.List.{[], _∷_};
 ghost use Prim.Native.Nat.{_+_, _*_, _≤_, _<_};
@@ -21,11 +21,9 @@ use build_laws::Entry;
 use build_laws::Kind;
 use image_types::BitPos;
 use image_types::NodeNum;
+use image_types::ROW_BITS;
 
-// The bits of a node's row in D-Labels and in D-HasChild.
-const ROW: usize = 256;
-
-// x goes to the cursor of level d, which goes on by one.
+// The byte x is written at the cursor of level d, which moves on by one.
 fn put_byte(out: &mut [u8], cur: &mut Counters, d: usize, x: u8)
     requires { ⌜ Room one-step at-cursor (length (now out)) counter-max (emission d x ∷ []) (now cur) ⌝ }
     ensures { λ _. ⌜ byte-state (now (out .exit)) (now (cur .exit)) ≡ put-byte (emission d x) (byte-state (now (out .entry)) (now (cur .entry))) ⌝ }
@@ -36,7 +34,7 @@ fn put_byte(out: &mut [u8], cur: &mut Counters, d: usize, x: u8)
     cur[d] = v + 1;
 }
 
-// The bit at the cursor of level d is set if x, and the cursor goes on by one.
+// The bit at the cursor of level d is set if x holds, and the cursor moves on by one.
 fn put_bit(out: &mut [u8], cur: &mut Counters, d: usize, x: bool)
     requires { ⌜ Room one-step bit-at (8 * length (now out)) counter-max (emission d x ∷ []) (now cur) ⌝ }
     ensures { λ _. ⌜ byte-state (now (out .exit)) (now (cur .exit)) ≡ set-at-cursor one-step bit-at (emission d x) (byte-state (now (out .entry)) (now (cur .entry))) ⌝ }
@@ -57,7 +55,7 @@ fn row_bit(w: usize, node: NodeNum, column: usize) -> BitPos
     BitPos(w * node.0 + column)
 }
 
-// The cursor of level d goes on if the cell starts a node, and the cell's bit, if it is set, goes to the row of w bits of the node started last.
+// The cursor of level d moves on if the cell starts a node. The cell's bit, if it is set, is set in the row of the node started last, which has w bits.
 fn put_cell(out: &mut [u8], cur: &mut Counters, d: usize, w: usize, x: Cell)
     requires { ⌜ (w ≤ 256) × (x .column < 256) × Room cell-step (cell-ones w) (8 * length (now out)) counter-max (emission d x ∷ []) (now cur) ⌝ }
     ensures { λ _. ⌜ byte-state (now (out .exit)) (now (cur .exit)) ≡ set-at-cursor cell-step (cell-ones w) (emission d x) (byte-state (now (out .entry)) (now (cur .entry))) ⌝ }
@@ -70,7 +68,7 @@ fn put_cell(out: &mut [u8], cur: &mut Counters, d: usize, w: usize, x: Cell)
     }
 }
 
-// What a body has of an entry on level d goes to the level's cursor.
+// What a body holds of an entry on level d is written at the level's cursor.
 pub fn write_entry(out: &mut [u8], cur: &mut Counters, d: usize, e: Entry, kind: Kind)
     requires { ⌜ Entries-room kind (emission d e ∷ []) (length (now out)) (now cur) ⌝ }
     ensures { λ _. ⌜ byte-state (now (out .exit)) (now (cur .exit)) ≡ write-entry kind (emission d e) (byte-state (now (out .entry)) (now (cur .entry))) ⌝ }
@@ -82,7 +80,7 @@ pub fn write_entry(out: &mut [u8], cur: &mut Counters, d: usize, e: Entry, kind:
                 set: !e.exact,
                 column: wide(e.label),
             };
-            put_cell(out, cur, d, ROW, x)
+            put_cell(out, cur, d, ROW_BITS, x)
         }
         Kind::DC => {
             let x = Cell {
@@ -90,7 +88,7 @@ pub fn write_entry(out: &mut [u8], cur: &mut Counters, d: usize, e: Entry, kind:
                 set: e.child,
                 column: wide(e.label),
             };
-            put_cell(out, cur, d, ROW, x)
+            put_cell(out, cur, d, ROW_BITS, x)
         }
         Kind::DP => {
             let x = Cell {

@@ -22,7 +22,7 @@ use build_laws::Key;
 use image_types::BitPos;
 use image_types::ValuePos;
 
-// Bit i of a key behind its cut, the high bit of each byte first, zero where the key has ended.
+// Bit i of a key behind its cut, zero where the key has ended. The high bit of each byte comes first.
 fn suffix_bit(s: &[u8], k: Key, cut: usize, i: usize) -> bool
     requires { ⌜ (k .at + k .len ≤ length (now s)) × (cut ≤ k .len) × (i < 16) ⌝ }
     ensures { λ r. ⌜ r ≡ getD (bits-of (drop cut (key-bytes (now (s .entry)) k))) i false ⌝ }
@@ -59,7 +59,7 @@ fn write_suffix(out: &mut [u8], base: BitPos, s: &[u8], k: Key, cut: usize, n: u
     }
 }
 
-// The slot of a key's leaf goes to the cursor of the leaf's level, which goes on by one; an exact leaf's slot is zero.
+// The slot of a key's leaf is written at the cursor of the leaf's level, which moves on by one. An exact leaf's slot is zero.
 pub fn write_slot(out: &mut [u8], cur: &mut Counters, s: &[u8], k: Key, n: usize)
     requires { ⌜ Listed-key (now s) k × (n ≤ 16) × Slots-room n (listed-slot n k (key-bytes (now s) k) ∷ []) (length (now out)) (now cur) ⌝ }
     ensures { λ _. ⌜ byte-state (now (out .exit)) (now (cur .exit)) ≡ set-at-cursor one-step (slot-at n) (listed-slot n k (key-bytes (now (s .entry)) k)) (byte-state (now (out .entry)) (now (cur .entry))) ⌝ }

@@ -20,7 +20,7 @@ fn count_from(cnt: &Counters, lo: usize, d: usize) -> u32
     0
 }
 
-// Each level's cursor goes behind the counted of the levels from lo on that are before it.
+// Each level's cursor becomes the sum of the counters of the levels from lo on that are before it.
 pub fn start_levels(cur: &mut Counters, cnt: &Counters, lo: usize)
     requires { ⌜ (length (now cur) ≡ counters) × (sums (now cnt) lo counters ≤ counter-max) ⌝ }
     ensures { λ _. ⌜ Cursors-at (now (cnt .entry)) lo (now (cur .exit)) × (length (now (cur .exit)) ≡ counters) ⌝ }
@@ -34,7 +34,7 @@ pub fn start_levels(cur: &mut Counters, cnt: &Counters, lo: usize)
     }
 }
 
-// The counted of the levels from lo to below hi.
+// The sum of the counters of the levels from lo to below hi.
 pub fn total(cnt: &Counters, lo: usize, hi: usize) -> usize
     requires { ⌜ (hi ≤ counters) × (sums (now cnt) lo counters ≤ counter-max) ⌝ }
     ensures { λ r. ⌜ r ≡ sums (now (cnt .entry)) lo hi ⌝ }
