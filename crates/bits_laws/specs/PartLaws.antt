@@ -1,4 +1,4 @@
--- A part of a byte string: its length, its bytes and bits, and the ranks in it.
+-- A part of a byte string: its bytes and bits, and the ranks in it.
 use mathlib.Core.Path.{_≡_, refl, ap, ap₂, _∙_}
 use mathlib.Core.Bool.{Bool, true, false}
 use Prim.Native.Nat.{ℕ, zero, suc, _+_, _*_, _-_, _/_, _≤_, _<_}
@@ -12,10 +12,6 @@ use Rattle.bits_laws.specs.Bits.{rank, part}
 use Rattle.bits_laws.specs.ValueLaws.{Small}
 
 module _ (s : Bytes) (at k : ℕ) where
-  -- a part is as long as asked
-  pub length-part : at + k ≤ length s → length (part s at k) ≡ k
-  length-part h = length-take-le k (drop at s) (omega (arith, length-drop at s))
-
   -- its bytes are those from the offset on
   pub byte-part : (i : ℕ) → i < k → getD (part s at k) i 0 ≡ getD s (at + i) 0
   byte-part i h = getD-take k (drop at s) i 0 h ∙ getD-drop at s i 0

@@ -14,7 +14,7 @@ use Rattle.spec.specs.Answer.{Outcome, refuse, success, write}
 use Rattle.spec.specs.Build.{build, in-range}
 use Rattle.theory.specs.KeyFiles.{keys-exactly}
 use Rattle.theory.specs.Terms.{Is-bytes}
-use Rattle.theory.specs.BuildLaws.{build-is, build-writes, in-range-exactly}
+use Rattle.theory.specs.BuildLaws.{keys-of-list, build-is, build-writes, in-range-exactly}
 use Rattle.build_laws.specs.KeyList.{key-list}
 use Rattle.build_laws.specs.declared.KeyList.the-variants.{Keys, Refused as List-refused}
 use Rattle.build_laws.specs.Plan.{Ready, Planned, plan-settings, plan-counts, plan-bodies, start-at, plan-image, plan-end, image-written}
@@ -22,7 +22,7 @@ use Rattle.build_laws.specs.declared.Plan.{Plan}
 use Rattle.bits_laws.specs.Bits.{placed}
 use Rattle.theory.specs.OutcomeLaws.{write-fits, write-short}
 use native.Mathlib.Omega.{arith}
-use Rattle.build_laws.specs.AcceptedList.{listed, keys-of-is, judged-keys, judged-refused}
+use Rattle.build_laws.specs.AcceptedList.{listed, judged-keys, judged-refused}
 use Rattle.image_types.specs.Header.{settings}
 use Rattle.image_types.specs.declared.Written.the-variants.{Bytes as Written-bytes, Refused}
 use Rattle.image_types.specs.Outcomes.{outcome}
@@ -56,7 +56,7 @@ module _ (list out : Bytes) (dense n : ℕ) where
 pub list-ready : (list : Bytes) (dense n count : ℕ) → Is-bytes list → dense ≤ 4 → n ≤ 16 → Keys count ≡ key-list (parse-keys list) → Ready list (settings dense n) × (count ≡ length (keys-of list))
 list-ready list dense n count w h l j =
     let t = judged-keys (parse-keys list) count j in
-    let e = keys-of-is list (t .0) (t .1) in
+    let e = keys-of-list list (t .0) (t .1) in
     let k = keys-exactly list (t .0) w .0 (t .1) in (
       record {
         built = rw e (record { dense-range = h; width-range = l; few = k .few; keys = k .each; up = k .up });
@@ -69,7 +69,7 @@ list-ready list dense n count w h l j =
 pub list-built : (list out : Bytes) (dense n count : ℕ) (o : Outcome) → Is-bytes list → dense ≤ 4 → n ≤ 16 → Keys count ≡ key-list (parse-keys list) → o ≡ write 7 (image (settings dense n) (leaves n (keys-of list))) out → o ≡ build list (settings dense n) out
 list-built list out dense n count o w h l j z =
     let t = judged-keys (parse-keys list) count j in
-    let e = keys-of-is list (t .0) (t .1) in
+    let e = keys-of-list list (t .0) (t .1) in
     z ∙ ap (λ (ks : List Bytes). write 7 (image (settings dense n) (leaves n ks)) out) e
     ∙ sym (build-writes list (settings dense n) (t .0) out (in-range-exactly (settings dense n) .1 (h, l)) (t .1) (keys-exactly list (t .0) w .0 (t .1)))
 

@@ -8,7 +8,7 @@ use borrow.Author.Tests.{ltb-true, ltb-false, eqb-true, eqb-false}
 use lib.ListN.{length, getD, drop, drop-of-length-le}
 use lib.Dec.{ltb, eqb}
 use Rattle.spec.specs.Bytes.{Bytes}
-use Rattle.spec.specs.Keys.{below, Parsed-keys, refused, keys, with-key, parse-records, parse-keys, keys-of}
+use Rattle.spec.specs.Keys.{below, Parsed-keys, refused, keys, with-key, parse-records, parse-keys}
 use Rattle.bits_laws.specs.Bits.{key}
 use Rattle.build_laws.specs.KeyRecords.{Records, Rising, Listed}
 use Rattle.build_laws.specs.KeyList.{counted, key-list}
@@ -120,11 +120,6 @@ unfolding parse-keys
 listed s ks e =
     let l = left (length s) 0 [] s 0 ks (omega arith) (omega arith) e in
     record { records = l .records; rising = l .rising; few = omega (arith, l .few); short = omega (arith, l .short) }
-
--- the list's keys, as document 01's definition gives them
-pub keys-of-is : (s : Bytes) (ks : List Bytes) → parse-keys s ≡ keys ks → keys-of s ≡ ks
-unfolding keys-of
-keys-of-is s ks e = ap (λ (p : Parsed-keys). elim p [ refused r ↦ [] | keys ms ↦ ms ]) e
 
 -- an answer with a count of keys comes from so many keys
 pub judged-keys : (p : Parsed-keys) (n : ℕ) → Keys n ≡ key-list p → (ks : List Bytes) × (p ≡ keys ks) × (length ks ≡ n)

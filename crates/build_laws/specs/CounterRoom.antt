@@ -6,7 +6,7 @@ use mathlib.Core.List.{List, [], _∷_}
 use mathlib.Core.Logic.{inr}
 use native.Mathlib.Omega.{arith}
 use native.Mathlib.Nat.{suc-mul}
-use lib.ListN.{length, getD, set, replicate, getD-replicate, length-replicate}
+use lib.ListN.{length, getD, set, replicate, length-replicate}
 use lib.Dec.{leb, eqb}
 use Rattle.spec.specs.Bytes.{Bytes, bit}
 use Rattle.spec.specs.Image.{has}
@@ -19,7 +19,7 @@ use Rattle.build_laws.specs.BitPass.{Room, room-of, emitted-ones}
 use Rattle.build_laws.specs.BytePass.{one-step, sum-length}
 use Rattle.build_laws.specs.PassEmissions.{start-emissions, slot-emissions, emissions-below, first-longer, slots-below}
 use Rattle.build_laws.specs.SmallCounters.{keys-few}
-use Rattle.build_laws.specs.Counters.{entry-counts, node-counts, leaf-counts}
+use Rattle.build_laws.specs.Counters.{zeros-at, entry-counts, node-counts, leaf-counts}
 use Rattle.build_laws.specs.Limits.{counters}
 
 -- a counter writes nothing
@@ -35,11 +35,8 @@ module _ {A : Type 0} (inc : A → ℕ) where
   -- Counters from zero have room for emissions whose increments on each level sum up to at most top.
   pub counter-room : (top : ℕ) (es : List (Emission A)) → Levels-below 64 es → ((d : ℕ) → sum-of inc (level-values d es) ≤ top) → Room inc no-ones 0 top es (replicate counters 0)
   counter-room top es l f =
-      room-of inc no-ones 0 top es (replicate counters 0) (omega (arith, length-replicate {A = ℕ} counters 0)) l (λ d h. inr (omega (arith, f d, zero-at d h)))
+      room-of inc no-ones 0 top es (replicate counters 0) (omega (arith, length-replicate {A = ℕ} counters 0)) l (λ d h. inr (omega (arith, f d, zeros-at d (omega arith))))
       (λ j h. absurd (true≢false (sym h ∙ none-emitted es (replicate counters 0) j)))
-    where
-      zero-at : (d : ℕ) → d < 64 → _≡_ {A = ℕ} (getD (replicate counters 0) d 0) 0
-      zero-at d h = getD-replicate counters d 0 0 (omega arith)
 
 -- ---- how many on a level
 
@@ -91,10 +88,7 @@ counters-room top ks t s a h = record {
 -- ---- sums
 
 counter-few : {A : Type 0} (inc : A → ℕ) (es : List (Emission A)) (top d : ℕ) → sum-of inc (level-values d es) ≤ top → d < counters → getD (counts inc es (replicate counters 0)) d 0 ≤ top
-counter-few inc es top d f h = omega (arith, counts-at inc es (replicate counters 0) d (omega (arith, length-replicate {A = ℕ} counters 0)), f, zero-at d h)
-  where
-    zero-at : (d : ℕ) → d < counters → _≡_ {A = ℕ} (getD (replicate counters 0) d 0) 0
-    zero-at d h = getD-replicate counters d 0 0 h
+counter-few inc es top d f h = omega (arith, counts-at inc es (replicate counters 0) d (omega (arith, length-replicate {A = ℕ} counters 0)), f, zeros-at d h)
 
 module _ (ks : List Bytes) (h : length ks ≤ 65535) where
   -- no level has more entries

@@ -49,7 +49,8 @@ unfolding sum-of
 sum-map f inc step h [] = refl
 sum-map f inc step h (x ∷ xs) = ap₂ _+_ (h x) (sum-map f inc step h xs)
 
-zeros-at : (d : ℕ) → d < counters → _≡_ {A = ℕ} (getD (replicate counters 0) d 0) 0
+-- every counter is zero at first
+pub zeros-at : (d : ℕ) → d < counters → _≡_ {A = ℕ} (getD (replicate counters 0) d 0) 0
 zeros-at d h = getD-replicate counters d 0 0 h
 
 counted : {A : Type 0} (inc : A → ℕ) (es : List (Emission A)) (d : ℕ) → d < 64 → getD (counts inc es (replicate counters 0)) d 0 ≡ sum-of inc (level-values d es)

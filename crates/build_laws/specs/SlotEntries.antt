@@ -10,6 +10,7 @@ use borrow.Author.Tests.{eqb-true, eqb-false, eq-eqb, ne-eqb, ltb-true, lt-ltb, 
 use Rattle.spec.specs.Bytes.{Bytes, Bits, filter, concat, bit}
 use Rattle.spec.specs.Leaves.{bits-behind}
 use Rattle.theory.specs.Terms.{All}
+use Rattle.theory.specs.Lists.{nil-of}
 use Rattle.build_laws.specs.LevelEntries.{pred}
 use Rattle.build_laws.specs.TrieEntries.{Slotted}
 use Rattle.theory.specs.Neighbours.{next-shared}
@@ -131,10 +132,6 @@ values-slots w ks (suc m) h =
 
 -- ---- one behind the other
 
-no-bits : (s : Bits) → length s ≡ 0 → s ≡ []
-no-bits [] e = refl
-no-bits (b ∷ s) e = absurd (omega arith)
-
 -- an entry that continues has no slot, so the slots of the leaves are all slots
 pub slots-concat : (w : ℕ) (xs : List Slotted) → All (Slot-wide w) xs → (concat (leaf-slots xs) ≡ slots-in xs) × All (λ (s : Bits). length s ≡ w * 1) (leaf-slots xs)
 unfolding leaf-slots slots-in filter concat
@@ -145,7 +142,7 @@ slots-concat w (i ∷ xs) a = go (i .entry .child) refl (a .0) (slots-concat w x
         → (concat (map (λ (i : Slotted). i .slot) (filter (λ (i : Slotted). not (i .entry .child)) xs)) ≡ concat (map (λ (i : Slotted). i .slot) xs)) × All (λ (s : Bits). length s ≡ w * 1) (map (λ (i : Slotted). i .slot) (filter (λ (i : Slotted). not (i .entry .child)) xs))
         → (concat (map (λ (i : Slotted). i .slot) (cond (not c) (i ∷ filter (λ (i : Slotted). not (i .entry .child)) xs) (filter (λ (i : Slotted). not (i .entry .child)) xs))) ≡ i .slot ++ concat (map (λ (i : Slotted). i .slot) xs))
         × All (λ (s : Bits). length s ≡ w * 1) (map (λ (i : Slotted). i .slot) (cond (not c) (i ∷ filter (λ (i : Slotted). not (i .entry .child)) xs) (filter (λ (i : Slotted). not (i .entry .child)) xs)))
-    go true e l ih = let z : length (i .slot) ≡ 0 = l ∙ omega arith in (ih .0 ∙ ap (λ (s : Bits). s ++ concat (map (λ (i : Slotted). i .slot) xs)) (sym (no-bits (i .slot) z)), ih .1)
+    go true e l ih = let z : length (i .slot) ≡ 0 = l ∙ omega arith in (ih .0 ∙ ap (λ (s : Bits). s ++ concat (map (λ (i : Slotted). i .slot) xs)) (sym (nil-of (i .slot) z)), ih .1)
     go false e l ih = (ap (λ (s : Bits). i .slot ++ s) (ih .0), (l, ih .1))
 
 -- as many slots as entries that do not continue

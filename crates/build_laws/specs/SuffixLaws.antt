@@ -13,6 +13,7 @@ use Rattle.spec.specs.Bytes.{Bytes, Bits, high-first, bits-of, padded}
 use Rattle.spec.specs.Leaves.{bits-behind}
 use Rattle.spec.specs.Image.{positions}
 use Rattle.theory.specs.Terms.{Is-bytes}
+use Rattle.theory.specs.KeyLeaves.{length-padded}
 
 -- a test of a number's bit
 bit-test : (w a b : ℕ) → (w ≤ a → b ≡ 1) → (a < w → b ≡ 0) → leb w a ≡ eqb b 1
@@ -68,12 +69,6 @@ suffix-at xs i x s h e =
     ap (λ (y : ℕ). eqb (y / 2 ^ (7 - i % 8) % 2) 1) e ∙ sym (bits-at xs (i / 8) (i % 8) s h (omega arith)) ∙ ap (λ (k : ℕ). getD (bits-of xs) k false) w
 
 -- ---- the bits of a slot
-
-length-padded : (n : ℕ) (bs : Bits) → length (padded n bs) ≡ n
-unfolding padded
-length-padded zero bs = refl
-length-padded (suc n) [] = ap suc (length-padded n [])
-length-padded (suc n) (b ∷ bs) = ap suc (length-padded n bs)
 
 padded-none : (n i : ℕ) → getD (padded n []) i false ≡ false
 unfolding padded

@@ -20,7 +20,7 @@ use Rattle.image_types.specs.FrameOf.{frame-parts}
 use Rattle.image_types.specs.declared.Frame.{Frame}
 use Rattle.check_trie_laws.specs.Tests.{and}
 use Rattle.check_trie_laws.specs.LevelEnds.{before, rise, level-end, nodes-above, nodes-above-ext, levels-are}
-use Rattle.check_trie_laws.specs.Shapes.{leaves-at, length-slotted, before-slotted}
+use Rattle.check_trie_laws.specs.Shapes.{leaves-at, before-slotted}
 use Rattle.check_trie_laws.specs.DenseNodes.{length-dense, dense-leaves}
 use Rattle.check_trie_laws.specs.BitTests.{counts-valid, long, before-all}
 use Rattle.check_trie_laws.specs.NodeBranches.{branches-dense, branches-are}
@@ -34,6 +34,7 @@ use Rattle.check_slots_laws.specs.LeavesBefore.{sparse-leaves}
 use Rattle.check_slots_laws.specs.Passed.{Passed-to-15, Bits-valid, trie-valid, bits-pass}
 use Rattle.theory.specs.TrieTests.{nodes-valid-none, nodes-valid-true, nodes-valid-levels}
 use Rattle.theory.specs.Lists.{and-both}
+use Rattle.theory.specs.NodeBits.{length-slotted}
 use Rattle.theory.specs.Levels.{total-append}
 
 -- ---- ends of levels, from the last

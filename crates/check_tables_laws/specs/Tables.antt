@@ -10,7 +10,8 @@ use Rattle.spec.specs.Image.{ranks, samples}
 use Rattle.spec.specs.Frame.{Parts, parts, named}
 use Rattle.spec.specs.Check.{no-spare, spare-clear, ranks-valid}
 use Rattle.bits_laws.specs.Bits.{rank, select}
-use Rattle.bits_laws.specs.PartLaws.{length-part, bits-room}
+use Rattle.bits_laws.specs.Parts.{length-part}
+use Rattle.bits_laws.specs.PartLaws.{bits-room}
 use Rattle.rank_tables_laws.specs.Entries.{entries}
 use Rattle.rank_tables_laws.specs.Ranks.{block-start, ranks-are}
 use Rattle.rank_tables_laws.specs.Samples.{samples-are}

@@ -16,7 +16,7 @@ use Rattle.check_trie_laws.specs.Tests.{under, all-append}
 use Rattle.check_trie_laws.specs.LevelEnds.{before, rise, nodes-above, rise-ext, nodes-above-ext, end-tests}
 use Rattle.check_trie_laws.specs.Shapes.{ends-here, branches, leaves-at, non-root-valid, root-valid, nodes-from, shapes-valid, nodes-shapes}
 use Rattle.check_trie_laws.specs.SparseNodes.{entries-valid, entries-shapes, length-split, position-of, branches-before, leaves-among, leaves-before}
-use Rattle.check_trie_laws.specs.DenseNodes.{dense-nodes-valid, dense-shapes-valid, length-dense, dense-before, dense-leaves}
+use Rattle.check_trie_laws.specs.DenseNodes.{nodes-from-false, dense-nodes-valid, dense-shapes-valid, length-dense, dense-before, dense-leaves}
 use Rattle.theory.specs.Lists.{and-both}
 use Rattle.theory.specs.Levels.{total-append}
 
@@ -70,11 +70,7 @@ unfolding nodes-from all
 from-append [] gs = refl
 from-append (h ∷ hs) gs =
     rw (ne-eqb (suc (length hs)) 0 (λ q. omega arith), all-append non-root-valid hs gs)
-    (sym (and-assoc (root-valid h) (all non-root-valid hs) (all non-root-valid gs)) ∙ ap (λ (t : Bool). root-valid h && all non-root-valid hs && t) (from-false gs))
-  where
-    from-false : (gs : List Shape) → all non-root-valid gs ≡ nodes-from false gs
-    from-false [] = refl
-    from-false (g ∷ gs) = refl
+    (sym (and-assoc (root-valid h) (all non-root-valid hs) (all non-root-valid gs)) ∙ ap (λ (t : Bool). root-valid h && all non-root-valid hs && t) (nodes-from-false gs))
 
 pub continues-zip : (xs : Bytes) (cs : Bits) → length xs ≡ length cs → map continues (zip-entries xs cs) ≡ cs
 unfolding zip-entries

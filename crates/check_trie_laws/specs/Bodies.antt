@@ -5,7 +5,8 @@ use native.Mathlib.Omega.{arith}
 use lib.ListN.{length}
 use Rattle.spec.specs.Bytes.{Bytes, blocks}
 use Rattle.bits_laws.specs.Bits.{part, rank}
-use Rattle.bits_laws.specs.PartLaws.{length-part, rank-part, bits-room}
+use Rattle.bits_laws.specs.Parts.{length-part}
+use Rattle.bits_laws.specs.PartLaws.{rank-part, bits-room}
 use Rattle.image_types.specs.FrameOf.{FrameOf, within, frame-parts}
 use Rattle.image_types.specs.declared.Frame.{Frame}
 use Rattle.check_trie_laws.specs.BitTests.{Sized}

@@ -138,6 +138,12 @@ module _ (dl dc ps : Bits) (p : Bool) (a : length dl ≡ 256 * suc (length ps)) 
       ∙ ap₂ (dense-valid root p) (entries-count 0 (take 256 dl) (take 256 dc) (wide-labels ∙ sym wide-children))
       (entries-continue 0 (take 256 dl) (take 256 dc) (wide-labels ∙ sym wide-children) here)
 
+-- no node of a list is the root
+pub nodes-from-false : (hs : List Shape) → all non-root-valid hs ≡ nodes-from false hs
+unfolding nodes-from all
+nodes-from-false [] = refl
+nodes-from-false (h ∷ hs) = refl
+
 -- the tests by counts are those of the nodes
 pub dense-shapes-valid : (root : Bool) (dl dc dp : Bits) → length dl ≡ 256 * length dp → length dc ≡ 256 * length dp → covered dc dl ≡ true
     → nodes-from root (dense-shapes dl dc dp) ≡ dense-nodes-valid root dl dc dp
@@ -146,10 +152,6 @@ dense-shapes-valid root dl dc [] a b w = refl
 dense-shapes-valid root dl dc (p ∷ ps) a b w = go root (first-node dl dc ps p a b w root)
     (dense-shapes-valid false (drop 256 dl) (drop 256 dc) ps (rest-labels dl dc ps p a b w) (rest-children dl dc ps p a b w) (behind dl dc ps p a b w))
   where
-    all-from : (hs : List Shape) → all non-root-valid hs ≡ nodes-from false hs
-    all-from [] = refl
-    all-from (h ∷ hs) = refl
-
     h : Shape
     h = shape p (dense-entries 0 (take 256 dl) (take 256 dc))
 
@@ -159,8 +161,8 @@ dense-shapes-valid root dl dc (p ∷ ps) a b w = go root (first-node dl dc ps p 
     go : (r : Bool) → cond r (root-valid h) (non-root-valid h) ≡ dense-valid r p (ones (take 256 dl)) (ones (take 256 dc))
         → nodes-from false hs ≡ dense-nodes-valid false (drop 256 dl) (drop 256 dc) ps
         → nodes-from r (h ∷ hs) ≡ dense-valid r p (ones (take 256 dl)) (ones (take 256 dc)) && dense-nodes-valid false (drop 256 dl) (drop 256 dc) ps
-    go true f g = ap₂ _&&_ f (all-from hs ∙ g)
-    go false f g = ap₂ _&&_ f (all-from hs ∙ g)
+    go true f g = ap₂ _&&_ f (nodes-from-false hs ∙ g)
+    go false f g = ap₂ _&&_ f (nodes-from-false hs ∙ g)
 
 pub length-dense : (dl dc dp : Bits) → length (dense-shapes dl dc dp) ≡ length dp
 unfolding dense-shapes

@@ -111,7 +111,7 @@ bit-lt : (b : Bool) → bit b < 2
 bit-lt true = omega arith
 bit-lt false = omega arith
 
-is-bit : (b : Bool) → eqb (bit b) 1 ≡ b
+pub is-bit : (b : Bool) → eqb (bit b) 1 ≡ b
 is-bit true = refl
 is-bit false = refl
 

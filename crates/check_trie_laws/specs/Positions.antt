@@ -13,6 +13,7 @@ use Rattle.bits_laws.specs.Bits.{bit-at, rank, select}
 use Rattle.bits_laws.specs.UnpackLaws.{length-unpack, bit-unpack, rank-unpack}
 use Rattle.bits_laws.specs.SelectLaws.{select-here, select-all}
 use Rattle.check_trie_laws.specs.SparseNodes.{position-of}
+use Rattle.check_trie_laws.specs.MaskLaws.{is-bit}
 
 -- the first n bits that bytes hold
 abbrev pub bits : Bytes → ℕ → Bits
@@ -21,10 +22,6 @@ bits s n = take n (unpack s)
 -- bit i is set
 abbrev pub is-set : Bytes → ℕ → Bool
 is-set s i = eqb (bit-at s i) 1
-
-is-bit : (b : Bool) → eqb (bit b) 1 ≡ b
-is-bit true = refl
-is-bit false = refl
 
 pub length-bits : (s : Bytes) (n : ℕ) → n ≤ 8 * length s → length (bits s n) ≡ n
 length-bits s n h = length-take-le n (unpack s) (omega (arith, length-unpack s))
@@ -57,7 +54,7 @@ position-is m (false ∷ bs) = let q = position-is m bs in (omega (arith, q .0),
 position-is zero (true ∷ bs) = (omega arith, omega arith, λ h. omega arith)
 position-is (suc m) (true ∷ bs) = let q = position-is m bs in (omega (arith, q .0), omega (arith, q .1), λ h. omega (arith, q .2 (omega arith)))
 
--- one number m stands at its select
+-- the m-th one, counted from 0, stands at its select
 pub position-select : (s : Bytes) (n m : ℕ) → n ≤ 8 * length s → position-of m (bits s n) ≡ select s n m
 position-select s n m l = go (position-is m (bits s n)) (ltb (position-of m (bits s n)) n) refl
   where

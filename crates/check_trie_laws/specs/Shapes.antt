@@ -11,6 +11,7 @@ use borrow.Author.Tests.{eqb-true}
 use Rattle.spec.specs.Bytes.{Bits, all, concat, count, bit}
 use Rattle.spec.specs.Nodes.{Entry, entry, entry-label, continues, Shape, shape, Branch, to-node, to-leaf, Node, node, label-of, has-child, branches-of, is-exact, children, children-of, with-slots, past-slots, slotted, total, later, levels-of}
 use Rattle.spec.specs.Trie.{open-leaves, leaf-count, has-label, ascending, sole-continues, nodes-valid}
+use Rattle.theory.specs.NodeBits.{length-slotted}
 use Rattle.check_trie_laws.specs.Tests.{all-both, under, regroup-ten}
 use Rattle.check_trie_laws.specs.LevelEnds.{level-tests, end-tests, levels-are, before, rise, nodes-above, rise-ext, nodes-above-ext}
 
@@ -154,12 +155,6 @@ node-sole n (shape false (e ∷ f ∷ es)) bs =
     ap (λ (z : List Branch). sole-continues (node none z)) (with-first n e (f ∷ es) bs ∙ ap (λ (z : List Branch). first-with n e (f ∷ es) bs ∷ z) (with-first n f es (rest-bits n e bs)))
 
 -- ---- all nodes
-
--- as many nodes as shapes
-pub length-slotted : (n : ℕ) (hs : List Shape) (bs : Bits) → length (slotted n hs bs) ≡ length hs
-unfolding slotted
-length-slotted n [] bs = refl
-length-slotted n (h ∷ hs) bs = ap length (slotted-first n h hs bs) ∙ ap suc (length-slotted n hs (bits-past n h bs))
 
 -- the branches that continue before a node
 pub before-slotted : (n : ℕ) (hs : List Shape) (bs : Bits) (i : ℕ) → before children-of (slotted n hs bs) i ≡ before branches hs i

@@ -130,7 +130,7 @@ length-split e (f ∷ es) (false ∷ bs) h = go (split-behind f es bs) (length-s
     go : (cs : List Sparse) → length cs ≡ suc (ones bs) → First f cs → length (prepend e cs) ≡ suc (0 + ones bs)
     go cs l n = rw (n .are) (sym (ap length (n .are)) ∙ omega arith)
 
--- where one number m of some bits stands, from 0, or their length
+-- where the m-th one of some bits stands, counted from 0, or their length
 unfoldable pub position-of : ℕ → Bits → ℕ
 position-of m [] = 0
 position-of m (false ∷ bs) = suc (position-of m bs)

@@ -2,7 +2,8 @@
 use mathlib.Core.Path.{_≡_, _∙_}
 use Rattle.spec.specs.Bytes.{Bytes, blocks}
 use Rattle.bits_laws.specs.Bits.{part}
-use Rattle.bits_laws.specs.PartLaws.{length-part, bits-room, lent-part}
+use Rattle.bits_laws.specs.Parts.{length-part}
+use Rattle.bits_laws.specs.PartLaws.{bits-room, lent-part}
 use Rattle.check_tables_laws.specs.Tables.{sampled-is}
 use borrow.Author.Needs.{needs}
 use Rattle.check_tables.proofs.judge.samples_at.Statement.{statement}

@@ -7,7 +7,8 @@ use Rattle.spec.specs.Bytes.{blocks}
 use Rattle.bits_laws.specs.ValueLaws.{Small}
 use Rattle.bits_laws.specs.Bits.{part}
 use Rattle.rank_tables_laws.specs.Spare.{spare-none, spare-last}
-use Rattle.bits_laws.specs.PartLaws.{length-part, byte-part, small-part}
+use Rattle.bits_laws.specs.Parts.{length-part}
+use Rattle.bits_laws.specs.PartLaws.{byte-part, small-part}
 use borrow.Author.Needs.{needs}
 use Rattle.check_tables.proofs.spare.no_spare.Statement.{statement}
 use Rattle.check_tables.proofs.spare.no_spare.Tie as tie
