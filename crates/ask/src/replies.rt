@@ -18,6 +18,7 @@ use ask_files::reply::write_answered;
 use image_types::Frame;
 use query_count::count::count;
 use query_count::levels::level_starts;
+use query_laws::SoughtLeaf;
 use query_point::point::point;
 use query_seek::range::begins_with;
 use query_seek::range::range;
@@ -32,15 +33,18 @@ pub fn seek_reply(image: &[u8], f: Frame, starts: usize, start: &[u8]) -> Answer
     ensures { λ r. ⌜ Sized r × (reply-of r ≡ reply (read-leaves (now (image .entry))) (QS (now (start .entry)))) ⌝ }
 {
     let s = seek(image, f, starts, start);
-    if s.some == 0 {
-        return keyless(b'S', NO_LEAF);
-    }
-    let key = s.key;
-    Answered {
-        letter: b'S',
-        number: s.number,
-        key,
-        n: s.n,
+    let leaf = s.leaf;
+    match leaf {
+        SoughtLeaf::None => keyless(b'S', NO_LEAF),
+        SoughtLeaf::At(number) => {
+            let key = s.key;
+            Answered {
+                letter: b'S',
+                number,
+                key,
+                n: s.n,
+            }
+        }
     }
 }
 

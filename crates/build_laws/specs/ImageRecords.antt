@@ -23,11 +23,6 @@ key-counts st ks = record {
   sparse-nodes = sums (node-counts ks) (st .dense-levels) 64;
 }
 
--- a header has 22 bytes
-pub length-header : (st : Settings) (c : Counts) → length (header st c) ≡ 22
-unfolding header le32
-length-header st c = refl
-
 row-entries : (n : ℕ) → 16 * n ≡ 4 * blocks 64 (256 * n)
 row-entries n = omega arith
 

@@ -27,7 +27,7 @@ use Rattle.build_laws.specs.KeyBits.{key-bodies}
 use Rattle.build_laws.specs.CountPass.{Level-counts, level-counts, list-counts}
 use Rattle.build_laws.specs.BodyChoice.{body-of, counters-of}
 use Rattle.build_laws.specs.BodyRoom.{counters-few}
-use Rattle.build_laws.specs.ImageRecords.{key-counts, length-header, image-is, body-sizes}
+use Rattle.build_laws.specs.ImageRecords.{key-counts, image-is, body-sizes}
 use Rattle.build_laws.specs.TableBodies.{RL-entries, RC-entries, RP-entries, RS-entries, SB-rank, TS-entries}
 use Rattle.build_laws.specs.RecordsWritten.{start-of, start-first, start-after, first-records, record-bytes, first-none, first-more, first-all, first-length}
 use Rattle.build_laws.specs.declared.Kind.the-variants.{DL, DC, DP, SL, SC, SB}
@@ -37,6 +37,7 @@ use Rattle.build_laws.specs.declared.Source.{Source}
 use Rattle.build_laws.specs.declared.Source.the-variants.{Keys, Ranks, Samples}
 use Rattle.build_laws.specs.declared.Plan.{Plan}
 use Rattle.rank_tables_laws.specs.declared.Span.{Span}
+use Rattle.theory.specs.LengthBounds.{header-length}
 
 -- an accepted list, with settings in range
 pub record Ready (list : Bytes) (st : Settings) : Type 0 where
@@ -436,7 +437,7 @@ module _ (list : Bytes) (p : Plan) (w : Planned list p) where
         ap length (first-all (plan-bodies list p) refl),
         ap length image-text,
         length-append (header (plan-settings p) (plan-counts p)) (write-records rows (plan-bodies list p)),
-        length-header (plan-settings p) (plan-counts p),
+        header-length (plan-settings p) (plan-counts p),
       )
 
   -- the header written at the front, and the records behind it, are the image
@@ -444,6 +445,6 @@ module _ (list : Bytes) (p : Plan) (w : Planned list p) where
       → q ≡ plan-image list p ++ drop (length (plan-image list p)) out
   image-written out o q h e f =
       let z : 0 + length (plan-image list p) ≡ length (plan-image list p) = omega arith in
-      placed-behind out o q (header (plan-settings p) (plan-counts p)) (write-records rows (plan-bodies list p)) 0 22 (omega (arith, length-header (plan-settings p) (plan-counts p)))
-      (omega (arith, plan-end, ap length image-text, length-append (header (plan-settings p) (plan-counts p)) (write-records rows (plan-bodies list p)), length-header (plan-settings p) (plan-counts p))) e f
+      placed-behind out o q (header (plan-settings p) (plan-counts p)) (write-records rows (plan-bodies list p)) 0 22 (omega (arith, header-length (plan-settings p) (plan-counts p)))
+      (omega (arith, plan-end, ap length image-text, length-append (header (plan-settings p) (plan-counts p)) (write-records rows (plan-bodies list p)), header-length (plan-settings p) (plan-counts p))) e f
       ∙ ap (placed out 0) (sym image-text) ∙ ap (λ (n : ℕ). plan-image list p ++ drop n out) z

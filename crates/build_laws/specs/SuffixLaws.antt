@@ -14,6 +14,7 @@ use Rattle.spec.specs.Leaves.{bits-behind}
 use Rattle.spec.specs.Image.{positions}
 use Rattle.theory.specs.Terms.{Is-bytes}
 use Rattle.theory.specs.KeyLeaves.{length-padded}
+use Rattle.theory.specs.Lists.{bytes-drop, bytes-take}
 
 -- a test of a number's bit
 bit-test : (w a b : ℕ) → (w ≤ a → b ≡ 1) → (a < w → b ≡ 0) → leb w a ≡ eqb b 1
@@ -122,16 +123,6 @@ positions-none bs base i h = ap (positions (base + i)) (none bs i h) ∙ nil (ba
 pub positions-first : (bs : Bits) (base : ℕ) → positions (base + 0) (drop 0 bs) ≡ positions base bs
 positions-first bs base = let w : base + 0 ≡ base = omega arith in ap (λ (k : ℕ). positions k bs) w
 
-small-drop : (n : ℕ) (s : Bytes) → Is-bytes s → Is-bytes (drop n s)
-small-drop zero s h = h
-small-drop (suc n) [] h = tt
-small-drop (suc n) (x ∷ s) h = small-drop n s (h .1)
-
-small-take : (n : ℕ) (s : Bytes) → Is-bytes s → Is-bytes (take n s)
-small-take zero s h = tt
-small-take (suc n) [] h = tt
-small-take (suc n) (x ∷ s) h = (h .0, small-take n s (h .1))
-
 -- what a key has behind its cut are bytes
 pub small-part : (cut a n : ℕ) (s : Bytes) → Is-bytes s → Is-bytes (drop cut (take n (drop a s)))
-small-part cut a n s h = small-drop cut (take n (drop a s)) (small-take n (drop a s) (small-drop a s h))
+small-part cut a n s h = bytes-drop cut (take n (drop a s)) (bytes-take n (drop a s) (bytes-drop a s h))

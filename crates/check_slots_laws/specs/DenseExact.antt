@@ -14,10 +14,11 @@ use Rattle.spec.specs.Trie.{covered}
 use Rattle.bits_laws.specs.Bits.{bit-at, rank}
 use Rattle.bits_laws.specs.RankLaws.{rank-next, rank-zero}
 use Rattle.check_trie_laws.specs.Shapes.{ends-here, leaves-at}
-use Rattle.check_trie_laws.specs.DenseNodes.{entries-end, covered-split, ones-take-parts, next-node}
+use Rattle.check_trie_laws.specs.DenseNodes.{entries-end, ones-take-parts, next-node}
 use Rattle.check_trie_laws.specs.Positions.{bits, is-set, length-bits, bits-from, ones-bits}
 use Rattle.check_trie_laws.specs.Ranges.{all-from}
 use Rattle.check_slots_laws.specs.NodeSlots.{exact-from}
+use Rattle.theory.specs.DenseBits.{covered-split}
 
 -- the leaves before dense node m: labels before it that do not continue, and exact leaves
 abbrev pub dense-slot : Bytes → Bytes → Bytes → ℕ → ℕ

@@ -13,6 +13,7 @@ use Rattle.spec.specs.Nodes.{Entry, entry, entry-label, continues, Shape, shape
 use Rattle.spec.specs.Trie.{covered}
 use Rattle.check_trie_laws.specs.Shapes.{ends-here, rising, branches, leaves-at, root-valid, non-root-valid, nodes-from}
 use Rattle.theory.specs.Lists.{and-both}
+use Rattle.theory.specs.DenseBits.{covered-split}
 
 -- ---- one node
 
@@ -98,18 +99,6 @@ unfoldable pub dense-nodes-valid : Bool → Bits → Bits → Bits → Bool
 unfolding ones
 dense-nodes-valid root dl dc [] = true
 dense-nodes-valid root dl dc (p ∷ ps) = dense-valid root p (ones (take 256 dl)) (ones (take 256 dc)) && dense-nodes-valid false (drop 256 dl) (drop 256 dc) ps
-
--- a bitmap within another, in two parts
-pub covered-split : (k : ℕ) (dc dl : Bits) → length dl ≡ length dc → covered dc dl ≡ true → (covered (take k dc) (take k dl) ≡ true) × (covered (drop k dc) (drop k dl) ≡ true)
-unfolding covered
-covered-split zero dc dl h w = (refl, w)
-covered-split (suc k) [] [] h w = (refl, refl)
-covered-split (suc k) [] (l ∷ dl) h w = absurd (omega arith)
-covered-split (suc k) (c ∷ dc) [] h w = absurd (omega arith)
-covered-split (suc k) (c ∷ dc) (l ∷ dl) h w =
-    let p = and-both (not c || l) (covered dc dl) w in
-    let q = covered-split k dc dl (omega arith) (p .1) in
-    (rw (p .0) (q .0), q .1)
 
 module _ (dl dc ps : Bits) (p : Bool) (a : length dl ≡ 256 * suc (length ps)) (b : length dc ≡ 256 * suc (length ps)) (w : covered dc dl ≡ true) where
   wide-labels : length (take 256 dl) ≡ 256

@@ -1,27 +1,50 @@
-// What lies behind a branch of an accepted image, both numbers from the same ranks.
+// What lies behind a branch of an accepted image: the child that it continues to, and the slot of the leaf at which it ends.
 ghost use mathlib.Core.Path.{_≡_};
-ghost use Prim.Native.Nat.{_+_, _-_, _<_};
-ghost use Rattle.nav_laws.specs.Accepted.{Accepted};
-ghost use Rattle.nav_laws.specs.Positions.{child-at, slot-at, Within};
-use super::ranks::child_rank;
-use super::ranks::entry_rank;
-use super::ranks::exact_rank;
-use super::ranks::label_rank;
+ghost use Rattle.nav_laws.specs.Positions.{child-at, slot-at};
+ghost use Rattle.nav_laws.specs.FoundBranch.{Is-position, Behind-branch};
 use image_types::BitPos;
 use image_types::Frame;
 use image_types::NodeNum;
 use image_types::ValuePos;
+use nav_ranks::child_rank;
+use nav_ranks::entry_rank;
+use nav_ranks::exact_rank;
+use nav_ranks::label_rank;
 
-// The node behind a branch that continues, and the slot of the leaf behind one that ends.
+// The node behind a branch that continues: one more than the continuing branches before it.
+pub fn child(image: &[u8], f: Frame, m: NodeNum, at: BitPos) -> NodeNum
+    requires { ⌜ Is-position (now image) f (m .0) (at .0) ⌝ }
+    ensures { λ r. ⌜ r .0 ≡ child-at (now (image .entry)) f (m .0) (at .0) ⌝ }
+{
+    if m.0 < f.dense.nodes {
+        return NodeNum(child_rank(image, f, at) + 1);
+    }
+    NodeNum(f.totals.children + entry_rank(image, f, at) + 1)
+}
+
+// The slot of the leaf behind a branch that ends: an exact leaf stands before its node's branches.
+pub fn slot(image: &[u8], f: Frame, m: NodeNum, at: BitPos) -> ValuePos
+    requires { ⌜ Is-position (now image) f (m .0) (at .0) ⌝ }
+    ensures { λ r. ⌜ r .0 ≡ slot-at (now (image .entry)) f (m .0) (at .0) ⌝ }
+{
+    if m.0 < f.dense.nodes {
+        let labels = label_rank(image, f, at);
+        let children = child_rank(image, f, at);
+        return ValuePos(labels - children + exact_rank(image, f, NodeNum(m.0 + 1)));
+    }
+    ValuePos(f.totals.entries - f.totals.children + (at.0 - entry_rank(image, f, at)))
+}
+
+// The child behind a branch that continues, and the slot of the leaf behind one that ends.
 pub struct Behind {
     pub child: NodeNum,
     pub slot: ValuePos,
 }
 
-// The node and the slot behind a branch.
+// The child and the slot behind a branch, both from the same ranks.
 pub fn child_and_slot(image: &[u8], f: Frame, m: NodeNum, at: BitPos) -> Behind
-    requires { ⌜ Accepted (now image) f × Within (now image) f (m .0) (at .0) ⌝ }
-    ensures { λ r. ⌜ (r .child .0 ≡ child-at (now (image .entry)) f (m .0) (at .0)) × (r .slot .0 ≡ slot-at (now (image .entry)) f (m .0) (at .0)) ⌝ }
+    requires { ⌜ Is-position (now image) f (m .0) (at .0) ⌝ }
+    ensures { λ r. ⌜ Behind-branch (now (image .entry)) f (m .0) (at .0) (r .child .0) (r .slot .0) ⌝ }
 {
     if m.0 < f.dense.nodes {
         let labels = label_rank(image, f, at);

@@ -7,7 +7,7 @@ use mathlib.Core.Option.{Option, none, some}
 use native.Mathlib.Omega.{arith}
 use lib.ListN.{length, take, drop}
 use lib.Dec.{leb, eqb}
-use borrow.Author.Tests.{eq-eqb, ne-eqb, eqb-true, eqb-false, leb-true, leb-false, le-leb, lt-ltb, le-ltb}
+use borrow.Author.Tests.{eq-eqb, ne-eqb, eqb-true, eqb-false, leb-true, leb-false, le-leb, lt-leb, lt-ltb, le-ltb}
 use Rattle.spec.specs.Bytes.{Bytes, Bits, bit, count, equal, begins}
 use Rattle.spec.specs.Keys.{below}
 use Rattle.spec.specs.Leaves.{Leaf}
@@ -29,6 +29,24 @@ labels-below-le y (e ∷ es) = go (leb y (label-of e)) (labels-below-le y es)
     go : (b : Bool) → labels-below y es ≤ length es → elim b [ true ↦ 0 | false ↦ suc (labels-below y es) ] ≤ suc (length es)
     go true h = omega arith
     go false h = omega arith
+
+-- a first label below y counts, and with it those behind it
+pub below-low : (y x : ℕ) (e : Branch) (es : List Branch) → label-of e ≡ x → x < y → labels-below y (e ∷ es) ≡ suc (labels-below y es)
+unfolding labels-below
+below-low y x e es p h = go (leb y (label-of e)) (lt-leb y (label-of e) (omega arith))
+  where
+    go : (b : Bool) → b ≡ false → elim b [ true ↦ 0 | false ↦ suc (labels-below y es) ] ≡ suc (labels-below y es)
+    go true q = absurd (true≢false q)
+    go false q = refl
+
+-- where the first label is not below y, none is
+pub below-high : (y x : ℕ) (e : Branch) (es : List Branch) → label-of e ≡ x → y ≤ x → labels-below y (e ∷ es) ≡ 0
+unfolding labels-below
+below-high y x e es p h = go (leb y (label-of e)) (le-leb y (label-of e) (omega arith))
+  where
+    go : (b : Bool) → b ≡ true → _≡_ {A = ℕ} (elim b [ true ↦ 0 | false ↦ suc (labels-below y es) ]) 0
+    go true h = refl
+    go false h = absurd (true≢false (sym h))
 
 -- no label is below 0
 pub none-below-zero : (es : List Branch) → labels-below 0 es ≡ 0

@@ -18,6 +18,7 @@ use Rattle.theory.specs.LinkedLevels.{first-width, Linked, Labelled, Ascends, l
 use Rattle.theory.specs.Levels.{leaf-count-append, leaves-in}
 use Rattle.theory.specs.Numbering.{leaves-before as before, leaves-before-groups}
 use Rattle.theory.specs.NodeBits.{Slots-width}
+use Rattle.theory.specs.WitnessedLevels.{labelled-ascends}
 
 -- the continuing branches of the nodes before node m
 unfoldable pub children-before : List Node → ℕ → ℕ
@@ -40,6 +41,14 @@ unfoldable pub ends-at : ℕ → List Branch → Bool
 ends-at y [] = false
 ends-at y (to-leaf x s ∷ es) = eqb x y
 ends-at y (to-node x ∷ es) = false
+
+-- the continuing branches before branch i and from it on
+pub children-split : (i : ℕ) (es : List Branch) → children (take i es) + children (drop i es) ≡ children es
+unfolding children
+children-split zero es = omega arith
+children-split (suc i) [] = refl
+children-split (suc i) (to-leaf x s ∷ es) = children-split i es
+children-split (suc i) (to-node x ∷ es) = omega (arith, children-split i es)
 
 -- where a key leads: nowhere; to an exact leaf; to the open leaf with this slot number, with the rest of the key
 pub data Stop : Type 0 where
@@ -185,10 +194,6 @@ fit-at zero (n ∷ ns) o es rest d f = let e : n ≡ node o es = cc in rw e at (
 fit-at (suc m) [] o es rest d f = let z : _≡_ {A = ℕ} 0 1 = cc in absurd (omega arith)
 fit-at (suc m) (n ∷ ns) o es rest d f = fit-at m ns o es rest d (f .1)
 
-pub fit-rising : (o : Option Bits) (es : List Branch) → Labelled (node o es) → Ascends es
-fit-rising o [] f = absurd f
-fit-rising o (e ∷ es) f = f
-
 -- node m of a level by its number
 pub node-is : (all pre ns : List Node) (ls : List (List Node)) (m : ℕ) (o : Option Bits) (es : List Branch) (rest : List Node) → Stands all pre (ns ∷ ls) → drop m ns ≡ node o es ∷ rest
     → node-at all (length pre + m) ≡ node o es
@@ -206,6 +211,13 @@ leaves-take a b gs = ap leaves-in (take-add a b gs) ∙ go (take a gs)
     go : (xs : List Group) → leaves-in (xs ++ take b (drop a gs)) ≡ leaves-in xs + leaves-in (take b (drop a gs))
     go [] = omega arith
     go (g ∷ xs) = omega (arith, go xs)
+
+-- a branch that continues is one of those that do
+pub goes-children : (y : ℕ) (fs : List Branch) → goes-on y fs ≡ true → 0 < children fs
+unfolding goes-on children
+goes-children y [] h = absurd (true≢false (sym h))
+goes-children y (to-leaf x s ∷ fs) h = absurd (true≢false (sym h))
+goes-children y (to-node x ∷ fs) h = omega arith
 
 -- ---- the law of a descent
 
@@ -254,19 +266,6 @@ module _ (ends : Bool) (q : Bits → Bytes → Bool) (w : ℕ) (all : List Node)
   first-is y [] h = absurd (true≢false (sym h))
   first-is y (to-leaf x s ∷ fs) h = (x, s, fs, refl, refl)
   first-is y (to-node x ∷ fs) h = absurd (true≢false (sym h))
-
-  goes-children : (y : ℕ) (fs : List Branch) → goes-on y fs ≡ true → 0 < children fs
-  unfolding goes-on children
-  goes-children y [] h = absurd (true≢false (sym h))
-  goes-children y (to-leaf x s ∷ fs) h = absurd (true≢false (sym h))
-  goes-children y (to-node x ∷ fs) h = omega arith
-
-  children-split : (i : ℕ) (es : List Branch) → children (take i es) + children (drop i es) ≡ children es
-  unfolding children
-  children-split zero es = omega arith
-  children-split (suc i) [] = refl
-  children-split (suc i) (to-leaf x s ∷ es) = children-split i es
-  children-split (suc i) (to-node x ∷ es) = omega (arith, children-split i es)
 
   below-none : (l lo m : ℕ) → leaves-below all l lo m [] ≡ leaves-between all l lo m
   unfolding leaves-below
@@ -342,7 +341,7 @@ module _ (ends : Bool) (q : Bits → Bytes → Bool) (w : ℕ) (all : List Node)
               ≡ bit (is-exact (node o es)) + (open-leaves (take i es) + leaves-in (take (children (take i es)) (drop (total children-of (take m ns)) (groups ls)))
               + counts-at ends q y k (drop i es) (drop (children (take i es)) (drop (total children-of (take m ns)) (groups ls)))) =
               ap (count (counts ends q (y ∷ k))) group ∙ count-append (counts ends q (y ∷ k)) (exact-leaf o) (branch-leaves es (drop (total children-of (take m ns)) (groups ls)))
-              ∙ ap₂ _+_ (exact-counted ends q o es y k) (rw p at (branches-counted ends q y k es (drop (total children-of (take m ns)) (groups ls)) (fit-rising o es (fit-at m ns o es rest d (n .0))) enough)) in
+              ∙ ap₂ _+_ (exact-counted ends q o es y k) (rw p at (branches-counted ends q y k es (drop (total children-of (take m ns)) (groups ls)) (labelled-ascends o es (fit-at m ns o es rest d (n .0))) enough)) in
               let deep : goes-on y (drop i es) ≡ true → leaves-in (take (total children-of (take m ns) + children (take i es)) (groups ls)) + count (counts ends q k) (getD (drop (children (take i es)) (drop (total children-of (take m ns)) (groups ls))) 0 [])
               ≡ leaves-below all (l - 1) (length (pre ++ ns)) (length (pre ++ ns) + (total children-of (take m ns) + children (take i es))) k + value (descend all (length (pre ++ ns) + (total children-of (take m ns) + children (take i es))) k) =
               λ t.

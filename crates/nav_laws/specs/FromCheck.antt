@@ -24,14 +24,11 @@ use Rattle.theory.specs.ImageParts.{Writable, node-image-bodies, parts-of-nodes
 use Rattle.theory.specs.NodeBits.{node-image, bodies, bodies-of, dense-labels, dense-has-child, sparse-labels, sparse-has-child, louds, slots, bodies-bits}
 use Rattle.theory.specs.LevelTrie.{trie}
 use Rattle.theory.specs.Accept.{accepted-is-image}
+use Rattle.theory.specs.ReadBack.{read-nodes-bodies}
 
 -- a body at its offset
 body-at : (s b : Bytes) (at n : ℕ) → at ≤ length s → part s at n ≡ b → Body b s at
 body-at s b at n h e = (h, (drop n (drop at s), sym (take-append-drop n (drop at s)) ∙ ap (λ (z : Bytes). z ++ drop n (drop at s)) e))
-
-framed-nodes : (s : Bytes) (bs : List Bytes) → read-bodies rows (drop 22 s) ≡ some bs → read-nodes s ≡ nodes-of (parts s (named bs))
-unfolding read-nodes
-framed-nodes s bs h = ap {B = List Node} (λ (f : Option (List Bytes)). elim f [ none ↦ [] | some bs ↦ nodes-of (parts s (named bs)) ]) h
 
 some-same : {A : Type 0} (a b : A) → some a ≡ some b → a ≡ b
 some-same a b h = cc
@@ -69,7 +66,7 @@ module _ (s : Bytes) (f : Frame) (fr : FrameOf s f) (st : Settings) (ls : List L
   sparse-same = ap (λ (p : Parts). p .counts .sparse-nodes) parts-same
 
   nodes-same : read-nodes s ≡ ds ++ ss
-  nodes-same = framed-nodes s (in-order (bodies ds ss)) framed ∙ ap (λ (z : Bytes). nodes-of (parts z (named (in-order (bodies ds ss))))) is ∙ ap nodes-of (parts-back st (length ls) ds ss w) ∙ nodes-back st (length ls) ds ss w
+  nodes-same = read-nodes-bodies s (in-order (bodies ds ss)) framed ∙ ap (λ (z : Bytes). nodes-of (parts z (named (in-order (bodies ds ss))))) is ∙ ap nodes-of (parts-back st (length ls) ds ss w) ∙ nodes-back st (length ls) ds ss w
 
   body : (i : ℕ) → getD (frame-bodies s f) i [] ≡ getD (in-order (bodies-of (concat (map dense-labels ds)) (concat (map dense-has-child ds)) (map is-exact ds) (concat (map sparse-labels ss)) (concat (map sparse-has-child ss)) (concat (map louds ss)) (concat (map slots (ds ++ ss))))) i []
   body i = body-same _ _ bodies-same i

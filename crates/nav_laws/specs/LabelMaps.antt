@@ -17,6 +17,7 @@ use Rattle.theory.specs.Terms.{Is-bytes}
 use Rattle.theory.specs.Bits.{Ascends-from, has-here, has-skip, has-none}
 use Rattle.theory.specs.LinkedLevels.{Ascends, Labelled}
 use Rattle.theory.specs.NodeBits.{Byte-labels, dense-labels, dense-has-child}
+use Rattle.theory.specs.DenseBits.{ascends-from-children}
 
 -- how many of the first numbers are below y
 unfoldable pub numbers-below : ℕ → List ℕ → ℕ
@@ -93,16 +94,6 @@ labels-are-below y (to-leaf x s ∷ es) = go (leb y x) (labels-are-below y es)
     go true h = refl
     go false h = ap suc h
 
-continuing-climb : (i e : ℕ) (es : List Branch) → Ascends-from i e (map label-of es) → Ascends-from i e (map label-of (filter has-child es))
-unfolding filter
-continuing-climb i e [] c = tt
-continuing-climb i e (to-node x ∷ es) c = (c .0, c .1, continuing-climb (suc x) e es (c .2))
-continuing-climb i e (to-leaf x s ∷ es) c = down (map label-of (filter has-child es)) (continuing-climb (suc x) e es (c .2))
-  where
-    down : (xs : List ℕ) → Ascends-from (suc x) e xs → Ascends-from i e xs
-    down [] d = tt
-    down (z ∷ xs) d = (omega (arith, c .0, d .0), d .1, d .2)
-
 below-none : (y i e : ℕ) (xs : List ℕ) → y ≤ i → Ascends-from i e xs → numbers-below y xs ≡ 0
 unfolding numbers-below
 below-none y i e [] h c = refl
@@ -121,7 +112,7 @@ continuing-below y i e (to-leaf x s ∷ es) c = go (leb y x) refl (continuing-be
   where
     go : (b : Bool) → leb y x ≡ b → numbers-below y (map label-of (filter has-child es)) ≡ children (take (labels-below y es) es)
         → numbers-below y (map label-of (filter has-child es)) ≡ children (take (elim b [ true ↦ 0 | false ↦ suc (labels-below y es) ]) (to-leaf x s ∷ es))
-    go true q h = below-none y (suc x) e (map label-of (filter has-child es)) (omega (arith, leb-true y x q)) (continuing-climb (suc x) e es (c .2))
+    go true q h = below-none y (suc x) e (map label-of (filter has-child es)) (omega (arith, leb-true y x q)) (ascends-from-children (suc x) e es (c .2))
     go false q h = h
 
 getD-iota : (f : ℕ → Bool) (i n c : ℕ) → c < n → getD (map f (iota i n)) c false ≡ f (i + c)
@@ -173,12 +164,12 @@ module _ (y : ℕ) where
     where
       here : (x : ℕ) (es : List Branch) → Ascends-from (suc x) e (map label-of es) → has (map label-of (filter has-child es)) y ≡ matches-child y (drop (labels-below y es) es)
           → (b : Bool) → leb y x ≡ b → eqb y x || has (map label-of (filter has-child es)) y ≡ matches-child y (drop (elim b [ true ↦ 0 | false ↦ suc (labels-below y es) ]) (to-node x ∷ es))
-      here x es c ih true h = rw (has-none y (suc x) e (map label-of (filter has-child es)) (omega (arith, leb-true y x h)) (continuing-climb (suc x) e es c)) (or-none (eqb y x) ∙ sym (and-one (eqb y x)))
+      here x es c ih true h = rw (has-none y (suc x) e (map label-of (filter has-child es)) (omega (arith, leb-true y x h)) (ascends-from-children (suc x) e es c)) (or-none (eqb y x) ∙ sym (and-one (eqb y x)))
       here x es c ih false h = rw (ne-eqb y x (λ r. omega (arith, leb-false y x h))) ih
 
       past : (x : ℕ) (s : Bits) (es : List Branch) → Ascends-from (suc x) e (map label-of es) → has (map label-of (filter has-child es)) y ≡ matches-child y (drop (labels-below y es) es)
           → (b : Bool) → leb y x ≡ b → has (map label-of (filter has-child es)) y ≡ matches-child y (drop (elim b [ true ↦ 0 | false ↦ suc (labels-below y es) ]) (to-leaf x s ∷ es))
-      past x s es c ih true h = has-none y (suc x) e (map label-of (filter has-child es)) (omega (arith, leb-true y x h)) (continuing-climb (suc x) e es c) ∙ sym (and-none (eqb y x))
+      past x s es c ih true h = has-none y (suc x) e (map label-of (filter has-child es)) (omega (arith, leb-true y x h)) (ascends-from-children (suc x) e es c) ∙ sym (and-none (eqb y x))
       past x s es c ih false h = ih
 
       go : (i : ℕ) (es : List Branch) → Ascends-from i e (map label-of es) → has (map label-of (filter has-child es)) y ≡ matches-child y (drop (labels-below y es) es)
@@ -186,7 +177,7 @@ module _ (y : ℕ) where
       go i (to-node x ∷ es) c = here x es (c .2) (go (suc x) es (c .2)) (leb y x) refl
       go i (to-leaf x s ∷ es) c = past x s es (c .2) (go (suc x) es (c .2)) (leb y x) refl
 
-eqb-flip : (x y : ℕ) → eqb x y ≡ eqb y x
+pub eqb-flip : (x y : ℕ) → eqb x y ≡ eqb y x
 eqb-flip x y = go (eqb x y) refl
   where
     go : (b : Bool) → eqb x y ≡ b → b ≡ eqb y x
@@ -235,7 +226,7 @@ module _ (o : Option Bits) (es : List Branch) (c : Narrow es) (y : ℕ) where
   -- the continuing ones among them
   pub children-counted : y ≤ 256 → ones (take y (dense-has-child (node o es))) ≡ children (take (labels-below y es) es)
   unfolding dense-has-child
-  children-counted h = ones-has 256 0 y (map label-of (filter has-child es)) (continuing-climb 0 256 es c) h ∙ continuing-below (0 + y) 0 256 es c ∙ rw zero-more
+  children-counted h = ones-has 256 0 y (map label-of (filter has-child es)) (ascends-from-children 0 256 es c) h ∙ continuing-below (0 + y) 0 256 es c ∙ rw zero-more
 
   -- the bit of label y
   pub label-bit : y < 256 → getD (dense-labels (node o es)) y false ≡ matches y (drop (labels-below y es) es)

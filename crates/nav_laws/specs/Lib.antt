@@ -11,4 +11,8 @@ pub mod SparsePositions
 pub mod NextLabel
 pub mod Positions
 pub mod NextBranch
+pub mod FoundBranch
 pub mod Tables
+pub mod Below
+pub mod Paths
+pub mod PathSteps

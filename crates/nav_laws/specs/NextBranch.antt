@@ -7,23 +7,31 @@ use mathlib.Core.Option.{none}
 use native.Mathlib.Omega.{arith}
 use lib.ListN.{length, getD, drop, List·getD-append}
 use lib.Seq.{getD-drop}
-use lib.Dec.{ltb}
+use lib.Dec.{ltb, eqb}
 use borrow.Author.Tests.{ltb-true, ltb-false}
 use Rattle.spec.specs.Bytes.{Bytes, bit}
 use Rattle.spec.specs.Nodes.{node, label-of, has-child, branches-of, is-exact}
 use Rattle.bits_laws.specs.Bits.{bit-at, rank, select}
 use Rattle.image_types.specs.declared.Frame.{Frame}
+use Rattle.nav_laws.specs.declared.BranchKind.{BranchKind}
+use Rattle.nav_laws.specs.declared.BranchKind.the-variants.{Absent}
 use Rattle.nav_laws.specs.Counting.{labels-below}
 use Rattle.nav_laws.specs.Slots.{node-at}
 use Rattle.nav_laws.specs.Descent.{goes-on}
-use Rattle.nav_laws.specs.NextLabel.{first-kind, first-label, kind-at, kind-end, label-first, goes-child, own-place, next-none, next-some, rising}
+use Rattle.nav_laws.specs.NextLabel.{first-kind, first-label, kind-there, kind-by, kind-at, kind-end, label-first, goes-child, own-place, next-none, next-some, rising}
 use Rattle.nav_laws.specs.Accepted.{Accepted, dense-nodes, sparse-nodes, nodes}
 use Rattle.nav_laws.specs.Positions.{branches, place, Branch-at, bits-dense, branch-dense, label-sparse, child-sparse, branch-sparse}
 
--- what stands at or behind the label y of node m: the kind of the first such branch, its label and its position
-pub record Next-branch (s : Bytes) (f : Frame) (m y kind label p : ℕ) : Type 0 where
+-- The first branch of node m whose label is not below y has this label and stands at position p.
+pub record Named-branch (s : Bytes) (f : Frame) (m y label p : ℕ) : Type 0 where
+  pub label-is : label ≡ first-label (drop (place s f m y) (branches s f m))
+  pub label-byte : label < 256
+  pub at-is : Branch-at s f m (place s f m y) p
+
+-- The first branch of node m whose label is not below y: its kind, and, if there is one, its label and its position.
+pub record Next-branch (s : Bytes) (f : Frame) (m y : ℕ) (kind : BranchKind) (label p : ℕ) : Type 0 where
   pub kind-is : kind ≡ first-kind (drop (place s f m y) (branches s f m))
-  pub there : (kind ≡ 0 → ⊥) → (label ≡ first-label (drop (place s f m y) (branches s f m))) × (label < 256) × Branch-at s f m (place s f m y) p
+  pub there : (kind ≡ Absent → ⊥) → Named-branch s f m y label p
 
 module _ (s : Bytes) (f : Frame) (a : Accepted s f) where
   module _ (m y p : ℕ) (h : m < f .dense .nodes) (l : y ≤ 256) (is : p ≡ select (drop (f .dl) s) (256 * m + 256) (rank (drop (f .dl) s) (256 * m + y))) where
@@ -43,18 +51,18 @@ module _ (s : Bytes) (f : Frame) (a : Accepted s f) where
         is ∙ (next-none (dense-nodes s f) (sparse-nodes s f) (drop (f .dl) s) (drop (f .dc) s) (drop (f .dp) s) (a .DL .1) (a .DC .1) (a .DP .1) (a .writable .dense-labelled) (a .writable .dense-bytes) m y inside l (rw (← the-node) at k))
 
     -- no one is left of the node's bits
-    pub dense-none : 256 * m + 256 ≤ p → Next-branch s f m y 0 0 p
+    pub dense-none : 256 * m + 256 ≤ p → Next-branch s f m y Absent 0 p
     dense-none k = record { kind-is = go (ltb (place s f m y) (length (branches s f m))) refl; there = λ n. absurd (n refl) }
       where
-        go : (b : Bool) → ltb (place s f m y) (length (branches s f m)) ≡ b → 0 ≡ first-kind (drop (place s f m y) (branches s f m))
+        go : (b : Bool) → ltb (place s f m y) (length (branches s f m)) ≡ b → Absent ≡ first-kind (drop (place s f m y) (branches s f m))
         go true e = let r = some-there (ltb-true (place s f m y) (length (branches s f m)) e) in absurd (omega arith)
         go false e = kind-end (branches s f m) (place s f m y) (ltb-false (place s f m y) (length (branches s f m)) e)
 
     -- the next one is a branch
-    pub dense-some : p < 256 * m + 256 → (c : ℕ) → c ≡ bit-at (drop (f .dc) s) p → Next-branch s f m y (1 + c) (p - 256 * m) p
+    pub dense-some : p < 256 * m + 256 → (c : ℕ) → c ≡ bit-at (drop (f .dc) s) p → Next-branch s f m y (kind-there (eqb c 1)) (p - 256 * m) p
     dense-some k c e = go (ltb (place s f m y) (length (branches s f m))) refl
       where
-        go : (b : Bool) → ltb (place s f m y) (length (branches s f m)) ≡ b → Next-branch s f m y (1 + c) (p - 256 * m) p
+        go : (b : Bool) → ltb (place s f m y) (length (branches s f m)) ≡ b → Next-branch s f m y (kind-there (eqb c 1)) (p - 256 * m) p
         go true t =
             let i : ℕ = place s f m y in
             let x : ℕ = getD (map label-of (branches s f m)) (place s f m y) 0 in
@@ -68,25 +76,29 @@ module _ (s : Bytes) (f : Frame) (a : Accepted s f) where
             ap (bit-at (drop (f .dc) s)) (r .0) ∙ g ∙ ap bit (ap (λ (z : ℕ). goes-on (getD (map label-of (branches s f m)) (place s f m y) 0) (drop z (branches s f m))) o ∙ goes-child (branches s f m) (place s f m y) q) in
             let w = branch-dense s f a m (getD (map label-of (branches s f m)) (place s f m y) 0) h (omega (arith, r .1)) in
             record {
-              kind-is = kind-at (branches s f m) (place s f m y) c q (e ∙ b);
-              there = λ n. (omega (arith, r .0, label-first (branches s f m) (place s f m y) q), omega (arith, r .0, r .1), rw (← r .0) at (rw o at w));
+              kind-is = kind-by c (getD (map has-child (branches s f m)) (place s f m y) false) (e ∙ b) ∙ sym (kind-at (branches s f m) (place s f m y) q);
+              there = λ n. record { label-is = omega (arith, r .0, label-first (branches s f m) (place s f m y) q); label-byte = omega (arith, r .0, r .1); at-is = rw (← r .0) at (rw o at w) };
             }
         go false t = absurd (omega (arith, none-there (ltb-false (place s f m y) (length (branches s f m)) t)))
 
   module _ (m y p first : ℕ) (h : f .dense .nodes ≤ m) (l : m < f .dense .nodes + f .sparse .nodes) (starts : first ≡ select (drop (f .sb) s) (f .sparse .entries) (m - f .dense .nodes) + bit (is-exact (node-at (nodes s f) m)))
       (stands : p ≡ first + place s f m y) where
     -- no entry is left of the node's
-    pub sparse-none : first + length (branches s f m) ≤ p → Next-branch s f m y 0 0 p
+    pub sparse-none : first + length (branches s f m) ≤ p → Next-branch s f m y Absent 0 p
     sparse-none k = record { kind-is = kind-end (branches s f m) (place s f m y) (omega arith); there = λ n. absurd (n refl) }
 
     -- the next one is a branch
-    pub sparse-some : p < first + length (branches s f m) → p ≤ f .sparse .entries → (c x : ℕ) → c ≡ bit-at (drop (f .sc) s) p → x ≡ getD s (f .sl + p) 0 → x < 256 → Next-branch s f m y (1 + c) x p
+    pub sparse-some : p < first + length (branches s f m) → p ≤ f .sparse .entries → (c x : ℕ) → c ≡ bit-at (drop (f .sc) s) p → x ≡ getD s (f .sl + p) 0 → x < 256 → Next-branch s f m y (kind-there (eqb c 1)) x p
     sparse-some k r c x e v u =
         let q : place s f m y < length (branches s f m) = omega arith in
         let b = child-sparse s f a m h l first starts (place s f m y) q in
         let t = label-sparse s f a m h l first starts (place s f m y) q in
         let w = branch-sparse s f a m h l first starts (place s f m y) (omega arith) (omega arith) in
         record {
-          kind-is = kind-at (branches s f m) (place s f m y) c q (e ∙ ap (bit-at (drop (f .sc) s)) stands ∙ b);
-          there = λ n. (v ∙ sym (getD-drop (f .sl) s p 0) ∙ ap (λ (z : ℕ). getD (drop (f .sl) s) z 0) stands ∙ t ∙ label-first (branches s f m) (place s f m y) q, u, rw (← stands) at w);
+          kind-is = kind-by c (getD (map has-child (branches s f m)) (place s f m y) false) (e ∙ ap (bit-at (drop (f .sc) s)) stands ∙ b) ∙ sym (kind-at (branches s f m) (place s f m y) q);
+          there = λ n. record {
+            label-is = v ∙ sym (getD-drop (f .sl) s p 0) ∙ ap (λ (z : ℕ). getD (drop (f .sl) s) z 0) stands ∙ t ∙ label-first (branches s f m) (place s f m y) q;
+            label-byte = u;
+            at-is = rw (← stands) at w;
+          };
         }

@@ -11,9 +11,12 @@ use lib.Dec.{ltb}
 use Rattle.spec.specs.Bytes.{Bytes, Bits, bit, count, concat}
 use Rattle.spec.specs.Nodes.{Branch, to-node, to-leaf, Node, node, branches-of, is-exact, children, total, children-of}
 use Rattle.spec.specs.Trie.{open-leaves, leaf-count}
+use Rattle.nav_laws.specs.declared.BranchKind.{BranchKind}
+use Rattle.nav_laws.specs.declared.BranchKind.the-variants as Kind
 use Rattle.nav_laws.specs.Counting.{labels-below, counts}
 use Rattle.nav_laws.specs.Slots.{node-at, leaves-before, slot-number, slot-of}
-use Rattle.nav_laws.specs.Descent.{children-before, child-number, goes-on, ends-at, Stop, miss, at-exact, at-open, descend, leaves-below, between-same, value, level-counted, kids-append, kids-take}
+use Rattle.nav_laws.specs.Descent.{goes-children, children-before, child-number, children-split, goes-on, ends-at, Stop, miss, at-exact, at-open, descend, leaves-below, between-same, value, level-counted, kids-append, kids-take}
+use Rattle.nav_laws.specs.NextLabel.{first-kind}
 use Rattle.theory.specs.LeafLists.{Realizable, All-well-sized}
 use Rattle.theory.specs.Terms.{All, Bound}
 use Rattle.theory.specs.LevelTrie.{trie}
@@ -89,40 +92,28 @@ branch-leaves [] m = rw (take-nil {A = Node} m) (omega arith)
 branch-leaves (n ∷ ns) zero = omega arith
 branch-leaves (n ∷ ns) (suc m) = omega (arith, branch-leaves ns m)
 
-taken-kids : (i : ℕ) (es : List Branch) → children (take i es) + children (drop i es) ≡ children es
-unfolding children
-taken-kids zero es = omega arith
-taken-kids (suc i) [] = refl
-taken-kids (suc i) (to-leaf x s ∷ es) = taken-kids i es
-taken-kids (suc i) (to-node x ∷ es) = omega (arith, taken-kids i es)
-
-taken-leaves : (i : ℕ) (es : List Branch) → open-leaves (take i es) + open-leaves (drop i es) ≡ open-leaves es
+-- the open leaves before branch i and from it on
+pub open-split : (i : ℕ) (es : List Branch) → open-leaves (take i es) + open-leaves (drop i es) ≡ open-leaves es
 unfolding open-leaves
-taken-leaves zero es = omega arith
-taken-leaves (suc i) [] = refl
-taken-leaves (suc i) (to-node x ∷ es) = taken-leaves i es
-taken-leaves (suc i) (to-leaf x s ∷ es) = omega (arith, taken-leaves i es)
+open-split zero es = omega arith
+open-split (suc i) [] = refl
+open-split (suc i) (to-node x ∷ es) = open-split i es
+open-split (suc i) (to-leaf x s ∷ es) = omega (arith, open-split i es)
 
 -- The first node behind a branch: no earlier than that behind the node's first, and at most the number of all branches plus one.
 pub child-range : (ns : List Node) (m i : ℕ) → (1 + children-before ns m ≤ child-number ns m i) × (child-number ns m i ≤ 1 + total children-of ns)
 unfolding child-number children-before
-child-range ns m i = (omega arith, omega (arith, branch-kids ns m, taken-kids i (branches-of (node-at ns m))))
-
-goes-children : (y : ℕ) (fs : List Branch) → goes-on y fs ≡ true → 0 < children fs
-unfolding goes-on children
-goes-children y [] h = absurd (true≢false (sym h))
-goes-children y (to-leaf x s ∷ fs) h = absurd (true≢false (sym h))
-goes-children y (to-node x ∷ fs) h = omega arith
+child-range ns m i = (omega arith, omega (arith, branch-kids ns m, children-split i (branches-of (node-at ns m))))
 
 -- A continuing branch leads to a node.
 pub child-in : (ns : List Node) (m i y : ℕ) → length ns ≡ 1 + total children-of ns → goes-on y (drop i (branches-of (node-at ns m))) ≡ true → child-number ns m i < length ns
 unfolding child-number children-before
-child-in ns m i y e h = omega (arith, branch-kids ns m, taken-kids i (branches-of (node-at ns m)), goes-children y (drop i (branches-of (node-at ns m))) h)
+child-in ns m i y e h = omega (arith, branch-kids ns m, children-split i (branches-of (node-at ns m)), goes-children y (drop i (branches-of (node-at ns m))) h)
 
 -- A slot number is at least the leaves before its node, and at most all leaves.
 pub slot-range : (ns : List Node) (m i : ℕ) → (leaves-before ns m ≤ slot-number ns m i) × (slot-number ns m i ≤ leaf-count ns)
 unfolding slot-number leaves-before
-slot-range ns m i = (omega arith, omega (arith, branch-leaves ns m, taken-leaves i (branches-of (node-at ns m))))
+slot-range ns m i = (omega arith, omega (arith, branch-leaves ns m, open-split i (branches-of (node-at ns m))))
 
 ends-leaves : (y : ℕ) (fs : List Branch) → ends-at y fs ≡ true → 0 < open-leaves fs
 unfolding ends-at open-leaves
@@ -133,4 +124,28 @@ ends-leaves y (to-leaf x s ∷ fs) h = omega arith
 -- The slot of an open leaf is one of the leaves.
 pub branch-leaves-in : (ns : List Node) (m i y : ℕ) → ends-at y (drop i (branches-of (node-at ns m))) ≡ true → slot-number ns m i < leaf-count ns
 unfolding slot-number leaves-before
-branch-leaves-in ns m i y h = omega (arith, branch-leaves ns m, taken-leaves i (branches-of (node-at ns m)), ends-leaves y (drop i (branches-of (node-at ns m))) h)
+branch-leaves-in ns m i y h = omega (arith, branch-leaves ns m, open-split i (branches-of (node-at ns m)), ends-leaves y (drop i (branches-of (node-at ns m))) h)
+
+-- a branch that ends is one of the open leaves
+leaf-there : (fs : List Branch) → first-kind fs ≡ Kind.Leaf → 0 < open-leaves fs
+unfolding first-kind open-leaves
+leaf-there [] e = let z : _≡_ {A = ℕ} 0 1 = cc in absurd (omega arith)
+leaf-there (to-leaf x s ∷ fs) e = omega arith
+leaf-there (to-node x ∷ fs) e = let z : _≡_ {A = ℕ} 0 1 = cc in absurd (omega arith)
+
+-- one that continues is one of the continuing branches
+pub child-there : (fs : List Branch) → first-kind fs ≡ Kind.Child → 0 < children fs
+unfolding first-kind children
+child-there [] e = let z : _≡_ {A = ℕ} 0 1 = cc in absurd (omega arith)
+child-there (to-leaf x s ∷ fs) e = let z : _≡_ {A = ℕ} 0 1 = cc in absurd (omega arith)
+child-there (to-node x ∷ fs) e = omega arith
+
+-- The slot behind a branch that ends is one of the leaves.
+pub kind-slot : (ns : List Node) (m i : ℕ) (kind : BranchKind) → kind ≡ first-kind (drop i (branches-of (node-at ns m))) → kind ≡ Kind.Leaf → slot-number ns m i < leaf-count ns
+unfolding slot-number leaves-before
+kind-slot ns m i kind e h = omega (arith, branch-leaves ns m, open-split i (branches-of (node-at ns m)), leaf-there (drop i (branches-of (node-at ns m))) (sym e ∙ h))
+
+-- The node behind one that continues is one of the nodes.
+pub kind-child : (ns : List Node) (m i : ℕ) (kind : BranchKind) → kind ≡ first-kind (drop i (branches-of (node-at ns m))) → kind ≡ Kind.Child → length ns ≡ 1 + total children-of ns → child-number ns m i < length ns
+unfolding child-number children-before
+kind-child ns m i kind e h t = omega (arith, branch-kids ns m, children-split i (branches-of (node-at ns m)), child-there (drop i (branches-of (node-at ns m))) (sym e ∙ h))

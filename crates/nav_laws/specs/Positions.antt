@@ -15,15 +15,18 @@ use Rattle.spec.specs.Trie.{leaf-count}
 use Rattle.bits_laws.specs.Bits.{bit-at, rank, select}
 use Rattle.bits_laws.specs.RankLaws.{rank-le}
 use Rattle.image_types.specs.declared.Frame.{Frame}
+use Rattle.nav_laws.specs.declared.BranchKind.the-variants.{Absent}
 use Rattle.nav_laws.specs.Counting.{labels-below, labels-below-le}
 use Rattle.nav_laws.specs.Slots.{node-at, leaves-before, slot-number}
-use Rattle.nav_laws.specs.Descent.{children-before, child-number, goes-on, ends-at, fit-rising}
-use Rattle.nav_laws.specs.LabelMaps.{matches, matches-is}
+use Rattle.nav_laws.specs.Descent.{children-before, child-number, goes-on}
+use Rattle.nav_laws.specs.LabelMaps.{matches}
 use Rattle.nav_laws.specs.DensePositions.{dense-children-before, dense-leaves-before, dense-exact, dense-label, dense-child, dense-child-number, dense-slot-number}
 use Rattle.nav_laws.specs.SparsePositions as sparse
+use Rattle.nav_laws.specs.NextLabel.{kind-there, kind-by, kind-with, kind-of-bits, not-there, with-bits, with-there}
 use Rattle.nav_laws.specs.Accepted.{Accepted, dense-nodes, sparse-nodes, nodes}
 use Rattle.theory.specs.LinkedLevels.{Ascends, Labelled}
 use Rattle.theory.specs.NodeBits.{sparse-labels}
+use Rattle.theory.specs.WitnessedLevels.{labelled-ascends}
 
 -- the branches of node m
 abbrev pub branches : Bytes → Frame → ℕ → List Branch
@@ -107,6 +110,19 @@ module _ (s : Bytes) (f : Frame) (a : Accepted s f) where
       dense-child (dense-nodes s f) (sparse-nodes s f) (drop (f .dl) s) (drop (f .dc) s) (drop (f .dp) s) (a .DL .1) (a .DC .1) (a .DP .1) (a .writable .dense-labelled) (a .writable .dense-bytes) m y inside l,
     )
 
+    -- the kind of the branch y, by its two bits
+    pub kind-dense : y < 256 → (l c : ℕ) → l ≡ bit-at (drop (f .dl) s) (256 * m + y) → c ≡ bit-at (drop (f .dc) s) (256 * m + y)
+        → (l ≡ 0 → Absent ≡ kind-with y (drop (place s f m y) (branches s f m))) × ((l ≡ 0 → ⊥) → kind-there (eqb c 1) ≡ kind-with y (drop (place s f m y) (branches s f m)))
+    kind-dense r l c u v = let b = bits-dense r in go (matches y (drop (place s f m y) (branches s f m))) refl (u ∙ b .0) (v ∙ b .1)
+      where
+        go : (t : Bool) → matches y (drop (place s f m y) (branches s f m)) ≡ t → l ≡ bit (matches y (drop (place s f m y) (branches s f m))) → c ≡ bit (goes-on y (drop (place s f m y) (branches s f m)))
+            → (l ≡ 0 → Absent ≡ kind-with y (drop (place s f m y) (branches s f m))) × ((l ≡ 0 → ⊥) → kind-there (eqb c 1) ≡ kind-with y (drop (place s f m y) (branches s f m)))
+        go true t p q = (
+          λ z. absurd (omega (arith, p, ap bit t)),
+          λ z. kind-by c (goes-on y (drop (place s f m y) (branches s f m))) q ∙ ap (λ (x : Bool). kind-of-bits x (goes-on y (drop (place s f m y) (branches s f m)))) (sym t) ∙ with-bits y (drop (place s f m y) (branches s f m)),
+        )
+        go false t p q = (λ z. sym (not-there (kind-with y (drop (place s f m y) (branches s f m))) (with-there y (drop (place s f m y) (branches s f m)) ∙ t)), λ z. absurd (z (p ∙ ap bit t)))
+
     -- The branch y of a dense node stands at bit 256 m + y.
     pub branch-dense : y ≤ 256 → Branch-at s f m (place s f m y) (256 * m + y)
     unfolding child-at slot-at
@@ -170,6 +186,13 @@ module _ (s : Bytes) (f : Frame) (a : Accepted s f) where
         let e = rw (the-node, n, next-index) at (sparse.sparse-exact (dense-nodes s f) (sparse-nodes s f) (drop (f .sl) s) (drop (f .sc) s) (drop (f .sb) s) (t .0) (t .1) (a .SC .1) (a .SB .1) (a .writable .sparse-labelled) (a .writable .sparse-bytes) (m - f .dense .nodes) within-nodes) in
         e ∙ ap (λ (z : ℕ). leb (select (drop (f .sb) s) (f .sparse .entries) (m - f .dense .nodes) + 2) (select (drop (f .sb) s) (f .sparse .entries) (m + 1 - f .dense .nodes)) && eqb z 255) (getD-drop (f .sl) s (select (drop (f .sb) s) (f .sparse .entries) (m - f .dense .nodes)) 0)
 
+    -- its labels ascend
+    pub rising : Ascends (branches s f m)
+    rising = rw the-node at (go (node-at (sparse-nodes s f) (m - f .dense .nodes)) (sparse.fit-node (sparse-nodes s f) (m - f .dense .nodes) (a .writable .sparse-labelled) within-nodes))
+      where
+        go : (n : Node) → Labelled n → Ascends (branches-of n)
+        go (node o es) q = labelled-ascends o es q
+
     module _ (first : ℕ) (starts : first ≡ select (drop (f .sb) s) (f .sparse .entries) (m - f .dense .nodes) + bit (is-exact (node-at (nodes s f) m))) where
       -- the label of branch i
       pub label-sparse : (i : ℕ) → i < length (branches s f m) → getD (drop (f .sl) s) (first + i) 0 ≡ getD (map label-of (branches s f m)) i 0
@@ -204,12 +227,6 @@ module _ (s : Bytes) (f : Frame) (a : Accepted s f) where
             within = record { dense = λ q. absurd (omega arith); sparse = λ q. r };
           }
 
-      rising : Ascends (branches s f m)
-      rising = rw the-node at (go (node-at (sparse-nodes s f) (m - f .dense .nodes)) (sparse.fit-node (sparse-nodes s f) (m - f .dense .nodes) (a .writable .sparse-labelled) within-nodes))
-        where
-          go : (n : Node) → Labelled n → Ascends (branches-of n)
-          go (node o es) q = fit-rising o es q
-
       -- A position with only labels below y before it, and none behind it, is the place of y.
       pub place-sparse : (p y : ℕ) → first ≤ p → p ≤ first + length (branches s f m)
           → (first < p → getD (drop (f .sl) s) (p - 1) 0 < y) → (p < first + length (branches s f m) → y ≤ getD (drop (f .sl) s) p 0) → p ≡ first + place s f m y
@@ -235,15 +252,11 @@ module _ (s : Bytes) (f : Frame) (a : Accepted s f) where
           go false u true v = omega (arith, above (ltb-true p (first + length (branches s f m)) v), ltb-false first p u)
           go false u false v = omega (arith, labels-below-le y (branches s f m), ltb-false first p u, ltb-false p (first + length (branches s f m)) v)
 
-      no-match : (y : ℕ) (fs : List Branch) → matches y fs ≡ false → 0 ≡ bit (matches y fs) + bit (goes-on y fs)
-      no-match y fs q = go (goes-on y fs) (ends-at y fs) (matches y fs) q (matches-is y fs)
-        where
-          go : (g e n : Bool) → n ≡ false → n ≡ g || e → 0 ≡ bit n + bit g
-          go true e n u v = absurd (true≢false (sym v ∙ u))
-          go false e n u v = rw u
+      no-match : (y : ℕ) (fs : List Branch) → matches y fs ≡ false → Absent ≡ kind-with y fs
+      no-match y fs q = sym (not-there (kind-with y fs) (with-there y fs ∙ q))
 
       -- no branch, where the search stops at the end
-      pub none-end : (p y : ℕ) → p ≡ first + place s f m y → first + length (branches s f m) ≤ p → 0 ≡ bit (matches y (drop (place s f m y) (branches s f m))) + bit (goes-on y (drop (place s f m y) (branches s f m)))
+      pub none-end : (p y : ℕ) → p ≡ first + place s f m y → first + length (branches s f m) ≤ p → Absent ≡ kind-with y (drop (place s f m y) (branches s f m))
       none-end p y q k = no-match y (drop (place s f m y) (branches s f m)) (sparse.matches-end y (branches s f m) (place s f m y) (omega arith))
 
       label-there : (p y : ℕ) → p ≡ first + place s f m y → p < first + length (branches s f m) → matches y (drop (place s f m y) (branches s f m)) ≡ eqb y (getD s (f .sl + p) 0)
@@ -252,19 +265,17 @@ module _ (s : Bytes) (f : Frame) (a : Accepted s f) where
           ∙ ap (eqb y) (sym (label-sparse (place s f m y) (omega arith)) ∙ ap (λ (z : ℕ). getD (drop (f .sl) s) z 0) (sym q) ∙ getD-drop (f .sl) s p 0)
 
       -- nor where it stops at another label
-      pub none-other : (p y : ℕ) → p ≡ first + place s f m y → p < first + length (branches s f m) → (getD s (f .sl + p) 0 ≡ y → ⊥)
-          → 0 ≡ bit (matches y (drop (place s f m y) (branches s f m))) + bit (goes-on y (drop (place s f m y) (branches s f m)))
+      pub none-other : (p y : ℕ) → p ≡ first + place s f m y → p < first + length (branches s f m) → (getD s (f .sl + p) 0 ≡ y → ⊥) → Absent ≡ kind-with y (drop (place s f m y) (branches s f m))
       none-other p y q k n = no-match y (drop (place s f m y) (branches s f m)) (label-there p y q k ∙ ne-eqb y (getD s (f .sl + p) 0) (λ e. n (sym e)))
 
       -- where it stops at the label, the branch's bit says whether it continues
-      pub one-there : (p y : ℕ) → p ≡ first + place s f m y → p < first + length (branches s f m) → getD s (f .sl + p) 0 ≡ y
-          → 1 + bit-at (drop (f .sc) s) p ≡ bit (matches y (drop (place s f m y) (branches s f m))) + bit (goes-on y (drop (place s f m y) (branches s f m)))
-      one-there p y q k e =
+      pub one-there : (p y c : ℕ) → p ≡ first + place s f m y → p < first + length (branches s f m) → getD s (f .sl + p) 0 ≡ y → c ≡ bit-at (drop (f .sc) s) p
+          → kind-there (eqb c 1) ≡ kind-with y (drop (place s f m y) (branches s f m))
+      one-there p y c q k e b =
           let t : matches y (drop (place s f m y) (branches s f m)) ≡ true = label-there p y q k ∙ eq-eqb y (getD s (f .sl + p) 0) (sym e) in
-          let c = child-sparse (place s f m y) (omega arith) in
-          let g = sparse.goes-at y (branches s f m) (place s f m y) t in
-          let u : bit-at (drop (f .sc) s) p ≡ bit (goes-on y (drop (place s f m y) (branches s f m))) = ap (bit-at (drop (f .sc) s)) q ∙ c ∙ ap bit (sym g) in
-          ap₂ _+_ (sym (ap bit t)) u
+          let u = b ∙ ap (bit-at (drop (f .sc) s)) q ∙ child-sparse (place s f m y) (omega arith) ∙ ap bit (sym (sparse.goes-at y (branches s f m) (place s f m y) t)) in
+          kind-by c (goes-on y (drop (place s f m y) (branches s f m))) u
+          ∙ ap (λ (z : Bool). kind-of-bits z (goes-on y (drop (place s f m y) (branches s f m)))) (sym t) ∙ with-bits y (drop (place s f m y) (branches s f m))
 
     -- The entries of a sparse node that starts at p and ends at e, an exact leaf or not.
     pub entries-valid : (p e : ℕ) (b : Bool) → p ≡ select (drop (f .sb) s) (f .sparse .entries) (m - f .dense .nodes) → e ≡ select (drop (f .sb) s) (f .sparse .entries) (m + 1 - f .dense .nodes) → is-exact (node-at (nodes s f) m) ≡ b

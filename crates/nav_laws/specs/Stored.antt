@@ -12,6 +12,7 @@ use Rattle.bits_laws.specs.Bits.{bit-at, rank}
 use Rattle.bits_laws.specs.UnpackLaws.{bit-unpack, rank-unpack}
 use Rattle.theory.specs.Bits.{length-pack, unpack-pack, length-ranks, length-samples}
 use Rattle.theory.specs.Frame.{from32-le32}
+use Rattle.theory.specs.Bits.{length-positions}
 
 -- s starts with the bytes of b
 abbrev pub Starts : Bytes → Bytes → Type 0
@@ -100,12 +101,6 @@ ranks-512 bs s rt h r l b k =
 
 -- ---- positions of ones
 
-positions-length : (i : ℕ) (bs : Bits) → length (positions i bs) ≡ ones bs
-unfolding positions ones
-positions-length i [] = refl
-positions-length i (true ∷ bs) = omega (arith, positions-length (suc i) bs)
-positions-length i (false ∷ bs) = omega (arith, positions-length (suc i) bs)
-
 position-is : (i : ℕ) (bs : Bits) (m : ℕ) → m < length (positions i bs)
     → (i ≤ getD (positions i bs) m 0) × (getD (positions i bs) m 0 < i + length bs) × (ones (take (getD (positions i bs) m 0 - i) bs) ≡ m)
 unfolding positions ones
@@ -131,7 +126,7 @@ pub samples-at : (bs : Bits) (s ts : Bytes) → Starts (pack bs) s → Starts (s
 unfolding samples
 samples-at bs s ts h r l t k =
     let z : 0 + t ≡ t = omega arith in
-    let c = positions-length 0 bs in
+    let c = length-positions 0 bs in
     let p = position-is 0 bs (64 * t) (omega arith) in
     let e = rw z at (row (λ t. getD (positions 0 bs) (64 * t) 0) (blocks 64 (length (positions 0 bs))) 0 t (r .0) (omega arith) (rw z (omega (arith, p .1)))) in
     let q : from32 (drop (4 * t) ts) ≡ getD (positions 0 bs) (64 * t) 0 = ap (λ (z : Bytes). from32 (drop (4 * t) z)) (r .1) ∙ e in

@@ -1,9 +1,8 @@
 -- What an accepted image's nodes say of its leaf list, by where a key leads: the laws that join the questions' code to their definitions.
-use Prim.Native.Nat.{ℕ, zero, suc, _+_, _-_, _<_, _≤_}
+use Prim.Native.Nat.{ℕ, suc, _+_, _-_, _<_, _≤_}
 use mathlib.Core.Path.{_≡_, refl, sym, ap, _∙_}
 use mathlib.Core.Bool.{Bool, true, false, not, _&&_}
 use mathlib.Core.List.{List, [], _∷_, _++_, append-assoc}
-use mathlib.Core.Logic.{_⊎_, inl, inr}
 use native.Mathlib.Omega.{arith}
 use native.Mathlib.Numerals.{add-one}
 use lib.ListN.{length, getD, take, drop, set, replicate, length-append}
@@ -14,6 +13,9 @@ use Rattle.spec.specs.Nodes.{read-leaves}
 use Rattle.spec.specs.Questions.{point, range, counted, begins-with, stem-end}
 use Rattle.theory.specs.Terms.{Is-bytes, Bound}
 use Rattle.image_types.specs.declared.Frame.{Frame}
+use Rattle.image_types.specs.declared.ValuePos.{ValuePos}
+use Rattle.nav_laws.specs.declared.LeafStop.{LeafStop}
+use Rattle.nav_laws.specs.declared.LeafStop.the-variants.{Nowhere, Exact, Open}
 use Rattle.nav_laws.specs.Slots.{slot-of}
 use Rattle.nav_laws.specs.Descent.{descend, leaves-below, value}
 use Rattle.query_laws.specs.Bounds.{high-passed, low-reached}
@@ -42,35 +44,36 @@ module _ (s : Bytes) (f : Frame) (a : Accepted s f) (k : Bytes) where
   reached-stops : reached (read-leaves s) k ≡ leaves-below (nodes s f) 64 0 0 k + value true (low-reached (length k)) (f .width) (nodes s f) (descend (nodes s f) 0 k)
   reached-stops = reached-is (f .width) (f .width) (read-leaves s) (nodes s f) (a .realizable) (a .well-sized) (a .trie-is) (a .writable .wide) k
 
-  module _ (kind v d : ℕ) (e : descend (nodes s f) 0 k ≡ stop-of kind v (drop d k)) where
+  module _ (stop : LeafStop) (d : ℕ) (e : descend (nodes s f) 0 k ≡ stop-of stop (drop d k)) where
     -- nowhere: no leaf has the key
-    pub point-none : Bound k → kind ≡ 0 → point (read-leaves s) k ≡ 0
+    pub point-none : Bound k → stop ≡ Nowhere → point (read-leaves s) k ≡ 0
     unfolding point-value
     point-none b h = point-stops b ∙ ap (point-value (f .width) (nodes s f) (length k)) e ∙ rw h
 
     -- an exact leaf has it
-    pub point-exact : Bound k → kind ≡ 1 → point (read-leaves s) k ≡ 1
+    pub point-exact : Bound k → stop ≡ Exact → point (read-leaves s) k ≡ 1
     unfolding point-value
     point-exact b h = point-stops b ∙ ap (point-value (f .width) (nodes s f) (length k)) e ∙ rw h
 
     -- an open one has it if it lies between its lowest and its highest key
-    pub point-open : Bound k → kind ≡ 2 → point (read-leaves s) k ≡ bit (low-reached (length k) (slot-of (f .width) (nodes s f) v) (drop d k) && not (high-passed (length k) (slot-of (f .width) (nodes s f) v) (drop d k)))
+    pub point-open : Bound k → (v : ValuePos) → stop ≡ Open v
+        → point (read-leaves s) k ≡ bit (low-reached (length k) (slot-of (f .width) (nodes s f) (v .0)) (drop d k) && not (high-passed (length k) (slot-of (f .width) (nodes s f) (v .0)) (drop d k)))
     unfolding point-value
-    point-open b h = point-stops b ∙ ap (point-value (f .width) (nodes s f) (length k)) e ∙ rw h
+    point-open b v h = point-stops b ∙ ap (point-value (f .width) (nodes s f) (length k)) e ∙ rw h
 
     -- What counts where the key leads: nothing; an exact leaf; an open one that passes the test.
     module _ (ends : Bool) (q : Bits → Bytes → Bool) where
-      pub value-none : kind ≡ 0 → value ends q (f .width) (nodes s f) (descend (nodes s f) 0 k) ≡ 0
+      pub value-none : stop ≡ Nowhere → value ends q (f .width) (nodes s f) (descend (nodes s f) 0 k) ≡ 0
       unfolding value
       value-none h = ap (value ends q (f .width) (nodes s f)) e ∙ rw h
 
-      pub value-exact : kind ≡ 1 → value ends q (f .width) (nodes s f) (descend (nodes s f) 0 k) ≡ bit ends
+      pub value-exact : stop ≡ Exact → value ends q (f .width) (nodes s f) (descend (nodes s f) 0 k) ≡ bit ends
       unfolding value
       value-exact h = ap (value ends q (f .width) (nodes s f)) e ∙ rw h
 
-      pub value-open : kind ≡ 2 → value ends q (f .width) (nodes s f) (descend (nodes s f) 0 k) ≡ bit (q (slot-of (f .width) (nodes s f) v) (drop d k))
+      pub value-open : (v : ValuePos) → stop ≡ Open v → value ends q (f .width) (nodes s f) (descend (nodes s f) 0 k) ≡ bit (q (slot-of (f .width) (nodes s f) (v .0)) (drop d k))
       unfolding value
-      value-open h = ap (value ends q (f .width) (nodes s f)) e ∙ rw h
+      value-open v h = ap (value ends q (f .width) (nodes s f)) e ∙ rw h
 
 -- Count: the leaves that the upper bound has reached, less those that the lower one has passed.
 pub count-is : (s : Bytes) (f : Frame) → Accepted s f → (lo hi : Bytes) → counted (read-leaves s) lo hi ≡ reached (read-leaves s) hi - passed (read-leaves s) lo
@@ -90,12 +93,6 @@ passed-sums s f a k starts sum h p q =
     let n = slots-nothing (nodes s f) 64 0 in
     let w = below-sums (nodes s f) 64 0 0 k (omega arith) h in
     (omega arith, omega (arith, passed-stops s f a k))
-
--- a number below two
-pub none-or-one : (n : ℕ) → n < 2 → (n ≡ 0) ⊎ (n ≡ 1)
-none-or-one zero h = inl refl
-none-or-one (suc zero) h = inr refl
-none-or-one (suc (suc n)) h = absurd (omega arith)
 
 -- A begins-with question is the range to its stem's end.
 pub stem-range : (ls : List Leaf) (stem : Bytes) → begins-with ls stem ≡ range ls stem (stem-end stem)

@@ -3,18 +3,21 @@ use Prim.Native.Nat.{ℕ, zero, suc, _+_, _-_, _*_, _<_, _≤_}
 use mathlib.Core.Path.{_≡_, refl, ap, _∙_}
 use mathlib.Core.Bool.{Bool, true, false, cond}
 use mathlib.Core.List.{List, [], _∷_}
+use mathlib.Core.Option.{none}
 use native.Mathlib.Omega.{arith}
-use lib.ListN.{length, take, drop}
+use lib.ListN.{length, take, drop, List·getD-eq-default}
 use lib.Seq.{take-nil, take-all}
-use Rattle.spec.specs.Bytes.{Bytes, bit}
-use Rattle.spec.specs.Nodes.{Node, branches-of, total, children-of}
-use Rattle.spec.specs.Trie.{leaf-count}
+use Rattle.spec.specs.Bytes.{Bytes}
+use Rattle.spec.specs.Nodes.{Node, node, branches-of, children, total, children-of}
+use Rattle.spec.specs.Trie.{open-leaves, leaf-count}
+use Rattle.nav_laws.specs.declared.BranchKind.{BranchKind}
+use Rattle.nav_laws.specs.declared.BranchKind.the-variants.{Child}
 use Rattle.nav_laws.specs.Counting.{labels-below}
 use Rattle.nav_laws.specs.Slots.{node-at, leaves-before, slot-number}
 use Rattle.nav_laws.specs.Descent.{children-before, child-number, goes-on, leaves-between, leaves-below}
-use Rattle.nav_laws.specs.LabelMaps.{matches}
+use Rattle.nav_laws.specs.NextLabel.{kind-with, with-other}
 use Rattle.nav_laws.specs.NumberBounds.{children-up, leaves-up, child-range, slot-range}
-use Rattle.query_laws.specs.Steps.{says}
+use Rattle.query_laws.specs.Steps.{goes-there}
 
 -- the leaves before node m of a level, and before the first node behind it on each of the levels below; l levels left
 unfoldable pub slots-between : List Node → ℕ → ℕ → ℕ
@@ -73,16 +76,16 @@ between-nowhere (n ∷ ns) l m e = absurd (omega arith)
 
 -- ---- one level of a sum
 
-module _ (ns : List Node) (m y : ℕ) (k : Bytes) (kind : ℕ) (is : kind ≡ bit (matches y (drop (labels-below y (branches-of (node-at ns m))) (branches-of (node-at ns m)))) + bit (goes-on y (drop (labels-below y (branches-of (node-at ns m))) (branches-of (node-at ns m))))) (l : ℕ) where
+module _ (ns : List Node) (m y : ℕ) (k : Bytes) (kind : BranchKind) (is : kind ≡ kind-with y (drop (labels-below y (branches-of (node-at ns m))) (branches-of (node-at ns m)))) (l : ℕ) where
   -- a branch that continues: the key goes on
-  pub slots-on : kind ≡ 2 → slots-below ns l m (y ∷ k) ≡ slot-number ns m (labels-below y (branches-of (node-at ns m))) + slots-below ns (l - 1) (child-number ns m (labels-below y (branches-of (node-at ns m)))) k
+  pub slots-on : kind ≡ Child → slots-below ns l m (y ∷ k) ≡ slot-number ns m (labels-below y (branches-of (node-at ns m))) + slots-below ns (l - 1) (child-number ns m (labels-below y (branches-of (node-at ns m)))) k
   unfolding slots-below
-  slots-on h = rw (says y (drop (labels-below y (branches-of (node-at ns m))) (branches-of (node-at ns m))) kind is .3 (λ e. omega arith) (λ e. omega arith))
+  slots-on h = rw (goes-there ns m y k kind is h)
 
   -- none: the levels below count to the first node behind it, as if the key had ended
-  pub slots-off : (kind ≡ 2 → ⊥) → slots-below ns l m (y ∷ k) ≡ slot-number ns m (labels-below y (branches-of (node-at ns m))) + slots-below ns (l - 1) (child-number ns m (labels-below y (branches-of (node-at ns m)))) []
+  pub slots-off : (kind ≡ Child → ⊥) → slots-below ns l m (y ∷ k) ≡ slot-number ns m (labels-below y (branches-of (node-at ns m))) + slots-below ns (l - 1) (child-number ns m (labels-below y (branches-of (node-at ns m)))) []
   unfolding slots-below
-  slots-off h = rw (says y (drop (labels-below y (branches-of (node-at ns m))) (branches-of (node-at ns m))) kind is .2 h)
+  slots-off h = rw (with-other y (drop (labels-below y (branches-of (node-at ns m))) (branches-of (node-at ns m))) (λ e. h (is ∙ e)))
 
 -- a key that has ended
 pub slots-ended : (ns : List Node) (l m : ℕ) → 0 < l → slots-below ns l m [] ≡ leaves-before ns m + slots-below ns (l - 1) (1 + children-before ns m) []
@@ -96,7 +99,17 @@ unfolding slots-below slots-between
 slots-past ns m = refl
 
 -- all nodes lie before node m, and so all leaves do, on each level left
-pub slots-full : (ns : List Node) (l m : ℕ) → length ns ≤ m → length ns ≤ 1 + total children-of ns → slots-below ns l m [] ≡ l * leaf-count ns
-unfolding slots-below slots-between leaves-before children-before
+slots-full : (ns : List Node) (l m : ℕ) → length ns ≤ m → length ns ≤ 1 + total children-of ns → slots-between ns l m ≡ l * leaf-count ns
+unfolding slots-between leaves-before children-before
 slots-full ns zero m h t = omega arith
 slots-full ns (suc l) m h t = let e : take m ns ≡ ns = take-all m ns h in rw e (ap (λ (x : ℕ). leaf-count ns + x) (slots-full ns l (1 + total children-of ns) t t) ∙ omega arith)
+
+-- whatever is left of the key
+pub slots-behind : (ns : List Node) (l m : ℕ) (k : Bytes) → length k ≤ l → length ns ≤ m → length ns ≤ 1 + total children-of ns → slots-below ns l m k ≡ l * leaf-count ns
+unfolding slots-below slot-number child-number leaves-before children-before labels-below goes-on open-leaves children
+slots-behind ns l m [] f h t = slots-full ns l m h t
+slots-behind ns zero m (y ∷ k) f h t = absurd (omega arith)
+slots-behind ns (suc l) m (y ∷ k) f h t =
+    let e : suc l - 1 ≡ l = omega arith in
+    let w : take m ns ≡ ns = take-all m ns h in
+    rw (List·getD-eq-default ns (node none []) h, w, e) (omega (arith, slots-full ns l (1 + (total children-of ns + 0)) (omega arith) t))

@@ -11,6 +11,7 @@ pub mod Next
 pub mod Seeks
 pub mod Ranges
 pub mod Seeking
+pub mod LeafKeys
 pub mod SlotBits
 pub mod Sought
 pub mod Summed

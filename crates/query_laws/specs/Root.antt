@@ -1,28 +1,29 @@
 -- The law of a descent from the root: what an image's nodes say of its leaf list, question by question.
 use Prim.Native.Nat.{ℕ, zero, suc, _+_, _-_, _<_, _≤_}
 use mathlib.Core.Path.{_≡_, refl, sym, ap, _∙_}
-use mathlib.Core.Bool.{Bool, true, false, not, _&&_, true≢false}
-use mathlib.Core.List.{List, [], _∷_}
+use mathlib.Core.Bool.{Bool, true, false, not, _&&_}
+use mathlib.Core.List.{List, [], _∷_, _++_}
 use native.Mathlib.Omega.{arith}
-use lib.ListN.{length, take, drop, length-append}
-use lib.Seq.{take-nil, take-take}
+use lib.ListN.{length, take, length-append}
+use lib.Seq.{take-all}
 use lib.Dec.{ltb}
 use Rattle.spec.specs.Bytes.{Bytes, Bits, bit, count, concat}
 use Rattle.spec.specs.Keys.{below}
 use Rattle.spec.specs.Leaves.{Leaf, highest, lowest}
-use Rattle.spec.specs.Nodes.{Branch, to-node, to-leaf, Node, node, branches-of, is-exact, children, total, children-of}
+use Rattle.spec.specs.Nodes.{Node, node, children, total, children-of}
 use Rattle.spec.specs.Trie.{open-leaves, leaf-count}
 use Rattle.spec.specs.Questions.{point}
 use Rattle.nav_laws.specs.Counting.{labels-below, counts}
-use Rattle.nav_laws.specs.Slots.{node-at, leaves-before, slot-number, slot-of}
-use Rattle.nav_laws.specs.Descent.{children-before, child-number, goes-on, ends-at, Stop, miss, at-exact, at-open, descend, leaves-below, between-same, value, level-counted, kids-append, kids-take}
+use Rattle.nav_laws.specs.Slots.{leaves-before, slot-number, slot-of}
+use Rattle.nav_laws.specs.Descent.{children-before, child-number, goes-on, ends-at, Stop, miss, at-exact, at-open, descend, leaves-below, between-same, value, level-counted, Stands, stands-next, children-first}
+use Rattle.nav_laws.specs.NumberBounds.{children-up, node-total}
 use Rattle.query_laws.specs.Bounds.{high-passed, low-reached, highest-counts, lowest-counts}
 use Rattle.query_laws.specs.Ordered.{passed, reached, counted-is, range-counted, point-range}
 use Rattle.theory.specs.LeafLists.{Realizable, All-well-sized}
 use Rattle.theory.specs.Terms.{All, Bound}
 use Rattle.theory.specs.LevelTrie.{trie}
 use Rattle.theory.specs.NodeBits.{Slots-width}
-use Rattle.theory.specs.Levels.{leaves-in, leaf-count-root}
+use Rattle.theory.specs.Levels.{leaves-in}
 use Rattle.theory.specs.TrieTests.{realizable-trie, Empty-or-valid, empty-list, valid-trie}
 use Rattle.theory.specs.LinkedLevels.{first-width, levels-back, Linked}
 
@@ -64,6 +65,55 @@ trie-counted n w ls ns g o e wide ends q k = go (realizable-trie n ls g o) e
 
         zero-leaves : leaves-in (take 0 (ls ∷ [])) ≡ 0
         zero-leaves = refl
+
+-- ---- the levels end
+
+-- the first node behind node m l levels below it
+unfoldable pub first-below : List Node → ℕ → ℕ → ℕ
+unfolding children-before
+first-below ns zero m = m
+first-below ns (suc l) m = first-below ns l (1 + children-before ns m)
+
+-- one level lower
+pub first-next : (ns : List Node) (l m : ℕ) → first-below ns (suc l) m ≡ first-below ns l (1 + children-before ns m)
+unfolding first-below
+first-next ns l m = refl
+
+-- later nodes are followed by later ones
+pub first-up : (ns : List Node) (l lo hi : ℕ) → lo ≤ hi → first-below ns l lo ≤ first-below ns l hi
+unfolding first-below
+first-up ns zero lo hi h = h
+first-up ns (suc l) lo hi h = first-up ns l (1 + children-before ns lo) (1 + children-before ns hi) (omega (arith, children-up ns lo hi h))
+
+-- behind the last node stands no other
+first-past : (ns : List Node) (l m : ℕ) → length ns ≤ 1 + total children-of ns → length ns ≤ m → length ns ≤ first-below ns l m
+unfolding first-below children-before
+first-past ns zero m k h = h
+first-past ns (suc l) m k h = let e : take m ns ≡ ns = take-all m ns h in rw e (first-past ns l (1 + total children-of ns) k k)
+
+-- so many levels below the first node of a level, all nodes are passed
+first-levels : (ls : List (List Node)) (l : ℕ) (all pre : List Node) → length ls ≤ l → Linked ls → Stands all pre ls → length all ≤ 1 + total children-of all → length all ≤ first-below all l (length pre)
+unfolding first-below concat
+first-levels [] l all pre f k s n = first-past all l (length pre) n (omega (arith, ap length (s .0), length-append pre []))
+first-levels (ns ∷ ls) zero all pre f k s n = absurd (omega arith)
+first-levels (ns ∷ ls) (suc l) all pre f k s n =
+    let e : 1 + children-before all (length pre) ≡ length (pre ++ ns) = omega (arith, length-append pre ns, s .1, children-first all pre ns ls s) in
+    rw e (first-levels ls l all (pre ++ ns) (omega arith) (k .3) (stands-next all pre ns ls k s) n)
+
+-- A good leaf list's trie has no node 64 levels below the root.
+pub levels-end : (n : ℕ) (ls : List Leaf) (ns : List Node) → Realizable n ls → All-well-sized n ls → ns ≡ concat (trie ls) → length ns ≤ first-below ns 64 0
+unfolding trie concat total
+levels-end n ls ns g o e = go (realizable-trie n ls g o) (node-total n ls ns g o e) e
+  where
+    go : {ls : List Leaf} → Empty-or-valid ls → (0 < length ns → length ns ≡ 1 + total children-of ns) → ns ≡ concat (trie ls) → length ns ≤ first-below ns 64 0
+    go empty-list t e = omega (arith, ap length e)
+    go (valid-trie {ls = ls} v) t e =
+        let z : first-width (trie ls) ≡ 1 = sym (levels-back (trie ls) (v .linked) .wide) ∙ ap length (v .root) in
+        first-levels (trie ls) 64 ns [] (v .shallow) (v .linked) (e, omega arith) (few (length ns) t)
+      where
+        few : (c : ℕ) → (0 < c → c ≡ 1 + total children-of ns) → c ≤ 1 + total children-of ns
+        few zero h = omega arith
+        few (suc c) h = omega (arith, h (omega arith))
 
 count-same : {A : Type 0} (p r : A → Bool) (xs : List A) → ((x : A) → p x ≡ r x) → count p xs ≡ count r xs
 unfolding count

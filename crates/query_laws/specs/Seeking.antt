@@ -1,225 +1,257 @@
--- What a seek keeps on its way along the key: the nodes passed, the last turn to a higher label on them, and where the key has led.
-use Prim.Native.Nat.{ℕ, zero, suc, _+_, _-_, _*_, _<_, _≤_}
+-- A seek's way along its start: the last higher label that was passed, the node that the next byte starts from, and where the way ends.
+use Prim.Native.Nat.{ℕ, suc, _+_, _-_, _<_, _≤_}
 use mathlib.Core.Path.{_≡_, refl, sym, ap, _∙_}
 use mathlib.Core.Bool.{Bool, true, false, cond}
 use mathlib.Core.List.{List, [], _∷_, _++_}
 use mathlib.Core.Option.{Option, none, some}
 use native.Mathlib.Omega.{arith}
 use native.Mathlib.Numerals.{add-one}
-use borrow.Author.Count.{below-more}
-use lib.ListN.{length, getD, set, take, drop, length-append}
-use lib.Seq.{take-suc, take-nil, take-length, take-append-le, length-front, length-take-le, getD-set-same, getD-set-other}
+use lib.ListN.{length, getD, take, drop, drop-of-length-le}
+use lib.Seq.{take-suc}
+use lib.Dec.{eqb}
 use Rattle.spec.specs.Bytes.{Bytes, Bits, bit}
-use Rattle.spec.specs.Leaves.{Leaf, lowest}
-use Rattle.spec.specs.Nodes.{Branch, to-node, to-leaf, Node, node, branches-of, is-exact, children, total, children-of, read-leaves}
-use Rattle.spec.specs.Trie.{open-leaves, leaf-count}
-use Rattle.theory.specs.Lists.{nil-of}
+use Rattle.spec.specs.Leaves.{Leaf}
+use Rattle.spec.specs.Nodes.{Branch, to-node, to-leaf, Node, branches-of, read-leaves}
 use Rattle.image_types.specs.declared.Frame.{Frame}
-use Rattle.query_laws.specs.Bounds.{low-rest, high-passed}
+use Rattle.image_types.specs.declared.NodeNum.{NodeNum}
+use Rattle.image_types.specs.declared.ValuePos.{ValuePos}
+use Rattle.nav_laws.specs.declared.BranchKind.the-variants as Kind
+use Rattle.nav_laws.specs.declared.Found.{Found}
+use Rattle.nav_laws.specs.Accepted.{Accepted, nodes}
+use Rattle.nav_laws.specs.Below.{below, from-label, On-level, level-child}
 use Rattle.nav_laws.specs.Counting.{labels-below}
-use Rattle.nav_laws.specs.Slots.{node-at, leaves-before, slot-number, slot-of}
-use Rattle.nav_laws.specs.Descent.{children-before, child-number, goes-on, ends-at}
-use Rattle.nav_laws.specs.LabelMaps.{matches}
-use Rattle.nav_laws.specs.NextLabel.{first-kind}
+use Rattle.nav_laws.specs.Descent.{child-number}
+use Rattle.nav_laws.specs.FoundBranch.{node-count, Found-branch, Behind-branch}
+use Rattle.nav_laws.specs.NumberBounds.{slot-range}
+use Rattle.nav_laws.specs.NextLabel.{first-kind, kind-with, is-there, there-not}
+use Rattle.nav_laws.specs.Positions.{branches, place}
+use Rattle.nav_laws.specs.Slots.{node-at, slot-number, slot-of}
+use Rattle.query_laws.specs.declared.LastHigher.{LastHigher}
+use Rattle.query_laws.specs.declared.LastHigher.the-variants.{None, At}
+use Rattle.query_laws.specs.declared.WayEnd.{WayEnd}
+use Rattle.query_laws.specs.declared.WayEnd.the-variants as End
+use Rattle.query_laws.specs.Bounds.{high-passed}
+use Rattle.query_laws.specs.Next.{head-of, behind-each, higher-at, higher-kept, higher-taken, next-from, next-end, next-absent, next-open, next-child}
 use Rattle.query_laws.specs.Ordered.{next-leaf}
-use Rattle.query_laws.specs.Steps.{says}
+use Rattle.query_laws.specs.Seeks.{root-level, next-root}
+use Rattle.query_laws.specs.Steps.{slot-in}
 use Rattle.query_laws.specs.SuffixBytes.{key-next}
-use Rattle.nav_laws.specs.Accepted.{Accepted, nodes, dense-nodes, sparse-nodes}
-use Rattle.query_laws.specs.Next.{behind-each, first-leaf, turn-at, next-from}
-use Rattle.query_laws.specs.Seeks.{low-each, low-of, none-left, next-trie, behind-label}
+use Rattle.query_laws.specs.Summed.{Leading, Summed, leading-root, leading-on, summed-none, summed-leaf, summed-end}
 
--- the leaf behind the last turn: none, or behind the first label not below y of a node, d bytes of the key before it
-abbrev pub turn-leaf : List Node → Bytes → ℕ → ℕ → ℕ → ℕ → Option Leaf
-turn-leaf ns start zero m y d = none
-turn-leaf ns start (suc i) m y d = behind-label ns m y d (take d start)
+-- ---- definitions
 
--- the leaf behind the last turn on the first d levels of the key's way, where the path has the node of each level
-unfoldable pub turns : List Node → Bytes → List ℕ → ℕ → Option Leaf
-turns ns start path zero = none
-turns ns start path (suc d) =
-    turn-at (drop (labels-below (getD start d 0 + 1) (branches-of (node-at ns (getD path d 0)))) (branches-of (node-at ns (getD path d 0)))) (behind-label ns (getD path d 0) (getD start d 0 + 1) d (take d start)) (turns ns start path d)
+-- the first leaf behind the last higher label: none, or behind the labels of a node above the start's byte at its depth
+abbrev pub higher-leaf : List Node → Bytes → LastHigher → Option Leaf
+higher-leaf ns start None = none
+higher-leaf ns start (At m d) = behind-each (take d start) (head-of (from-label ns (63 - d) (m .0) (getD start d 0 + 1)))
 
--- the first d of the path are numbers of nodes, of which there are n
-abbrev pub Nodes-below : ℕ → List ℕ → ℕ → Type 0
-Nodes-below n path d = (i : ℕ) → i < d → getD path i 0 < n
+-- Node m, at depth d of the way, has a label above the start's byte there.
+pub record Has-higher (ns : List Node) (start : Bytes) (m d : ℕ) : Type 0 where
+  pub level : On-level ns (64 - d) m
+  pub label-there : first-kind (drop (labels-below (getD start d 0 + 1) (branches-of (node-at ns m))) (branches-of (node-at ns m))) ≡ Kind.Absent → ⊥
 
--- where the key has led: past all leaves below it; to a node at its end; to an open leaf
-abbrev pub led-leaf : ℕ → List Node → Bytes → ℕ → ℕ → ℕ → ℕ → Option Leaf → Option Leaf
-led-leaf w ns start zero m v d turn = turn
-led-leaf w ns start (suc zero) m v d turn = behind-each (take d start) (first-leaf ns (64 - d) m)
-led-leaf w ns start (suc (suc i)) m v d turn = some (record { cut = take d start; exact = false; suffix = slot-of w ns v })
+-- the node of the last higher label is one of the n that were passed
+abbrev pub Higher-in : List Node → Bytes → ℕ → LastHigher → Type 0
+Higher-in ns start n None = Unit
+Higher-in ns start n (At m d) = (d < n) × Has-higher ns start (m .0) d
 
--- a node without a higher label keeps the last turn
-turn-kept : (fs : List Branch) (here turn : Option Leaf) → 0 ≡ first-kind fs → turn-at fs here turn ≡ turn
-unfolding turn-at first-kind
-turn-kept [] here turn e = refl
-turn-kept (to-leaf x s ∷ fs) here turn e = absurd (omega arith)
-turn-kept (to-node x ∷ fs) here turn e = absurd (omega arith)
+-- the first leaf at or below node m, to which the first d bytes of the start lead
+abbrev pub leaf-below : List Node → Bytes → ℕ → ℕ → Option Leaf
+leaf-below ns start m d = behind-each (take d start) (head-of (below ns (64 - d) m))
 
--- one that has it takes its place
-turn-taken : (fs : List Branch) (here turn : Option Leaf) (k : ℕ) → k ≡ first-kind fs → (k ≡ 0 → ⊥) → turn-at fs here turn ≡ here
-unfolding turn-at first-kind
-turn-taken [] here turn k e n = absurd (n e)
-turn-taken (b ∷ fs) here turn k e n = refl
+-- the leaf where the way ends, m the last node and d its depth: the one behind the last higher label; the first at or below the node; the open leaf
+abbrev pub end-leaf : ℕ → List Node → Bytes → WayEnd → LastHigher → ℕ → ℕ → Option Leaf
+end-leaf w ns start End.Past higher m d = higher-leaf ns start higher
+end-leaf w ns start End.Node higher m d = leaf-below ns start m d
+end-leaf w ns start (End.Leaf v) higher m d = some (record { cut = take d start; exact = false; suffix = slot-of w ns (v .0) })
 
-module _ (ns : List Node) (start : Bytes) (path : List ℕ) where
-  -- no level, no turn
-  pub turns-none : turns ns start path 0 ≡ none
-  unfolding turns
-  turns-none = refl
+-- a node there stands on its level, and the slot of an open leaf is one of n
+abbrev pub End-in : List Node → ℕ → WayEnd → ℕ → ℕ → Type 0
+End-in ns n End.Past m d = Unit
+End-in ns n End.Node m d = On-level ns (64 - d) m
+End-in ns n (End.Leaf v) m d = v .0 < n
 
-  -- the turns of the first levels do not depend on the nodes behind them
-  turns-before : (m d i : ℕ) → d ≤ i → turns ns start (set path i m) d ≡ turns ns start path d
-  unfolding turns
-  turns-before m zero i h = refl
-  turns-before m (suc d) i h = rw (getD-set-other path i d m 0 (λ e. omega arith), turns-before m d i (omega arith))
+-- where the way ends at the branch of an open leaf: past it, if the start has passed it, else there
+abbrev pub leaf-end : Bool → ValuePos → WayEnd
+leaf-end true v = End.Past
+leaf-end false v = End.Leaf v
 
-  -- one level more, whose node is stored
-  turns-stored : (m d : ℕ) → d < length path → turns ns start (set path d m) (d + 1)
-      ≡ turn-at (drop (labels-below (getD start d 0 + 1) (branches-of (node-at ns m))) (branches-of (node-at ns m))) (behind-label ns m (getD start d 0 + 1) d (take d start)) (turns ns start path d)
-  unfolding turns
-  turns-stored m d h = ap (turns ns start (set path d m)) (add-one d) ∙ rw (getD-set-same path d m 0 h, turns-before m d d (omega arith))
+-- The first bytes of the start, `depth` of them, lead to a node.
+pub record Following (s : Bytes) (f : Frame) (start : Bytes) (higher : LastHigher) (node depth sum : ℕ) : Type 0 where
+  -- with the sum of the slot numbers on the levels above it
+  pub leads : Leading s f start node depth sum
+  -- it stands on its level
+  pub level : On-level (nodes s f) (64 - depth) node
+  -- the last higher label stands above it
+  pub higher-in : Higher-in (nodes s f) start depth higher
+  -- the leaf that is sought stands at or below it, or else behind the last higher label
+  pub leaf-is : next-leaf (read-leaves s) start ≡ next-from (high-passed (length start)) (nodes s f) (64 - depth) node (take depth start) (drop depth start) (higher-leaf (nodes s f) start higher)
 
-  module _ (d y kind : ℕ) (some-level : 0 < d) (byte : y ≡ getD start (d - 1) 0)
-      (is : kind ≡ first-kind (drop (labels-below (y + 1) (branches-of (node-at ns (getD path (d - 1) 0)))) (branches-of (node-at ns (getD path (d - 1) 0))))) where
-    turns-level : turns ns start path d
-        ≡ turn-at (drop (labels-below (y + 1) (branches-of (node-at ns (getD path (d - 1) 0)))) (branches-of (node-at ns (getD path (d - 1) 0)))) (behind-label ns (getD path (d - 1) 0) (y + 1) (d - 1) (take (d - 1) start)) (turns ns start path (d - 1))
-    unfolding turns
-    turns-level = let e : d ≡ suc (d - 1) = omega arith in ap (turns ns start path) e ∙ rw byte
+-- With node m at depth d passed, the last higher label is this one.
+pub record Higher-passed (s : Bytes) (f : Frame) (start : Bytes) (m d : ℕ) (before after : LastHigher) : Type 0 where
+  -- the leaf behind it is that behind a higher label of the node, or else the one before
+  pub leaf-is : higher-at (nodes s f) (64 - (d + 1)) m (take d start) (getD start d 0) (higher-leaf (nodes s f) start before) ≡ higher-leaf (nodes s f) start after
+  -- its node stands no deeper
+  pub higher-in : Higher-in (nodes s f) start (d + 1) after
 
-    -- a last level without a higher label: the turns above it
-    pub turns-above : kind ≡ 0 → turns ns start path d ≡ turns ns start path (d - 1)
-    turns-above e = turns-level ∙ turn-kept (drop (labels-below (y + 1) (branches-of (node-at ns (getD path (d - 1) 0)))) (branches-of (node-at ns (getD path (d - 1) 0)))) (behind-label ns (getD path (d - 1) 0) (y + 1) (d - 1) (take (d - 1) start)) (turns ns start path (d - 1)) (sym e ∙ is)
+-- Where following the start has ended.
+pub record Key-followed (s : Bytes) (f : Frame) (start : Bytes) (end : WayEnd) (higher : LastHigher) (node depth sum : ℕ) : Type 0 where
+  -- there the leaf that is sought stands
+  pub leaf-is : next-leaf (read-leaves s) start ≡ end-leaf (f .width) (nodes s f) start end higher node depth
+  pub end-in : End-in (nodes s f) (f .leaves) end node depth
+  pub higher-in : Higher-in (nodes s f) start depth higher
+  -- the start's bound on the level below
+  pub sums : Summed s f start node depth sum
 
-    -- one with it: the turn there
-    pub turns-here : (kind ≡ 0 → ⊥) → turns ns start path d ≡ behind-label ns (getD path (d - 1) 0) (y + 1) (d - 1) (take (d - 1) start)
-    turns-here n = turns-level ∙ turn-taken (drop (labels-below (y + 1) (branches-of (node-at ns (getD path (d - 1) 0)))) (branches-of (node-at ns (getD path (d - 1) 0)))) (behind-label ns (getD path (d - 1) 0) (y + 1) (d - 1) (take (d - 1) start)) (turns ns start path (d - 1)) kind is n
+-- ---- the last higher label
 
--- one node more is stored
-pub node-stored : (n : ℕ) (path : List ℕ) (d m : ℕ) → d < length path → m < n → Nodes-below n path d → Nodes-below n (set path d m) (d + 1)
-node-stored n path d m h b e = below-more (λ (i : ℕ). getD (set path d m) i 0 < n) d (λ i l. rw (getD-set-other path d i m 0 (λ z. omega arith)) (e i l)) (rw (getD-set-same path d m 0 h) b)
+-- a first branch that continues with the label y continues
+first-child : (y : ℕ) (fs : List Branch) → kind-with y fs ≡ Kind.Child → first-kind fs ≡ Kind.Child
+unfolding kind-with first-kind
+first-child y [] h = h
+first-child y (to-leaf x s ∷ fs) h = absurd (go (eqb x y) h)
+  where
+    go : (b : Bool) → cond b Kind.Leaf Kind.Absent ≡ Kind.Child → ⊥
+    go true e = let z : _≡_ {A = ℕ} 0 1 = cc in omega arith
+    go false e = let z : _≡_ {A = ℕ} 0 1 = cc in omega arith
+first-child y (to-node x ∷ fs) h = refl
 
-module _ (q : Bits → Bytes → Bool) (w : ℕ) (ns : List Node) (start : Bytes) (path : List ℕ) (m d y kind : ℕ) (h : d < length start) (fits : d < length path) (byte : y ≡ getD start d 0)
-    (is : kind ≡ bit (matches y (drop (labels-below y (branches-of (node-at ns m))) (branches-of (node-at ns m)))) + bit (goes-on y (drop (labels-below y (branches-of (node-at ns m))) (branches-of (node-at ns m))))) where
-  path-next : take d start ++ (y ∷ []) ≡ take (d + 1) start
-  path-next = rw (byte, add-one d) (sym (take-suc start d 0 h))
+-- with more nodes passed, its node is still one of them
+pub higher-within : (ns : List Node) (start : Bytes) (d n : ℕ) (higher : LastHigher) → d ≤ n → Higher-in ns start d higher → Higher-in ns start n higher
+higher-within ns start d n None l h = tt
+higher-within ns start d n (At m e) l h = (omega (arith, h .0), h .1)
 
-  level-next : 64 - d - 1 ≡ 64 - (d + 1)
-  level-next = omega arith
+module _ (s : Bytes) (f : Frame) (start : Bytes) (m : NodeNum) (d : ℕ) (before : LastHigher) (short : d < 64) (on : On-level (nodes s f) (64 - d) (m .0)) (inside : Higher-in (nodes s f) start d before) where
+  -- The node passed has no label above the start's byte.
+  pub higher-same : is-there (first-kind (drop (place s f (m .0) (getD start d 0 + 1)) (branches s f (m .0)))) ≡ false → Higher-passed s f start (m .0) d before before
+  higher-same h = record { leaf-is = higher-kept (nodes s f) (64 - (d + 1)) (m .0) (take d start) (getD start d 0) (higher-leaf (nodes s f) start before) h; higher-in = higher-within (nodes s f) start d (d + 1) before (omega arith) inside }
 
-  is-up : turns ns start (set path d m) (d + 1) ≡ turn-at (drop (labels-below (y + 1) (branches-of (node-at ns m))) (branches-of (node-at ns m))) (behind-label ns m (y + 1) d (take d start)) (turns ns start path d)
-  is-up = rw byte (turns-stored ns start path m d fits)
+  -- It has one.
+  pub higher-new : is-there (first-kind (drop (place s f (m .0) (getD start d 0 + 1)) (branches s f (m .0)))) ≡ true → Higher-passed s f start (m .0) d before (At m d)
+  higher-new h =
+      let z : 64 - d ≡ suc (64 - (d + 1)) = omega arith in
+      let e : 64 - (d + 1) ≡ 63 - d = omega arith in
+      record {
+        leaf-is = higher-taken (nodes s f) (64 - (d + 1)) (m .0) (take d start) (getD start d 0) (higher-leaf (nodes s f) start before) (rw z at on) h
+            ∙ ap (λ (l : ℕ). behind-each (take d start) (head-of (from-label (nodes s f) l (m .0) (getD start d 0 + 1)))) e;
+        higher-in = (omega arith, record { level = on; label-there = there-not (first-kind (drop (place s f (m .0) (getD start d 0 + 1)) (branches s f (m .0)))) h });
+      }
 
-  -- the step along the key, whatever stands there
-  step : next-from q w ns (64 - d) m (take d start) (drop d start) (turns ns start path d)
-      ≡ cond (goes-on y (drop (labels-below y (branches-of (node-at ns m))) (branches-of (node-at ns m)))) (next-from q w ns (64 - (d + 1)) (child-number ns m (labels-below y (branches-of (node-at ns m)))) (take (d + 1) start) (drop (d + 1) start) (turns ns start (set path d m) (d + 1)))
-      (cond (ends-at y (drop (labels-below y (branches-of (node-at ns m))) (branches-of (node-at ns m))))
-      (cond (q (slot-of w ns (slot-number ns m (labels-below y (branches-of (node-at ns m))))) (drop (d + 1) start)) (turns ns start (set path d m) (d + 1)) (some (record { cut = take (d + 1) start; exact = false; suffix = slot-of w ns (slot-number ns m (labels-below y (branches-of (node-at ns m)))) }))) (turns ns start (set path d m) (d + 1)))
-  unfolding next-from
-  step = rw (is-up, key-next start d h, ← byte, ← path-next, add-one y, level-next)
-
-  -- no branch: the turn
-  pub seek-none : kind ≡ 0 → next-from q w ns (64 - d) m (take d start) (drop d start) (turns ns start path d) ≡ turns ns start (set path d m) (d + 1)
-  seek-none e = let r = says y (drop (labels-below y (branches-of (node-at ns m))) (branches-of (node-at ns m))) kind is .0 e in step ∙ rw (r .0, r .1)
-
-  -- an open leaf: the turn if the key has passed it, else the leaf
-  pub seek-leaf : (led child v : ℕ) → kind ≡ 1 → v ≡ slot-number ns m (labels-below y (branches-of (node-at ns m))) → led ≡ 2 - 2 * bit (q (slot-of w ns v) (drop (d + 1) start))
-      → next-from q w ns (64 - d) m (take d start) (drop d start) (turns ns start path d) ≡ led-leaf w ns start led child v (d + 1) (turns ns start (set path d m) (d + 1))
-  seek-leaf led child v e z l = let r = says y (drop (labels-below y (branches-of (node-at ns m))) (branches-of (node-at ns m))) kind is .1 e in step ∙ rw (r .0, r .1, ← z, l) (go (q (slot-of w ns v) (drop (d + 1) start)))
-    where
-      go : (b : Bool) → cond b (turns ns start (set path d m) (d + 1)) (some (record { cut = take (d + 1) start; exact = false; suffix = slot-of w ns v })) ≡ led-leaf w ns start (2 - 2 * bit b) child v (d + 1) (turns ns start (set path d m) (d + 1))
-      go true = refl
-      go false = refl
-
-  -- a branch that continues
-  pub seek-on : (kind ≡ 0 → ⊥) → (kind ≡ 1 → ⊥)
-      → next-from q w ns (64 - d) m (take d start) (drop d start) (turns ns start path d) ≡ next-from q w ns (64 - (d + 1)) (child-number ns m (labels-below y (branches-of (node-at ns m)))) (take (d + 1) start) (drop (d + 1) start) (turns ns start (set path d m) (d + 1))
-  seek-on a b = let r = says y (drop (labels-below y (branches-of (node-at ns m))) (branches-of (node-at ns m))) kind is .3 a b in step ∙ rw r
-
--- the end of the key
-pub seek-end : (q : Bits → Bytes → Bool) (w : ℕ) (ns : List Node) (l m : ℕ) (path : Bytes) (turn : Option Leaf) → next-from q w ns l m path [] turn ≡ behind-each path (first-leaf ns l m)
-unfolding next-from
-seek-end q w ns l m path turn = refl
-
--- the branches of a node among those of all nodes
-branch-kids : (ns : List Node) (m : ℕ) → total children-of (take m ns) + children (branches-of (node-at ns m)) ≤ total children-of ns
-unfolding total children
-branch-kids [] m = rw (take-nil {A = Node} m) (omega arith)
-branch-kids (node o es ∷ ns) zero = omega arith
-branch-kids (n ∷ ns) (suc m) = omega (arith, branch-kids ns m)
-
-branch-leaves : (ns : List Node) (m : ℕ) → leaf-count (take m ns) + bit (is-exact (node-at ns m)) + open-leaves (branches-of (node-at ns m)) ≤ leaf-count ns
-unfolding leaf-count open-leaves
-branch-leaves [] m = rw (take-nil {A = Node} m) (omega arith)
-branch-leaves (n ∷ ns) zero = omega arith
-branch-leaves (n ∷ ns) (suc m) = omega (arith, branch-leaves ns m)
-
-taken-kids : (i : ℕ) (es : List Branch) → children (take i es) + children (drop i es) ≡ children es
-unfolding children
-taken-kids zero es = omega arith
-taken-kids (suc i) [] = refl
-taken-kids (suc i) (to-leaf x s ∷ es) = taken-kids i es
-taken-kids (suc i) (to-node x ∷ es) = omega (arith, taken-kids i es)
-
-taken-leaves : (i : ℕ) (es : List Branch) → open-leaves (take i es) + open-leaves (drop i es) ≡ open-leaves es
-unfolding open-leaves
-taken-leaves zero es = omega arith
-taken-leaves (suc i) [] = refl
-taken-leaves (suc i) (to-node x ∷ es) = taken-leaves i es
-taken-leaves (suc i) (to-leaf x s ∷ es) = omega (arith, taken-leaves i es)
-
-leaf-there : (fs : List Branch) → first-kind fs ≡ 1 → 0 < open-leaves fs
-unfolding first-kind open-leaves
-leaf-there [] e = absurd (omega arith)
-leaf-there (to-leaf x s ∷ fs) e = omega arith
-leaf-there (to-node x ∷ fs) e = absurd (omega arith)
-
-child-there : (fs : List Branch) → (first-kind fs ≡ 0 → ⊥) → (first-kind fs ≡ 1 → ⊥) → 0 < children fs
-unfolding first-kind children
-child-there [] e n = absurd (e refl)
-child-there (to-leaf x s ∷ fs) e n = absurd (n refl)
-child-there (to-node x ∷ fs) e n = omega arith
-
--- the slot behind a branch that ends is one of the leaves
-pub kind-slot : (ns : List Node) (m i kind : ℕ) → kind ≡ first-kind (drop i (branches-of (node-at ns m))) → kind ≡ 1 → slot-number ns m i < leaf-count ns
-unfolding slot-number leaves-before
-kind-slot ns m i kind e h = omega (arith, branch-leaves ns m, taken-leaves i (branches-of (node-at ns m)), leaf-there (drop i (branches-of (node-at ns m))) (sym e ∙ h))
-
--- the node behind one that continues is one of the nodes
-pub kind-child : (ns : List Node) (m i kind : ℕ) → kind ≡ first-kind (drop i (branches-of (node-at ns m))) → (kind ≡ 0 → ⊥) → (kind ≡ 1 → ⊥) → length ns ≡ 1 + total children-of ns → child-number ns m i < length ns
-unfolding child-number children-before
-kind-child ns m i kind e g h t = omega (arith, branch-kids ns m, taken-kids i (branches-of (node-at ns m)), child-there (drop i (branches-of (node-at ns m))) (λ q. g (e ∙ q)) (λ q. h (e ∙ q)))
-
--- ---- the leaf that the key has led to
-
--- the first bytes of a buffer into which the key was copied
-pub copied : (start key : Bytes) (d : ℕ) → d ≤ length start → take d (take (length start) start ++ drop (length start) key) ≡ take d start
-copied start key d h = rw (take-length start) (take-append-le d start (drop (length start) key) h)
-
--- its length
-pub copied-length : (start key : Bytes) → length start ≤ length key → length (take (length start) start ++ drop (length start) key) ≡ length key
-copied-length start key h = length-front key (take (length start) start) (length start) (ap length (take-length start) ∙ sym (length-take-le (length start) key h))
+-- ---- the way
 
 module _ (s : Bytes) (f : Frame) (a : Accepted s f) (start : Bytes) where
-  next-nodes : next-leaf (read-leaves s) start ≡ next-from (high-passed (length start)) (f .width) (nodes s f) 64 0 [] start none
-  next-nodes = next-trie (f .width) (f .width) (read-leaves s) (nodes s f) (a .realizable) (a .well-sized) (a .trie-is) (a .writable .wide) start
+  -- no byte leads to the root
+  pub following-root : 0 < node-count f → Following s f start None 0 0 0
+  following-root h = record { leads = leading-root s f a start h; level = root-level s f a h; higher-in = tt; leaf-is = next-root s f a h start }
 
-  -- an image without nodes has no leaf
-  pub led-nowhere : f .dense .nodes + f .sparse .nodes ≡ 0 → low-each (next-leaf (read-leaves s) start) ≡ none
-  led-nowhere h =
-      let empty : nodes s f ≡ [] = nil-of (nodes s f) (omega (arith, length-append (dense-nodes s f) (sparse-nodes s f), a .dense-size, a .sparse-size)) in
-      ap low-each (next-nodes ∙ ap (λ (ns : List Node). next-from (high-passed (length start)) (f .width) ns 64 0 [] start none) empty ∙ sym (none-left (high-passed (length start)) (f .width) start))
+  -- The start has ended at a node.
+  pub followed-end : {higher : LastHigher} {m d sum : ℕ} → Following s f start higher m d sum → length start ≤ d → Key-followed s f start End.Node higher m d sum
+  followed-end {higher} {m} {d} {sum} o h = record {
+    leaf-is =
+        o .leaf-is ∙ ap (λ (k : Bytes). next-from (high-passed (length start)) (nodes s f) (64 - d) m (take d start) k (higher-leaf (nodes s f) start higher)) (drop-of-length-le start {i = d} h)
+        ∙ next-end (high-passed (length start)) (nodes s f) (64 - d) m (take d start) (higher-leaf (nodes s f) start higher) (o .level);
+    end-in = o .level;
+    higher-in = o .higher-in;
+    sums = summed-end s f a start m d sum (o .leads) h;
+  }
 
-  module _ (kind m v d : ℕ) (turn : Option Leaf) (is : next-from (high-passed (length start)) (f .width) (nodes s f) 64 0 [] start none ≡ led-leaf (f .width) (nodes s f) start kind m v d turn) where
-    -- an open leaf
-    pub led-open : kind ≡ 2 → low-each (next-leaf (read-leaves s) start) ≡ low-of (f .width) (nodes s f) 2 v (take d start)
-    unfolding lowest low-rest
-    led-open h = ap low-each (next-nodes ∙ is) ∙ rw h
+-- The next byte of the start is passed: the step from node m at depth d to what stands behind its branch.
+pub record Byte-passed (s : Bytes) (f : Frame) (start : Bytes) (higher : LastHigher) (m d sum : ℕ) (b : Found) (child : NodeNum) (slot : ValuePos) (after : LastHigher) : Type 0 where
+  pub from : Following s f start higher m d sum
+  pub more : d < length start
+  pub short : length start ≤ 64
+  -- the node has this branch at the byte
+  pub found : Found-branch s f m (getD start d 0) b
+  -- behind it stand this child and this slot
+  pub behind : Behind-branch s f m (b .at .0) (child .0) (slot .0)
+  -- with the node passed, this is the last higher label
+  pub passed : Higher-passed s f start m d higher after
 
-    -- the first leaf at or below the node at the key's end
-    pub led-node : kind ≡ 1 → low-each (next-leaf (read-leaves s) start) ≡ low-each (behind-each (take d start) (first-leaf (nodes s f) (64 - d) m))
-    led-node h = ap low-each (next-nodes ∙ is) ∙ rw h
+module _ {s : Bytes} {f : Frame} {start : Bytes} {higher : LastHigher} {m d sum : ℕ} {b : Found} {child : NodeNum} {slot : ValuePos} {after : LastHigher} (a : Accepted s f) (p : Byte-passed s f start higher m d sum b child slot after) where
+  child-is : child .0 ≡ child-number (nodes s f) m (place s f m (getD start d 0))
+  child-is = p .behind .child-is ∙ p .found .at-is .child-is
 
-    -- past all leaves: the one behind the last turn
-    pub led-turn : kind ≡ 0 → low-each (next-leaf (read-leaves s) start) ≡ low-each turn
-    led-turn h = ap low-each (next-nodes ∙ is) ∙ rw h
+  slot-is : slot .0 ≡ slot-number (nodes s f) m (place s f m (getD start d 0))
+  slot-is = p .behind .slot-is ∙ p .found .at-is .slot-is
+
+  level-more : 64 - d ≡ suc (64 - (d + 1))
+  level-more = omega (arith, p .more, p .short)
+
+  cut-next : take d start ++ (getD start d 0 ∷ []) ≡ take (d + 1) start
+  cut-next = rw (add-one d) (sym (take-suc start d 0 (p .more)))
+
+  -- the leaf that is sought, before the next byte of the start
+  byte-leaf : next-leaf (read-leaves s) start
+      ≡ next-from (high-passed (length start)) (nodes s f) (suc (64 - (d + 1))) m (take d start) (getD start d 0 ∷ drop (d + 1) start) (higher-leaf (nodes s f) start higher)
+  byte-leaf =
+      p .from .leaf-is ∙ ap (λ (k : Bytes). next-from (high-passed (length start)) (nodes s f) (64 - d) m (take d start) k (higher-leaf (nodes s f) start higher)) (key-next start d (p .more))
+      ∙ ap (λ (l : ℕ). next-from (high-passed (length start)) (nodes s f) l m (take d start) (getD start d 0 ∷ drop (d + 1) start) (higher-leaf (nodes s f) start higher)) level-more
+
+  on : On-level (nodes s f) (suc (64 - (d + 1))) m
+  on = rw level-more at (p .from .level)
+
+  -- No branch has the next byte as its label.
+  pub followed-none : b .kind ≡ Kind.Absent → Key-followed s f start End.Past after (child .0) (d + 1) (sum + slot .0)
+  followed-none k = record {
+    leaf-is =
+        byte-leaf ∙ next-absent (high-passed (length start)) (nodes s f) (64 - (d + 1)) m on (take d start) (getD start d 0) (drop (d + 1) start) (higher-leaf (nodes s f) start higher) (sym (p .found .kind-is) ∙ k)
+        ∙ p .passed .leaf-is;
+    end-in = tt;
+    higher-in = p .passed .higher-in;
+    sums = summed-none s f a start m d sum (p .from .leads) (b .kind) (child .0) (slot .0) (p .more) (p .short) (p .found .kind-is) child-is slot-is k;
+  }
+
+  -- The slot of an open leaf behind the branch is one of the leaves.
+  pub leaf-slot : b .kind ≡ Kind.Leaf → slot .0 < f .leaves
+  leaf-slot k = omega (arith, slot-is, slot-in (nodes s f) m (getD start d 0) (b .kind) (p .found .kind-is) k, a .writable .leaf-total)
+
+  -- The sum with that slot is small.
+  pub sum-small : sum + slot .0 ≤ 4194240
+  sum-small = omega (arith, slot-is, slot-range (nodes s f) m (place s f m (getD start d 0)) .1, a .writable .leaf-total, a .writable .few, p .from .leads .small, p .more, p .short)
+
+  -- The branch ends at an open leaf, which the start has passed or not.
+  pub followed-leaf : b .kind ≡ Kind.Leaf → (t : Bool) → t ≡ high-passed (length start) (slot-of (f .width) (nodes s f) (slot .0)) (drop (d + 1) start)
+      → Key-followed s f start (leaf-end t slot) after (child .0) (d + 1) (sum + slot .0 + bit t)
+  followed-leaf k t is = record {
+    leaf-is =
+        byte-leaf
+        ∙ next-open (high-passed (length start)) (nodes s f) (64 - (d + 1)) m on (take d start) (getD start d 0) (drop (d + 1) start) (higher-leaf (nodes s f) start higher) (f .width) (a .writable .wide) (sym (p .found .kind-is) ∙ k)
+        ∙ rw (p .passed .leaf-is, cut-next, ← slot-is, ← is) (leaf-there t);
+    end-in = slot-there t;
+    higher-in = p .passed .higher-in;
+    sums = rw is (summed-leaf s f a start m d sum (p .from .leads) (b .kind) (child .0) (slot .0) (p .more) (p .short) (p .found .kind-is) child-is slot-is k);
+  }
+    where
+      leaf-there : (t : Bool) → cond t (higher-leaf (nodes s f) start after) (some (record { cut = take (d + 1) start; exact = false; suffix = slot-of (f .width) (nodes s f) (slot .0) })) ≡ end-leaf (f .width) (nodes s f) start (leaf-end t slot) after (child .0) (d + 1)
+      leaf-there true = refl
+      leaf-there false = refl
+
+      slot-there : (t : Bool) → End-in (nodes s f) (f .leaves) (leaf-end t slot) (child .0) (d + 1)
+      slot-there true = tt
+      slot-there false = leaf-slot k
+
+  -- The branch continues.
+  pub following-child : b .kind ≡ Kind.Child → Following s f start after (child .0) (d + 1) (sum + slot .0)
+  following-child k = record {
+    leads = leading-on s f a start m d sum (p .from .leads) (b .kind) (child .0) (slot .0) (p .more) (p .short) (p .found .kind-is) child-is slot-is k;
+    level = rw child-is (level-child (nodes s f) (64 - (d + 1)) m (place s f m (getD start d 0)) on (first-child (getD start d 0) (drop (place s f m (getD start d 0)) (branches s f m)) (sym (p .found .kind-is) ∙ k)));
+    higher-in = p .passed .higher-in;
+    leaf-is =
+        byte-leaf ∙ next-child (high-passed (length start)) (nodes s f) (64 - (d + 1)) m on (take d start) (getD start d 0) (drop (d + 1) start) (higher-leaf (nodes s f) start higher) (sym (p .found .kind-is) ∙ k)
+        ∙ rw (p .passed .leaf-is, cut-next, child-is);
+  }
+
+-- ---- where the way has ended
+
+module _ {s : Bytes} {f : Frame} {start : Bytes} {end : WayEnd} {higher : LastHigher} {m d sum : ℕ} (k : Key-followed s f start end higher m d sum) where
+  -- past all leaves below its last node
+  pub ended-past : end ≡ End.Past → next-leaf (read-leaves s) start ≡ higher-leaf (nodes s f) start higher
+  ended-past e = k .leaf-is ∙ ap (λ (x : WayEnd). end-leaf (f .width) (nodes s f) start x higher m d) e
+
+  -- at a node
+  pub ended-node : end ≡ End.Node → (next-leaf (read-leaves s) start ≡ leaf-below (nodes s f) start m d) × On-level (nodes s f) (64 - d) m
+  ended-node e = (k .leaf-is ∙ ap (λ (x : WayEnd). end-leaf (f .width) (nodes s f) start x higher m d) e, rw e at (k .end-in))
+
+  -- at an open leaf
+  pub ended-leaf : (v : ValuePos) → end ≡ End.Leaf v → (next-leaf (read-leaves s) start ≡ some (record { cut = take d start; exact = false; suffix = slot-of (f .width) (nodes s f) (v .0) })) × (v .0 < f .leaves)
+  ended-leaf v e = (k .leaf-is ∙ ap (λ (x : WayEnd). end-leaf (f .width) (nodes s f) start x higher m d) e, rw e at (k .end-in))

@@ -1,9 +1,27 @@
--- What a seek by value says of document 01's.
-use Prim.Native.Nat.{ℕ, zero, suc}
+-- What a seek gives by value, against document 01's seek.
+use Prim.Native.Nat.{ℕ, _≤_}
+use mathlib.Core.Path.{_≡_}
+use lib.ListN.{take}
 use Rattle.spec.specs.Bytes.{Bytes}
-use Rattle.spec.specs.Questions.{Sought, none, found}
+use Rattle.spec.specs.Nodes.{read-leaves}
+use Rattle.spec.specs.Questions.{Sought, none, found, seek}
+use Rattle.query_laws.specs.declared.SoughtLeaf.{SoughtLeaf}
+use Rattle.query_laws.specs.declared.SoughtLeaf.the-variants.{None, At}
 
--- by number: none; else a leaf's number in key order and a key
-abbrev pub sought-of : ℕ → ℕ → Bytes → Sought
-sought-of zero number key = none
-sought-of (suc i) number key = found number key
+-- what is found: none, or a leaf's number in key order with a key
+abbrev pub sought-of : SoughtLeaf → Bytes → Sought
+sought-of None key = none
+sought-of (At i) key = found i key
+
+-- the number of a leaf is below 2 ^ 16
+abbrev pub Number-in : SoughtLeaf → Type 0
+Number-in None = Unit
+Number-in (At i) = i ≤ 65535
+
+-- A seek from the start finds this leaf, with the first n bytes of `key` as its key.
+pub record Is-sought (s start : Bytes) (leaf : SoughtLeaf) (key : Bytes) (n : ℕ) : Type 0 where
+  -- leaf and key are those of document 01's seek
+  pub answer : sought-of leaf (take n key) ≡ seek (read-leaves s) start
+  -- a key has at most 64 bytes
+  pub key-in : n ≤ 64
+  pub number-in : Number-in leaf

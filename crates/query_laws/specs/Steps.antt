@@ -1,78 +1,69 @@
--- One level of a descent, by what a node has at a label: no branch (0), one that ends at an open leaf (1), one that continues (2).
-use Prim.Native.Nat.{ℕ, zero, suc, _+_, _<_}
-use mathlib.Core.Path.{_≡_, refl}
-use mathlib.Core.Bool.{Bool, true, false, cond, _||_}
+-- One level of a descent, by the kind of the branch that a node has at a label.
+use Prim.Native.Nat.{ℕ, _<_}
+use mathlib.Core.Path.{_≡_, refl, sym, _∙_}
+use mathlib.Core.Bool.{Bool, true, false, cond}
 use mathlib.Core.List.{List, [], _∷_}
 use native.Mathlib.Omega.{arith}
 use lib.ListN.{length, drop}
-use Rattle.spec.specs.Bytes.{Bytes, bit}
-use Rattle.spec.specs.Nodes.{Branch, Node, branches-of, is-exact}
+use Rattle.spec.specs.Bytes.{Bytes}
+use Rattle.spec.specs.Nodes.{Node, branches-of, is-exact}
 use Rattle.spec.specs.Trie.{leaf-count}
+use Rattle.nav_laws.specs.declared.BranchKind.{BranchKind}
+use Rattle.nav_laws.specs.declared.BranchKind.the-variants.{Absent, Leaf, Child}
+use Rattle.nav_laws.specs.declared.LeafStop.{LeafStop}
+use Rattle.nav_laws.specs.declared.LeafStop.the-variants.{Nowhere, Exact, Open}
 use Rattle.nav_laws.specs.Counting.{labels-below}
 use Rattle.nav_laws.specs.Slots.{node-at, slot-number}
-use Rattle.nav_laws.specs.Descent.{child-number, goes-on, ends-at, Stop, miss, at-exact, at-open, descend, leaves-below}
-use Rattle.nav_laws.specs.LabelMaps.{matches, matches-is}
+use Rattle.nav_laws.specs.Descent.{child-number, goes-on, Stop, miss, at-exact, at-open, descend, leaves-below}
+use Rattle.nav_laws.specs.NextLabel.{kind-with, with-absent, with-leaf, with-child}
 use Rattle.nav_laws.specs.NumberBounds.{branch-leaves-in}
 use Rattle.query_laws.specs.Root.{below-empty, descend-empty}
 
--- a stop by number: nowhere, an exact leaf, an open one with its slot number and the rest of the key
-abbrev pub stop-of : ℕ → ℕ → Bytes → Stop
-stop-of zero v r = miss
-stop-of (suc zero) v r = at-exact
-stop-of (suc (suc i)) v r = at-open v r
+-- where a key leads, by the leaf there and the rest of the key
+abbrev pub stop-of : LeafStop → Bytes → Stop
+stop-of Nowhere r = miss
+stop-of Exact r = at-exact
+stop-of (Open v) r = at-open (v .0) r
 
-kinds : (y : ℕ) (fs : List Branch) (P : ℕ → Type 0) → (goes-on y fs ≡ false → ends-at y fs ≡ false → P 0) → (goes-on y fs ≡ false → ends-at y fs ≡ true → P 1) → (goes-on y fs ≡ true → P 2) → P (bit (matches y fs) + bit (goes-on y fs))
-kinds y fs P a b c = go (goes-on y fs) (ends-at y fs) (matches y fs) refl refl (matches-is y fs)
-  where
-    go : (g e m : Bool) → goes-on y fs ≡ g → ends-at y fs ≡ e → m ≡ g || e → P (bit m + bit g)
-    go true e m p q r = rw r (c p)
-    go false true m p q r = rw r (b p q)
-    go false false m p q r = rw r (a p q)
+-- the leaf where a key ends, by whether its node is an exact leaf
+abbrev pub exact-stop : Bool → LeafStop
+exact-stop true = Exact
+exact-stop false = Nowhere
 
--- what the numbers say
-abbrev pub Says : ℕ → List Branch → ℕ → Type 0
-Says y fs k = (k ≡ 0 → (goes-on y fs ≡ false) × (ends-at y fs ≡ false)) × (k ≡ 1 → (goes-on y fs ≡ false) × (ends-at y fs ≡ true)) × ((k ≡ 2 → ⊥) → goes-on y fs ≡ false) × ((k ≡ 0 → ⊥) → (k ≡ 1 → ⊥) → goes-on y fs ≡ true)
-
--- what a kind says of the branch
-pub says : (y : ℕ) (fs : List Branch) (k : ℕ) → k ≡ bit (matches y fs) + bit (goes-on y fs) → Says y fs k
-says y fs k e =
-    rw e
-    (kinds y fs (λ z. Says y fs z) (λ g n. (λ q. (g, n), λ q. absurd (omega arith), λ q. g, λ q r. absurd (q refl))) (λ g n. (λ q. absurd (omega arith), λ q. (g, n), λ q. g, λ q r. absurd (r refl)))
-    (λ g. (λ q. absurd (omega arith), λ q. absurd (omega arith), λ q. absurd (q refl), λ q r. g)))
-
-module _ (ns : List Node) (m y : ℕ) (k : Bytes) (kind : ℕ) (is : kind ≡ bit (matches y (drop (labels-below y (branches-of (node-at ns m))) (branches-of (node-at ns m)))) + bit (goes-on y (drop (labels-below y (branches-of (node-at ns m))) (branches-of (node-at ns m))))) where
+module _ (ns : List Node) (m y : ℕ) (k : Bytes) (kind : BranchKind) (is : kind ≡ kind-with y (drop (labels-below y (branches-of (node-at ns m))) (branches-of (node-at ns m)))) where
   -- no branch: the key leads nowhere
-  pub descend-none : kind ≡ 0 → descend ns m (y ∷ k) ≡ miss
+  pub descend-none : kind ≡ Absent → descend ns m (y ∷ k) ≡ miss
   unfolding descend
-  descend-none h = let q = says y (drop (labels-below y (branches-of (node-at ns m))) (branches-of (node-at ns m))) kind is .0 h in rw (q .0, q .1)
+  descend-none h = let q = with-absent y (drop (labels-below y (branches-of (node-at ns m))) (branches-of (node-at ns m))) (sym is ∙ h) in rw (q .0, q .1)
 
   -- a branch that ends: the key leads to its open leaf
-  pub descend-open : kind ≡ 1 → descend ns m (y ∷ k) ≡ at-open (slot-number ns m (labels-below y (branches-of (node-at ns m)))) k
+  pub descend-open : kind ≡ Leaf → descend ns m (y ∷ k) ≡ at-open (slot-number ns m (labels-below y (branches-of (node-at ns m)))) k
   unfolding descend
-  descend-open h = let q = says y (drop (labels-below y (branches-of (node-at ns m))) (branches-of (node-at ns m))) kind is .1 h in rw (q .0, q .1)
+  descend-open h = let q = with-leaf y (drop (labels-below y (branches-of (node-at ns m))) (branches-of (node-at ns m))) (sym is ∙ h) in rw (q .0, q .1)
 
   -- a branch that continues
-  pub goes-there : (kind ≡ 0 → ⊥) → (kind ≡ 1 → ⊥) → goes-on y (drop (labels-below y (branches-of (node-at ns m))) (branches-of (node-at ns m))) ≡ true
-  goes-there a b = says y (drop (labels-below y (branches-of (node-at ns m))) (branches-of (node-at ns m))) kind is .3 a b
+  pub goes-there : kind ≡ Child → goes-on y (drop (labels-below y (branches-of (node-at ns m))) (branches-of (node-at ns m))) ≡ true
+  goes-there h = with-child y (drop (labels-below y (branches-of (node-at ns m))) (branches-of (node-at ns m))) (sym is ∙ h)
 
-  pub descend-on : (kind ≡ 0 → ⊥) → (kind ≡ 1 → ⊥) → descend ns m (y ∷ k) ≡ descend ns (child-number ns m (labels-below y (branches-of (node-at ns m)))) k
+  -- the key leads on from the node behind it
+  pub descend-on : kind ≡ Child → descend ns m (y ∷ k) ≡ descend ns (child-number ns m (labels-below y (branches-of (node-at ns m)))) k
   unfolding descend
-  descend-on a b = rw (goes-there a b)
+  descend-on h = rw (goes-there h)
 
 -- the end of the key
-pub descend-end : (ns : List Node) (m e v : ℕ) → e ≡ bit (is-exact (node-at ns m)) → descend ns m [] ≡ stop-of e v []
+pub descend-end : (ns : List Node) (m : ℕ) (e : Bool) → e ≡ is-exact (node-at ns m) → descend ns m [] ≡ stop-of (exact-stop e) []
 unfolding descend
-descend-end ns m e v h = rw h (go (is-exact (node-at ns m)))
+descend-end ns m e h = rw h (go (is-exact (node-at ns m)))
   where
-    go : (b : Bool) → cond b at-exact miss ≡ stop-of (bit b) v []
+    go : (b : Bool) → cond b at-exact miss ≡ stop-of (exact-stop b) []
     go true = refl
     go false = refl
 
 -- An open leaf's slot is one of the leaves.
-pub slot-in : (ns : List Node) (m y : ℕ) (kind : ℕ) → kind ≡ bit (matches y (drop (labels-below y (branches-of (node-at ns m))) (branches-of (node-at ns m)))) + bit (goes-on y (drop (labels-below y (branches-of (node-at ns m))) (branches-of (node-at ns m))))
-    → kind ≡ 1 → slot-number ns m (labels-below y (branches-of (node-at ns m))) < leaf-count ns
+pub slot-in : (ns : List Node) (m y : ℕ) (kind : BranchKind) → kind ≡ kind-with y (drop (labels-below y (branches-of (node-at ns m))) (branches-of (node-at ns m))) → kind ≡ Leaf
+    → slot-number ns m (labels-below y (branches-of (node-at ns m))) < leaf-count ns
 slot-in ns m y kind is h =
-    branch-leaves-in ns m (labels-below y (branches-of (node-at ns m))) y (says y (drop (labels-below y (branches-of (node-at ns m))) (branches-of (node-at ns m))) kind is .1 h .1)
+    branch-leaves-in ns m (labels-below y (branches-of (node-at ns m))) y (with-leaf y (drop (labels-below y (branches-of (node-at ns m))) (branches-of (node-at ns m))) (sym is ∙ h) .1)
 
 nil-of : (ns : List Node) → length ns ≡ 0 → ns ≡ []
 nil-of [] h = refl

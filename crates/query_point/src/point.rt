@@ -9,25 +9,26 @@ use super::descent::descend;
 use super::suffix::high_below;
 use super::suffix::low_above;
 use image_types::Frame;
+use nav_laws::LeafStop;
 
 // 1 if some leaf has the key among its possible keys, else 0.
 pub fn point(image: &[u8], f: Frame, key: &[u8]) -> usize
     requires { ⌜ Accepted (now image) f × (length (now key) ≤ 64) ⌝ }
     ensures { λ r. ⌜ r ≡ point (read-leaves (now (image .entry))) (now (key .entry)) ⌝ }
 {
-    let s = descend(image, f, key);
-    let kind = s.kind;
-    if kind == 0 {
-        return 0;
+    let stop = descend(image, f, key);
+    let leaf = stop.leaf;
+    match leaf {
+        LeafStop::Nowhere => 0,
+        LeafStop::Exact => 1,
+        LeafStop::Open(slot) => {
+            if low_above(image, f, slot, key, stop.depth) {
+                return 0;
+            }
+            if high_below(image, f, slot, key, stop.depth) {
+                return 0;
+            }
+            1
+        }
     }
-    if kind == 1 {
-        return 1;
-    }
-    if low_above(image, f, s.slot, key, s.depth) {
-        return 0;
-    }
-    if high_below(image, f, s.slot, key, s.depth) {
-        return 0;
-    }
-    1
 }

@@ -1,5 +1,4 @@
 -- Range over an accepted image, from the lowest key of the first leaf that the lower bound has not passed.
-use Prim.Native.Nat.{ℕ}
 use mathlib.Core.Path.{_≡_, sym, ap, _∙_}
 use mathlib.Core.Bool.{Bool, not}
 use mathlib.Core.Logic.{_⊎_}
@@ -8,6 +7,8 @@ use Rattle.spec.specs.Bytes.{Bytes, bit}
 use Rattle.spec.specs.Nodes.{read-leaves}
 use Rattle.spec.specs.Questions.{range}
 use Rattle.image_types.specs.declared.Frame.{Frame}
+use Rattle.nav_laws.specs.declared.LeafStop.{LeafStop}
+use Rattle.nav_laws.specs.declared.LeafStop.the-variants.{Nowhere}
 use Rattle.keys.specs.Order.{order}
 use Rattle.keys.specs.declared.compare.Order.the-variants.{Below, Equal, Above}
 use Rattle.keys.proofs.OrderLaws.{order-is-below, order-not-below}
@@ -16,15 +17,15 @@ use Rattle.query_laws.specs.Ordered.{next-leaf}
 use Rattle.query_laws.specs.Seeks.{low-each, low-of}
 use Rattle.query_laws.specs.Ranges.{low-met, range-next}
 
-module _ (s : Bytes) (f : Frame) (a : Accepted s f) (lo hi : Bytes) (kind v : ℕ) (cut : Bytes) (e : low-each (next-leaf (read-leaves s) lo) ≡ low-of (f .width) (nodes s f) kind v cut) where
-  range-low : range (read-leaves s) lo hi ≡ low-met (low-of (f .width) (nodes s f) kind v cut) hi
+module _ (s : Bytes) (f : Frame) (a : Accepted s f) (lo hi : Bytes) (stop : LeafStop) (cut : Bytes) (e : low-each (next-leaf (read-leaves s) lo) ≡ low-of (f .width) (nodes s f) stop cut) where
+  range-low : range (read-leaves s) lo hi ≡ low-met (low-of (f .width) (nodes s f) stop cut) hi
   range-low = range-next (f .width) (read-leaves s) lo hi (a .realizable .ordered) (a .well-sized) ∙ ap (λ (o : Option Bytes). low-met o hi) e
 
   -- no leaf
-  pub range-none : kind ≡ 0 → 0 ≡ range (read-leaves s) lo hi
+  pub range-none : stop ≡ Nowhere → 0 ≡ range (read-leaves s) lo hi
   range-none h = sym (range-low ∙ rw h)
 
-  module _ (low : Bytes) (l : low-of (f .width) (nodes s f) kind v cut ≡ some low) where
+  module _ (low : Bytes) (l : low-of (f .width) (nodes s f) stop cut ≡ some low) where
     -- a leaf whose lowest key lies above the upper bound
     pub range-below : order hi low ≡ Below → 0 ≡ range (read-leaves s) lo hi
     range-below o = sym (range-low ∙ ap (λ (z : Option Bytes). low-met z hi) l ∙ ap (λ (b : Bool). bit (not b)) (order-is-below hi low o))

@@ -7,7 +7,7 @@ use mathlib.Core.Option.{Option, some}
 use mathlib.Core.Logic.{inr}
 use native.Mathlib.Omega.{arith}
 use lib.ListN.{length, take, drop}
-use lib.Seq.{length-take-le, take-length}
+use lib.Seq.{length-take-le}
 use Rattle.spec.specs.Bytes.{Bytes, equal, concat}
 use Rattle.spec.specs.Keys.{below}
 use Rattle.spec.specs.Leaves.{Leaf, highest}
@@ -15,6 +15,9 @@ use Rattle.spec.specs.Nodes.{Node, read-leaves}
 use Rattle.spec.specs.Questions.{none, found, greater, seek}
 use Rattle.spec.specs.Trie.{leaf-count}
 use Rattle.image_types.specs.declared.Frame.{Frame}
+use Rattle.image_types.specs.declared.ValuePos.{ValuePos}
+use Rattle.nav_laws.specs.declared.LeafStop.{LeafStop}
+use Rattle.nav_laws.specs.declared.LeafStop.the-variants.{Nowhere, Open}
 use Rattle.keys.specs.Order.{order}
 use Rattle.keys.specs.declared.compare.Order.the-variants.{Below, Equal, Above}
 use Rattle.keys.proofs.OrderLaws.{order-is-below, order-not-below}
@@ -28,7 +31,6 @@ use Rattle.theory.specs.Levels.{leaf-count-root}
 use Rattle.theory.specs.LevelTrie.{trie}
 use Rattle.theory.specs.Lists.{count-bound}
 use Rattle.theory.specs.Order.{equal-true}
-use Rattle.query_laws.specs.Seeking.{copied}
 use Rattle.theory.specs.TrieTests.{Empty-or-valid, empty-list, valid-trie, realizable-trie}
 
 -- a slot has as many bits as the settings say
@@ -36,8 +38,8 @@ pub slot-width : (s : Bytes) (f : Frame) → Accepted s f → (v : ℕ) → v < 
 slot-width s f a v h = slot-length (f .width) (nodes s f) (drop (f .sv) s) (a .writable .wide) (a .SV .1) v (omega (arith, a .writable .leaf-total))
 
 -- the lowest key of an open leaf, whose cut key is the first d bytes of the key
-pub low-open : (w : ℕ) (ns : List Node) (kind v d : ℕ) (key low : Bytes) → kind ≡ 2 → d ≤ length key → low ≡ take d key ++ low-rest d (slot-of w ns v) → low-of w ns kind v (take d key) ≡ some low
-low-open w ns kind v d key low e h q = rw (e, length-take-le d key h) (ap some (sym q))
+pub low-open : (w : ℕ) (ns : List Node) (v : ValuePos) (d : ℕ) (key low : Bytes) → d ≤ length key → low ≡ take d key ++ low-rest d (slot-of w ns (v .0)) → low-of w ns (Open v) (take d key) ≡ some low
+low-open w ns v d key low h q = rw (length-take-le d key h) (ap some (sym q))
 
 -- ---- the greater of two keys, by their order
 
@@ -62,10 +64,6 @@ module _ (a b : Bytes) where
   unfolding greater
   greater-above e = rw (order-not-below a b (inr e))
 
--- a key that was copied to the front of another
-pub copied-whole : (start key copy : Bytes) (n : ℕ) → n ≡ length start → copy ≡ take (length start) start ++ drop (length start) key → take n copy ≡ start
-copied-whole start key copy n e h = rw (e, h) (copied start key (length start) (omega arith) ∙ take-length start)
-
 -- ---- what is found
 
 module _ (s : Bytes) (f : Frame) (a : Accepted s f) (start : Bytes) where
@@ -85,11 +83,11 @@ module _ (s : Bytes) (f : Frame) (a : Accepted s f) (start : Bytes) where
       leaves-few : length (read-leaves s) ≤ f .leaves
       leaves-few = omega (arith, go (realizable-trie (f .width) (read-leaves s) (a .realizable) (a .well-sized)), ap leaf-count (a .trie-is), a .writable .leaf-total)
 
-  module _ (kind v : ℕ) (cut : Bytes) (e : low-each (next-leaf (read-leaves s) start) ≡ low-of (f .width) (nodes s f) kind v cut) where
+  module _ (stop : LeafStop) (cut : Bytes) (e : low-each (next-leaf (read-leaves s) start) ≡ low-of (f .width) (nodes s f) stop cut) where
     -- no leaf
-    pub seek-none : kind ≡ 0 → none ≡ seek (read-leaves s) start
+    pub seek-none : stop ≡ Nowhere → none ≡ seek (read-leaves s) start
     seek-none h = sym (seek-low ∙ ap (λ (o : Option Bytes). found-low o (passed (read-leaves s) start) start) e ∙ rw h)
 
     -- a leaf whose lowest key is `low`
-    pub seek-found : (number : ℕ) (low key : Bytes) → low-of (f .width) (nodes s f) kind v cut ≡ some low → key ≡ greater start low → number ≡ passed (read-leaves s) start → found number key ≡ seek (read-leaves s) start
+    pub seek-found : (number : ℕ) (low key : Bytes) → low-of (f .width) (nodes s f) stop cut ≡ some low → key ≡ greater start low → number ≡ passed (read-leaves s) start → found number key ≡ seek (read-leaves s) start
     seek-found number low key l g n = sym (seek-low ∙ ap (λ (o : Option Bytes). found-low o (passed (read-leaves s) start) start) (e ∙ l) ∙ rw (g, n))

@@ -5,8 +5,9 @@ ghost use lib.ListN.{length};
 ghost use Rattle.spec.specs.Nodes.{read-leaves};
 ghost use Rattle.spec.specs.Questions.{range, begins-with};
 ghost use Rattle.nav_laws.specs.Accepted.{Accepted};
+use super::next::is_leaf;
+use super::next::next_leaf;
 use super::seek::lowest_key;
-use super::seeking::next_leaf;
 use image_types::Frame;
 use keys::compare::Order;
 use keys::compare::compare;
@@ -16,14 +17,14 @@ pub fn range(image: &[u8], f: Frame, lo: &[u8], hi: &[u8]) -> usize
     requires { ⌜ Accepted (now image) f × (length (now lo) ≤ 64) × (length (now hi) ≤ 64) ⌝ }
     ensures { λ r. ⌜ r ≡ range (read-leaves (now (image .entry))) (now (lo .entry)) (now (hi .entry)) ⌝ }
 {
-    let mut key = [0u8; 64];
-    let next = next_leaf(image, f, lo, &mut key);
-    let stop = next.stop;
-    let kind = stop.kind;
-    if kind == 0 {
+    let next = next_leaf(image, f, lo);
+    let leaf = next.leaf;
+    let stop = leaf.stop;
+    let mut key = leaf.cut;
+    if !is_leaf(stop) {
         return 0;
     }
-    let n = lowest_key(image, f, stop, &mut key);
+    let n = lowest_key(image, f, stop, &mut key, leaf.depth);
     let order = compare(hi, &key[..n]);
     match order {
         Order::Below => 0,

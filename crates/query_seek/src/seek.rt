@@ -1,32 +1,28 @@
 // The seek question over an accepted image: the first leaf that the start has not passed, by number, and the greater of the start and the leaf's lowest key.
 ghost use mathlib.Core.Path.{_≡_};
-ghost use mathlib.Core.List.{_++_};
-ghost use mathlib.Core.Option.{some};
 ghost use Prim.Native.Nat.{_≤_, _<_};
 ghost use lib.ListN.{length, take};
-ghost use Rattle.spec.specs.Nodes.{read-leaves};
-ghost use Rattle.spec.specs.Questions.{greater, seek};
-ghost use Rattle.query_laws.specs.Bounds.{low-rest};
-ghost use Rattle.nav_laws.specs.Slots.{slot-of};
-ghost use Rattle.query_laws.specs.Seeks.{low-of};
-ghost use Rattle.nav_laws.specs.Accepted.{Accepted, nodes};
-ghost use Rattle.query_laws.specs.Sought.{sought-of};
+ghost use Rattle.spec.specs.Questions.{greater};
+ghost use Rattle.nav_laws.specs.Accepted.{Accepted};
+ghost use Rattle.query_laws.specs.LeafKeys.{Leaf-at, Lowest-key};
+ghost use Rattle.query_laws.specs.Sought.{Is-sought};
 ghost use Rattle.query_laws.specs.Summed.{level-starts};
-use super::seeking::next_leaf;
-use bytes::copy;
+use super::next::is_leaf;
+use super::next::next_leaf;
+use bits::copy::write_bytes;
 use image_types::Frame;
 use image_types::ValuePos;
 use keys::compare::Order;
 use keys::compare::compare;
+use nav_laws::LeafStop;
 use query_count::levels::sum_below;
-use query_point::descent::Stop;
+use query_laws::SoughtLeaf;
 use query_point::suffix::suffix_byte;
 
 // Behind a cut key of `depth` bytes go the bytes of an open leaf's suffix, filled up with zero bits; the length of the lowest key, which ends before trailing zero bytes and with the 64th byte.
 fn append_suffix(image: &[u8], f: Frame, slot: ValuePos, key: &mut [u8], depth: usize) -> usize
     requires { ⌜ Accepted (now image) f × (slot .0 < f .leaves) × (length (now key) ≡ 64) × (depth ≤ 64) ⌝ }
-    ensures { λ r. ⌜ (take r (now (key .exit)) ≡ take depth (now (key .entry)) ++ low-rest depth (slot-of (f .width) (nodes (now (image .entry)) f) (slot .0)))
-        × (depth ≤ r) × (r ≤ 64) × (length (now (key .exit)) ≡ 64) ⌝ }
+    ensures { λ r. ⌜ Lowest-key (now (image .entry)) f (LeafStop.Open slot) (take depth (now (key .entry))) (now (key .exit)) r ⌝ }
 {
     let w = f.width;
     let mut end = depth;
@@ -45,17 +41,16 @@ fn append_suffix(image: &[u8], f: Frame, slot: ValuePos, key: &mut [u8], depth: 
     end
 }
 
-// The lowest key of the leaf at a stop, whose cut key stands in `key`; its length.
-pub fn lowest_key(image: &[u8], f: Frame, stop: Stop, key: &mut [u8]) -> usize
-    requires { ⌜ Accepted (now image) f × (length (now key) ≡ 64) × (stop .depth ≤ 64) × (0 < stop .kind) × (stop .kind ≤ 2) × (stop .kind ≡ 2 → stop .slot .0 < f .leaves) ⌝ }
-    ensures { λ r. ⌜ (low-of (f .width) (nodes (now (image .entry)) f) (stop .kind) (stop .slot .0) (take (stop .depth) (now (key .entry))) ≡ some (take r (now (key .exit))))
-        × (r ≤ 64) × (length (now (key .exit)) ≡ 64) ⌝ }
+// The lowest key of the leaf at a stop, whose cut key is the first `depth` bytes of `key`; its length.
+pub fn lowest_key(image: &[u8], f: Frame, stop: LeafStop, key: &mut [u8], depth: usize) -> usize
+    requires { ⌜ Leaf-at (now image) f stop (now key) depth ⌝ }
+    ensures { λ r. ⌜ Lowest-key (now (image .entry)) f stop (take depth (now (key .entry))) (now (key .exit)) r ⌝ }
 {
-    let kind = stop.kind;
-    if kind == 1 {
-        return stop.depth;
+    match stop {
+        LeafStop::Nowhere => depth,
+        LeafStop::Exact => depth,
+        LeafStop::Open(slot) => append_suffix(image, f, slot, key, depth),
     }
-    append_suffix(image, f, stop.slot, key, stop.depth)
 }
 
 // The greater of the start and the first n bytes of `key` goes to the front of `key`; its length.
@@ -67,14 +62,16 @@ fn greater_key(start: &[u8], key: &mut [u8], n: usize) -> usize
     match order {
         Order::Below => n,
         Order::Equal => n,
-        Order::Above => copy(start, key),
+        Order::Above => {
+            write_bytes(key, 0, start);
+            start.len()
+        }
     }
 }
 
-// What a seek finds: 1 if there is a leaf, its number in key order, and a key in the first n bytes of an array; else 0.
+// What a seek finds: the leaf, if there is one, and a key in the first n bytes of an array.
 pub struct Sought {
-    pub some: usize,
-    pub number: usize,
+    pub leaf: SoughtLeaf,
     pub key: [u8; 64],
     pub n: usize,
 }
@@ -82,25 +79,25 @@ pub struct Sought {
 // The first leaf whose highest possible key is not below the start: its number, and the greater of the start and its lowest key. `starts` is the sum of slot numbers for the empty key.
 pub fn seek(image: &[u8], f: Frame, starts: usize, start: &[u8]) -> Sought
     requires { ⌜ Accepted (now image) f × (starts ≡ level-starts (now image) f) × (length (now start) ≤ 64) ⌝ }
-    ensures { λ r. ⌜ (sought-of (r .some) (r .number) (take (r .n) (r .key)) ≡ seek (read-leaves (now (image .entry))) (now (start .entry))) × (r .n ≤ 64) × (r .some ≤ 1) × (r .number ≤ 65535) ⌝ }
+    ensures { λ r. ⌜ Is-sought (now (image .entry)) (now (start .entry)) (r .leaf) (r .key) (r .n) ⌝ }
 {
-    let mut key = [0u8; 64];
-    let next = next_leaf(image, f, start, &mut key);
-    let stop = next.stop;
-    let kind = stop.kind;
-    if kind == 0 {
+    let next = next_leaf(image, f, start);
+    let leaf = next.leaf;
+    let stop = leaf.stop;
+    let mut key = leaf.cut;
+    if !is_leaf(stop) {
         return Sought {
-            some: 0,
-            number: 0,
+            leaf: SoughtLeaf::None,
             key,
             n: 0,
         };
     }
-    let low = lowest_key(image, f, stop, &mut key);
+    let low = lowest_key(image, f, stop, &mut key, leaf.depth);
     let n = greater_key(start, &mut key, low);
+    let bound = next.bound;
+    let number = sum_below(image, f, bound) - starts;
     Sought {
-        some: 1,
-        number: sum_below(image, f, next.bound) - starts,
+        leaf: SoughtLeaf::At(number),
         key,
         n,
     }

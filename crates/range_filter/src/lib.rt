@@ -13,7 +13,7 @@ use build::build;
 use check_image::Checked;
 use check_image::check;
 use image_types::Written;
-use walk::record::write_records;
+use walk_records::write_records;
 
 // 2^32: what the number of a refusal is multiplied with where an answer is one number.
 const REFUSAL_WEIGHT: u64 = 4294967296;

@@ -192,8 +192,8 @@ pub record Demand-1 : Type 0 where
 
 -- of an image that a list builds with settings st
 pub record Demand-2 : Type 0 where
-  -- "An image built from a key list is, byte for byte, the dense and sparse in-order of that list's shortest distinguishing prefixes, their kinds and suffix bits."
-  pub in-order : (st : Settings) (list b : Bytes) → Builds-with st list b → b ≡ image st (leaves (st .width) (keys-of list))
+  -- "An image built from a key list is, byte for byte, the dense and sparse layout of that list's shortest distinguishing prefixes, their kinds and suffix bits."
+  pub layout : (st : Settings) (list b : Bytes) → Builds-with st list b → b ≡ image st (leaves (st .width) (keys-of list))
   -- It is written from every key list, with settings in range, into every output that holds it.
   pub built : (st : Settings) (list : Bytes) (ks : List Bytes) → Is-bytes list → in-range st ≡ true → Key-list list ks
       → (out : Bytes) → length (image st (leaves (st .width) ks)) ≤ length out → build list st out ≡ success (image st (leaves (st .width) ks)) out

@@ -179,7 +179,7 @@ demand-1 = record {
 -- Demand 2.
 pub demand-2 : Demand-2
 demand-2 = record {
-  in-order = λ st list b w. list-image st list b w;
+  layout = λ st list b w. list-image st list b w;
   built = key-list-builds;
   read-back = λ st list b w. (list-read st list b w, list-settings st list b w);
   all-replies = λ st list b w file out t.

@@ -43,7 +43,8 @@ dense-entries-children i (true ∷ dl) (false ∷ dc) h w = dense-entries-childr
 dense-entries-children i (false ∷ dl) (true ∷ dc) h w = absurd (true≢false (sym w))
 dense-entries-children i (false ∷ dl) (false ∷ dc) h w = dense-entries-children (suc i) dl dc (omega arith) w
 
-covered-split : (k : ℕ) (dc dl : Bits) → length dl ≡ length dc → covered dc dl ≡ true → (covered (take k dc) (take k dl) ≡ true) × (covered (drop k dc) (drop k dl) ≡ true)
+-- A bitmap within another is so in two parts.
+pub covered-split : (k : ℕ) (dc dl : Bits) → length dl ≡ length dc → covered dc dl ≡ true → (covered (take k dc) (take k dl) ≡ true) × (covered (drop k dc) (drop k dl) ≡ true)
 unfolding covered
 covered-split zero dc dl h w = (refl, w)
 covered-split (suc k) [] [] h w = (refl, refl)
@@ -115,7 +116,8 @@ ascends-from-lower : (i j e : ℕ) (xs : List ℕ) → i ≤ j → Ascends-from 
 ascends-from-lower i j e [] h c = tt
 ascends-from-lower i j e (x ∷ xs) h c = (omega (arith, c .0), c .1, c .2)
 
-ascends-from-children : (i e : ℕ) (es : List Branch) → Ascends-from i e (map label-of es) → Ascends-from i e (map label-of (filter has-child es))
+-- The labels of the continuing branches ascend as all labels do.
+pub ascends-from-children : (i e : ℕ) (es : List Branch) → Ascends-from i e (map label-of es) → Ascends-from i e (map label-of (filter has-child es))
 unfolding filter
 ascends-from-children i e [] c = tt
 ascends-from-children i e (to-node x ∷ es) c = (c .0, c .1, ascends-from-children (suc x) e es (c .2))

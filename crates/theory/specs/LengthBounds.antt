@@ -38,7 +38,8 @@ records-small [] bs h = omega arith
 records-small (r ∷ rs) [] h = omega arith
 records-small (r ∷ rs) (b ∷ bs) h = omega (arith, length-append (marked (r .first) (r .second) b) (write-records rs bs), h .0, records-small rs bs (h .1))
 
-header-length : (st : Settings) (c : Counts) → length (header st c) ≡ 22
+-- A header has 22 bytes.
+pub header-length : (st : Settings) (c : Counts) → length (header st c) ≡ 22
 unfolding header le32
 header-length st c = omega arith
 

@@ -19,7 +19,7 @@ use Rattle.theory.specs.LiteralImage.{Buildable}
 use Rattle.theory.specs.ImageParts.{Writable, node-image-bodies, parts-back, nodes-back, image-holds}
 
 -- The nodes of bodies that are read.
-read-nodes-bodies : (s : Bytes) (bs : List Bytes) → read-bodies rows (drop 22 s) ≡ some bs → read-nodes s ≡ nodes-of (parts s (named bs))
+pub read-nodes-bodies : (s : Bytes) (bs : List Bytes) → read-bodies rows (drop 22 s) ≡ some bs → read-nodes s ≡ nodes-of (parts s (named bs))
 unfolding read-nodes
 read-nodes-bodies s bs h = ap {B = List Node} (λ (f : Option (List Bytes)). elim f [ none ↦ [] | some bs ↦ nodes-of (parts s (named bs)) ]) h
 

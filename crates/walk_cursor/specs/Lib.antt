@@ -1,4 +1,2 @@
-pub mod Ends
 pub mod Stands
-pub mod Steps
 pub mod Places

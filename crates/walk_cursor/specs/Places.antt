@@ -6,23 +6,28 @@ use mathlib.Core.List.{List, [], _∷_}
 use mathlib.Core.Option.{some}
 use native.Mathlib.Omega.{arith}
 use native.Mathlib.Numerals.{add-one}
-use lib.ListN.{length, getD, getElem?, take, drop, length-drop}
-use lib.Dec.{eqb}
+use lib.ListN.{length, getD, getElem?, take, drop, length-drop, drop-of-length-le}
 use Rattle.spec.specs.Bytes.{Bytes, low-bits}
 use Rattle.spec.specs.Leaves.{Leaf}
 use Rattle.spec.specs.Nodes.{read-leaves, exact-slot}
 use Rattle.image_types.specs.declared.Frame.{Frame}
+use Rattle.image_types.specs.declared.ValuePos.{ValuePos}
+use Rattle.nav_laws.specs.declared.BranchKind.the-variants.{Absent}
+use Rattle.nav_laws.specs.declared.LeafStop.{LeafStop}
+use Rattle.nav_laws.specs.declared.LeafStop.the-variants.{Nowhere, Exact, Open}
+use Rattle.nav_laws.specs.declared.Path.{Path}
 use Rattle.nav_laws.specs.NumberBounds as root
 use Rattle.nav_laws.specs.Slots.{node-at, slot-of}
 use Rattle.nav_laws.specs.Accepted.{Accepted, nodes}
-use Rattle.nav_laws.specs.NextBranch.{Next-branch}
-use Rattle.walk_laws.specs.Below.{drop-next, level-branch, Root, trie-root}
-use Rattle.walk_laws.specs.Paths.{onward, standing, On-levels, standing-none, standing-exact, standing-open, onward-root}
+use Rattle.nav_laws.specs.Below.{drop-next, Root, trie-root}
+use Rattle.nav_laws.specs.Paths.{node-on, onward, downward, standing, On-levels, standing-none, standing-exact, standing-open, downward-root}
+use Rattle.nav_laws.specs.PathSteps.{ends-none}
+use Rattle.nav_paths.specs.declared.higher.Higher.{Higher}
+use Rattle.nav_paths.specs.declared.leaf.PathEnd.{PathEnd}
+use Rattle.nav_paths.specs.PathContracts.{Root-only, Has-node, Reaches, Searchable, Next-higher}
 use Rattle.walk_laws.specs.SuffixNumber.{number-zero}
 use Rattle.walk_cursor.specs.declared.Cursor.{Cursor}
-use Rattle.walk_cursor.specs.Ends.{Branch-with}
-use Rattle.walk_cursor.specs.Stands.{Stands}
-use Rattle.walk_cursor.specs.Steps.{node-in, turn-found}
+use Rattle.walk_cursor.specs.Stands.{Stands, At-leaf, Stands-at, No-leaf}
 use Rattle.theory.specs.Lists.{all-at}
 use Rattle.theory.specs.LeafLists.{Shortest}
 
@@ -41,90 +46,121 @@ found-at (x ∷ ls) (suc p) l rest e = found-at ls p l rest e
 member-at : (ls : List Leaf) (p : ℕ) (l : Leaf) (rest : List Leaf) → drop p ls ≡ l ∷ rest → (getElem? ls p ≡ some l) × (drop (p + 1) ls ≡ rest)
 member-at ls p l rest e = (found-at ls p l rest e, rw (add-one p) (drop-next ls p l rest e))
 
+-- ---- no leaf
+
+-- the cursor stands behind the last leaf
+pub stands-none : (s : Bytes) (f : Frame) (place : ℕ) (c : Cursor) → No-leaf place c → place ≤ f .leaves → drop place (read-leaves s) ≡ [] → Stands-at s f place c
+stands-none s f place c n h e = record {
+  stands = record {
+    within = omega (arith, n .place-is);
+    ends = rw (n .stop-is, n .depth-is) (ends-none s f (c .end .path .nodes));
+    leaves-are = rw (n .stop-is, n .place-is) (e ∙ sym (standing-none (f .width) (nodes s f) (c .end .path .nodes) (c .end .path .labels) (c .end .depth)));
+  };
+  place-is = n .place-is;
+}
+
+-- at the place behind all leaves
+pub stands-done : (s : Bytes) (f : Frame) → Accepted s f → (place : ℕ) (c : Cursor) → No-leaf place c → place ≡ f .leaves → Stands-at s f place c
+stands-done s f a place c n e = stands-none s f place c n (omega arith) (drop-of-length-le (read-leaves s) {i = place} (omega (arith, leaf-total s f a)))
+
 -- ---- the first place
 
-module _ (s : Bytes) (f : Frame) (a : Accepted s f) where
-  -- no leaves
-  pub empty-place : f .leaves ≡ 0 → (path : List ℕ) (cut : Bytes) → drop 0 (read-leaves s) ≡ standing (f .width) (nodes s f) path cut 0 0 0
-  empty-place h path cut = go (read-leaves s) (omega (arith, leaf-total s f a)) ∙ sym (standing-none (f .width) (nodes s f) path cut 0 0)
-    where
-      go : (ls : List Leaf) → length ls ≡ 0 → ls ≡ []
-      go [] e = refl
-      go (l ∷ ls) e = absurd (omega arith)
+module _ (s : Bytes) (f : Frame) (a : Accepted s f) (some-leaf : f .leaves ≡ 0 → ⊥) where
+  the-root : Root (nodes s f) (read-leaves s)
+  the-root = trie-root (f .width) (read-leaves s) (nodes s f) (a .realizable) (a .well-sized) (a .trie-is) (omega (arith, leaf-total s f a))
 
-  module _ (some-leaf : f .leaves ≡ 0 → ⊥) where
-    the-root : Root (nodes s f) (read-leaves s)
-    the-root = trie-root (f .width) (read-leaves s) (nodes s f) (a .realizable) (a .well-sized) (a .trie-is) (omega (arith, leaf-total s f a))
+  module _ (p : Path) (r : Root-only p) where
+    -- the root is a node of the path
+    pub root-node : Has-node s f p 0
+    root-node = record { accepted = a; deep = omega arith; on = rw (r .root-is) (the-root .on) }
 
-    pub root-in : 0 < f .dense .nodes + f .sparse .nodes
-    root-in = node-in s f a 64 0 (the-root .on)
+    root-levels : On-levels (nodes s f) (p .nodes) 0
+    root-levels i h = let z : i ≡ 0 = omega arith in rw (z, r .root-is) (the-root .on)
 
-    -- the root's first branch, and all leaves behind it
-    module _ (path : List ℕ) (cut : Bytes) (at-root : getD path 0 0 ≡ 0) (kind label p : ℕ) (b : Next-branch s f 0 0 kind label p) where
-      pub root-on : On-levels (nodes s f) path 0
-      root-on i h = let z : i ≡ 0 = omega arith in rw (z, at-root) (the-root .on)
-
-      pub root-branch : kind ≡ 0 → ⊥
-      root-branch e = level-branch (nodes s f) 64 0 (the-root .on) (sym (b .kind-is) ∙ e)
-
-      found : (onward (nodes s f) path cut 0 0 ≡ onward (nodes s f) path cut 0 label) × Branch-with s f (getD path 0 0) kind label p
-      found = turn-found s f path cut 0 0 kind label p (rw at-root b) 64 (rw at-root (the-root .on)) root-branch
-
-      pub root-taken : Branch-with s f (getD path 0 0) kind label p
-      root-taken = found .1
-
-      pub root-leaves : read-leaves s ≡ onward (nodes s f) path cut 0 label
-      root-leaves = sym (rw at-root at (onward-root (nodes s f) path cut 0) ∙ the-root .leaves) ∙ found .0
+    -- the first leaf at or below it is the first of the image
+    pub stands-first : (e : PathEnd) → Reaches s f p 0 (downward (nodes s f) (p .nodes) (p .labels) 0) e → Stands-at s f 0 (record { end = e; place = 0 })
+    stands-first e w = record {
+      stands = record {
+        within = omega arith;
+        ends = w .levels root-levels;
+        leaves-are = sym (rw (r .root-is) at (downward-root (nodes s f) (p .nodes) (p .labels)) ∙ the-root .whole) ∙ w .leaves-are;
+      };
+      place-is = refl;
+    }
 
 -- ---- a place with a leaf
 
--- from the node at this depth and this label on come the leaves behind the cursor's
+-- From the path's node at this depth and this label on come the leaves behind the cursor's.
 pub record Resumes (s : Bytes) (f : Frame) (c : Cursor) (depth from : ℕ) : Type 0 where
-  pub deep : depth < 64
-  pub label-range : from ≤ 256
-  pub on : On-levels (nodes s f) (c .nodes) depth
-  pub leaves-are : drop (c .place + 1) (read-leaves s) ≡ onward (nodes s f) (c .nodes) (c .cut) depth from
+  -- the path can be searched from there
+  pub searchable : Searchable s f (c .end .path) depth from
+  pub leaves-are : drop (c .place + 1) (read-leaves s) ≡ onward (nodes s f) (c .end .path .nodes) (c .end .path .labels) depth from
 
-module _ (s : Bytes) (f : Frame) (a : Accepted s f) (c : Cursor) (st : Stands s f c) (inside : c .place < f .leaves) where
-  leaves-by : (kind : ℕ) → c .kind ≡ kind → drop (c .place) (read-leaves s) ≡ standing (f .width) (nodes s f) (c .nodes) (c .cut) (c .len) kind (c .slot .0)
-  leaves-by kind e = rw (← e) (st .leaves-are)
+module _ (s : Bytes) (f : Frame) (c : Cursor) (w : At-leaf s f c) where
+  leaves-by : (stop : LeafStop) → c .end .stop ≡ stop → drop (c .place) (read-leaves s) ≡ standing (f .width) (nodes s f) (c .end .path .nodes) (c .end .path .labels) (c .end .depth) stop
+  leaves-by stop e = rw (← e) (w .stands .leaves-are)
 
   -- a cursor that stands at no open leaf stands at an exact one
-  pub exact-kind : (c .kind ≡ 2 → ⊥) → c .kind ≡ 1
-  exact-kind h = go (c .kind) refl
+  pub exact-stop : ((v : ValuePos) → c .end .stop ≡ Open v → ⊥) → c .end .stop ≡ Exact
+  exact-stop h = go (c .end .stop) refl
     where
-      go : (k : ℕ) → c .kind ≡ k → c .kind ≡ 1
-      go zero e = absurd (omega (arith, leaf-total s f a, length-drop (c .place) (read-leaves s), ap length (leaves-by 0 e ∙ standing-none (f .width) (nodes s f) (c .nodes) (c .cut) (c .len) (c .slot .0))))
-      go (suc zero) e = e
-      go (suc (suc k)) e = let r = st .ends .kind-range in absurd (h (omega arith))
+      go : (stop : LeafStop) → c .end .stop ≡ stop → c .end .stop ≡ Exact
+      go Nowhere e =
+          absurd (omega (arith, w .inside, leaf-total s f (w .accepted), length-drop (c .place) (read-leaves s), ap length (leaves-by Nowhere e ∙ standing-none (f .width) (nodes s f) (c .end .path .nodes) (c .end .path .labels) (c .end .depth))))
+      go Exact e = e
+      go (Open v) e = absurd (h v e)
 
-  module _ (e : c .kind ≡ 2) where
-    open-member : (getElem? (read-leaves s) (c .place) ≡ some (record { cut = take (c .len) (c .cut); exact = false; suffix = slot-of (f .width) (nodes s f) (c .slot .0) }))
-        × (drop (c .place + 1) (read-leaves s) ≡ onward (nodes s f) (c .nodes) (c .cut) (c .len - 1) (getD (c .cut) (c .len - 1) 0 + 1))
-    open-member = member-at (read-leaves s) (c .place) _ _ (leaves-by 2 e ∙ standing-open (f .width) (nodes s f) (c .nodes) (c .cut) (c .len) (c .slot .0) (st .ends .open-end e .0))
+  module _ (v : ValuePos) (e : c .end .stop ≡ Open v) where
+    open-member : (getElem? (read-leaves s) (c .place) ≡ some (record { cut = take (c .end .depth) (c .end .path .labels); exact = false; suffix = slot-of (f .width) (nodes s f) (v .0) }))
+        × (drop (c .place + 1) (read-leaves s) ≡ onward (nodes s f) (c .end .path .nodes) (c .end .path .labels) (c .end .depth - 1) (getD (c .end .path .labels) (c .end .depth - 1) 0 + 1))
+    open-member = member-at (read-leaves s) (c .place) _ _ (leaves-by (Open v) e ∙ standing-open (f .width) (nodes s f) (c .end .path .nodes) (c .end .path .labels) (c .end .depth) v (w .stands .ends .open-end v e .0))
 
     -- an open leaf, with the bits of its slot as a number
-    pub open-leaf : (x : ℕ) → low-bits (f .width) x ≡ slot-of (f .width) (nodes s f) (c .slot .0) → getElem? (read-leaves s) (c .place) ≡ some (record { cut = take (c .len) (c .cut); exact = eqb (c .kind) 1; suffix = low-bits (f .width) x })
-    open-leaf x h = rw (h, e) (open-member .0)
+    pub open-leaf : (x : ℕ) → low-bits (f .width) x ≡ slot-of (f .width) (nodes s f) (v .0) → getElem? (read-leaves s) (c .place) ≡ some (record { cut = take (c .end .depth) (c .end .path .labels); exact = false; suffix = low-bits (f .width) x })
+    open-leaf x h = rw h (open-member .0)
 
     -- behind it come the higher labels of its node
-    pub resumes-open : (depth from x : ℕ) → depth ≡ c .len - 1 → x ≡ getD (c .cut) (c .len - 1) 0 → x < 256 → from ≡ x + 1 → Resumes s f c depth from
-    resumes-open depth from x u v byte w =
-        let o = st .ends .open-end e in
-        rw (u, w, v) (record { deep = omega (arith, o .0, st .ends .depth); label-range = omega arith; on = o .2; leaves-are = open-member .1 })
+    pub resumes-open : (depth from x : ℕ) → depth ≡ c .end .depth - 1 → x ≡ getD (c .end .path .labels) (c .end .depth - 1) 0 → x < 256 → from ≡ x + 1 → Resumes s f c depth from
+    resumes-open depth from x u y byte z =
+        let o = w .stands .ends .open-end v e in
+        rw (u, z, y) (record {
+          searchable = record { accepted = w .accepted; deep = omega (arith, o .0, w .stands .ends .depth); label-range = omega arith; on = o .2 };
+          leaves-are = open-member .1;
+        })
 
-  module _ (h : c .kind ≡ 2 → ⊥) where
-    exact-member : (getElem? (read-leaves s) (c .place) ≡ some (record { cut = take (c .len) (c .cut); exact = true; suffix = exact-slot (node-at (nodes s f) (getD (c .nodes) (c .len) 0)) }))
-        × (drop (c .place + 1) (read-leaves s) ≡ onward (nodes s f) (c .nodes) (c .cut) (c .len) 0)
-    exact-member = member-at (read-leaves s) (c .place) _ _ (leaves-by 1 (exact-kind h) ∙ standing-exact (f .width) (nodes s f) (c .nodes) (c .cut) (c .len) (c .slot .0))
+  module _ (e : c .end .stop ≡ Exact) where
+    exact-member : (getElem? (read-leaves s) (c .place) ≡ some (record { cut = take (c .end .depth) (c .end .path .labels); exact = true; suffix = exact-slot (node-at (nodes s f) (node-on (c .end .path .nodes) (c .end .depth))) }))
+        × (drop (c .place + 1) (read-leaves s) ≡ onward (nodes s f) (c .end .path .nodes) (c .end .path .labels) (c .end .depth) 0)
+    exact-member = member-at (read-leaves s) (c .place) _ _ (leaves-by Exact e ∙ standing-exact (f .width) (nodes s f) (c .end .path .nodes) (c .end .path .labels) (c .end .depth))
 
     -- an exact leaf, whose suffix is all zeros
-    pub exact-leaf : (x : ℕ) → x ≡ 0 → getElem? (read-leaves s) (c .place) ≡ some (record { cut = take (c .len) (c .cut); exact = eqb (c .kind) 1; suffix = low-bits (f .width) x })
-    exact-leaf x e =
+    pub exact-leaf : getElem? (read-leaves s) (c .place) ≡ some (record { cut = take (c .end .depth) (c .end .path .labels); exact = true; suffix = low-bits (f .width) 0 })
+    exact-leaf =
         let m = exact-member .0 in
-        let z = all-at (Shortest (f .width) (read-leaves s)) (read-leaves s) (c .place) _ (a .realizable .shortest) m .blank refl in
-        rw (e, exact-kind h, number-zero (f .width)) (rw z at m)
+        let z = all-at (Shortest (f .width) (read-leaves s)) (read-leaves s) (c .place) _ (w .accepted .realizable .shortest) m .blank refl in
+        rw (number-zero (f .width)) (rw z at m)
 
     -- behind it come its node's branches
-    pub resumes-exact : (depth from : ℕ) → depth ≡ c .len → from ≡ 0 → Resumes s f c depth from
-    resumes-exact depth from u v = let o = st .ends .exact-end (exact-kind h) in rw (u, v) (record { deep = o .0; label-range = omega arith; on = o .1; leaves-are = exact-member .1 })
+    pub resumes-exact : (depth from : ℕ) → depth ≡ c .end .depth → from ≡ 0 → Resumes s f c depth from
+    resumes-exact depth from u v =
+        let o = w .stands .ends .exact-end e in
+        rw (u, v) (record { searchable = record { accepted = w .accepted; deep = o .0; label-range = omega arith; on = o .1 }; leaves-are = exact-member .1 })
+
+  -- ---- the next place
+
+  module _ (depth from : ℕ) (r : Resumes s f c depth from) (h : Higher) (n : Next-higher s f (c .end .path) depth from h) where
+    -- no higher branch is left: behind the last leaf
+    pub stands-last : h .branch .kind ≡ Absent → (d : Cursor) → No-leaf (c .place + 1) d → Stands-at s f (c .place + 1) d
+    stands-last e d q = stands-none s f (c .place + 1) d q (omega (arith, w .inside)) (r .leaves-are ∙ n .none e)
+
+    -- one is left: the first leaf behind it
+    pub stands-next : (h .branch .kind ≡ Absent → ⊥) → (e : PathEnd) → Reaches s f (c .end .path) (h .depth) (onward (nodes s f) (c .end .path .nodes) (c .end .path .labels) (h .depth) (h .branch .label)) e
+        → Stands-at s f (c .place + 1) (record { end = e; place = c .place + 1 })
+    stands-next there e g = record {
+      stands = record {
+        within = omega (arith, w .inside);
+        ends = g .levels (λ i l. r .searchable .on i (omega (arith, n .above)));
+        leaves-are = r .leaves-are ∙ n .found there .leaves-are ∙ g .leaves-are;
+      };
+      place-is = refl;
+    }

@@ -1,102 +1,78 @@
 // The leaf cursor of a walk: from leaf to leaf of an accepted image in key order. It keeps the path from the root, so that a whole walk goes down and up each branch once.
 ghost use mathlib.Core.Path.{_≡_};
-ghost use mathlib.Core.Option.{some};
 ghost use Prim.Native.Nat.{_+_, _<_};
-ghost use lib.ListN.{getElem?};
 ghost use Rattle.spec.specs.Bytes.{low-bits};
-ghost use Rattle.spec.specs.Nodes.{read-leaves};
 ghost use Rattle.nav_laws.specs.Slots.{slot-of};
-ghost use Rattle.image_types.specs.Value.{leaf-of, Sized};
 ghost use Rattle.nav_laws.specs.Accepted.{Accepted, nodes};
-ghost use Rattle.walk_cursor.specs.Stands.{Stands};
+ghost use Rattle.walk_cursor.specs.Stands.{At-leaf, Stands-at, No-leaf, Is-leaf};
 use bits::numbers::wide;
 use image_types::Frame;
 use image_types::Leaf;
-use image_types::NodeNum;
 use image_types::ValuePos;
-use nav::branches::next_branch;
-use paths::climb;
-use paths::descend;
+use nav::branches::is_there;
+use nav_laws::LeafStop;
+use nav_paths::higher::next_higher;
+use nav_paths::leaf::PathEnd;
+use nav_paths::leaf::first_behind;
+use nav_paths::leaf::first_leaf;
+use nav_paths::root_path;
 use query_point::suffix::slot_bits;
 
-mod paths; // paths.rt: a path up to its next branch, and down to the first leaf behind it
-
-// A place of a walk: the nodes from the root on, the labels taken at them, which are the cut key, and how many labels there are;
-// the kind of the leaf, 0 behind the last one, 1 exact, 2 open; an open leaf's slot; and the leaf's number in key order.
+// A place of a walk: the path to the leaf, whose labels are the cut key, and the leaf's number in key order. Behind the last leaf the path ends nowhere.
 pub struct Cursor {
-    pub nodes: [usize; 64],
-    pub cut: [u8; 64],
-    pub len: usize,
-    pub kind: usize,
-    pub slot: ValuePos,
+    pub end: PathEnd,
     pub place: usize,
+}
+
+// The cursor at no leaf.
+pub fn at_no_leaf(place: usize) -> Cursor
+    ensures { λ r. ⌜ No-leaf place r ⌝ }
+{
+    let path = root_path();
+    let end = PathEnd {
+        path,
+        stop: LeafStop::Nowhere,
+        depth: 0,
+    };
+    Cursor { end, place }
 }
 
 // The first leaf of an image.
 pub fn first(image: &[u8], f: Frame) -> Cursor
     requires { ⌜ Accepted (now image) f ⌝ }
-    ensures { λ r. ⌜ Stands (now (image .entry)) f r × (r .place ≡ 0) ⌝ }
+    ensures { λ r. ⌜ Stands-at (now (image .entry)) f 0 r ⌝ }
 {
-    let mut path = [0usize; 64];
-    let mut cut = [0u8; 64];
     if f.leaves == 0 {
-        return Cursor {
-            nodes: path,
-            cut: cut,
-            len: 0,
-            kind: 0,
-            slot: ValuePos(0),
-            place: 0,
-        };
+        return at_no_leaf(0);
     }
-    let branch = next_branch(image, f, NodeNum(0), 0);
-    let end = descend(image, f, &mut path, &mut cut, 0, branch);
-    let slot = end.slot;
-    Cursor {
-        nodes: path,
-        cut: cut,
-        len: end.depth,
-        kind: end.kind,
-        slot: slot,
-        place: 0,
-    }
+    let path = root_path();
+    let end = first_leaf(image, f, path, 0);
+    Cursor { end, place: 0 }
 }
 
-// The leaf behind the one where the cursor stands: up to the next branch that has not been passed, and down to the first leaf behind it.
+// The leaf behind the one where the cursor stands: up to the next higher branch, and down to the first leaf behind it.
 pub fn step(image: &[u8], f: Frame, c: Cursor) -> Cursor
-    requires { ⌜ Accepted (now image) f × Stands (now image) f c × (c .place < f .leaves) ⌝ }
-    ensures { λ r. ⌜ Stands (now (image .entry)) f r × (r .place ≡ c .place + 1) ⌝ }
+    requires { ⌜ At-leaf (now image) f c ⌝ }
+    ensures { λ r. ⌜ Stands-at (now (image .entry)) f (c .place + 1) r ⌝ }
 {
-    let mut path = c.nodes;
-    let mut cut = c.cut;
-    let mut depth = c.len;
+    let place = c.place + 1;
+    let at = c.end;
+    let path = at.path;
+    let stop = at.stop;
+    let mut depth = at.depth;
     let mut from = 0usize;
-    if c.kind == 2 {
+    if let LeafStop::Open(_) = stop {
         depth = depth - 1;
-        from = wide(cut[depth]) + 1;
+        from = wide(path.labels[depth]) + 1;
     }
-    let turn = climb(image, f, &path, &cut, depth, from);
-    let branch = turn.branch;
-    if branch.kind == 0 {
-        return Cursor {
-            nodes: path,
-            cut: cut,
-            len: 0,
-            kind: 0,
-            slot: ValuePos(0),
-            place: c.place + 1,
-        };
+    let higher = next_higher(image, f, path, depth, from);
+    let branch = higher.branch;
+    let kind = branch.kind;
+    if is_there(kind) {
+        let end = first_behind(image, f, path, higher.depth, branch);
+        return Cursor { end, place };
     }
-    let end = descend(image, f, &mut path, &mut cut, turn.depth, branch);
-    let slot = end.slot;
-    Cursor {
-        nodes: path,
-        cut: cut,
-        len: end.depth,
-        kind: end.kind,
-        slot: slot,
-        place: c.place + 1,
-    }
+    at_no_leaf(place)
 }
 
 // The bits of a slot as a number, the first bit lowest; what stands above the width's bits is not said.
@@ -112,19 +88,27 @@ fn suffix(image: &[u8], f: Frame, slot: ValuePos) -> usize
 
 // The leaf where the cursor stands. The suffix of an exact leaf is all zeros.
 pub fn leaf_at(image: &[u8], f: Frame, c: Cursor) -> Leaf
-    requires { ⌜ Accepted (now image) f × Stands (now image) f c × (c .place < f .leaves) ⌝ }
-    ensures { λ r. ⌜ (getElem? (read-leaves (now (image .entry))) (c .place) ≡ some (leaf-of r)) × Sized r ⌝ }
+    requires { ⌜ At-leaf (now image) f c ⌝ }
+    ensures { λ r. ⌜ Is-leaf (now (image .entry)) (c .place) r ⌝ }
 {
-    let cut = c.cut;
-    let mut bits = 0usize;
-    if c.kind == 2 {
-        bits = suffix(image, f, c.slot);
-    }
+    let at = c.end;
+    let path = at.path;
+    let cut = path.labels;
+    let stop = at.stop;
+    let LeafStop::Open(slot) = stop else {
+        return Leaf {
+            cut,
+            len: at.depth,
+            exact: true,
+            suffix: 0,
+            width: f.width,
+        };
+    };
     Leaf {
-        cut: cut,
-        len: c.len,
-        exact: c.kind == 1,
-        suffix: bits,
+        cut,
+        len: at.depth,
+        exact: false,
+        suffix: suffix(image, f, slot),
         width: f.width,
     }
 }

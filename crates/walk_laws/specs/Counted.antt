@@ -5,7 +5,7 @@ use mathlib.Core.Bool.{Bool, true, false}
 use mathlib.Core.List.{List, [], _∷_, _++_, map, map-append, append-assoc}
 use mathlib.Core.Option.{Option, none, some}
 use native.Mathlib.Omega.{arith}
-use lib.ListN.{length, getD, take, drop, length-append, length-map, take-append-drop}
+use lib.ListN.{length, take, drop, length-append, length-map, take-append-drop}
 use lib.Seq.{take-nil, drop-at, drop-drop}
 use lib.Dec.{leb}
 use borrow.Author.Tests.{leb-true, leb-false, le-leb, lt-leb}
@@ -13,14 +13,16 @@ use Rattle.spec.specs.Bytes.{Bytes, Bits, bit}
 use Rattle.spec.specs.Leaves.{Leaf}
 use Rattle.spec.specs.Nodes.{Group, Branch, to-node, to-leaf, Node, node, label-of, branches-of, is-exact, prefix, exact-leaf, children, total, children-of}
 use Rattle.spec.specs.Trie.{open-leaves, leaf-count}
+use Rattle.image_types.specs.declared.NodeNum.{NodeNum}
+use Rattle.nav_laws.specs.declared.BranchKind.the-variants.{Absent}
 use Rattle.nav_laws.specs.Counting.{labels-below, none-below-zero}
 use Rattle.nav_laws.specs.Slots.{node-at, leaves-before, slot-number}
-use Rattle.nav_laws.specs.Descent.{children-before, child-number}
+use Rattle.nav_laws.specs.Descent.{children-before, child-number, children-split}
+use Rattle.nav_laws.specs.NumberBounds.{open-split}
 use Rattle.nav_laws.specs.NextLabel.{first-kind, first-label}
-use Rattle.query_laws.specs.Next.{behind}
 use Rattle.query_laws.specs.LevelSums.{slots-between, slots-below, slots-nothing}
-use Rattle.walk_laws.specs.Below.{behind-branches, own-slot, below, from-label}
-use Rattle.walk_laws.specs.Paths.{rest, onward}
+use Rattle.nav_laws.specs.Below.{behind, behind-branches, own-slot, below, from-label}
+use Rattle.nav_laws.specs.Paths.{node-on, rest, onward}
 
 -- ---- sums of slot numbers
 
@@ -70,29 +72,14 @@ node-summed ns (suc l) m =
     let f : 1 + total children-of (take (suc m) ns) ≡ c + children es = omega (arith, kids-next ns m) in
     rw (e, f) (omega (arith, leaves-next ns m, branches-summed ns l (node-summed ns l) es c, length-append (exact-leaf (own-slot (node-at ns m))) (behind-branches (below ns l) es c), own-length (node-at ns m)))
 
--- branches cut in two
-kids-cut : (i : ℕ) (es : List Branch) → children (take i es) + children (drop i es) ≡ children es
-unfolding children
-kids-cut zero es = omega arith
-kids-cut (suc i) [] = refl
-kids-cut (suc i) (to-leaf x s ∷ es) = kids-cut i es
-kids-cut (suc i) (to-node x ∷ es) = omega (arith, kids-cut i es)
-
-leaves-cut : (i : ℕ) (es : List Branch) → open-leaves (take i es) + open-leaves (drop i es) ≡ open-leaves es
-unfolding open-leaves
-leaves-cut zero es = omega arith
-leaves-cut (suc i) [] = refl
-leaves-cut (suc i) (to-leaf x s ∷ es) = omega (arith, leaves-cut i es)
-leaves-cut (suc i) (to-node x ∷ es) = leaves-cut i es
-
 -- A branch's sum and the leaves behind the branches from it on are the sum at the node behind its node, whichever branch it is.
 pub branch-summed : (ns : List Node) (l m i : ℕ) → branch-sum ns l m i + length (behind-branches (below ns l) (drop i (branches-of (node-at ns m))) (child-number ns m i)) ≡ slots-between ns (suc l) (suc m)
 unfolding slots-between slot-number child-number leaves-before children-before
 branch-summed ns l m i =
     let es : List Branch = branches-of (node-at ns m) in
     let c : ℕ = 1 + (total children-of (take m ns) + children (take i es)) in
-    let f : 1 + total children-of (take (suc m) ns) ≡ c + children (drop i es) = omega (arith, kids-next ns m, kids-cut i es) in
-    rw (f, slots-nothing ns l c) (omega (arith, leaves-next ns m, leaves-cut i es, branches-summed ns l (node-summed ns l) (drop i es) c))
+    let f : 1 + total children-of (take (suc m) ns) ≡ c + children (drop i es) = omega (arith, kids-next ns m, children-split i es) in
+    rw (f, slots-nothing ns l c) (omega (arith, leaves-next ns m, open-split i es, branches-summed ns l (node-summed ns l) (drop i es) c))
 
 -- ---- the leaves from a label on
 
@@ -154,24 +141,24 @@ from-later ns l m y z h =
 -- ---- labels
 
 -- the first label that is not below y is not below y
-pub first-reached : (y : ℕ) (es : List Branch) → (first-kind (drop (labels-below y es) es) ≡ 0 → ⊥) → y ≤ first-label (drop (labels-below y es) es)
+pub first-reached : (y : ℕ) (es : List Branch) → (first-kind (drop (labels-below y es) es) ≡ Absent → ⊥) → y ≤ first-label (drop (labels-below y es) es)
 unfolding labels-below first-kind first-label
 first-reached y [] h = absurd (h refl)
 first-reached y (e ∷ es) h = go (leb y (label-of e)) refl (first-reached y es) h
   where
-    go : (b : Bool) → leb y (label-of e) ≡ b → ((first-kind (drop (labels-below y es) es) ≡ 0 → ⊥) → y ≤ first-label (drop (labels-below y es) es)) → (first-kind (drop (elim b [ true ↦ 0 | false ↦ suc (labels-below y es) ]) (e ∷ es)) ≡ 0 → ⊥)
+    go : (b : Bool) → leb y (label-of e) ≡ b → ((first-kind (drop (labels-below y es) es) ≡ Absent → ⊥) → y ≤ first-label (drop (labels-below y es) es)) → (first-kind (drop (elim b [ true ↦ 0 | false ↦ suc (labels-below y es) ]) (e ∷ es)) ≡ Absent → ⊥)
         → y ≤ first-label (drop (elim b [ true ↦ 0 | false ↦ suc (labels-below y es) ]) (e ∷ es))
     go true q ih n = leb-true y (label-of e) q
     go false q ih n = ih n
 
 -- a label behind z leaves no branch between y and z
-pub none-between : (y z : ℕ) (es : List Branch) → (first-kind (drop (labels-below y es) es) ≡ 0 → ⊥) → z ≤ first-label (drop (labels-below y es) es) → labels-below z es ≤ labels-below y es
+pub none-between : (y z : ℕ) (es : List Branch) → (first-kind (drop (labels-below y es) es) ≡ Absent → ⊥) → z ≤ first-label (drop (labels-below y es) es) → labels-below z es ≤ labels-below y es
 unfolding labels-below first-kind first-label
 none-between y z [] h l = absurd (h refl)
 none-between y z (e ∷ es) h l = go (leb y (label-of e)) refl (leb z (label-of e)) refl (none-between y z es) h l
   where
     go : (b : Bool) → leb y (label-of e) ≡ b → (c : Bool) → leb z (label-of e) ≡ c
-        → ((first-kind (drop (labels-below y es) es) ≡ 0 → ⊥) → z ≤ first-label (drop (labels-below y es) es) → labels-below z es ≤ labels-below y es) → (first-kind (drop (elim b [ true ↦ 0 | false ↦ suc (labels-below y es) ]) (e ∷ es)) ≡ 0 → ⊥)
+        → ((first-kind (drop (labels-below y es) es) ≡ Absent → ⊥) → z ≤ first-label (drop (labels-below y es) es) → labels-below z es ≤ labels-below y es) → (first-kind (drop (elim b [ true ↦ 0 | false ↦ suc (labels-below y es) ]) (e ∷ es)) ≡ Absent → ⊥)
         → z ≤ first-label (drop (elim b [ true ↦ 0 | false ↦ suc (labels-below y es) ]) (e ∷ es))
         → elim c [ true ↦ 0 | false ↦ suc (labels-below z es) ] ≤ elim b [ true ↦ 0 | false ↦ suc (labels-below y es) ]
     go b p true q ih n l = omega arith
@@ -181,11 +168,11 @@ none-between y z (e ∷ es) h l = go (leb y (label-of e)) refl (leb z (label-of 
 -- ---- leaves passed on a path
 
 -- Behind k leaves of the path's node come those behind k - n of them from the label y on, where n stand before it.
-pub onward-passed : (ns : List Node) (path : List ℕ) (cut : Bytes) (d y k n : ℕ) → n + leaves-from ns (63 - d) (getD path d 0) y ≡ leaves-from ns (63 - d) (getD path d 0) 0 → n ≤ k
+pub onward-passed : (ns : List Node) (path : List NodeNum) (cut : Bytes) (d y k n : ℕ) → n + leaves-from ns (63 - d) (node-on path d) y ≡ leaves-from ns (63 - d) (node-on path d) 0 → n ≤ k
     → drop k (onward ns path cut d 0) ≡ drop (k - n) (onward ns path cut d y)
 unfolding onward
 onward-passed ns path cut d y k n e h =
-    let m : ℕ = getD path d 0 in
+    let m : ℕ = node-on path d in
     let p = from-cut ns (63 - d) m y in
     let size : length (map (behind (take d cut)) (p .0)) ≡ n = omega (arith, length-map (p .0) (behind (take d cut)), ap length (p .1), length-append (p .0) (from-label ns (63 - d) m y)) in
     let s : n + (k - n) ≡ k = omega arith in

@@ -1,5 +1,3 @@
-pub mod Below
-pub mod Paths
 pub mod SuffixNumber
 pub mod Opening
 pub mod LeafValues

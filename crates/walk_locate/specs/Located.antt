@@ -1,20 +1,20 @@
 -- What the functions that go straight to a place ask and give.
 use Prim.Native.Nat.{ℕ, _+_, _-_, _<_, _≤_}
 use mathlib.Core.Path.{_≡_}
-use mathlib.Core.List.{List}
-use lib.ListN.{length, getD, drop}
+use lib.ListN.{drop}
 use Rattle.spec.specs.Bytes.{Bytes}
 use Rattle.spec.specs.Nodes.{read-leaves}
 use Rattle.image_types.specs.declared.Frame.{Frame}
+use Rattle.nav_laws.specs.declared.BranchKind.the-variants as Kind
 use Rattle.nav_laws.specs.Accepted.{Accepted, nodes}
 use Rattle.nav_laws.specs.Positions.{place, child-at, slot-at, Within, Branch-at}
-use Rattle.nav_laws.specs.NextBranch.{Next-branch}
-use Rattle.walk_laws.specs.Below.{On-level}
-use Rattle.walk_laws.specs.Paths.{standing}
+use Rattle.nav_laws.specs.FoundBranch.{node-count}
+use Rattle.nav_laws.specs.Below.{On-level}
+use Rattle.nav_laws.specs.Paths.{standing}
+use Rattle.nav_laws.specs.PathSteps.{Branch-from, Ends}
+use Rattle.nav_paths.specs.declared.leaf.PathEnd.{PathEnd}
 use Rattle.walk_laws.specs.Counted.{leaves-from}
-use Rattle.walk_cursor.specs.Ends.{Ends}
 use Rattle.walk_locate.specs.declared.branch.Range.{Range}
-use Rattle.walk_locate.specs.declared.descent.LeafEnd.{LeafEnd}
 
 -- how many leaves stand behind the branches of node m, which is at depth d, from the label y on
 abbrev pub leaves-at : Bytes → Frame → ℕ → ℕ → ℕ → ℕ
@@ -26,7 +26,7 @@ pub record Summable (s : Bytes) (f : Frame) (m d p : ℕ) : Type 0 where
   pub deep : d < 64
   pub within : Within s f m p
   -- the node behind it is one of the image's, or behind the last
-  pub node-range : child-at s f m p ≤ f .dense .nodes + f .sparse .nodes
+  pub node-range : child-at s f m p ≤ node-count f
   pub slot-range : slot-at s f m p ≤ 65535
 
 -- More than skip leaves stand behind the branches of node m, which is at depth d.
@@ -41,8 +41,8 @@ pub record Ranges (s : Bytes) (f : Frame) (m d skip : ℕ) (r : Range) : Type 0 
   pub first-at : Branch-at s f m (place s f m 0) (r .first .0)
   -- the low branch is the first one from this label on
   pub from : ℕ
-  pub low-is : Next-branch s f m from (r .low .kind) (r .low .label) (r .low .at .0)
-  pub there : r .low .kind ≡ 0 → ⊥
+  pub low-is : Branch-from s f m from (r .low)
+  pub there : r .low .kind ≡ Kind.Absent → ⊥
   -- so many leaves of the node stand before the low branch, no more than skip
   pub counted : r .before + leaves-at s f d m from ≡ leaves-at s f d m 0
   pub reached : r .before ≤ skip
@@ -50,6 +50,10 @@ pub record Ranges (s : Bytes) (f : Frame) (m d skip : ℕ) (r : Range) : Type 0 
   pub passed : skip + leaves-at s f d m (r .high) < leaves-at s f d m 0
   pub order : r .low .label < r .high
   pub labels : r .high ≤ 256
+
+-- the range with another label behind it
+abbrev pub lowered-range : Range → ℕ → Range
+lowered-range r high = record { first = r .first; low = r .low; before = r .before; high = high }
 
 -- The range is narrower than before.
 pub record Narrows (s : Bytes) (f : Frame) (m d skip : ℕ) (was r : Range) : Type 0 where
@@ -61,15 +65,7 @@ pub record Takes (s : Bytes) (f : Frame) (m d skip : ℕ) (r : Range) : Type 0 w
   pub ranges : Ranges s f m d skip r
   pub single : r .high ≡ r .low .label + 1
 
--- A path from the root can be written: it has room for 64 nodes and labels, and the leaf at the place is one of the image's.
-pub record Path-room (s : Bytes) (f : Frame) (path : List ℕ) (cut : Bytes) (place : ℕ) : Type 0 where
-  pub accepted : Accepted s f
-  pub nodes-room : length path ≡ 64
-  pub labels-room : length cut ≡ 64
-  pub root : getD path 0 0 ≡ 0
-  pub inside : place < f .leaves
-
 -- The path ends at the leaf at the place: that leaf and those behind the path are the leaves from the place on.
-pub record Leads (s : Bytes) (f : Frame) (place : ℕ) (path : List ℕ) (cut : Bytes) (e : LeafEnd) : Type 0 where
-  pub ends : Ends s f path (e .depth) (e .kind) (e .slot .0)
-  pub leaves-are : drop place (read-leaves s) ≡ standing (f .width) (nodes s f) path cut (e .depth) (e .kind) (e .slot .0)
+pub record Leads (s : Bytes) (f : Frame) (place : ℕ) (e : PathEnd) : Type 0 where
+  pub ends : Ends s f (e .path .nodes) (e .depth) (e .stop)
+  pub leaves-are : drop place (read-leaves s) ≡ standing (f .width) (nodes s f) (e .path .nodes) (e .path .labels) (e .depth) (e .stop)

@@ -5,13 +5,14 @@ ghost use Prim.Native.Nat.{_+_, _-_, _<_};
 ghost use Rattle.nav_laws.specs.Accepted.{nodes};
 ghost use Rattle.nav_laws.specs.Positions.{child-at, slot-at};
 ghost use Rattle.query_laws.specs.LevelSums.{slots-below};
-ghost use Rattle.walk_locate.specs.Located.{Summable, More-leaves, Ranges, Narrows, Takes};
+ghost use Rattle.walk_locate.specs.Located.{lowered-range, Summable, More-leaves, Ranges, Narrows, Takes};
 use image_types::BitPos;
 use image_types::Frame;
 use image_types::NodeNum;
 use nav::behind::child_and_slot;
-use nav::branches::NextBranch;
+use nav::branches::is_there;
 use nav::branches::next_branch;
+use nav_laws::NextBranch;
 use query_count::levels::LevelSum;
 use query_count::levels::sum_below;
 
@@ -38,11 +39,25 @@ fn branch_sum(image: &[u8], f: Frame, m: NodeNum, depth: usize, at: BitPos) -> u
         image,
         f,
         LevelSum {
-            node: child.0,
+            node: child,
             depth: depth + 1,
             sum: slot.0,
         },
     )
+}
+
+// A range with another label behind it.
+fn lowered(r: Range, high: usize) -> Range
+    ensures { λ n. ⌜ n ≡ lowered-range r high ⌝ }
+{
+    let first = r.first;
+    let low = r.low;
+    Range {
+        first,
+        low,
+        before: r.before,
+        high,
+    }
 }
 
 // A range that is narrower by half at least, by the first branch from its middle on: it becomes the low one if no more than skip leaves stand before it.
@@ -55,36 +70,22 @@ fn narrow(image: &[u8], f: Frame, m: NodeNum, depth: usize, skip: usize, r: Rang
     let first = r.first;
     let middle = low.label + (r.high - low.label) / 2;
     let b = next_branch(image, f, m, middle);
-    if b.kind == 0 {
-        return Range {
-            first: first,
-            low: low,
-            before: r.before,
-            high: middle,
-        };
+    let kind = b.kind;
+    if !is_there(kind) {
+        return lowered(r, middle);
     }
     if r.high <= b.label {
-        return Range {
-            first: first,
-            low: low,
-            before: r.before,
-            high: middle,
-        };
+        return lowered(r, middle);
     }
     let start = branch_sum(image, f, m, depth, first);
     let before = branch_sum(image, f, m, depth, b.at) - start;
     if skip < before {
-        return Range {
-            first: first,
-            low: low,
-            before: r.before,
-            high: middle,
-        };
+        return lowered(r, middle);
     }
     Range {
-        first: first,
+        first,
         low: b,
-        before: before,
+        before,
         high: r.high,
     }
 }
@@ -97,8 +98,8 @@ pub fn take_branch(image: &[u8], f: Frame, m: NodeNum, depth: usize, skip: usize
     let low = next_branch(image, f, m, 0);
     let first = low.at;
     let mut r = Range {
-        first: first,
-        low: low,
+        first,
+        low,
         before: 0,
         high: LABELS,
     };

@@ -1,13 +1,12 @@
 // The cursor at a place of a walk, straight from the root: on each level the branch is taken behind which the leaf at the place stands.
 // How many leaves stand before a branch is told by sums of slot numbers, as the place of a seek is, so that a level costs a few operations and no leaf before the place is visited.
-ghost use mathlib.Core.Path.{_≡_};
 ghost use Prim.Native.Nat.{_≤_};
 ghost use Rattle.nav_laws.specs.Accepted.{Accepted};
-ghost use Rattle.walk_cursor.specs.Stands.{Stands};
+ghost use Rattle.walk_cursor.specs.Stands.{Stands-at};
 use descent::descend_to;
 use image_types::Frame;
-use image_types::ValuePos;
 use walk_cursor::Cursor;
+use walk_cursor::at_no_leaf;
 
 pub mod branch; // branch.rt: the branch of a node before which so many of its leaves stand
 pub mod descent; // descent.rt: the path from the root to the leaf at a place
@@ -15,28 +14,11 @@ pub mod descent; // descent.rt: the path from the root to the leaf at a place
 // The cursor at a place of an accepted image.
 pub fn cursor_at(image: &[u8], f: Frame, place: usize) -> Cursor
     requires { ⌜ Accepted (now image) f × (place ≤ f .leaves) ⌝ }
-    ensures { λ r. ⌜ Stands (now (image .entry)) f r × (r .place ≡ place) ⌝ }
+    ensures { λ r. ⌜ Stands-at (now (image .entry)) f place r ⌝ }
 {
-    let mut path = [0usize; 64];
-    let mut cut = [0u8; 64];
     if place == f.leaves {
-        return Cursor {
-            nodes: path,
-            cut: cut,
-            len: 0,
-            kind: 0,
-            slot: ValuePos(0),
-            place: place,
-        };
+        return at_no_leaf(place);
     }
-    let end = descend_to(image, f, &mut path, &mut cut, place);
-    let slot = end.slot;
-    Cursor {
-        nodes: path,
-        cut: cut,
-        len: end.depth,
-        kind: end.kind,
-        slot: slot,
-        place: place,
-    }
+    let end = descend_to(image, f, place);
+    Cursor { end, place }
 }

@@ -1,35 +1,38 @@
+-- The leaves behind the cursor's are those from the next higher branch of its path on.
 use borrow.Author.Needs.{needs}
 use native.Mathlib.Omega.{arith}
-use mathlib.Core.Path.{_≡_, refl, sym, _∙_}
+use mathlib.Core.Path.{_≡_, sym, _∙_}
 use mathlib.Core.Logic.{⊎-elim}
-use lib.ListN.{length, length-map}
-use Rattle.walk_laws.specs.Paths.{standing-none}
-use Rattle.nav_laws.specs.Accepted.{nodes}
-use Rattle.walk_cursor.specs.Ends.{ends-none}
-use Rattle.walk_cursor.specs.Places.{Resumes, resumes-open, resumes-exact}
+use Rattle.nav_laws.specs.declared.BranchKind.the-variants.{Absent}
+use Rattle.nav_laws.specs.NextLabel.{there-not, not-there}
+use Rattle.walk_cursor.specs.Places.{Resumes, exact-stop, resumes-open, resumes-exact, stands-last, stands-next}
+use Rattle.walk_cursor.proofs.Stops.{not-open}
 use Rattle.walk_cursor.proofs.step.Statement.{statement}
 use Rattle.walk_cursor.proofs.step.Tie as tie
 
--- the arrays of the cursor have 64 elements
-nodes-length : (c : tie.Start) → length (c .args .c .nodes) ≡ 64
-nodes-length c = sym (length-map (c .args .c .nodes) (λ v. v)) ∙ c .good .1 .1 .0 .1 .1 .0 .1 .0 .1
+-- the function's entry
+abbrev start : tie.At-match-came → tie.Start
+start c = c .before .before .before .before .before
 
-cut-length : (c : tie.Start) → length (c .args .c .cut) ≡ 64
-cut-length c = sym (length-map (c .args .c .cut) (λ v. v)) ∙ c .good .1 .1 .0 .1 .1 .1 .0 .1 .0 .1
-
--- from the depth and the label that the climb starts with come the leaves behind the cursor's
-resumed : (c : tie.Joined1) → Resumes (c .before .before .before .before .before .args .image .now) (c .before .before .before .before .before .args .f) (c .before .before .before .before .before .args .c) (c .if1 .depth) (c .if1 .from)
+-- from the depth and the label that the search starts with come the leaves behind the cursor's
+resumed : (c : tie.At-match-came) → Resumes (start c .args .image .now) (start c .args .f) (start c .args .c) (c .match .depth) (c .match .from)
 resumed c =
-    let a = c .before .before .before .before .before .args in
-    let p = c .before .before .before .before .before .pre in
-    ⊎-elim (λ w. resumes-open (a .image .now) (a .f) (p .0) (a .c) (p .1) (p .2) (w .0 .taken) (c .if1 .depth) (c .if1 .from) (w .1 .result) (w .2) (w .1 .ensures .0) (w .1 .ensures .1) (w .3))
-    (λ w. resumes-exact (a .image .now) (a .f) (p .0) (a .c) (p .1) (p .2) (w .0 .left) (c .if1 .depth) (c .if1 .from) (w .1) (w .2)) (c .if1 .came)
+    let b = start c in
+    let a = b .args in
+    ⊎-elim (λ w. resumes-open (a .image .now) (a .f) (a .c) (b .pre) _ (w .1 .given .1) (c .match .depth) (c .match .from) (w .3 .result) (w .4) (w .3 .ensures .0) (w .3 .ensures .1) (w .5))
+    (λ w. resumes-exact (a .image .now) (a .f) (a .c) (b .pre) (exact-stop (a .image .now) (a .f) (a .c) (b .pre) (not-open (a .c .end .stop) (w .0 .keys2))) (c .match .depth) (c .match .from) (w .1) (w .2)) (c .match .came)
+
+add-place : tie.Need-add-place
+add-place c = search needs
+
+enum-told : tie.Need-enum-told
+enum-told c = search needs
 
 sub-depth : tie.Need-sub-depth
-sub-depth c = omega (arith, c .before .before .before .before .before .pre .1 .ends .open-end (c .if1 .taken) .0)
+sub-depth c = omega (arith, c .before .before .before .before .before .before .pre .stands .ends .open-end _ (c .enum-told .given .1) .0)
 
-array-read-wide : tie.Need-array-read-wide
-array-read-wide c = search needs
+element-copy-out-wide : tie.Need-element-copy-out-wide
+element-copy-out-wide c = search needs
 
 wide-requires : tie.Need-wide-requires
 wide-requires c κs = search needs
@@ -37,47 +40,54 @@ wide-requires c κs = search needs
 add-from : tie.Need-add-from
 add-from c = search needs
 
-climb-requires : tie.Need-climb-requires
-climb-requires c κs =
-    let r = resumed (c .before .before) in
-    (c .before .before .before .before .before .before .before .pre .0, r .deep, r .label-range, r .on)
+next-higher-requires : tie.Need-next-higher-requires
+next-higher-requires c κs = resumed c .searchable
 
-add-t22 : tie.Need-add-t22
-add-t22 c = search needs
+is-there-requires : tie.Need-is-there-requires
+is-there-requires c κs = search needs
+
+-- a branch is left
+branch-left : (c : tie.Then1) → c .before .before .before .next-higher .result .branch .kind ≡ Absent → ⊥
+branch-left c = there-not (c .before .before .before .next-higher .result .branch .kind) (sym (c .before .is-there .ensures) ∙ c .if1 .taken)
+
+first-behind-requires : tie.Need-first-behind-requires
+first-behind-requires c κs =
+    let h = c .before .before .before in
+    (start (h .before) .pre .accepted, h .next-higher .ensures .found (branch-left c) .branch)
 
 returns : tie.Need-returns
 returns c =
-    let a = c .before .before .before .before .before .before .before .before .before .before .before .before .args in
-    let p = c .before .before .before .before .before .before .before .before .before .before .before .before .pre in
-    let r = resumed (c .before .before .before .before .before .before .before) in
-    (record { within = omega (arith, p .2); ends = ends-none (a .image .now) (a .f) (a .c .nodes); leaves-are = r .leaves-are ∙ c .before .before .before .before .climb .ensures .1 (c .before .if2 .taken) ∙ sym (standing-none (a .f .width) (nodes (a .image .now) (a .f)) (a .c .nodes) (a .c .cut) 0 0) }, refl)
+    let h = c .before .before .before .before in
+    let m = h .before in
+    let b = start m in
+    let a = b .args in
+    stands-next (a .image .now) (a .f) (a .c) (b .pre) (m .match .depth) (m .match .from) (resumed m) (h .next-higher .result) (h .next-higher .ensures) (branch-left (c .before)) (c .first-behind .result) (c .first-behind .ensures)
 
-descend-requires : tie.Need-descend-requires
-descend-requires c κs =
-    let r = resumed (c .before .before .before .before .before .before .before .before) in
-    let t = c .before .before .before .before .before .climb in
-    (c .before .before .before .before .before .before .before .before .before .before .before .before .before .pre .0, omega (arith, t .ensures .0, r .deep), nodes-length (c .before .before .before .before .before .before .before .before .before .before .before .before .before), cut-length (c .before .before .before .before .before .before .before .before .before .before .before .before .before), λ i h. r .on i (omega (arith, t .ensures .0)), c .before .before .if2 .left, t .ensures .2 (c .before .before .if2 .left) .1)
-
-add-t27 : tie.Need-add-t27
-add-t27 c = omega (arith, c .before .before .before .before .before .before .before .before .before .before .before .before .before .before .before .before .pre .2, c .before .before .before .before .before .before .before .before .before .before .before .before .before .before .before .before .pre .0 .writable .few)
+at-no-leaf-requires : tie.Need-at-no-leaf-requires
+at-no-leaf-requires c κs = search needs
 
 returns-2 : tie.Need-returns-2
 returns-2 c =
-    let p = c .before .before .before .before .before .before .before .before .before .before .before .before .before .before .before .before .pre in
-    let d = c .before .before .descend .ensures in
-    (record { within = omega (arith, p .2); ends = d .1; leaves-are = resumed (c .before .before .before .before .before .before .before .before .before .before .before) .leaves-are ∙ c .before .before .before .before .before .before .before .before .climb .ensures .2 (c .before .before .before .before .before .if2 .left) .0 ∙ d .0 }, refl)
+    let h = c .before .before .before .before in
+    let m = h .before in
+    let b = start m in
+    let a = b .args in
+    let none = not-there (h .next-higher .result .branch .kind) (sym (c .before .before .is-there .ensures) ∙ c .before .if1 .left) in
+    stands-last (a .image .now) (a .f) (a .c) (b .pre) (m .match .depth) (m .match .from) (resumed m) (h .next-higher .result) (h .next-higher .ensures) none (c .at-no-leaf .result) (c .at-no-leaf .ensures)
 
 pub step-spec : {M : Type 1} → statement M
 step-spec =
     tie.close
     (tie.spec
+    add-place
+    enum-told
     sub-depth
-    array-read-wide
+    element-copy-out-wide
     wide-requires
     add-from
-    climb-requires
-    add-t22
+    next-higher-requires
+    is-there-requires
+    first-behind-requires
     returns
-    descend-requires
-    add-t27
+    at-no-leaf-requires
     returns-2)

@@ -1,28 +1,43 @@
 -- None, or the leaf that the seek found.
-use mathlib.Core.Path.{_∙_}
+use Prim.Native.Nat.{ℕ}
+use mathlib.Core.Path.{_≡_, _∙_}
+use lib.ListN.{length, length-map}
 use borrow.Author.Needs.{needs}
 use Rattle.spec.specs.Nodes.{read-leaves}
 use Rattle.ask.proofs.SoughtLaws.{none-sought, some-sought}
 use Rattle.ask.proofs.replies.seek_reply.Statement.{statement}
 use Rattle.ask.proofs.replies.seek_reply.Tie as tie
 
+-- where the function was entered, from where what the seek found is known
+abbrev entered : tie.After-seek → tie.Start
+entered c = c .before .before .before
+
 seek-requires : tie.Need-seek-requires
 seek-requires c κs = search needs
+
+enum-told : tie.Need-enum-told
+enum-told c = search needs
 
 keyless-requires : tie.Need-keyless-requires
 keyless-requires c κs = search needs
 
+enum-known-leaf : tie.Need-enum-known-leaf
+enum-known-leaf c = search needs
+
 returns : tie.Need-returns
 returns c =
-    let a = c .before .before .before .before .before .before .args in
-    let s = c .before .before .before .seek in
-    (c .keyless .ensures .0, c .keyless .ensures .1 ∙ none-sought (read-leaves (a .image .now)) (a .start .now) (s .result .some) (s .result .number) _ (s .ensures .0) (c .before .if1 .taken))
+    let k = c .before .before .before in
+    let s = entered k in
+    (c .keyless .ensures .0, c .keyless .ensures .1 ∙ none-sought (read-leaves (s .args .image .now)) (s .args .start .now) (k .seek .result .leaf) _ (k .seek .ensures .answer) (c .before .enum-told .given .1))
 
 returns-2 : tie.Need-returns-2
 returns-2 c =
-    let a = c .before .before .before .before .before .before .args in
-    let s = c .before .before .before .seek in
-    (search needs, some-sought (read-leaves (a .image .now)) (a .start .now) (s .result .some) (s .result .number) _ (s .ensures .0) (c .before .if1 .left))
+    let k = c .before .before .before .before in
+    let s = entered k in
+    let leaf = c .before .before .leaf .given in
+    let number : ℕ = leaf .0 .0 in
+    let array : length (k .seek .result .key) ≡ 64 = simp length-map at (k .seek .ok .1 .1 .1 .0 .1 .0 .1) in
+    (search needs, some-sought (read-leaves (s .args .image .now)) (s .args .start .now) (k .seek .result .leaf) _ (k .seek .ensures .answer) number (leaf .1))
 
 pub seek-reply-spec : {M : Type 1} → statement M
-seek-reply-spec = tie.close (tie.spec seek-requires keyless-requires returns returns-2)
+seek-reply-spec = tie.close (tie.spec seek-requires enum-told keyless-requires enum-known-leaf returns returns-2)

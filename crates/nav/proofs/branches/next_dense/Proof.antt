@@ -55,18 +55,19 @@ bit-at-requires c κs =
     let a = c .before .before .before .before .before .before .args in
     rw (tail-part (a .image .now) (a .f .dc)) (omega (arith, children-ranked (a .image .now) (a .f) (c .before .before .before .before .before .before .pre .0) .0))
 
-add-t13 : tie.Need-add-t13
-add-t13 c = search needs
+kind-there-requires : tie.Need-kind-there-requires
+kind-there-requires c κs = search needs
 
-sub-t21 : tie.Need-sub-t21
-sub-t21 c = search needs
+sub-t13 : tie.Need-sub-t13
+sub-t13 c = search needs
 
 returns-2 : tie.Need-returns-2
 returns-2 c =
-    let a = c .before .before .before .before .before .before .before .args in
-    let p = c .before .before .before .before .before .before .before .pre in
-    let e = rw (tail-part (a .image .now) (a .f .dl)) at (c .before .before .before .next-one .ensures .0) in
-    dense-some (a .image .now) (a .f) (p .0) (a .m .0) (a .y) (c .before .before .before .next-one .result) (p .1) (p .2) e (omega arith) (c .bit-at .result) (c .bit-at .ensures ∙ ap (λ (z : List ℕ). bit-at z (c .before .before .before .next-one .result)) (tail-part (a .image .now) (a .f .dc)))
+    let a = c .before .before .before .before .before .before .before .before .args in
+    let p = c .before .before .before .before .before .before .before .before .pre in
+    let e = rw (tail-part (a .image .now) (a .f .dl)) at (c .before .before .before .before .next-one .ensures .0) in
+    let b = dense-some (a .image .now) (a .f) (p .0) (a .m .0) (a .y) (c .before .before .before .before .next-one .result) (p .1) (p .2) e (omega arith) (c .before .bit-at .result) (c .before .bit-at .ensures ∙ ap (λ (z : List ℕ). bit-at z (c .before .before .before .before .next-one .result)) (tail-part (a .image .now) (a .f .dc))) in
+    rw (c .kind-there .ensures) b
 
 pub next-dense-spec : {M : Type 1} → statement M
 next-dense-spec =
@@ -84,6 +85,6 @@ next-dense-spec =
     part-bit-at-start
     part-bit-at-end
     bit-at-requires
-    add-t13
-    sub-t21
+    kind-there-requires
+    sub-t13
     returns-2)

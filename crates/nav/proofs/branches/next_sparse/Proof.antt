@@ -1,13 +1,13 @@
-use Rattle.nav_laws.specs.NextBranch.{sparse-none, sparse-some}
 use Rattle.nav_laws.specs.Positions.{labels-room, place-sparse}
 use Rattle.image_types.specs.Records.{tail-part}
 use Rattle.nav_laws.specs.Tables.{entries-ranked}
+use Rattle.nav_laws.specs.NextBranch.{Next-branch, sparse-none, sparse-some}
 use Rattle.bits_laws.specs.Bits.{bit-at}
 use lib.ListN.{length-drop}
 use mathlib.Core.List.{List}
 use Prim.Native.Nat.{ℕ}
 use native.Mathlib.Omega.{arith}
-use mathlib.Core.Path.{ap, _∙_}
+use mathlib.Core.Path.{sym, ap, _∙_}
 use borrow.Author.Needs.{needs}
 use Rattle.nav.proofs.branches.next_sparse.Statement.{statement}
 use Rattle.nav.proofs.branches.next_sparse.Tie as tie
@@ -26,27 +26,28 @@ part-search-end c = search needs
 
 search-requires : tie.Need-search-requires
 search-requires c κs =
-    let a = c .before .before .before .args in
-    let r = c .before .entries-of .ensures in
-    rw (tail-part (a .image .now) (a .f .sl)) (omega (arith, r .2), omega (arith, r .3, length-drop (a .f .sl) (a .image .now), labels-room (a .image .now) (a .f) (c .before .before .before .pre .0)))
+    let a = c .before .before .before .before .before .args in
+    let r = c .before .before .before .entries-of .ensures in
+    rw (tail-part (a .image .now) (a .f .sl)) (omega (arith, r .end-is), omega (arith, r .end-inside, length-drop (a .f .sl) (a .image .now), labels-room (a .image .now) (a .f) (c .before .before .before .before .before .pre .accepted)))
 
 returns : tie.Need-returns
 returns c =
-    let a = c .before .before .before .before .before .before .args in
-    let p = c .before .before .before .before .before .before .pre in
-    let r = c .before .before .before .before .entries-of .ensures in
-    let first = c .before .before .before .before .entries-of .result .first in
+    let a = c .before .before .before .before .before .before .before .before .args in
+    let p = c .before .before .before .before .before .before .before .before .pre in
+    let first = c .before .before .before .before .before .before .entries-of .result .first .0 in
+    let at = c .before .before .search .result in
+    let r = c .before .before .before .before .before .before .entries-of .ensures in
     let v = rw (tail-part (a .image .now) (a .f .sl)) at (c .before .before .search .ensures) in
-    let q = place-sparse (a .image .now) (a .f) (p .0) (a .m .0) (p .1) (p .2) first (r .1) (c .before .before .search .result) (a .y) (v .0) (omega (arith, v .1, r .2)) (v .2) (λ k. v .3 (omega (arith, r .2))) in
-    sparse-none (a .image .now) (a .f) (p .0) (a .m .0) (a .y) (c .before .before .search .result) first (p .1) (p .2) (r .1) q (omega (arith, r .2))
+    let q = place-sparse (a .image .now) (a .f) (p .accepted) (a .m .0) (p .behind-dense) (p .inside) first (r .first-is) at (a .y) (v .0) (omega (arith, v .1, r .end-is)) (v .2) (λ k. v .3 (omega (arith, r .end-is))) in
+    sparse-none (a .image .now) (a .f) (p .accepted) (a .m .0) (a .y) at first (p .behind-dense) (p .inside) (r .first-is) q (omega (arith, r .end-is))
 
 add-i : tie.Need-add-i
 add-i c = search needs
 
 shared-slice-read-wide : tie.Need-shared-slice-read-wide
 shared-slice-read-wide c =
-    let a = c .before .before .before .before .before .before .before .args in
-    omega (arith, c .before .before .before .before .before .entries-of .ensures .3, labels-room (a .image .now) (a .f) (c .before .before .before .before .before .before .before .pre .0))
+    let a = c .before .before .before .before .before .before .before .before .before .args in
+    omega (arith, c .before .before .before .before .before .before .before .entries-of .ensures .end-inside, labels-room (a .image .now) (a .f) (c .before .before .before .before .before .before .before .before .before .pre .accepted))
 
 wide-requires : tie.Need-wide-requires
 wide-requires c κs = search needs
@@ -62,21 +63,23 @@ part-bit-at-end c = search needs
 
 bit-at-requires : tie.Need-bit-at-requires
 bit-at-requires c κs =
-    let a = c .before .before .before .before .before .before .before .before .before .args in
-    rw (tail-part (a .image .now) (a .f .sc)) (omega (arith, entries-ranked (a .image .now) (a .f) (c .before .before .before .before .before .before .before .before .before .pre .0) .0, c .before .before .before .before .before .before .before .entries-of .ensures .3))
+    let a = c .before .before .before .before .before .before .before .before .before .before .before .args in
+    rw (tail-part (a .image .now) (a .f .sc)) (omega (arith, entries-ranked (a .image .now) (a .f) (c .before .before .before .before .before .before .before .before .before .before .before .pre .accepted) .0, c .before .before .before .before .before .before .before .before .before .entries-of .ensures .end-inside))
 
-add-t13 : tie.Need-add-t13
-add-t13 c = search needs
+kind-there-requires : tie.Need-kind-there-requires
+kind-there-requires c κs = search needs
 
 returns-2 : tie.Need-returns-2
 returns-2 c =
-    let a = c .before .before .before .before .before .before .before .before .before .before .args in
-    let p = c .before .before .before .before .before .before .before .before .before .before .pre in
-    let r = c .before .before .before .before .before .before .before .before .entries-of .ensures in
-    let first = c .before .before .before .before .before .before .before .before .entries-of .result .first in
-    let v = rw (tail-part (a .image .now) (a .f .sl)) at (c .before .before .before .before .before .before .search .ensures) in
-    let q = place-sparse (a .image .now) (a .f) (p .0) (a .m .0) (p .1) (p .2) first (r .1) (c .before .before .before .before .before .before .search .result) (a .y) (v .0) (omega (arith, v .1, r .2)) (v .2) (λ k. v .3 (omega (arith, r .2))) in
-    sparse-some (a .image .now) (a .f) (p .0) (a .m .0) (a .y) (c .before .before .before .before .before .before .search .result) first (p .1) (p .2) (r .1) q (omega (arith, r .2)) (omega (arith, v .1, r .3)) (c .bit-at .result) (c .before .before .wide .result) (c .bit-at .ensures ∙ ap (λ (z : List ℕ). bit-at z (c .before .before .before .before .before .before .search .result)) (tail-part (a .image .now) (a .f .sc))) (c .before .before .wide .ensures .0) (c .before .before .wide .ensures .1)
+    let a = c .before .before .before .before .before .before .before .before .before .before .before .before .before .args in
+    let p = c .before .before .before .before .before .before .before .before .before .before .before .before .before .pre in
+    let first = c .before .before .before .before .before .before .before .before .before .before .before .entries-of .result .first .0 in
+    let at = c .before .before .before .before .before .before .before .search .result in
+    let r = c .before .before .before .before .before .before .before .before .before .before .before .entries-of .ensures in
+    let v = rw (tail-part (a .image .now) (a .f .sl)) at (c .before .before .before .before .before .before .before .search .ensures) in
+    let q = place-sparse (a .image .now) (a .f) (p .accepted) (a .m .0) (p .behind-dense) (p .inside) first (r .first-is) at (a .y) (v .0) (omega (arith, v .1, r .end-is)) (v .2) (λ k. v .3 (omega (arith, r .end-is))) in
+    let b = sparse-some (a .image .now) (a .f) (p .accepted) (a .m .0) (a .y) at first (p .behind-dense) (p .inside) (r .first-is) q (omega (arith, r .end-is)) (omega (arith, v .1, r .end-inside)) (c .before .bit-at .result) (c .before .before .before .wide .result) (c .before .bit-at .ensures ∙ ap (λ (z : List ℕ). bit-at z at) (tail-part (a .image .now) (a .f .sc))) (c .before .before .before .wide .ensures .0) (c .before .before .before .wide .ensures .1) in
+    rw (c .kind-there .ensures) b
 
 pub next-sparse-spec : {M : Type 1} → statement M
 next-sparse-spec =
@@ -95,5 +98,5 @@ next-sparse-spec =
     part-bit-at-start
     part-bit-at-end
     bit-at-requires
-    add-t13
+    kind-there-requires
     returns-2)

@@ -17,21 +17,21 @@ entries-of-requires c κs = search needs
 
 returns : tie.Need-returns
 returns c =
-    let a = c .before .before .before .before .args in
-    let p = c .before .before .before .before .pre in
-    let r = c .before .before .entries-of .ensures in
-    let first = c .before .before .entries-of .result .first in
+    let a = c .before .before .before .before .before .before .args in
+    let p = c .before .before .before .before .before .before .pre in
+    let r = c .before .before .before .before .entries-of .ensures in
+    let first = c .before .before .before .before .entries-of .result .first .0 in
     let z = none-below-zero (branches (a .image .now) (a .f) (a .m .0)) in
-    (r .0, sparse-none (a .image .now) (a .f) (p .0) (a .m .0) 0 first first (p .1) (p .2) (r .1) (omega arith) (omega (arith, r .2)))
+    record { exact-is = r .exact-is; branch-is = sparse-none (a .image .now) (a .f) (p .accepted) (a .m .0) 0 first first (p .behind-dense) (p .inside) (r .first-is) (omega arith) (omega (arith, r .end-is)) }
 
 add-i : tie.Need-add-i
 add-i c = search needs
 
 shared-slice-read-wide : tie.Need-shared-slice-read-wide
 shared-slice-read-wide c =
-    let a = c .before .before .before .before .before .args in
-    let r = c .before .before .before .entries-of .ensures in
-    omega (arith, r .2, r .3, labels-room (a .image .now) (a .f) (c .before .before .before .before .before .pre .0))
+    let a = c .before .before .before .before .before .before .before .args in
+    let r = c .before .before .before .before .before .entries-of .ensures in
+    omega (arith, r .end-is, r .end-inside, labels-room (a .image .now) (a .f) (c .before .before .before .before .before .before .before .pre .accepted))
 
 wide-requires : tie.Need-wide-requires
 wide-requires c κs = search needs
@@ -47,21 +47,22 @@ part-bit-at-end c = search needs
 
 bit-at-requires : tie.Need-bit-at-requires
 bit-at-requires c κs =
-    let a = c .before .before .before .before .before .before .before .args in
-    let r = c .before .before .before .before .before .entries-of .ensures in
-    rw (tail-part (a .image .now) (a .f .sc)) (omega (arith, entries-ranked (a .image .now) (a .f) (c .before .before .before .before .before .before .before .pre .0) .0, r .2, r .3))
+    let a = c .before .before .before .before .before .before .before .before .before .args in
+    let r = c .before .before .before .before .before .before .before .entries-of .ensures in
+    rw (tail-part (a .image .now) (a .f .sc)) (omega (arith, entries-ranked (a .image .now) (a .f) (c .before .before .before .before .before .before .before .before .before .pre .accepted) .0, r .end-is, r .end-inside))
 
-add-t16 : tie.Need-add-t16
-add-t16 c = search needs
+kind-there-requires : tie.Need-kind-there-requires
+kind-there-requires c κs = search needs
 
 returns-2 : tie.Need-returns-2
 returns-2 c =
-    let a = c .before .before .before .before .before .before .before .before .args in
-    let p = c .before .before .before .before .before .before .before .before .pre in
-    let r = c .before .before .before .before .before .before .entries-of .ensures in
-    let first = c .before .before .before .before .before .before .entries-of .result .first in
+    let a = c .before .before .before .before .before .before .before .before .before .before .before .args in
+    let p = c .before .before .before .before .before .before .before .before .before .before .before .pre in
+    let r = c .before .before .before .before .before .before .before .before .before .entries-of .ensures in
+    let first = c .before .before .before .before .before .before .before .before .before .entries-of .result .first .0 in
     let z = none-below-zero (branches (a .image .now) (a .f) (a .m .0)) in
-    (r .0, sparse-some (a .image .now) (a .f) (p .0) (a .m .0) 0 first first (p .1) (p .2) (r .1) (omega arith) (omega (arith, r .2)) (omega (arith, r .2, r .3)) (c .bit-at .result) (c .before .before .wide .result) (c .bit-at .ensures ∙ ap (λ (z : List ℕ). bit-at z first) (tail-part (a .image .now) (a .f .sc))) (c .before .before .wide .ensures .0) (c .before .before .wide .ensures .1))
+    let b = sparse-some (a .image .now) (a .f) (p .accepted) (a .m .0) 0 first first (p .behind-dense) (p .inside) (r .first-is) (omega arith) (omega (arith, r .end-is)) (omega (arith, r .end-is, r .end-inside)) (c .before .bit-at .result) (c .before .before .before .wide .result) (c .before .bit-at .ensures ∙ ap (λ (z : List ℕ). bit-at z first) (tail-part (a .image .now) (a .f .sc))) (c .before .before .before .wide .ensures .0) (c .before .before .before .wide .ensures .1) in
+    record { exact-is = r .exact-is; branch-is = rw (c .kind-there .ensures) b }
 
 pub first-sparse-spec : {M : Type 1} → statement M
 first-sparse-spec =
@@ -76,5 +77,5 @@ first-sparse-spec =
     part-bit-at-start
     part-bit-at-end
     bit-at-requires
-    add-t16
+    kind-there-requires
     returns-2)

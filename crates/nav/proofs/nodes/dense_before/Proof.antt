@@ -44,7 +44,7 @@ returns c =
     let l = c .before .before .label-rank .ensures in
     let k = c .before .child-rank .ensures in
     let x = c .exact-rank .ensures in
-    (omega arith, omega arith)
+    record { children-are = omega arith; leaves-are = omega arith }
 
 pub dense-before-spec : {M : Type 1} → statement M
 dense-before-spec =

@@ -48,7 +48,7 @@ returns c =
     let n = c .before .before .before .before .node-start .ensures .0 in
     let q = before-sparse (a .image .now) (a .f) (p .0) (a .m .0) (p .1) (p .2) in
     let e = ap (rank (drop (a .f .sc) (a .image .now))) n in
-    (omega (arith, q .0), omega (arith, q .1))
+    record { children-are = omega (arith, q .0); leaves-are = omega (arith, q .1) }
 
 pub sparse-before-spec : {M : Type 1} → statement M
 sparse-before-spec =

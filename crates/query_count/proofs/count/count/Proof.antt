@@ -31,7 +31,7 @@ returns c =
     let t = c .before .before .before .before .before .follow2 in
     let u = c .before .before .before .before .passed-at in
     let v = c .before .before .reached-at in
-    let e = count-bounds (a .image .now) (a .f) (p .0) (a .lo .now) (a .hi .now) (p .1) (p .2) (s .result .sum) (t .result .sum) (u .result) (v .result) (s .ensures .0) (t .ensures .0) (u .ensures .0) (v .ensures .0) in
+    let e = count-bounds (a .image .now) (a .f) (p .0) (a .lo .now) (a .hi .now) (p .1) (p .2) (s .result .sum) (t .result .sum) (u .result) (v .result) (s .ensures .sum-is) (t .ensures .sum-is) (u .ensures .0) (v .ensures .0) in
     omega (arith, e, c .if1 .taken)
 
 returns-2 : tie.Need-returns-2
@@ -42,7 +42,7 @@ returns-2 c =
     let t = c .before .before .before .before .before .follow2 in
     let u = c .before .before .before .before .passed-at in
     let v = c .before .before .reached-at in
-    let e = count-bounds (a .image .now) (a .f) (p .0) (a .lo .now) (a .hi .now) (p .1) (p .2) (s .result .sum) (t .result .sum) (u .result) (v .result) (s .ensures .0) (t .ensures .0) (u .ensures .0) (v .ensures .0) in
+    let e = count-bounds (a .image .now) (a .f) (p .0) (a .lo .now) (a .hi .now) (p .1) (p .2) (s .result .sum) (t .result .sum) (u .result) (v .result) (s .ensures .sum-is) (t .ensures .sum-is) (u .ensures .0) (v .ensures .0) in
     sym e
 
 pub count-spec : {M : Type 1} → statement M

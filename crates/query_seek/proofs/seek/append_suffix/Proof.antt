@@ -1,6 +1,6 @@
 use borrow.Author.Needs.{needs}
 use Rattle.query_laws.specs.LowestKeys.{Filling, filling-none, filling-zero, filling-byte, filling-done}
-use Rattle.query_seek.proofs.SeekLaws.{slot-width}
+use Rattle.query_seek.proofs.SeekLaws.{slot-width, low-open}
 use Rattle.nav_laws.specs.Slots.{slot-of}
 use Rattle.nav_laws.specs.Accepted.{nodes}
 use lib.ListN.{length, length-set}
@@ -38,7 +38,8 @@ returns c =
     let p = c .before .before .before .before .before .pre in
     let s = slot-of (a .f .width) (nodes (a .image .now) (a .f)) (a .slot .0) in
     let n = slot-width (a .image .now) (a .f) (p .0) (a .slot .0) (p .1) in
-    (filling-done (a .key .now) (l .key) (a .depth) (l .end) (l .i) s (l .inv .2) (l .inv .0) (inl (omega arith)), l .inv .2 .from, omega arith, l .inv .1)
+    let low = filling-done (a .key .now) (l .key) (a .depth) (l .end) (l .i) s (l .inv .2) (l .inv .0) (inl (omega arith)) in
+    record { low-is = low-open (a .f .width) (nodes (a .image .now) (a .f)) (a .slot) (a .depth) (a .key .now) _ (omega (arith, p .2, p .3)) low; upto = omega arith; key-size = l .inv .1 }
 
 sub-suffix-byte : tie.Need-sub-suffix-byte Inv-loop μ-loop
 sub-suffix-byte c = search needs
@@ -89,8 +90,10 @@ returns-2 : tie.Need-returns-2 Inv-loop μ-loop
 returns-2 c =
     let a = c .before .before .before .before .args in
     let l = c .before .loop in
+    let p = c .before .before .before .before .pre in
     let s = slot-of (a .f .width) (nodes (a .image .now) (a .f)) (a .slot .0) in
-    (filling-done (a .key .now) (l .key) (a .depth) (l .end) (l .i) s (l .inv .2) (l .inv .0) (inr (omega arith)), l .inv .2 .from, omega arith, l .inv .1)
+    let low = filling-done (a .key .now) (l .key) (a .depth) (l .end) (l .i) s (l .inv .2) (l .inv .0) (inr (omega arith)) in
+    record { low-is = low-open (a .f .width) (nodes (a .image .now) (a .f)) (a .slot) (a .depth) (a .key .now) _ (omega (arith, p .2, p .3)) low; upto = omega arith; key-size = l .inv .1 }
 
 pub append-suffix-spec : {M : Type 1} → statement M
 append-suffix-spec =

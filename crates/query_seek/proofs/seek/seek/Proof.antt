@@ -1,30 +1,65 @@
-use borrow.Author.Needs.{needs}
+use Rattle.query_seek.proofs.NextLaws.{there-not, not-there}
 use Rattle.query_seek.proofs.SeekLaws.{few-passed, seek-none, seek-found}
 use Rattle.query_laws.specs.Answers.{passed-sums}
-use Prim.Native.Nat.{_-_}
+use Rattle.query_laws.specs.Summed.{Summed}
+use Rattle.nav_laws.specs.declared.LeafStop.the-variants.{Nowhere}
+use borrow.Author.Tests.{not-true, not-false}
+use Rattle.query_laws.specs.Ordered.{passed}
+use Rattle.spec.specs.Nodes.{read-leaves}
+use lib.ListN.{length, length-map}
+use Prim.Native.Nat.{_-_, _≤_}
 use native.Mathlib.Omega.{arith}
-use mathlib.Core.Path.{sym, _∙_}
+use mathlib.Core.Path.{_≡_, sym, _∙_}
+use borrow.Author.Needs.{needs}
 use Rattle.query_seek.proofs.seek.seek.Statement.{statement}
 use Rattle.query_seek.proofs.seek.seek.Tie as tie
 
-slice-aggregate-next-leaf : tie.Need-slice-aggregate-next-leaf
-slice-aggregate-next-leaf c = search needs
+-- where the function was entered, from where the first leaf that the start has not passed is known
+abbrev entered : tie.After-next-leaf → tie.Start
+entered c = c .before .before .before
+
+-- where that leaf is known, from where it is there, and from where the bound is taken
+abbrev known : tie.Else1 → tie.After-next-leaf
+known c = c .before .before .before .before
+
+abbrev there : tie.After-bound → tie.Else1
+there c = c .before .before .before .before .before .before .before
+
+-- there is a leaf
+some-leaf : (c : tie.Else1) → known c .next-leaf .result .leaf .stop ≡ Nowhere → ⊥
+some-leaf c = there-not (known c .next-leaf .result .leaf .stop) (sym (c .before .is-leaf .ensures) ∙ not-false _ (c .if1 .left))
+
+-- the start's bound
+bound : (c : tie.Else1)
+    → Summed (entered (known c) .args .image .now) (entered (known c) .args .f) (entered (known c) .args .start .now) (known c .next-leaf .result .bound .node .0) (known c .next-leaf .result .bound .depth) (known c .next-leaf .result .bound .sum)
+bound c = known c .next-leaf .ensures .bound (some-leaf c)
+
+-- the cut key is in an array of 64 bytes
+cut-size : (c : tie.After-next-leaf) → length (c .next-leaf .result .leaf .cut) ≡ 64
+cut-size c = simp length-map at (c .next-leaf .ok .1 .1 .0 .1 .1 .1 .0 .1 .0 .1)
 
 next-leaf-requires : tie.Need-next-leaf-requires
 next-leaf-requires c κs = search needs
 
+is-leaf-requires : tie.Need-is-leaf-requires
+is-leaf-requires c κs = search needs
+
 returns : tie.Need-returns
 returns c =
-    let a = c .before .before .before .before .before .before .before .args in
-    let p = c .before .before .before .before .before .before .before .pre in
-    let s = c .before .before .before .next-leaf in
-    (seek-none (a .image .now) (a .f) (p .0) (a .start .now) (s .result .stop .kind) (s .result .stop .slot .0) _ (s .ensures .0) (c .if1 .taken), omega arith, omega arith, omega arith)
+    let n = c .before .before .before .before in
+    let s = entered n in
+    let r = n .next-leaf in
+    let nowhere = not-there (r .result .leaf .stop) (sym (c .before .is-leaf .ensures) ∙ not-true _ (c .if1 .taken)) in
+    record { answer = seek-none (s .args .image .now) (s .args .f) (s .pre .0) (s .args .start .now) (r .result .leaf .stop) _ (r .ensures .leaf .low-is) nowhere; key-in = omega arith; number-in = tt }
 
 slice-aggregate-lowest-key : tie.Need-slice-aggregate-lowest-key
 slice-aggregate-lowest-key c = search needs
 
 lowest-key-requires : tie.Need-lowest-key-requires
-lowest-key-requires c κs = search needs
+lowest-key-requires c κs =
+    let e = c .before in
+    let r = known e .next-leaf .ensures in
+    record { accepted = entered (known e) .pre .0; there = some-leaf e; slot-in = r .leaf .slot-in; key-size = cut-size (known e); depth-in = r .leaf .depth-in }
 
 slice-aggregate-greater-key : tie.Need-slice-aggregate-greater-key
 slice-aggregate-greater-key c = search needs
@@ -34,39 +69,45 @@ greater-key-requires c κs = search needs
 
 sum-below-requires : tie.Need-sum-below-requires
 sum-below-requires c κs =
-    let p = c .before .before .before .before .before .before .before .before .before .before .before .before .before .pre in
-    let b = c .before .before .before .before .before .before .before .before .before .next-leaf .ensures .5 (omega (arith, c .before .before .before .before .before .before .if1 .left)) in
-    (p .0, b .node-in, omega (arith, b .depth-in, p .2), b .small)
+    let e = there c in
+    let s = entered (known e) in
+    (s .pre .0, bound e .node-in, omega (arith, bound e .depth-in, s .pre .2), bound e .small)
 
-sub-t20 : tie.Need-sub-t20
-sub-t20 c =
-    let a = c .before .before .before .before .before .before .before .before .before .before .before .before .before .before .args in
-    let p = c .before .before .before .before .before .before .before .before .before .before .before .before .before .before .pre in
-    let b = c .before .before .before .before .before .before .before .before .before .before .next-leaf .ensures .5 (omega (arith, c .before .before .before .before .before .before .before .if1 .left)) in
-    passed-sums (a .image .now) (a .f) (p .0) (a .start .now) (a .starts) (c .sum-below .result) (p .2) (p .1) (b .sums ∙ sym (c .sum-below .ensures .0)) .0
+-- the leaves that the start has passed, by the sum over all levels
+number : (c : tie.After-sum-below)
+    → (entered (known (there (c .before))) .args .starts ≤ c .sum-below .result) × (c .sum-below .result - entered (known (there (c .before))) .args .starts ≡ passed (read-leaves (entered (known (there (c .before))) .args .image .now)) (entered (known (there (c .before))) .args .start .now))
+number c =
+    let e = there (c .before) in
+    let s = entered (known e) in
+    passed-sums (s .args .image .now) (s .args .f) (s .pre .0) (s .args .start .now) (s .args .starts) (c .sum-below .result) (s .pre .2) (s .pre .1) (bound e .sums ∙ sym (c .sum-below .ensures .0))
+
+sub-number : tie.Need-sub-number
+sub-number c = number c .0
 
 returns-2 : tie.Need-returns-2
 returns-2 c =
-    let a = c .before .before .before .before .before .before .before .before .before .before .before .before .before .before .args in
-    let p = c .before .before .before .before .before .before .before .before .before .before .before .before .before .before .pre in
-    let s = c .before .before .before .before .before .before .before .before .before .before .next-leaf in
-    let l = c .before .before .before .before .before .lowest-key in
-    let g = c .before .before .greater-key in
-    let b = s .ensures .5 (omega (arith, c .before .before .before .before .before .before .before .if1 .left)) in
-    let number = passed-sums (a .image .now) (a .f) (p .0) (a .start .now) (a .starts) (c .sum-below .result) (p .2) (p .1) (b .sums ∙ sym (c .sum-below .ensures .0)) .1 in
-    (seek-found (a .image .now) (a .f) (p .0) (a .start .now) (s .result .stop .kind) (s .result .stop .slot .0) _ (s .ensures .0) (c .sum-below .result - a .starts) _ _ (l .ensures .0) (g .ensures .0) number, g .ensures .1, omega arith, omega (arith, number, few-passed (a .image .now) (a .f) (p .0) (a .start .now)))
+    let e = there (c .before) in
+    let s = entered (known e) in
+    let r = known e .next-leaf in
+    let g = c .before .before .before .greater-key in
+    let l = c .before .before .before .before .before .before .lowest-key in
+    record {
+      answer = seek-found (s .args .image .now) (s .args .f) (s .pre .0) (s .args .start .now) (r .result .leaf .stop) _ (r .ensures .leaf .low-is) (c .sum-below .result - s .args .starts) _ _ (l .ensures .low-is) (g .ensures .0) (number c .1);
+      key-in = g .ensures .1;
+      number-in = omega (arith, number c .1, few-passed (s .args .image .now) (s .args .f) (s .pre .0) (s .args .start .now));
+    }
 
 pub seek-spec : {M : Type 1} → statement M
 seek-spec =
     tie.close
     (tie.spec
-    slice-aggregate-next-leaf
     next-leaf-requires
+    is-leaf-requires
     returns
     slice-aggregate-lowest-key
     lowest-key-requires
     slice-aggregate-greater-key
     greater-key-requires
     sum-below-requires
-    sub-t20
+    sub-number
     returns-2)

@@ -25,7 +25,7 @@ returns c =
     let e : 64 - (a .depth + 1) ≡ 63 - a .depth = omega arith in
     c .sum-below .ensures .0
     ∙ ap (λ (l : ℕ). n .child-and-slot .result .slot .0 + slots-below (nodes (a .image .now) (a .f)) l (n .child-and-slot .result .child .0) []) e
-    ∙ ap₂ (λ (x y : ℕ). x + slots-below (nodes (a .image .now) (a .f)) (63 - a .depth) y []) (n .child-and-slot .ensures .1) (n .child-and-slot .ensures .0)
+    ∙ ap₂ (λ (x y : ℕ). x + slots-below (nodes (a .image .now) (a .f)) (63 - a .depth) y []) (n .child-and-slot .ensures .slot-is) (n .child-and-slot .ensures .child-is)
 
 pub branch-sum-spec : {M : Type 1} → statement M
 branch-sum-spec = tie.close (tie.spec child-and-slot-requires add-t9 sum-below-requires returns)

@@ -17,7 +17,7 @@ next-branch-requires : tie.Need-next-branch-requires Inv-loop μ-loop
 next-branch-requires c κs =
     let b = c .before in
     let a = b .args in
-    (b .pre .accepted, node-inside (a .image .now) (a .f) (a .m .0) (a .depth) (a .skip) (b .pre), omega arith)
+    (record { accepted = b .pre .accepted; inside = node-inside (a .image .now) (a .f) (a .m .0) (a .depth) (a .skip) (b .pre) }, omega arith)
 
 loop-holds : tie.Need-loop-holds Inv-loop μ-loop
 loop-holds c =

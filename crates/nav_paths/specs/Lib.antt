@@ -1,0 +1,2 @@
+pub mod PathContracts
+pub mod PathLaws

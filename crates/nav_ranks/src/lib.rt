@@ -1,0 +1,118 @@
+// Ranks and starts over an accepted image: the ones before a position, by its tables, and where a sparse node starts. Navigation is made of these.
+ghost use mathlib.Core.Path.{_≡_};
+ghost use Prim.Native.Nat.{ℕ, _+_, _-_, _*_, _≤_, _<_};
+ghost use lib.ListN.{length, drop};
+ghost use Rattle.bits_laws.specs.Bits.{rank, select};
+ghost use Rattle.nav_laws.specs.Stored.{Rank-entry, Sample};
+ghost use Rattle.nav_laws.specs.Accepted.{Accepted};
+use bits::numbers::read32;
+use bits::ones::rank_from;
+use bits::select::next_one;
+use bits::select::select_from;
+use image_types::BitPos;
+use image_types::Frame;
+use image_types::NodeNum;
+
+// The ones before bit k of the first n bits, by a table of those before each block of 64.
+fn rank_64(bits: &[u8], table: &[u8], n: usize, k: usize) -> usize
+    requires { ⌜ (n ≤ 8 * length (now bits)) × (k ≤ n) × ((b : ℕ) → 64 * b < n → Rank-entry 64 (now bits) (now table) b) ⌝ }
+    ensures { λ r. ⌜ r ≡ rank (now (bits .entry)) k ⌝ }
+{
+    if k == 0 {
+        return 0;
+    }
+    let b = (k - 1) / 64;
+    let before = read32(table, 4 * b);
+    rank_from(bits, b, before, k)
+}
+
+// The ones before bit k of the first n bits, by a table of those before each block of 512.
+fn rank_512(bits: &[u8], table: &[u8], n: usize, k: usize) -> usize
+    requires { ⌜ (n ≤ 8 * length (now bits)) × (k ≤ n) × ((b : ℕ) → 512 * b < n → Rank-entry 512 (now bits) (now table) b) ⌝ }
+    ensures { λ r. ⌜ r ≡ rank (now (bits .entry)) k ⌝ }
+{
+    if k == 0 {
+        return 0;
+    }
+    let b = (k - 1) / 512;
+    let before = read32(table, 4 * b);
+    rank_from(bits, 8 * b, before, k)
+}
+
+// The labels before a bit of DL.
+pub fn label_rank(image: &[u8], f: Frame, at: BitPos) -> usize
+    requires { ⌜ Accepted (now image) f × (at .0 ≤ 256 * f .dense .nodes) ⌝ }
+    ensures { λ r. ⌜ r ≡ rank (drop (f .dl) (now (image .entry))) (at .0) ⌝ }
+{
+    let dl = f.dl;
+    let rl = f.rl;
+    rank_64(&image[dl..], &image[rl..], 256 * f.dense.nodes, at.0)
+}
+
+// The continuing branches before a bit of DC.
+pub fn child_rank(image: &[u8], f: Frame, at: BitPos) -> usize
+    requires { ⌜ Accepted (now image) f × (at .0 ≤ 256 * f .dense .nodes) ⌝ }
+    ensures { λ r. ⌜ r ≡ rank (drop (f .dc) (now (image .entry))) (at .0) ⌝ }
+{
+    let dc = f.dc;
+    let rc = f.rc;
+    rank_64(&image[dc..], &image[rc..], 256 * f.dense.nodes, at.0)
+}
+
+// The exact leaves among the dense nodes before node m.
+pub fn exact_rank(image: &[u8], f: Frame, m: NodeNum) -> usize
+    requires { ⌜ Accepted (now image) f × (m .0 ≤ f .dense .nodes) ⌝ }
+    ensures { λ r. ⌜ r ≡ rank (drop (f .dp) (now (image .entry))) (m .0) ⌝ }
+{
+    let dp = f.dp;
+    let rp = f.rp;
+    rank_64(&image[dp..], &image[rp..], f.dense.nodes, m.0)
+}
+
+// The continuing entries before an entry of SC.
+pub fn entry_rank(image: &[u8], f: Frame, at: BitPos) -> usize
+    requires { ⌜ Accepted (now image) f × (at .0 ≤ f .sparse .entries) ⌝ }
+    ensures { λ r. ⌜ r ≡ rank (drop (f .sc) (now (image .entry))) (at .0) ⌝ }
+{
+    let sc = f.sc;
+    let rs = f.rs;
+    rank_512(&image[sc..], &image[rs..], f.sparse.entries, at.0)
+}
+
+// The position of one number m, from 0, of the first n bits, by every 64th one's position, or n where there is no such one.
+fn select_64(bits: &[u8], samples: &[u8], n: usize, total: usize, m: usize) -> usize
+    requires { ⌜ (n ≤ 8 * length (now bits)) × (rank (now bits) n ≡ total) × ((t : ℕ) → 64 * t < total → Sample (now bits) (now samples) n t) ⌝ }
+    ensures { λ r. ⌜ (r ≡ select (now (bits .entry)) n m) × (r ≤ n) ⌝ }
+{
+    if m >= total {
+        return n;
+    }
+    let t = m / 64;
+    let from = read32(samples, 4 * t);
+    select_from(bits, n, from, 64 * t, m)
+}
+
+// Where sparse node m starts, or the end of the entries where there is no such one.
+pub fn node_start(image: &[u8], f: Frame, m: NodeNum) -> BitPos
+    requires { ⌜ Accepted (now image) f × (f .dense .nodes ≤ m .0) ⌝ }
+    ensures { λ r. ⌜ (r .0 ≡ select (drop (f .sb) (now (image .entry))) (f .sparse .entries) (m .0 - f .dense .nodes)) × (r .0 ≤ f .sparse .entries) ⌝ }
+{
+    let sb = f.sb;
+    let ts = f.ts;
+    BitPos(select_64(
+        &image[sb..],
+        &image[ts..],
+        f.sparse.entries,
+        f.sparse.nodes,
+        m.0 - f.dense.nodes,
+    ))
+}
+
+// The first start of a sparse node behind an entry, or the end of the entries where there is no such one.
+pub fn next_start(image: &[u8], f: Frame, at: BitPos) -> BitPos
+    requires { ⌜ Accepted (now image) f × (at .0 < f .sparse .entries) ⌝ }
+    ensures { λ r. ⌜ (r .0 ≡ select (drop (f .sb) (now (image .entry))) (f .sparse .entries) (rank (drop (f .sb) (now (image .entry))) (at .0 + 1))) × (r .0 ≤ f .sparse .entries) ⌝ }
+{
+    let sb = f.sb;
+    BitPos(next_one(&image[sb..], f.sparse.entries, at.0 + 1))
+}

@@ -1,0 +1,74 @@
+-- What the functions of a seek ask and give.
+use Prim.Native.Nat.{ℕ, _+_, _-_, _<_, _≤_}
+use mathlib.Core.Path.{_≡_}
+use mathlib.Core.Bool.{Bool, true, false}
+use lib.ListN.{length, drop}
+use Rattle.spec.specs.Bytes.{Bytes, bit}
+use Rattle.spec.specs.Nodes.{read-leaves}
+use Rattle.image_types.specs.declared.Frame.{Frame}
+use Rattle.image_types.specs.declared.ValuePos.{ValuePos}
+use Rattle.nav_laws.specs.declared.LeafStop.{LeafStop}
+use Rattle.nav_laws.specs.declared.LeafStop.the-variants.{Nowhere, Exact, Open}
+use Rattle.nav_laws.specs.Accepted.{Accepted, nodes}
+use Rattle.nav_laws.specs.Below.{On-level}
+use Rattle.nav_laws.specs.Slots.{slot-of}
+use Rattle.query_laws.specs.declared.LastHigher.{LastHigher}
+use Rattle.query_laws.specs.Bounds.{high-passed}
+use Rattle.query_laws.specs.LeafKeys.{Has-key}
+use Rattle.query_laws.specs.Ordered.{next-leaf}
+use Rattle.query_laws.specs.Seeking.{leaf-end, Key-followed}
+use Rattle.query_laws.specs.Summed.{Summed}
+use Rattle.query_count.specs.declared.levels.LevelSum.{LevelSum}
+use Rattle.query_seek.specs.declared.way.Way.{Way}
+use Rattle.query_seek.specs.declared.next.NextLeaf.{NextLeaf}
+
+-- ---- the way along a start
+
+-- The way along a start ends at the branch of an open leaf with this slot, and the start has this bound behind the branch.
+pub record Leaf-branch (s : Bytes) (f : Frame) (start : Bytes) (slot : ValuePos) (bound : LevelSum) : Type 0 where
+  pub accepted : Accepted s f
+  pub slot-in : slot .0 < f .leaves
+  pub depth-in : bound .depth ≤ length start
+  pub short : length start ≤ 64
+  -- one more does not make the sum too great
+  pub small : bound .sum ≤ 4194240
+
+-- whether a start whose first d bytes are the cut key of an open leaf has passed the leaf
+abbrev pub leaf-passed : Bytes → Frame → Bytes → ValuePos → ℕ → Bool
+leaf-passed s f start slot d = high-passed (length start) (slot-of (f .width) (nodes s f) (slot .0)) (drop d start)
+
+-- The way ends at the open leaf, or past it.
+pub record Ends-there (s : Bytes) (f : Frame) (start : Bytes) (slot : ValuePos) (higher : LastHigher) (bound : LevelSum) (r : Way) : Type 0 where
+  pub end-is : r .end ≡ leaf-end (leaf-passed s f start slot (bound .depth)) slot
+  pub higher-is : r .higher ≡ higher
+  pub node-is : r .bound .node ≡ bound .node
+  pub depth-is : r .bound .depth ≡ bound .depth
+  -- a leaf that is passed counts in the sum
+  pub sum-is : r .bound .sum ≡ bound .sum + bit (leaf-passed s f start slot (bound .depth))
+
+-- ---- the first leaf that a start has not passed
+
+-- whether there is a leaf at a stop
+abbrev pub leaf-there : LeafStop → Bool
+leaf-there Nowhere = false
+leaf-there Exact = true
+leaf-there (Open v) = true
+
+-- The first `depth` bytes of a start lead to node m, which stands on its level.
+pub record Starts-at (s : Bytes) (f : Frame) (start : Bytes) (m depth : ℕ) : Type 0 where
+  pub accepted : Accepted s f
+  pub short : length start ≤ 64
+  pub depth-in : depth ≤ length start
+  pub level : On-level (nodes s f) (64 - depth) m
+
+-- The start of a seek has been followed this way.
+pub record Way-followed (s : Bytes) (f : Frame) (start : Bytes) (way : Way) : Type 0 where
+  pub accepted : Accepted s f
+  pub short : length start ≤ 64
+  pub ended : Key-followed s f start (way .end) (way .higher) (way .bound .node .0) (way .bound .depth) (way .bound .sum)
+
+-- The first leaf that the start has not passed, and the start's bound.
+pub record Next-leaf (s : Bytes) (f : Frame) (start : Bytes) (r : NextLeaf) : Type 0 where
+  pub leaf : Has-key s f (next-leaf (read-leaves s) start) (r .leaf .stop) (r .leaf .cut) (r .leaf .depth)
+  -- where there is a leaf, the bound is that of the start
+  pub bound : (r .leaf .stop ≡ Nowhere → ⊥) → Summed s f start (r .bound .node .0) (r .bound .depth) (r .bound .sum)

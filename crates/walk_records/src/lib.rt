@@ -1,0 +1,86 @@
+// Leaves as records of bytes, for programs in other languages: the kind (1 exact, 2 open), the cut key's length, 64 bytes with the cut key and zeros behind it,
+// and the suffix as a number of two bytes, the low one first.
+ghost use mathlib.Core.Path.{_≡_};
+ghost use Rattle.spec.specs.Nodes.{read-leaves};
+ghost use Rattle.spec.specs.WalkRecords.{kind-byte, walk-records};
+ghost use Rattle.bits_laws.specs.Bits.{placed};
+ghost use Rattle.image_types.specs.Outcomes.{outcome};
+ghost use Rattle.walk_laws.specs.LeafValues.{value-record};
+ghost use Rattle.walk_laws.specs.Filling.{Fills};
+ghost use Rattle.walk_states.specs.Walks.{Walks};
+ghost use Rattle.walk_states.specs.Records.{Room};
+use bits::copy::write_bytes;
+use image_types::Leaf;
+use image_types::Written;
+use walk_states::states::Stand;
+use walk_states::states::State;
+use walk_states::states::Status;
+use walk_walker::walker::move_from;
+use walk_walker::walker::open_from;
+use walk_walker::walker::stand_from;
+
+// The bytes of a record: kind, length, cut key and suffix.
+pub const RECORD_SIZE: usize = 68;
+
+// Where the cut key and the suffix stand in a record.
+const CUT_AT: usize = 2;
+
+const SUFFIX_AT: usize = 66;
+
+// The byte of a leaf's kind.
+fn kind_byte(exact: bool) -> u8
+    ensures { λ r. ⌜ r ≡ kind-byte exact ⌝ }
+{
+    if exact {
+        return 1;
+    }
+    2
+}
+
+// A leaf's record goes to out from at, and all else stays.
+fn write_record(out: &mut [u8], at: usize, l: Leaf)
+    requires { ⌜ Room (now out) at l ⌝ }
+    ensures { λ _. ⌜ now (out .exit) ≡ placed (now (out .entry)) at (value-record l) ⌝ }
+{
+    let cut = l.cut;
+    let suffix = l.suffix;
+    out[at] = kind_byte(l.exact);
+    out[at + 1] = l.len as u8;
+    write_bytes(out, at + CUT_AT, &cut);
+    out[at + SUFFIX_AT] = (suffix % 256) as u8;
+    out[at + SUFFIX_AT + 1] = (suffix / 256) as u8;
+}
+
+// The records of the leaves from the state's place on go to the front of out, of as many as it holds whole, and all else stays; their length.
+fn write_leaves(image: &[u8], from: State, out: &mut [u8]) -> usize
+    requires { ⌜ Walks (now image) from × (from .status ≡ Status.Opened) ⌝ }
+    ensures { λ r. ⌜ Fills (read-leaves (now (image .entry))) (from .place) (now (out .entry)) (now (out .exit)) r ⌝ }
+{
+    let room = out.len() / RECORD_SIZE;
+    let mut at = from;
+    let mut count = 0usize;
+    while count < room {
+        let s = stand_from(image, at);
+        let stand = s.stand;
+        let Stand::Leaf = stand else {
+            return RECORD_SIZE * count;
+        };
+        let l = s.leaf;
+        write_record(out, RECORD_SIZE * count, l);
+        at = move_from(image, at);
+        count = count + 1;
+    }
+    RECORD_SIZE * count
+}
+
+// Writes the records of the leaves from a place on to the front of out, of as many as it holds whole. The image is checked once.
+pub fn write_records(image: &[u8], place: usize, out: &mut [u8]) -> Written
+    ensures { λ r. ⌜ outcome r (now (out .exit)) ≡ walk-records (now (image .entry)) place (now (out .entry)) ⌝ }
+{
+    let at = open_from(image, place);
+    let status = at.status;
+    match status {
+        Status::Refused(number) => Written::Refused(number),
+        Status::Opened => Written::Bytes(write_leaves(image, at, out)),
+    }
+}
