@@ -1,7 +1,9 @@
 //! The proved library's build against the reference, on generated lists.
 
 use range_filter_tests::answer::Answer;
-use range_filter_tests::generate::keys::{any_keys, ascending, many_keys, owned};
+use range_filter_tests::generate::keys::{
+    any_keys, ascending, keys_with_most_entries, many_keys, owned,
+};
 use range_filter_tests::generate::universe::Universe;
 use range_filter_tests::generate::{any_settings, damaged, every_setting};
 use range_filter_tests::random::Random;
@@ -102,4 +104,10 @@ fn pairs_that_differ_in_the_last_of_64_bytes_are_built() {
     for settings in [(0, 0), (3, 7)] {
         assert_eq!(compare(&list, settings, LARGE_ROOM).number(), 0);
     }
+}
+
+#[test]
+fn the_list_with_the_most_trie_entries_is_built() {
+    let list = keys::write(&keys_with_most_entries());
+    assert_eq!(compare(&list, (0, 16), LARGE_ROOM).number(), 0);
 }

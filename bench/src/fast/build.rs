@@ -57,8 +57,7 @@ pub fn build(list: &[u8], dense_levels: u64, n: u64, out: &mut [u8]) -> Answer {
     }
 }
 
-/// Judges everything and then fills the bodies. Number 6 is not judged, since a
-/// key has at most one entry on each of 65 levels and so 6 never comes.
+/// Judges everything and then fills the bodies.
 fn fill(list: &[u8], dense_levels: u64, n: u64, out: &mut [u8]) -> Result<usize, u32> {
     if dense_levels > u64::from(MAX_DENSE_LEVELS) || n > u64::from(MAX_WIDTH) {
         return Err(5);

@@ -66,12 +66,12 @@ list-ready list dense n count w h l j =
     )
 
 -- what it builds
-pub list-built : (list out : Bytes) (dense n count : ℕ) (o : Outcome) → Is-bytes list → dense ≤ 4 → n ≤ 16 → Keys count ≡ key-list (parse-keys list) → o ≡ write 7 (image (settings dense n) (leaves n (keys-of list))) out → o ≡ build list (settings dense n) out
-list-built list out dense n count o w h l j z =
+pub list-built : (list out : Bytes) (dense n count : ℕ) (o : Outcome) → dense ≤ 4 → n ≤ 16 → Keys count ≡ key-list (parse-keys list) → o ≡ write 7 (image (settings dense n) (leaves n (keys-of list))) out → o ≡ build list (settings dense n) out
+list-built list out dense n count o h l j z =
     let t = judged-keys (parse-keys list) count j in
     let e = keys-of-list list (t .0) (t .1) in
     z ∙ ap (λ (ks : List Bytes). write 7 (image (settings dense n) (leaves n ks)) out) e
-    ∙ sym (build-writes list (settings dense n) (t .0) out (in-range-exactly (settings dense n) .1 (h, l)) (t .1) (keys-exactly list (t .0) w .0 (t .1)))
+    ∙ sym (build-writes list (settings dense n) (t .0) out (in-range-exactly (settings dense n) .1 (h, l)) (t .1))
 
 -- ---- the image of an accepted list
 

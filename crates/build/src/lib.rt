@@ -23,7 +23,6 @@ pub struct Settings {
 }
 
 // Builds the image of a key list into the output: 5, a setting out of range; then record by record 4, 1, 2, 1, 3; then 7, the image is longer than the output.
-// Number 6 never comes: no key list has over 4,300,000 trie entries.
 pub fn build(list: &[u8], dense: u64, n: u64, out: &mut [u8]) -> Written
     ensures { λ r. ⌜ outcome r (now (out .exit)) ≡ build (now (list .entry)) (settings dense n) (now (out .entry)) ⌝ }
 {

@@ -10,7 +10,6 @@ use Rattle.spec.specs.Image.{Settings, nodes, is-leaf}
 use Rattle.spec.specs.Image as Literal
 use Rattle.spec.specs.Nodes.{Node, is-exact}
 use Rattle.spec.specs.Trie.{leaf-count}
-use Rattle.spec.specs.Build.{trie-entries}
 use Rattle.theory.specs.Terms.{All}
 use Rattle.theory.specs.LevelTrie.{trie}
 use Rattle.theory.specs.LinkedLevels.{Labelled}
@@ -105,11 +104,3 @@ module _ (st : Settings) (ls : List Leaf) (v : Buildable st ls) where
   pub sparse-count : length (nodes ls (st .dense-levels) 64) ≡ length (sparse-nodes st ls)
   unfolding sparse-nodes
   sparse-count = sym (length-map (nodes ls (st .dense-levels) 64) (node-at ls)) ∙ ap length (literal-nodes .rest)
-
-  all-nodes : map (node-at ls) (nodes ls 0 64) ≡ concat (trie ls)
-  all-nodes = prefix-nodes 0 ls (omega arith) (v .realizable) (well-sized-depth (st .width) ls (v .well-sized)) .rest
-
-  -- so many trie entries
-  pub entries-count : trie-entries ls ≡ length (concat (map sparse-labels (concat (trie ls))))
-  unfolding trie-entries
-  entries-count = ap (λ (xs : List Bytes). length (concat xs)) (map-prefix-nodes ls (Literal.sparse-labels ls) sparse-labels (nodes ls 0 64) (concat (trie ls)) (sparse-labels-at ls) all-nodes)

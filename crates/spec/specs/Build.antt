@@ -1,9 +1,9 @@
--- Document 01, "Turning a file down": the public call build. A key list, settings and an output give the answer and the output's final bytes.
+-- Document 01, "Turning a file down", as order 9 changes it: the public call build. A key list, settings and an output give the answer and the output's final bytes.
 use Prim.Native.Nat.{ℕ}
 use mathlib.Core.Bool.{Bool, true, false, _&&_}
 use mathlib.Core.List.{List, map}
 use lib.ListN.{length}
-use lib.Dec.{leb, ltb}
+use lib.Dec.{leb}
 use Rattle.spec.specs.Bytes.{Bytes, concat}
 use Rattle.spec.specs.Keys.{refused, keys, parse-keys}
 use Rattle.spec.specs.Leaves.{Leaf, leaves}
@@ -19,19 +19,12 @@ unfoldable pub trie-entries : List Leaf → ℕ
 unfolding concat sparse-labels nodes
 trie-entries ls = length (concat (map (sparse-labels ls) (nodes ls 0 64)))
 
--- from the keys: 6, over 4,300,000 trie entries; 7, the image is longer than the output
-unfoldable pub build-keys : Settings → List Bytes → Bytes → Outcome
-unfolding leaves trie-entries image refuse write
-build-keys st ks out =
-    let ls : List Leaf = leaves (st .width) ks in
-    elim (ltb 4300000 (trie-entries ls)) [ true ↦ refuse 6 out | false ↦ write 7 (image st ls) out ]
-
--- 5, a setting out of range; then the records' 4, 1, 2, 1, 3; then 6 and 7
+-- 5, a setting out of range; then the records' 4, 1, 2, 1, 3; then 7, the image is longer than the output
 unfoldable pub build : Bytes → Settings → Bytes → Outcome
-unfolding in-range parse-keys build-keys refuse
+unfolding in-range parse-keys leaves image refuse write
 build list st out =
     elim (in-range st) [
       | false ↦ refuse 5 out
       | true ↦
-          elim (parse-keys list) [ refused r ↦ refuse r out | keys ks ↦ build-keys st ks out ]
+          elim (parse-keys list) [ refused r ↦ refuse r out | keys ks ↦ write 7 (image st (leaves (st .width) ks)) out ]
     ]

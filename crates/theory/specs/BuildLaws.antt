@@ -1,27 +1,25 @@
--- What build writes: of a key list, with settings in range, the literal image of its leaves, or 7; number 6 is never met.
+-- What build writes: of a key list, with settings in range, the literal image of its leaves, or 7.
 -- The demands on built images stand on this.
 use Prim.Native.Nat.{ℕ, _≤_}
-use mathlib.Core.Path.{_≡_, refl, ap, ap₂, _∙_}
+use mathlib.Core.Path.{_≡_, refl, ap₂}
 use mathlib.Core.Bool.{Bool, true, false}
 use mathlib.Core.List.{List}
 use mathlib.Core.Logic.{_↔_}
 use native.Mathlib.Omega.{arith}
 use lib.ListN.{length, take}
-use lib.Dec.{leb, ltb}
-use borrow.Author.Tests.{leb-true, le-ltb, le-leb}
+use lib.Dec.{leb}
+use borrow.Author.Tests.{leb-true, le-leb}
 use Rattle.spec.specs.Bytes.{Bytes}
 use Rattle.spec.specs.Keys.{Parsed-keys, refused, keys, parse-keys, keys-of}
 use Rattle.spec.specs.Leaves.{leaves}
 use Rattle.spec.specs.Image.{Settings, image}
 use Rattle.spec.specs.Answer.{Outcome, refuse, write, written}
-use Rattle.spec.specs.Build.{in-range, trie-entries, build-keys, build}
+use Rattle.spec.specs.Build.{in-range, build}
 use Rattle.theory.specs.Terms.{Ascending, Is-bytes, Keys, Key-list}
 use Rattle.theory.specs.KeyLeaves.{leaves-realizable, leaves-well-sized, leaves-length}
-use Rattle.theory.specs.EntryBound.{entry-count-literal, built-entries}
 use Rattle.theory.specs.KeyFiles.{keys-exactly}
 use Rattle.theory.specs.OutcomeLaws.{no-written, write-written}
 use Rattle.theory.specs.Lists.{and-both}
-use Rattle.theory.specs.TrieGroups.{well-sized-depth}
 use Rattle.theory.specs.LiteralImage.{Buildable}
 
 -- the keys that are read
@@ -39,29 +37,17 @@ in-range-exactly st = (
   λ p. rw (le-leb (st .dense-levels) 4 (p .0), le-leb (st .width) 16 (p .1)),
 )
 
--- 6 is never met
-few-entries : (n : ℕ) (ks : List Bytes) → Keys ks → Ascending ks → length ks ≤ 65535 → ltb 4300000 (trie-entries (leaves n ks)) ≡ false
-unfolding trie-entries
-few-entries n ks q u h =
-    le-ltb 4300000 (trie-entries (leaves n ks)) (omega (arith, entry-count-literal (leaves n ks) (leaves-realizable n ks q u) (well-sized-depth n (leaves n ks) (leaves-well-sized n ks q)), built-entries n ks q h))
-
 -- build, by what its tests say
 pub build-is : (list : Bytes) (st : Settings) (out : Bytes) (t : Bool) (p : Parsed-keys) → in-range st ≡ t → parse-keys list ≡ p
-    → build list st out ≡ elim t [ false ↦ refuse 5 out | true ↦ elim p [ refused r ↦ refuse r out | keys ks ↦ build-keys st ks out ] ]
+    → build list st out ≡ elim t [ false ↦ refuse 5 out | true ↦ elim p [ refused r ↦ refuse r out | keys ks ↦ write 7 (image st (leaves (st .width) ks)) out ] ]
 unfolding build
 build-is list st out t p e f =
-    ap₂ {C = Outcome} (λ (t : Bool) (p : Parsed-keys). elim t [ false ↦ refuse 5 out | true ↦ elim p [ refused r ↦ refuse r out | keys ks ↦ build-keys st ks out ] ]) e f
-
--- and from the keys
-pub build-keys-is : (st : Settings) (ks : List Bytes) (out : Bytes) (t : Bool) → ltb 4300000 (trie-entries (leaves (st .width) ks)) ≡ t
-    → build-keys st ks out ≡ elim t [ true ↦ refuse 6 out | false ↦ write 7 (image st (leaves (st .width) ks)) out ]
-unfolding build-keys
-build-keys-is st ks out t e = ap {B = Outcome} (λ (t : Bool). elim t [ true ↦ refuse 6 out | false ↦ write 7 (image st (leaves (st .width) ks)) out ]) e
+    ap₂ {C = Outcome} (λ (t : Bool) (p : Parsed-keys). elim t [ false ↦ refuse 5 out | true ↦ elim p [ refused r ↦ refuse r out | keys ks ↦ write 7 (image st (leaves (st .width) ks)) out ] ]) e f
 
 -- From a key list, with settings in range, build writes the literal image of its leaves, or gives 7.
-pub build-writes : (list : Bytes) (st : Settings) (ks : List Bytes) (out : Bytes) → in-range st ≡ true → parse-keys list ≡ keys ks → Key-list list ks
+pub build-writes : (list : Bytes) (st : Settings) (ks : List Bytes) (out : Bytes) → in-range st ≡ true → parse-keys list ≡ keys ks
     → build list st out ≡ write 7 (image st (leaves (st .width) ks)) out
-build-writes list st ks out r p k = build-is list st out true (keys ks) r p ∙ build-keys-is st ks out false (few-entries (st .width) ks (k .each) (k .up) (k .few))
+build-writes list st ks out r p = build-is list st out true (keys ks) r p
 
 -- settings in range, and at most 65,535 keys that ascend: what build reads from a key list
 pub record Built-from (st : Settings) (ks : List Bytes) : Type 0 where
@@ -99,4 +85,4 @@ build-writes-image list w st out n h = one (in-range st) refl (parse-keys list) 
     one true e (keys ks) f =
         let k = keys-exactly list ks w .0 f in
         let s = keys-of-list list ks f in
-        (e, rw s k, rw s (write-written 7 (image st (leaves (st .width) ks)) out n _ (build-writes list st ks out e f k) h))
+        (e, rw s k, rw s (write-written 7 (image st (leaves (st .width) ks)) out n _ (build-writes list st ks out e f) h))

@@ -16,13 +16,13 @@ use Rattle.spec.specs.Nodes.{nodes-of, levels-of, read-leaves}
 use Rattle.spec.specs.Trie.{builders-trie}
 use Rattle.spec.specs.Questions.{stem-end, Question, QP, QS, QB, QR, QC, Reply, reply, replies, reply-at, taken, parse-questions, questions-of, question-at}
 use Rattle.spec.specs.Answer.{written, refused, refusal-weight, Outcome, success}
-use Rattle.spec.specs.Build.{in-range, build}
+use Rattle.spec.specs.Build.{in-range, trie-entries, build}
 use Rattle.spec.specs.Check.{header-valid, spare-clear, ranks-valid, slots-valid, accepted, check}
 use Rattle.spec.specs.Ask.{ask}
 use Rattle.spec.specs.Walk.{open-walk, next}
 use Rattle.spec.specs.WalkRecords.{record-size, records-from, walk-records}
 use Rattle.spec.specs.Print.{longest-input, listing, print}
-use Rattle.theory.specs.Terms.{In, Is-bytes, Key-list, Question-file, Taken, Walk-correct, From, Judged-alike}
+use Rattle.theory.specs.Terms.{In, Is-bytes, Key-list, most-entries, Question-file, Taken, Walk-correct, From, Judged-alike}
 use Rattle.spec.specs.Check as Check
 use Rattle.spec.specs.Keys as Keys
 use Rattle.spec.specs.Questions as Questions
@@ -162,10 +162,10 @@ pub record Kept (out : Bytes) (o : Outcome) : Type 0 where
 -- That every call ends is in its contract: each call gives what its definition gives, for every input.
 pub record Demand-1 : Type 0 where
   -- "A key list, an image or a question file, of any bytes and any length, handed to a public call gets its work done or the one refusal number that the order of checks names."
-  -- Build: 1 to 5 and 7,
-  pub build-refuses : (list : Bytes) → Is-bytes list → (st : Settings) (out : Bytes) (r : ℕ) → (build list st out .answer ≡ refused r) ↔ Build-refusal list st out r
-  -- and never 6.
-  pub never-six : (list : Bytes) → Is-bytes list → (st : Settings) (out : Bytes) → build list st out .answer ≡ refused 6 → ⊥
+  -- Build: 1 to 5 and 7.
+  pub build-refuses : (list : Bytes) (st : Settings) (out : Bytes) (r : ℕ) → (build list st out .answer ≡ refused r) ↔ Build-refusal list st out r
+  -- Order 9: "65,535 keys of up to 64 bytes give at most 4,259,775 trie entries", branches and exact leaves together. It holds of every key list that build takes, at every suffix width.
+  pub entries-bound : (list : Bytes) → Is-bytes list → (ks : List Bytes) → parse-keys list ≡ keys ks → (n : ℕ) → trie-entries (leaves n ks) ≤ most-entries
   -- Check: 11 to 16.
   pub check-refuses : (b : Bytes) (r : ℕ) → (check b ≡ Check.refused r) ↔ Check-refusal b r
   -- Ask: those and 21 to 25.

@@ -36,7 +36,8 @@ use Rattle.theory.specs.RefusalNumbers.{check-accepts, check-refuses}
 use Rattle.spec.specs.WalkRecords.{record-size, records-from, walk-records}
 use Rattle.theory.specs.WalkRecordLaws.{bytes-records-from, records-written, records-answered, walk-records-refuses, walk-records-kept}
 use Rattle.theory.specs.LengthBounds.{leaves-are, build-short, ask-short, walk-records-short}
-use Rattle.theory.specs.RefusalLaws.{build-refuses, never-six, ask-refuses, ask-writes-replies, walk-refuses, next-refuses, judged-alike, build-kept, ask-kept}
+use Rattle.theory.specs.EntryBound.{entries-bound}
+use Rattle.theory.specs.RefusalLaws.{build-refuses, ask-refuses, ask-writes-replies, walk-refuses, next-refuses, judged-alike, build-kept, ask-kept}
 use Rattle.theory.specs.LiteralImage.{Buildable}
 use Rattle.theory.specs.AcceptImage.{image-accepted}
 use Rattle.spec.specs.Answer as Answer
@@ -88,7 +89,7 @@ module _ (st : Settings) (list b : Bytes) (w : Builds-with st list b) where
 -- a key list builds its image
 key-list-builds : (st : Settings) (list : Bytes) (ks : List Bytes) → Is-bytes list → in-range st ≡ true → Key-list list ks → (out : Bytes) → length (image st (leaves (st .width) ks)) ≤ length out
     → build list st out ≡ success (image st (leaves (st .width) ks)) out
-key-list-builds st list ks w r k out h = build-writes list st ks out r (keys-exactly list ks w .1 k) k ∙ write-fits 7 (image st (leaves (st .width) ks)) out h
+key-list-builds st list ks w r k out h = build-writes list st ks out r (keys-exactly list ks w .1 k) ∙ write-fits 7 (image st (leaves (st .width) ks)) out h
 
 -- the reply written for the i-th question
 reply-is : (b file out : Bytes) (ls : List Leaf) → Answered b file out → read-leaves b ≡ ls → length ls ≤ 65535 → (i : ℕ) (q : Question) → question-at file i ≡ some q → reply-at i (ask b file out .final) ≡ reply ls q
@@ -157,7 +158,7 @@ walk-records-bytes b s place out n h =
 pub demand-1 : Demand-1
 demand-1 = record {
   build-refuses = build-refuses;
-  never-six = never-six;
+  entries-bound = entries-bound;
   check-refuses = check-refuses;
   ask-refuses = ask-refuses;
   walk-refuses = walk-refuses;

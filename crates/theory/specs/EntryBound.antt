@@ -1,5 +1,5 @@
 -- How many entries, branches and exact leaves together, the trie of a leaf list has: at most one for each byte of a cut key, and one for each leaf.
--- So refusal 6 is never met.
+-- So a key list has at most 4,259,775.
 use Prim.Native.Nat.{ℕ, zero, suc, _+_, _*_, _≤_}
 use mathlib.Core.Path.{_≡_, ap, _∙_}
 use mathlib.Core.Bool.{cond, Bool, true, false}
@@ -8,13 +8,16 @@ use native.Mathlib.Omega.{arith}
 use lib.ListN.{length, length-append, length-map}
 use lib.Dec.{eqb}
 use Rattle.spec.specs.Bytes.{Bytes, Bits, concat}
+use Rattle.spec.specs.Keys.{keys, parse-keys}
 use Rattle.spec.specs.Leaves.{Leaf, leaves}
 use Rattle.spec.specs.Image.{nodes}
 use Rattle.spec.specs.Nodes.{Group, Branch, Node, node, label-of, is-exact}
-use Rattle.theory.specs.Terms.{Keys}
+use Rattle.spec.specs.Build.{trie-entries}
+use Rattle.theory.specs.Terms.{Is-bytes, most-entries}
 use Rattle.theory.specs.Lists.{concat-append}
 use Rattle.theory.specs.LeafLists.{Realizable}
-use Rattle.theory.specs.KeyLeaves.{leaves-well-sized, leaves-length}
+use Rattle.theory.specs.KeyLeaves.{leaves-realizable, leaves-well-sized, leaves-length}
+use Rattle.theory.specs.KeyFiles.{keys-exactly}
 use Rattle.theory.specs.LevelTrie.{trie, Subtree, subtree, insert, insert-cut, rest-of, subtrees, child-group, exact-of, node-of, child-groups, branch-of, trie-levels}
 use Rattle.theory.specs.NodeBits.{sparse-labels}
 use Rattle.theory.specs.TrieGroups.{Depth-at-most, well-sized-depth}
@@ -23,7 +26,7 @@ use Rattle.theory.specs.PrefixNodes.{sparse-labels-at}
 use Rattle.spec.specs.Image as Literal
 
 -- the trie's entries: branches and exact leaves together
-unfoldable pub entry-count : List Leaf → ℕ
+entry-count : List Leaf → ℕ
 unfolding concat trie sparse-labels
 entry-count ls = length (concat (map sparse-labels (concat (trie ls))))
 
@@ -125,10 +128,14 @@ entry-bound [] q = omega arith
 entry-bound (l ∷ ls) q = omega (arith, coded-weight 64 ((l ∷ ls) ∷ []), fits-weight (l ∷ ls) q)
 
 -- These are the entries of all prefixes of cut keys, each node's branches and the exact leaf that it is.
-pub entry-count-literal : {n : ℕ} (ls : List Leaf) → Realizable n ls → Depth-at-most 64 ls → length (concat (map (Literal.sparse-labels ls) (nodes ls 0 64))) ≡ entry-count ls
+entry-count-literal : {n : ℕ} (ls : List Leaf) → Realizable n ls → Depth-at-most 64 ls → length (concat (map (Literal.sparse-labels ls) (nodes ls 0 64))) ≡ entry-count ls
 unfolding entry-count
 entry-count-literal ls g q = ap (λ (z : List Bytes). length (concat z)) (map-prefix-nodes ls (Literal.sparse-labels ls) sparse-labels (nodes ls 0 64) (concat (trie ls)) (sparse-labels-at ls) (prefix-nodes 0 ls (omega arith) g q .rest))
 
--- The trie of at most 65,535 keys has at most 4,259,775 entries: refusal 6 is never met.
-pub built-entries : (n : ℕ) (ks : List Bytes) → Keys ks → length ks ≤ 65535 → entry-count (leaves n ks) ≤ 4259775
-built-entries n ks q h = omega (arith, entry-bound (leaves n ks) (well-sized-depth n (leaves n ks) (leaves-well-sized n ks q)), leaves-length n ks)
+-- A key list that build takes has at most 4,259,775 trie entries, at every suffix width.
+pub entries-bound : (list : Bytes) → Is-bytes list → (ks : List Bytes) → parse-keys list ≡ keys ks → (n : ℕ) → trie-entries (leaves n ks) ≤ most-entries
+unfolding trie-entries
+entries-bound list w ks f n =
+    let k = keys-exactly list ks w .0 f in
+    let d = well-sized-depth n (leaves n ks) (leaves-well-sized n ks (k .each)) in
+    omega (arith, entry-count-literal (leaves n ks) (leaves-realizable n ks (k .each) (k .up)) d, entry-bound (leaves n ks) d, leaves-length n ks, k .few)

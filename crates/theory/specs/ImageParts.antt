@@ -14,7 +14,7 @@ use Rattle.spec.specs.Image.{Settings, Bodies, image, rows, in-order, write-rec
 use Rattle.spec.specs.Frame.{Parts, parts, read-bodies, named}
 use Rattle.spec.specs.Nodes.{Node, is-exact, sparse-nodes, nodes-of, Shape, slotted, sparse-shape, total, children-of}
 use Rattle.spec.specs.Trie.{leaf-count}
-use Rattle.theory.specs.Terms.{All}
+use Rattle.theory.specs.Terms.{All, most-entries}
 use Rattle.theory.specs.Lists.{concat-split, all-split, all-weaken}
 use Rattle.theory.specs.Frame.{Header-fields, header-back, Short-bodies, drop-header, read-bodies-write, Paired}
 use Rattle.theory.specs.Bits.{unpack-at, length-pack, length-ranks, length-samples}
@@ -53,8 +53,8 @@ pub record Writable (n count : ℕ) (ds ss : List Node) : Type 0 where
   pub width-range : n ≤ 16
   pub few : count ≤ 65535
   pub few-dense : length ds ≤ 262140
-  pub few-entries : length (concat (map sparse-labels ss)) ≤ 4300000
-  pub few-sparse : length ss ≤ 4300000
+  pub few-entries : length (concat (map sparse-labels ss)) ≤ most-entries
+  pub few-sparse : length ss ≤ most-entries
 
 -- ---- the header and the parts
 

@@ -16,15 +16,14 @@ use Rattle.spec.specs.Image.{Settings, image}
 use Rattle.spec.specs.Nodes.{read-leaves}
 use Rattle.spec.specs.Questions.{Parsed-questions, taken, parse-questions, replies, questions-of}
 use Rattle.spec.specs.Answer.{written, Outcome, refuse, write}
-use Rattle.spec.specs.Build.{in-range, trie-entries, build-keys, build}
+use Rattle.spec.specs.Build.{in-range, build}
 use Rattle.spec.specs.Check.{verdict, accepted, check}
 use Rattle.spec.specs.Ask.{ask}
 use Rattle.spec.specs.Walk.{stand-at, open-walk, next}
-use Rattle.theory.specs.Terms.{Is-bytes, From, Judged-alike}
-use Rattle.theory.specs.KeyFiles.{keys-exactly}
+use Rattle.theory.specs.Terms.{From, Judged-alike}
 use Rattle.theory.specs.Demands.{Build-refusal, Ask-refusal, Walk-refusal, setting-refused, record-refused, image-too-long, image-refused, question-refused, replies-too-long, refused-image, place-refused, Kept}
 use Rattle.theory.specs.OutcomeLaws.{no-written, refuse-answer, write-answer, success-written, refuse-kept, write-kept}
-use Rattle.theory.specs.BuildLaws.{build-is, build-keys-is, build-writes}
+use Rattle.theory.specs.BuildLaws.{build-is, build-writes}
 use Rattle.theory.specs.AskLaws.{ask-is, ask-answers, walk-is, step-is}
 use Rattle.theory.specs.RefusalNumbers.{keys-number, questions-number, check-accepts, check-refused, check-number, check-cases}
 use Rattle.spec.specs.Answer as Answer
@@ -34,7 +33,7 @@ use Rattle.spec.specs.Walk as Walk
 
 -- ---- build
 
-module _ (list : Bytes) (w : Is-bytes list) (st : Settings) (out : Bytes) (r : ℕ) where
+module _ (list : Bytes) (st : Settings) (out : Bytes) (r : ℕ) where
   -- Build refuses with the number that the order of checks names, and with no other.
   pub build-refuses : (build list st out .answer ≡ Answer.refused r) ↔ Build-refusal list st out r
   build-refuses = (λ h. one h (in-range st) refl (parse-keys list) refl, from r)
@@ -43,22 +42,13 @@ module _ (list : Bytes) (w : Is-bytes list) (st : Settings) (out : Bytes) (r : �
       one h false e p f = subst (Build-refusal list st out) (refuse-answer 5 r out _ (build-is list st out false p e f) .0 h) (setting-refused e)
       one h true e (refused q) f = subst (Build-refusal list st out) (refuse-answer q r out _ (build-is list st out true (refused q) e f) .0 h) (record-refused e f (keys-number list q f))
       one h true e (keys ks) f =
-          let a = write-answer 7 r (image st (leaves (st .width) ks)) out _ (build-writes list st ks out e f (keys-exactly list ks w .0 f)) .0 h in
+          let a = write-answer 7 r (image st (leaves (st .width) ks)) out _ (build-writes list st ks out e f) .0 h in
           subst (Build-refusal list st out) (a .0) (image-too-long e ks f (a .1))
 
       from : (q : ℕ) → Build-refusal list st out q → build list st out .answer ≡ Answer.refused q
       from q (setting-refused e) = refuse-answer 5 5 out _ (build-is list st out false (parse-keys list) e refl) .1 refl
       from q (record-refused e f n) = refuse-answer q q out _ (build-is list st out true (refused q) e f) .1 refl
-      from q (image-too-long e ks f l) = write-answer 7 7 (image st (leaves (st .width) ks)) out _ (build-writes list st ks out e f (keys-exactly list ks w .0 f)) .1 (refl, l)
-
--- 6 never comes.
-pub never-six : (list : Bytes) → Is-bytes list → (st : Settings) (out : Bytes) → build list st out .answer ≡ Answer.refused 6 → ⊥
-never-six list w st out h = other 6 (build-refuses list w st out 6 .0 h) refl
-  where
-    other : (r : ℕ) → Build-refusal list st out r → r ≡ 6 → ⊥
-    other r (setting-refused e) s = omega arith
-    other r (record-refused e f n) s = omega (arith, n)
-    other r (image-too-long e ks f l) s = omega arith
+      from q (image-too-long e ks f l) = write-answer 7 7 (image st (leaves (st .width) ks)) out _ (build-writes list st ks out e f) .1 (refl, l)
 
 -- ---- ask
 
@@ -189,13 +179,6 @@ judged-alike b = record {
 
 -- ---- buffers
 
-build-keys-kept : (st : Settings) (ks : List Bytes) (out : Bytes) → Kept out (build-keys st ks out)
-build-keys-kept st ks out = go (ltb 4300000 (trie-entries (leaves (st .width) ks))) refl
-  where
-    go : (t : Bool) → ltb 4300000 (trie-entries (leaves (st .width) ks)) ≡ t → Kept out (build-keys st ks out)
-    go true e = rw (build-keys-is st ks out true e) (refuse-kept 6 out)
-    go false e = rw (build-keys-is st ks out false e) (write-kept 7 (image st (leaves (st .width) ks)) out)
-
 -- build, of any list, settings and output
 pub build-kept : (list : Bytes) (st : Settings) (out : Bytes) → Kept out (build list st out)
 build-kept list st out = one (in-range st) refl (parse-keys list) refl
@@ -203,7 +186,7 @@ build-kept list st out = one (in-range st) refl (parse-keys list) refl
     one : (t : Bool) → in-range st ≡ t → (p : Parsed-keys) → parse-keys list ≡ p → Kept out (build list st out)
     one false e p f = subst (Kept out) (sym (build-is list st out false p e f)) (refuse-kept 5 out)
     one true e (refused r) f = subst (Kept out) (sym (build-is list st out true (refused r) e f)) (refuse-kept r out)
-    one true e (keys ks) f = subst (Kept out) (sym (build-is list st out true (keys ks) e f)) (build-keys-kept st ks out)
+    one true e (keys ks) f = subst (Kept out) (sym (build-writes list st ks out e f)) (write-kept 7 (image st (leaves (st .width) ks)) out)
 
 -- ask, of any image, question file and reply buffer
 pub ask-kept : (b file out : Bytes) → Kept out (ask b file out)

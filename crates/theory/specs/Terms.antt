@@ -58,6 +58,10 @@ pub record Key-list (s : Bytes) (ks : List Bytes) : Type 0 where
   pub up : Ascending ks
   pub few : length ks ≤ 65535
 
+-- No key list has more trie entries: 65 for each of 65,535 keys.
+abbrev pub most-entries : ℕ
+most-entries = 4259775
+
 -- ---- questions and question files
 
 -- a key or a bound of a question has at most 64 bytes

@@ -1,7 +1,7 @@
 //! Keys that make a key list: strictly ascending, at most 65,535.
 
 use crate::random::Random;
-use crate::reference::keys::MAX_KEY;
+use crate::reference::keys::{MAX_KEY, MAX_KEYS};
 use std::collections::BTreeSet;
 
 /// Gives keys as owned byte strings.
@@ -107,4 +107,19 @@ pub fn many_mixed_keys(random: &mut Random, count: usize, length: usize) -> Vec<
         key.truncate(length - usize::from(random.once_in(4)));
     }
     ascending(keys)
+}
+
+/// Gives a list with the most trie entries of any: 32,767 pairs of keys of 64 bytes that
+/// differ in the last byte, with a node of its own for each pair from level 2 on and 256
+/// nodes on level 1, and one key more.
+pub fn keys_with_most_entries() -> Vec<Vec<u8>> {
+    let key = |number: usize| {
+        let pair = number / 2;
+        let mut key = vec![0; MAX_KEY];
+        key[0] = (pair % 256) as u8;
+        key[1] = (pair / 256) as u8;
+        key[MAX_KEY - 1] = (number % 2) as u8;
+        key
+    };
+    ascending((0..MAX_KEYS).map(key).collect())
 }

@@ -6,11 +6,8 @@ use super::format::{
 use super::keys;
 use super::leaves::{leaves, Leaf};
 use super::tables::TrieBits;
-use super::trie::{entry_count, nodes, Branch, Node};
+use super::trie::{nodes, Branch, Node};
 use crate::answer::{put, Answer};
-
-/// The most trie entries of an image.
-pub const MAX_ENTRIES: usize = 4_300_000;
 
 /// The label that starts a sparse node that is an exact leaf.
 pub const EXTRA_LABEL: u8 = 0xFF;
@@ -28,14 +25,13 @@ pub fn build(list: &[u8], dense_levels: u64, n: u64, out: &mut [u8]) -> Answer {
     put(image(list, dense_levels, n), 7, out)
 }
 
-/// Gives the image of a key list, or the number of the first fault in the order of
-/// document 01.
+/// Gives the image of a key list, or the number of the first fault: 5, then record by
+/// record 4, 1, 2, 1, 3.
 pub fn image(list: &[u8], dense_levels: u64, n: u64) -> Result<Vec<u8>, u32> {
     let settings = settings(dense_levels, n)?;
     let keys = keys::parse(list)?;
     let leaves = leaves(&keys, usize::from(settings.width));
     let nodes = nodes(&leaves);
-    judge_entries(entry_count(&nodes))?;
     Ok(lay_out(settings, &leaves, &nodes))
 }
 
@@ -48,14 +44,6 @@ fn settings(dense_levels: u64, n: u64) -> Result<Settings, u32> {
         dense_levels: dense_levels as u8,
         width: n as u8,
     })
-}
-
-/// Judges the number of trie entries.
-pub fn judge_entries(entries: usize) -> Result<(), u32> {
-    if entries > MAX_ENTRIES {
-        return Err(6);
-    }
-    Ok(())
 }
 
 /// Lays out the image of leaves in key order and of their nodes.

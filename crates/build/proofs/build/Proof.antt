@@ -48,14 +48,13 @@ same-length c = search needs
 
 returns-4 : tie.Need-returns-4
 returns-4 c =
-    let shared-slice-known = c .before .before .before .before .before .before .before .before .before .before .before .shared-slice-known in
     let if1 = c .before .before .before .before .before .before .before .before .before .if1 in
     let if2 = c .before .before .before .before .before .before .before .before .if2 in
     let judge-list = c .before .before .before .before .before .before .before .judge-list in
     let keys2 = c .before .before .before .before .before .keys2 in
     let build-image = c .before .before .build-image in
     let a = c .before .before .before .before .before .before .before .before .before .before .before .before .args in
-    list-built (a .list .now) (a .out .now) (a .dense) (a .n) _ _ (small-of (a .list .now) (λ i. shared-slice-known .given i .fits)) (if1 .left) (if2 .left) (sym (keys2 .given .1) ∙ judge-list .ensures) (build-image .ensures)
+    list-built (a .list .now) (a .out .now) (a .dense) (a .n) _ _ (if1 .left) (if2 .left) (sym (keys2 .given .1) ∙ judge-list .ensures) (build-image .ensures)
 
 pub build-spec : {M : Type 1} → statement M
 build-spec =
