@@ -3,12 +3,13 @@
 use range_filter_tests::answer::Answer;
 use range_filter_tests::examples::IMAGE_A;
 use range_filter_tests::generate::images::{any_image, built, large_images};
-use range_filter_tests::generate::keys::any_keys;
+use range_filter_tests::generate::keys::{any_keys, keys_by_node_size};
 use range_filter_tests::generate::questions::{key_near, questions_near};
 use range_filter_tests::generate::universe::Universe;
 use range_filter_tests::generate::{damaged, every_setting};
 use range_filter_tests::random::Random;
 use range_filter_tests::reference::check::accepted_leaves;
+use range_filter_tests::reference::format::{frame, SB};
 use range_filter_tests::reference::keys::MAX_KEY;
 use range_filter_tests::reference::leaves::{highest, lowest, Leaf};
 use range_filter_tests::reference::questions::{write, Question, MAX_QUESTIONS};
@@ -23,6 +24,7 @@ const DAMAGED_FILES: usize = 20_000;
 const DAMAGED_IMAGES: usize = 20_000;
 const LARGE_KEYS: usize = 5_000;
 const LARGE_QUESTIONS: usize = 600;
+const LISTS_BY_NODE_SIZE: usize = 120;
 
 /// Compares the replies to a question file in a buffer of some length.
 fn compare(image: &[u8], file: &[u8], room: usize) -> Answer {
@@ -204,6 +206,22 @@ fn large_images_get_the_reference_replies() {
         let asked = questions_near(&mut random, &image, LARGE_QUESTIONS);
         compare_replies(&image, &asked);
     }
+}
+
+#[test]
+fn every_byte_of_s_louds_gets_the_reference_replies() {
+    let mut random = Random::new(72);
+    let mut met = [false; 256];
+    for number in 0..LISTS_BY_NODE_SIZE {
+        let keys = keys_by_node_size(&mut random, [2, 4, 6, 24][number % 4]);
+        let image = built(&keys, 0, 0);
+        for &byte in frame(&image).expect("a built image has a frame").bodies[SB] {
+            met[usize::from(byte)] = true;
+        }
+        let asked: Vec<Question> = keys.into_iter().map(Question::Point).collect();
+        compare_replies(&image, &asked);
+    }
+    assert!(met.iter().all(|&met| met), "{met:?}");
 }
 
 #[test]

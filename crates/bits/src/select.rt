@@ -4,6 +4,7 @@ ghost use Prim.Native.Nat.{_+_, _*_, _%_, _^_, _≤_, _<_};
 ghost use lib.ListN.{length};
 ghost use lib.Count.{ones};
 ghost use Rattle.bits_laws.specs.Bits.{rank, select};
+use super::in_word::select_in_word;
 use super::numbers::read_word;
 use super::numbers::smaller;
 use super::ones::ones_before;
@@ -14,20 +15,6 @@ fn lowest_one(x: u64) -> usize
     ensures { λ r. ⌜ (ones (x % 2 ^ r) ≡ 0) × (0 < ones (x % 2 ^ (r + 1))) × (2 ^ r ≤ x) × (r < 64) ⌝ }
 {
     u64::trailing_zeros(x) as usize
-}
-
-// The position of the m-th set bit, counted from 0, of a word that has more than m: the lowest that is left when the m below it are cleared.
-fn select_in_word(x: u64, m: usize) -> usize
-    requires { ⌜ m < ones x ⌝ }
-    ensures { λ r. ⌜ (ones (x % 2 ^ r) ≤ m) × (m < ones (x % 2 ^ (r + 1))) × (r < 64) ⌝ }
-{
-    let mut w = x;
-    let mut i = 0usize;
-    while i < m {
-        w = w & (w - 1);
-        i = i + 1;
-    }
-    lowest_one(w)
 }
 
 // The position of the first set bit from word `from` on among the first n bits, or n where there is none.

@@ -22,6 +22,10 @@ unfolding rank
 select s zero m = zero
 select s (suc n) m = cond (leb (rank s (suc n)) m) (suc n) (select s n m)
 
+-- the position of the one in byte b that has j ones below it, or 8 where there is no such one
+abbrev pub place : ℕ → ℕ → ℕ
+place b j = select (b ∷ []) 8 j
+
 -- the number whose bytes are s, the low byte first
 unfoldable pub value : Bytes → ℕ
 value [] = zero

@@ -7,5 +7,8 @@ pub mod Placing
 pub mod Parts
 pub mod RankLaws
 pub mod SelectLaws
+pub mod TableLaws
 pub mod WordLaws
+pub mod CountLaws
+pub mod NarrowLaws
 pub mod PartLaws

@@ -41,11 +41,18 @@ rank-slow s a b h = let e : a + (b - a) ≡ b = omega arith in let r = go (b - a
 pub rank-up : (s : Bytes) (a b : ℕ) → a ≤ b → rank s a ≤ rank s b
 rank-up s a b h = rank-slow s a b h .0
 
-ones-bit : (x : ℕ) → x < 2 → ones x ≡ x
+-- a digit has itself as its ones
+pub ones-bit : (x : ℕ) → x < 2 → ones x ≡ x
 unfolding ones
 ones-bit zero h = refl
 ones-bit (suc zero) h = refl
 ones-bit (suc (suc x)) h = absurd (omega arith)
+
+-- the ones of the k + j lowest digits: those of the k lowest, and of the j behind them
+pub ones-behind : (x k j : ℕ) → ones (x % 2 ^ (k + j)) ≡ ones (x % 2 ^ k) + ones (x / 2 ^ k % 2 ^ j)
+ones-behind x k j =
+    ap (λ (n : ℕ). ones (x % 2 ^ n)) (add-comm k j) ∙ ap ones (mod-pow-add x j k)
+    ∙ ones-cat k (x / 2 ^ k % 2 ^ j) (x % 2 ^ k) (mod-lt x (pow-pos k)) ∙ add-comm _ _
 
 -- the ones before bit k are those of the number's k lowest digits
 pub rank-ones : (s : Bytes) → Small s → (k : ℕ) → rank s k ≡ ones (value s % 2 ^ k)
@@ -53,20 +60,12 @@ unfolding rank ones
 rank-ones s h zero = sym (ap ones (mod-one (value s)))
 rank-ones s h (suc k) =
     let n : ℕ = value s in
-    let d : ℕ = n / 2 ^ k % 2 in
-    let e : n % 2 ^ suc k ≡ d * 2 ^ k + n % 2 ^ k = ap (λ (m : ℕ). n % 2 ^ m) (sym (add-comm 1 k ∙ add-one k)) ∙ mod-pow-add n 1 k in
-    ap₂ (λ (x y : ℕ). x + y) (rank-ones s h k) (sym (value-bit s h k)) ∙ add-comm (ones (n % 2 ^ k)) d
-    ∙ ap (λ (x : ℕ). x + ones (n % 2 ^ k)) (sym (ones-bit d (mod-lt (n / 2 ^ k) (zero-lt-suc 1))))
-    ∙ sym (ones-cat k d (n % 2 ^ k) (mod-lt n (pow-pos k))) ∙ ap ones (sym e)
+    ap₂ (λ (x y : ℕ). x + y) (rank-ones s h k) (sym (value-bit s h k) ∙ sym (ones-bit (n / 2 ^ k % 2) (mod-lt (n / 2 ^ k) (zero-lt-suc 1))))
+    ∙ sym (ones-behind n k 1) ∙ ap (λ (m : ℕ). ones (n % 2 ^ m)) (add-one k)
 
 -- j bits on from bit a: the one law for every width
 pub rank-step : (s : Bytes) → Small s → (a j : ℕ) → rank s (a + j) ≡ rank s a + ones (value s / 2 ^ a % 2 ^ j)
-rank-step s h a j =
-    let n : ℕ = value s in
-    rank-ones s h (a + j) ∙ ap (λ (m : ℕ). ones (n % 2 ^ m)) (add-comm a j) ∙ ap ones (mod-pow-add n j a)
-    ∙ ones-cat a (n / 2 ^ a % 2 ^ j) (n % 2 ^ a) (mod-lt n (pow-pos a))
-    ∙ add-comm (ones (n / 2 ^ a % 2 ^ j)) (ones (n % 2 ^ a))
-    ∙ ap (λ (m : ℕ). m + ones (n / 2 ^ a % 2 ^ j)) (sym (rank-ones s h a))
+rank-step s h a j = rank-ones s h (a + j) ∙ ones-behind (value s) a j ∙ ap (λ (m : ℕ). m + ones (value s / 2 ^ a % 2 ^ j)) (sym (rank-ones s h a))
 
 -- the first j bits of word q
 pub rank-word : (s : Bytes) → Small s → (q j : ℕ) → j ≤ 64

@@ -1,19 +1,18 @@
--- The ones of a 64-bit word: its lowest one, the word without it, and the ones behind a position of the word.
+-- The ones of a 64-bit word: its lowest one, and the ones behind a position of the word.
 use mathlib.Core.Path.{_≡_, refl, sym, ap, ap₂, _∙_}
 use Prim.Native.Nat.{ℕ, zero, suc, _+_, _*_, _-_, _/_, _%_, _^_, _≤_, _<_, min}
 use mathlib.Core.Bool.{Bool, true, false}
-use native.Mathlib.Nat.{mod-one, mod-lt, mod-eq-of-lt, pow-succ'}
+use native.Mathlib.Nat.{mod-one, mod-eq-of-lt, pow-succ'}
 use native.Mathlib.Numerals.{add-one}
 use native.Mathlib.Omega.{arith}
 use borrow.Author.Tests.{ltb-true, ltb-false}
 use lib.Dec.{ltb}
-use lib.Bits.{bitAnd, and-step, and-self}
-use lib.Count.{ones, ones-step, ones-cat, trailingZeros, under}
-use lib.Pow.{pow-pos, pow-mono, shr-lt, field, mod-mod-pow, mod-pow-add}
+use lib.Count.{ones, ones-step, trailingZeros, under}
+use lib.Pow.{pow-pos, pow-mono, shr-lt, field, mod-mod-pow}
 use Rattle.spec.specs.Bytes.{Bytes}
 use Rattle.bits_laws.specs.Bits.{rank, select, word}
 use Rattle.bits_laws.specs.ValueLaws.{Small}
-use Rattle.bits_laws.specs.RankLaws.{rank-word}
+use Rattle.bits_laws.specs.RankLaws.{ones-behind, rank-word}
 use Rattle.bits_laws.specs.SelectLaws.{select-min}
 
 -- the ones of the lowest digits: the lowest digit, and those of the half
@@ -23,7 +22,7 @@ ones-low x j =
     ∙ ap₂ (λ (a b : ℕ). a + ones b) (mod-mod-pow x j 1) (field x j 1)
 
 -- no digits have no ones
-ones-none : (x : ℕ) → ones (x % 2 ^ 0) ≡ 0
+pub ones-none : (x : ℕ) → ones (x % 2 ^ 0) ≡ 0
 unfolding ones
 ones-none x = ap ones (mod-one x)
 
@@ -43,12 +42,6 @@ lowest (suc k) x p h = go (x % 2) refl (λ q. lowest k (x / 2) q (omega (arith, 
         (omega (arith, ones-low x t, ih .0), omega (arith, ones-low x (suc t), ih .1), omega (arith, pow-succ' 2 t, ih .2))
     go (suc d) e rest = (ones-none x, omega (arith, ones-low x 0), omega arith)
 
--- a word is not zero that has all ones of x but i, which are not all
-pub some-left : (x w i : ℕ) → x < 2 ^ 64 → i < ones x → ones (w % 2 ^ 64) ≡ ones (x % 2 ^ 64) - i → 0 < w
-unfolding ones
-some-left x zero i h l e = absurd (omega (arith, ap ones (mod-eq-of-lt h), ap ones (mod-eq-of-lt (pow-pos 64))))
-some-left x (suc w) i h l e = omega arith
-
 -- a power of two up to a number of k digits
 pub power-lt : (t k x : ℕ) → 2 ^ t ≤ x → x < 2 ^ k → t < k
 power-lt t k x l h = go (ltb t k) refl
@@ -61,37 +54,14 @@ power-lt t k x l h = go (ltb t k) refl
 pub word-room : (j w t : ℕ) → j ≤ 64 → w < 2 ^ 64 → 2 ^ t ≤ w / 2 ^ j → j + t < 64
 word-room j w t l h g = let e : 64 - j + j ≡ 64 = omega arith in omega (arith, power-lt t (64 - j) (w / 2 ^ j) g (shr-lt (64 - j) j (rw e h)))
 
--- a number that is not zero without its lowest one: one less of the ones of any lowest digits that have some
-pub cleared : (j w : ℕ) → 0 < w → ones (bitAnd w (w - 1) % 2 ^ j) ≡ ones (w % 2 ^ j) - 1
-cleared zero w p = omega (arith, ones-none w, ones-none (bitAnd w (w - 1)))
-cleared (suc j) w p = go (w % 2) refl (cleared j (w / 2))
-  where
-    half : bitAnd w (w - 1) ≡ bitAnd (w / 2) ((w - 1) / 2) * 2 + min (w % 2) ((w - 1) % 2)
-    half = and-step w (w - 1)
-
-    go : (d : ℕ) → w % 2 ≡ d → (0 < w / 2 → ones (bitAnd (w / 2) (w / 2 - 1) % 2 ^ j) ≡ ones (w / 2 % 2 ^ j) - 1)
-        → ones (bitAnd w (w - 1) % 2 ^ suc j) ≡ ones (w % 2 ^ suc j) - 1
-    go zero e rest =
-        let f : (w - 1) / 2 ≡ w / 2 - 1 = omega arith in
-        let b : bitAnd w (w - 1) ≡ bitAnd (w / 2) (w / 2 - 1) * 2 = omega (arith, half, ap (bitAnd (w / 2)) f) in
-        let d : bitAnd w (w - 1) / 2 ≡ bitAnd (w / 2) (w / 2 - 1) = omega arith in
-        omega (arith, ones-low w j, ones-low (bitAnd w (w - 1)) j, ap (λ (n : ℕ). ones (n % 2 ^ j)) d, rest (omega arith))
-    go (suc t) e rest =
-        let f : (w - 1) / 2 ≡ w / 2 = omega arith in
-        let g : bitAnd (w / 2) ((w - 1) / 2) ≡ w / 2 = ap (bitAnd (w / 2)) f ∙ and-self (w / 2) in
-        let b : bitAnd w (w - 1) ≡ w / 2 * 2 = omega (arith, half) in
-        let d : bitAnd w (w - 1) / 2 ≡ w / 2 = omega arith in
-        omega (arith, ones-low w j, ones-low (bitAnd w (w - 1)) j, ap (λ (n : ℕ). ones (n % 2 ^ j)) d)
-
 -- at position p, bit j of word q, where x is the word from there on
 module _ (s : Bytes) (h : Small s) (q j p x : ℕ) (at : p ≡ 64 * q + j) (is : x ≡ word s (q * 8) / 2 ^ j) where
   -- r bits on
   rank-on : (r : ℕ) → j + r ≤ 64 → rank s (p + r) ≡ rank s p + ones (x % 2 ^ r)
   rank-on r l =
       let w : ℕ = word s (q * 8) in
-      let e : p + r ≡ 64 * q + (r + j) = omega arith in
-      let c : ones (w % 2 ^ (r + j)) ≡ ones (w / 2 ^ j % 2 ^ r) + ones (w % 2 ^ j) = ap ones (mod-pow-add w r j) ∙ ones-cat j (w / 2 ^ j % 2 ^ r) (w % 2 ^ j) (mod-lt w (pow-pos j)) in
-      omega (arith, ap (rank s) e, ap (rank s) at, ap (λ (n : ℕ). ones (n % 2 ^ r)) is, rank-word s h q (r + j) (omega arith) .0, rank-word s h q j (omega arith) .0)
+      let e : p + r ≡ 64 * q + (j + r) = omega arith in
+      omega (arith, ap (rank s) e, ap (rank s) at, ap (λ (n : ℕ). ones (n % 2 ^ r)) is, ones-behind w j r, rank-word s h q (j + r) (omega arith) .0, rank-word s h q j (omega arith) .0)
 
   -- no more ones in the word
   pub rank-clear : j ≤ 64 → x ≡ 0 → rank s (64 * (q + 1)) ≡ rank s p

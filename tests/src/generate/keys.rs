@@ -109,6 +109,16 @@ pub fn many_mixed_keys(random: &mut Random, count: usize, length: usize) -> Vec<
     ascending(keys)
 }
 
+/// Gives keys with a node of level 1 for each first byte. More than half of these nodes have
+/// one entry, which leads to a node of two; the others have at most so many.
+pub fn keys_by_node_size(random: &mut Random, most: usize) -> Vec<Vec<u8>> {
+    let node = |first| match random.below(most) * random.below(2) {
+        0 => vec![vec![first, 0, 0], vec![first, 0, 1]],
+        last => (0..=last as u8).map(|second| vec![first, second]).collect(),
+    };
+    (0..=u8::MAX).flat_map(node).collect()
+}
+
 /// Gives a list with the most trie entries of any: 32,767 pairs of keys of 64 bytes that
 /// differ in the last byte, with a node of its own for each pair from level 2 on and 256
 /// nodes on level 1, and one key more.

@@ -1,0 +1,29 @@
+use mathlib.Core.Path.{_≡_, ap₂}
+use Prim.Native.Nat.{_+_, _*_, _/_, _%_}
+use native.Mathlib.Omega.{arith}
+use borrow.Author.Needs.{needs}
+use Rattle.bits_laws.specs.Bits.{rank, select, place}
+use Rattle.bits_laws.specs.TableLaws.{places-rule}
+use Rattle.byte_places.proofs.place_in_half.Statement.{statement}
+use Rattle.byte_places.proofs.place_in_half.Tie as tie
+
+mul-result : tie.Need-mul-result
+mul-result c = search needs
+
+add-result : tie.Need-add-result
+add-result c = search needs
+
+array-read-result : tie.Need-array-read-result
+array-read-result c = search needs
+
+-- the test of the whole table is computed here
+returns : tie.Need-returns
+unfolding rank select
+returns c =
+    let a = c .args in
+    let row : (8 * a .h + a .j) % 128 / 8 ≡ a .h = omega arith in
+    let at : (8 * a .h + a .j) % 128 % 8 ≡ a .j = omega arith in
+    rw (places-rule 128 (omega arith) (omega arith)) (ap₂ place row at)
+
+pub place-in-half-spec : {M : Type 1} → statement M
+place-in-half-spec = tie.close (tie.spec mul-result add-result array-read-result returns)
