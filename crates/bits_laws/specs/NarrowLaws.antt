@@ -65,7 +65,7 @@ rank-byte h l k = let e : value (h ∷ []) ≡ h = omega arith in rank-ones (h �
     small (suc i) = omega arith
 
 -- the place among four bits
-pub four-bits : (h j : ℕ) → h < 16 → j < ones h → (place h j < 4) × (ones (h % 2 ^ place h j) ≤ j) × (j < ones (h % 2 ^ (place h j + 1)))
+four-bits : (h j : ℕ) → h < 16 → j < ones h → (place h j < 4) × (ones (h % 2 ^ place h j) ≤ j) × (j < ones (h % 2 ^ (place h j + 1)))
 four-bits h j l g =
     let r = rank-byte h (omega arith) in
     let is = select-is (h ∷ []) 8 j in
