@@ -7,15 +7,19 @@ ghost use Rattle.bits_laws.specs.NarrowLaws.{Narrowed};
 use super::numbers::wide;
 use byte_places::place_in_half;
 
-// Every other field of a word, by the width of a field.
+// Masks of a word, each with every other field from the first on. Every other bit.
 const BITS: u64 = 0x5555555555555555;
 
+// Every other pair of bits.
 const PAIRS: u64 = 0x3333333333333333;
 
+// Every other half byte.
 const HALF_BYTES: u64 = 0x0f0f0f0f0f0f0f0f;
 
+// Every other byte.
 const BYTES: u64 = 0x00ff00ff00ff00ff;
 
+// Every other field of two bytes.
 const DOUBLE_BYTES: u64 = 0x0000ffff0000ffff;
 
 // Fields of 2 w bits, each the sum of its halves. The mask has every other field of w bits.
