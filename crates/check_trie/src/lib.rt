@@ -3,6 +3,7 @@
 
 pub mod cover; // cover.rt: one bitmap within another
 pub mod labels; // labels.rt: masks of 64 labels
+pub mod marks; // marks.rt: labels that descend, against bits of S-LOUDS
 pub mod sparse; // sparse.rt: the sparse entries
 pub mod dense; // dense.rt: the dense nodes
 pub mod trie; // trie.rt: all tests together

@@ -11,6 +11,7 @@ ghost use Rattle.check_trie_laws.specs.EntryPositions.{Entry-room, Entries-size
 ghost use Rattle.check_trie_laws.specs.WordEntries.{range-valid, end-valid, next-bits};
 use super::labels::ascents;
 use super::labels::full_labels;
+use super::marks::descents_within;
 use bits::numbers::read_word;
 use bits::numbers::read64;
 use bits::ones::bit_at;
@@ -79,10 +80,10 @@ fn word_valid(sl: &[u8], sc: &[u8], sb: &[u8], q: usize) -> bool
     if !y == 0 {
         return sole_ends == 0;
     }
-    let descents = !y & !ascents(sl, 64 * q);
-    if descents == 0 {
+    if descents_within(sl, 64 * q, y) {
         return sole_ends == 0;
     }
+    let descents = !y & !ascents(sl, 64 * q);
     let no_mark = !x | c | !full_labels(sl, 64 * q);
     sole_ends | (descents & no_mark) == 0
 }

@@ -14,6 +14,7 @@ pub mod EntryPositions
 pub mod MaskLaws
 pub mod WordEntries
 pub mod LaneLaws
+pub mod MarkLaws
 pub mod Bodies
 pub mod Levels
 pub mod BodyTests

@@ -116,6 +116,10 @@ digit-wrong x y c a m i l hx hy hc ha hm x′ y′ c′ a′ m′ ex ey ec ea em
 abbrev pub next-bits : ℕ → ℕ → ℕ
 next-bits x next = bitOr (x / 2) (next % 2 * 2 ^ 63)
 
+-- they are 64 bits
+pub next-bits-lt : (x next : ℕ) → x < 2 ^ 64 → next-bits x next < 2 ^ 64
+next-bits-lt x next h = or-lt 64 (x / 2) (next % 2 * 2 ^ 63) (omega arith) (omega arith)
+
 module _ (sl sc sb : Bytes) (small-l : Small sl) (small-c : Small sc) (small-b : Small sb) (q : ℕ) where
   abbrev starts : ℕ
   starts = word sb (q * 8)
@@ -168,7 +172,7 @@ module _ (sl sc sb : Bytes) (small-l : Small sl) (small-c : Small sc) (small-b :
       m = mask (full sl (64 * q)) 64
 
       few : behind < 2 ^ 64
-      few = or-lt 64 (starts / 2) (word sb ((q + 1) * 8) % 2 * 2 ^ 63) (omega (arith, word-lt sb (q * 8))) (omega arith)
+      few = next-bits-lt starts (word sb ((q + 1) * 8)) (word-lt sb (q * 8))
 
       each-one : (i : ℕ) → i < 64 → not (digit (wrong starts behind goes-on a m) i) ≡ later-entry-valid sl sc sb (64 * q + i)
       each-one i l =

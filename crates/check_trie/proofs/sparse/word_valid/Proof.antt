@@ -1,6 +1,10 @@
 -- The 64 entries are judged by one number of 64 digits, which is 0 where each is valid.
-use Rattle.bits_laws.specs.ValueLaws.{Small}
-use Rattle.check_trie_laws.specs.WordEntries.{word-judged, word-ascends, word-lasts}
+use mathlib.Core.Path.{refl}
+use Prim.Native.Nat.{_*_, _^_, _<_}
+use Rattle.bits_laws.specs.ValueLaws.{Small, word-lt}
+use Rattle.check_trie_laws.specs.MaskLaws.{mask}
+use Rattle.check_trie_laws.specs.WordEntries.{ascends, next-bits-lt, word-judged, word-ascends, word-lasts}
+use Rattle.check_trie_laws.specs.MarkLaws.{none-descends}
 use borrow.Author.Needs.{needs}
 use Rattle.check_trie.proofs.sparse.word_valid.Statement.{statement}
 use Rattle.check_trie.proofs.sparse.word_valid.Tie as tie
@@ -38,11 +42,11 @@ returns c =
     word-lasts (a .sl .now) (a .sc .now) (a .sb .now) small₁ small₂ small₃ (a .q) (read64 .result) (read-word .result) (shift-in .result) (c .before .read642 .result)
     (read64 .ensures) (read-word .ensures) (shift-in .ensures) (c .before .read642 .ensures) (c .if1 .taken)
 
-mul-ascents : tie.Need-mul-ascents
-mul-ascents c = search needs
+mul-descents-within : tie.Need-mul-descents-within
+mul-descents-within c = search needs
 
-ascents-requires : tie.Need-ascents-requires
-ascents-requires c κs = search needs
+descents-within-requires : tie.Need-descents-within-requires
+descents-within-requires c κs = search needs
 
 returns-2 : tie.Need-returns-2
 returns-2 c =
@@ -54,8 +58,16 @@ returns-2 c =
     let small₁ : Small (a .sl .now) = λ i. c .before .before .before .before .before .before .before .before .before .shared-slice-known .given i .fits in
     let small₂ : Small (a .sc .now) = λ i. c .before .before .before .before .before .before .before .before .shared-slice-known2 .given i .fits in
     let small₃ : Small (a .sb .now) = λ i. c .before .before .before .before .before .before .before .shared-slice-known3 .given i .fits in
+    let few : shift-in .result < 2 ^ 64 = rw (shift-in .ensures) (next-bits-lt (read64 .result) (read-word .result) (rw (read64 .ensures) (word-lt (a .sb .now) (a .q * 8)))) in
     word-ascends (a .sl .now) (a .sc .now) (a .sb .now) small₁ small₂ small₃ (a .q) (read64 .result) (read-word .result) (shift-in .result) (read642 .result)
-    (read64 .ensures) (read-word .ensures) (shift-in .ensures) (read642 .ensures) (c .before .ascents .result) (c .before .ascents .ensures) (c .if2 .taken)
+    (read64 .ensures) (read-word .ensures) (shift-in .ensures) (read642 .ensures) (mask (ascends (a .sl .now) (64 * a .q)) 64) refl
+    (none-descends (a .sl .now) (64 * a .q) (shift-in .result) few (c .before .descents-within .ensures (c .if2 .taken)))
+
+mul-ascents : tie.Need-mul-ascents
+mul-ascents c = search needs
+
+ascents-requires : tie.Need-ascents-requires
+ascents-requires c κs = search needs
 
 mul-full-labels : tie.Need-mul-full-labels
 mul-full-labels c = search needs
@@ -65,15 +77,15 @@ full-labels-requires c κs = search needs
 
 returns-3 : tie.Need-returns-3
 returns-3 c =
-    let read64 = c .before .before .before .before .before .before .before .read64 in
-    let read-word = c .before .before .before .before .before .before .read-word in
-    let shift-in = c .before .before .before .before .before .shift-in in
-    let read642 = c .before .before .before .before .read642 in
-    let ascents = c .before .before .ascents in
-    let a = c .before .before .before .before .before .before .before .before .before .before .before .args in
-    let small₁ : Small (a .sl .now) = λ i. c .before .before .before .before .before .before .before .before .before .before .shared-slice-known .given i .fits in
-    let small₂ : Small (a .sc .now) = λ i. c .before .before .before .before .before .before .before .before .before .shared-slice-known2 .given i .fits in
-    let small₃ : Small (a .sb .now) = λ i. c .before .before .before .before .before .before .before .before .shared-slice-known3 .given i .fits in
+    let read64 = c .before .before .before .before .before .before .before .before .read64 in
+    let read-word = c .before .before .before .before .before .before .before .read-word in
+    let shift-in = c .before .before .before .before .before .before .shift-in in
+    let read642 = c .before .before .before .before .before .read642 in
+    let ascents = c .before .ascents in
+    let a = c .before .before .before .before .before .before .before .before .before .before .before .before .args in
+    let small₁ : Small (a .sl .now) = λ i. c .before .before .before .before .before .before .before .before .before .before .before .shared-slice-known .given i .fits in
+    let small₂ : Small (a .sc .now) = λ i. c .before .before .before .before .before .before .before .before .before .before .shared-slice-known2 .given i .fits in
+    let small₃ : Small (a .sb .now) = λ i. c .before .before .before .before .before .before .before .before .before .shared-slice-known3 .given i .fits in
     word-judged (a .sl .now) (a .sc .now) (a .sb .now) small₁ small₂ small₃ (a .q) (read64 .result) (read-word .result) (shift-in .result) (read642 .result)
     (read64 .ensures) (read-word .ensures) (shift-in .ensures) (read642 .ensures) (ascents .result) (c .full-labels .result) (ascents .ensures) (c .full-labels .ensures)
 
@@ -89,9 +101,11 @@ word-valid-spec =
     mul-read64-2
     read64-requires-2
     returns
+    mul-descents-within
+    descents-within-requires
+    returns-2
     mul-ascents
     ascents-requires
-    returns-2
     mul-full-labels
     full-labels-requires
     returns-3)
