@@ -1,4 +1,5 @@
 //! A fast implementation of succinct range filters without proofs, to compare the
-//! proved library with.
+//! proved library with, and the key lists on which they are compared.
 
 pub mod fast;
+pub mod keys;

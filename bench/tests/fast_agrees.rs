@@ -2,15 +2,17 @@
 //! with one that does the same work.
 
 use range_filter_bench::fast;
+use range_filter_bench::keys::KEY_SETS;
 use range_filter_tests::answer::Answer;
 use range_filter_tests::compare;
-use range_filter_tests::generate::images::{any_image, built, small_frame, CHANGES};
+use range_filter_tests::generate::images::{any_image, built, large_images, small_frame, CHANGES};
 use range_filter_tests::generate::keys::{any_keys, many_keys, many_mixed_keys};
 use range_filter_tests::generate::questions::questions_near;
 use range_filter_tests::generate::{any_settings, damaged};
 use range_filter_tests::random::Random;
 use range_filter_tests::reference::keys::{self, MAX_KEYS};
 use range_filter_tests::reference::questions::{write, MAX_QUESTIONS};
+use range_filter_tests::reference::walk::RECORD_BYTES;
 use range_filter_tests::tally::{judge_changed_images, Tally};
 
 const LISTS: usize = 4_000;
@@ -22,6 +24,9 @@ const SMALL_FRAMES: usize = 100_000;
 const CHANGES_A_LARGE_IMAGE: usize = 20;
 const QUESTION_FILES: usize = 3_000;
 const LARGE_QUESTION_FILES: usize = 20;
+const WALKED_IMAGES: usize = 1_000;
+const WALKED_KEYS: usize = 5_000;
+const PLACES_A_LARGE_IMAGE: usize = 20;
 const ROOM: usize = 1 << 20;
 
 /// Compares a build, and gives the answer.
@@ -37,6 +42,25 @@ fn compare_check(image: &[u8]) -> u32 {
 /// Compares the replies to a question file, and gives the answer.
 fn compare_ask(image: &[u8], file: &[u8], room: usize) -> Answer {
     compare::ask(fast::ask::ask, image, file, room)
+}
+
+/// Compares the records from a place on in a buffer of some length, and gives the answer.
+fn compare_walk(image: &[u8], place: u64, room: usize) -> Answer {
+    compare::walk(fast::walk::walk, image, place, room)
+}
+
+/// Compares walks over an accepted image from its start and from some places, and gives
+/// the number of its leaves.
+fn compare_walks(random: &mut Random, image: &[u8], places: usize) -> usize {
+    let leaves = compare_walk(image, 0, ROOM).length() / RECORD_BYTES;
+    for _ in 0..places {
+        let place = random.below(leaves + 1) as u64;
+        compare_walk(image, place, ROOM).length();
+        compare_walk(image, place, random.below(10 * RECORD_BYTES)).length();
+    }
+    let behind = compare_walk(image, leaves as u64 + 1, ROOM);
+    assert_eq!(behind, Answer::Refused(17));
+    leaves
 }
 
 /// Gives some hundred keys, of which some begin others, with settings that go round.
@@ -163,4 +187,57 @@ fn damaged_images_are_refused_by_ask_alike() {
         compare_ask(&damaged(random, &image), b"QP\x01aQS\x00", ROOM).number()
     });
     assert!(tally.times(0) > 0 && tally.times(11) > 0, "{tally:?}");
+}
+
+#[test]
+fn images_are_walked_alike() {
+    let mut random = Random::new(14);
+    for _ in 0..WALKED_IMAGES {
+        let image = any_image(&mut random);
+        compare_walks(&mut random, &image, 3);
+    }
+}
+
+#[test]
+fn large_images_are_walked_alike() {
+    let mut random = Random::new(15);
+    let images: Vec<Vec<u8>> = large_images(&mut random, WALKED_KEYS).collect();
+    for image in images {
+        let leaves = compare_walks(&mut random, &image, PLACES_A_LARGE_IMAGE);
+        assert_eq!(leaves, WALKED_KEYS);
+    }
+    for round in 0..LARGE_LISTS {
+        let (keys, (dense_levels, n)) = large_list(&mut random, round);
+        compare_walks(&mut random, &built(&keys, dense_levels, n), 3);
+    }
+}
+
+#[test]
+fn changed_images_are_walked_or_refused_alike() {
+    let mut random = Random::new(16);
+    let mut tally = Tally::default();
+    for _ in 0..CHANGES_A_KIND {
+        let image = any_image(&mut random);
+        for change in &CHANGES {
+            let changed = (change.apply)(&mut random, &image);
+            let place = random.below(8) as u64;
+            tally.note(compare_walk(&changed, place, random.below(300)).number());
+        }
+    }
+    assert_eq!(tally.numbers(), [0, 11, 12, 13, 14, 15, 16, 17]);
+}
+
+#[test]
+fn measured_lists_are_built_checked_and_walked_alike() {
+    let mut random = Random::new(17);
+    for key_set in &KEY_SETS {
+        let keys = (key_set.make)(&mut random, WALKED_KEYS);
+        assert_eq!(keys.len(), WALKED_KEYS);
+        for settings in [(0, 0), (0, 4), (2, 8)] {
+            compare_build(&keys::write(&keys), settings, ROOM).length();
+            let image = built(&keys, settings.0, settings.1);
+            assert_eq!(compare_check(&image), 0);
+            compare_walks(&mut random, &image, 1);
+        }
+    }
 }

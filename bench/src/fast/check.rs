@@ -20,18 +20,18 @@ pub struct Accepted<'a> {
     pub dense: Counts,
 }
 
-/// The levels met so far: how many, the node that starts the next one, and the slots
-/// before each one's start.
+/// The levels met so far: how many, the node that starts the next one, and what is
+/// passed where each one starts.
 pub struct Levels {
     pub count: usize,
     next: usize,
-    pub slots: [usize; MAX_KEY],
+    pub starts: [Counts; MAX_KEY],
 }
 
 /// The nodes, continuing branches and leaves passed so far.
 #[derive(Clone, Copy, Default)]
 pub struct Counts {
-    nodes: usize,
+    pub nodes: usize,
     pub children: usize,
     pub leaves: usize,
 }
@@ -103,6 +103,9 @@ fn spare_bits_are_clear(frame: &Frame) -> bool {
 #[inline]
 pub fn slot(frame: &Frame, number: usize) -> u64 {
     let width = usize::from(frame.header.settings.width);
+    if width == 0 {
+        return 0;
+    }
     let position = number * width;
     load(frame.bodies[SV], position / 8) >> (position % 8) & below(width)
 }
@@ -110,8 +113,8 @@ pub fn slot(frame: &Frame, number: usize) -> u64 {
 /// Judges the slots of cut keys of 63 and 64 bytes, which are the last slots.
 fn late_slots_are_valid(frame: &Frame, levels: &Levels) -> bool {
     let leaves = frame.header.leaves as usize;
-    let starts = &levels.slots[..levels.count];
-    let start = |level: usize| starts.get(level).copied().unwrap_or(leaves);
+    let starts = &levels.starts[..levels.count];
+    let start = |level: usize| starts.get(level).map_or(leaves, |start| start.leaves);
     let [of_63_bytes, of_64_bytes] = [start(MAX_KEY - 2), start(MAX_KEY - 1)];
     let width = usize::from(frame.header.settings.width);
     is_clear_from(frame.bodies[SV], of_64_bytes * width)
@@ -119,16 +122,16 @@ fn late_slots_are_valid(frame: &Frame, levels: &Levels) -> bool {
 }
 
 impl Levels {
-    /// Enters the level that starts at a node; its children must come later, and
-    /// level 64 is one too many.
-    fn enter(&mut self, node: usize, children: usize, slots: usize) -> bool {
+    /// Enters the level that starts behind what is passed; its children must come later,
+    /// and level 64 is one too many.
+    fn enter(&mut self, passed: Counts) -> bool {
         if self.count == MAX_KEY {
             return false;
         }
-        self.slots[self.count] = slots;
+        self.starts[self.count] = passed;
         self.count += 1;
-        self.next = children + 1;
-        self.next > node
+        self.next = passed.children + 1;
+        self.next > passed.nodes
     }
 }
 
@@ -143,7 +146,7 @@ impl<'a> Pass<'a> {
             levels: Levels {
                 count: 0,
                 next: 0,
-                slots: [0; MAX_KEY],
+                starts: [Counts::default(); MAX_KEY],
             },
             rank_is_wrong: false,
             slot_is_wrong: false,
@@ -203,9 +206,8 @@ impl<'a> Pass<'a> {
 
     /// Enters a level where a dense node starts one; it must be a dense level.
     fn dense_level(&mut self, node: usize) -> bool {
-        let counts = self.counts;
         node != self.levels.next
-            || self.levels.enter(node, counts.children, counts.leaves)
+            || self.levels.enter(self.counts)
                 && self.levels.count <= usize::from(self.frame.header.settings.dense_levels)
     }
 
@@ -262,11 +264,14 @@ impl<'a> Pass<'a> {
     /// Enters the levels that start in a word.
     fn sparse_levels(&mut self, entries: Entries) -> bool {
         while self.levels.next - self.counts.nodes < ones(entries.louds) {
-            let node = self.levels.next;
-            let before = below(select_in_word(entries.louds, node - self.counts.nodes));
-            let children = self.counts.children + ones(entries.children & before);
-            let leaves = self.counts.leaves + ones(!entries.children & before);
-            if !self.levels.enter(node, children, leaves) {
+            let nodes = self.levels.next;
+            let before = below(select_in_word(entries.louds, nodes - self.counts.nodes));
+            let passed = Counts {
+                nodes,
+                children: self.counts.children + ones(entries.children & before),
+                leaves: self.counts.leaves + ones(!entries.children & before),
+            };
+            if !self.levels.enter(passed) {
                 return false;
             }
         }

@@ -6,3 +6,4 @@ mod bits;
 pub mod build;
 pub mod check;
 mod trie;
+pub mod walk;

@@ -77,6 +77,7 @@ impl<'a> Trie<'a> {
     pub fn new(image: &'a Accepted<'a>) -> Self {
         let header = &image.frame.header;
         let dense_nodes = header.dense_nodes as usize;
+        let starts = &image.levels.starts[..image.levels.count];
         Trie {
             image,
             dense_nodes,
@@ -84,7 +85,7 @@ impl<'a> Trie<'a> {
             nodes: dense_nodes + header.sparse_nodes as usize,
             entries: header.sparse_entries as usize,
             leaves: header.leaves as usize,
-            slots_before_levels: image.levels.slots[..image.levels.count].iter().sum(),
+            slots_before_levels: starts.iter().map(|start| start.leaves).sum(),
         }
     }
 

@@ -1,0 +1,138 @@
+//! The measurements: one call of the library and of the fast implementation on one list
+//! with one setting.
+
+use crate::questions::{questions, Kind};
+use crate::timing::{compare, Effort, Figures};
+use range_filter_bench::fast;
+use range_filter_bench::keys::KeySet;
+use range_filter_tests::library;
+use range_filter_tests::random::Random;
+use range_filter_tests::reference::keys::{self, MAX_KEY};
+use range_filter_tests::reference::questions::write;
+use range_filter_tests::reference::replies::REPLY_HEAD;
+use range_filter_tests::reference::walk::RECORD_BYTES;
+
+/// The seeds of the keys in a list, of those that are only asked for, and of questions.
+const SEED: u64 = 1;
+const OTHER_SEED: u64 = 2;
+const QUESTION_SEED: u64 = 3;
+
+/// The keys that a round passes: lists with fewer keys are taken several times.
+const KEYS_A_ROUND: usize = 1 << 16;
+
+/// More bytes than the dense nodes of an image take.
+const DENSE_ROOM: usize = 1 << 16;
+
+/// Dense levels and suffix width.
+#[derive(Clone, Copy)]
+pub struct Setting {
+    pub dense_levels: u64,
+    pub n: u64,
+}
+
+/// Keys with the list of them, and as many other keys that are made like them.
+pub struct List {
+    pub name: &'static str,
+    keys: Vec<Vec<u8>>,
+    others: Vec<Vec<u8>>,
+    bytes: Vec<u8>,
+}
+
+impl List {
+    /// Makes so many keys.
+    pub fn new(key_set: &KeySet, count: usize) -> Self {
+        let make = |seed| (key_set.make)(&mut Random::new(seed), count);
+        let keys = make(SEED);
+        List {
+            name: key_set.name,
+            bytes: keys::write(&keys),
+            keys,
+            others: make(OTHER_SEED),
+        }
+    }
+
+    /// Gives the effort of a measurement by keys.
+    fn effort(&self) -> Effort {
+        Effort {
+            calls: KEYS_A_ROUND / self.keys.len(),
+            units: self.keys.len(),
+        }
+    }
+
+    /// Gives a buffer that holds the image.
+    fn room(&self) -> Vec<u8> {
+        vec![0; 2 * self.bytes.len() + DENSE_ROOM]
+    }
+
+    /// Gives the image.
+    fn image(&self, setting: Setting) -> Vec<u8> {
+        let mut image = self.room();
+        let Setting { dense_levels, n } = setting;
+        let answer = fast::build::build(&self.bytes, dense_levels, n, &mut image);
+        image.truncate(answer.length());
+        image
+    }
+}
+
+/// Measures build by key.
+pub fn build(list: &List, Setting { dense_levels, n }: Setting) -> Figures {
+    let [mut image, mut library_image] = [list.room(), list.room()];
+    let bytes = list.bytes.as_slice();
+    let figures = compare(
+        list.effort(),
+        || library::build(bytes, dense_levels, n, &mut library_image).length(),
+        || fast::build::build(bytes, dense_levels, n, &mut image).length(),
+    );
+    assert_eq!(library_image, image);
+    figures
+}
+
+/// Measures check by key.
+pub fn check(list: &List, setting: Setting) -> Figures {
+    let image = list.image(setting);
+    compare(
+        list.effort(),
+        || library::check(&image),
+        || fast::check::check(&image),
+    )
+}
+
+/// Measures a walk over all leaves in one call by leaf, the check of the image included.
+pub fn walk(list: &List, setting: Setting) -> Figures {
+    let image = list.image(setting);
+    let mut records = vec![0; list.keys.len() * RECORD_BYTES];
+    let mut library_records = records.clone();
+    let figures = compare(
+        list.effort(),
+        || library::walk(&image, 0, &mut library_records).length(),
+        || fast::walk::walk(&image, 0, &mut records).length(),
+    );
+    assert_eq!(library_records, records);
+    figures
+}
+
+/// Measures a call with so many questions of a kind by question, the check of the image
+/// included.
+pub fn ask(list: &List, setting: Setting, kind: &Kind, count: usize) -> Figures {
+    let image = list.image(setting);
+    let mut random = Random::new(QUESTION_SEED);
+    let file = write(&questions(
+        &mut random,
+        [&list.keys, &list.others],
+        kind,
+        count,
+    ));
+    let mut replies = vec![0; count * (REPLY_HEAD + MAX_KEY)];
+    let mut library_replies = replies.clone();
+    let effort = Effort {
+        calls: 1,
+        units: count,
+    };
+    let figures = compare(
+        effort,
+        || library::ask(&image, &file, &mut library_replies).length(),
+        || fast::ask::ask(&image, &file, &mut replies).length(),
+    );
+    assert_eq!(library_replies, replies);
+    figures
+}
