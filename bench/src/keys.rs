@@ -5,7 +5,7 @@ use range_filter_tests::random::Random;
 use std::collections::BTreeSet;
 
 /// The stations that station keys come from.
-const STATIONS: usize = 300;
+pub const STATIONS: usize = 300;
 
 /// The first station's number, and the distance from one to the next.
 const FIRST_STATION: usize = 10_000;
@@ -16,8 +16,8 @@ const STATION_DISTANCE: usize = 37;
 const START: u64 = 1_750_000_000_000;
 const MONTH: usize = 30 * 24 * 60 * 60 * 1_000;
 
-/// The most keys of a burst, the most milliseconds from one to the next, and their kinds.
-const BURST: usize = 24;
+/// The most keys of a burst, the milliseconds that the next is less behind, and the kinds.
+pub const BURST: usize = 24;
 const GAP: usize = 40;
 const KINDS: usize = 6;
 
@@ -116,12 +116,10 @@ fn text_key(random: &mut Random) -> Vec<u8> {
         *random.pick(&USERS),
     ];
     let initial = random.string(b"abcdefghklmnprstw", 1, 1)[0] as char;
-    let mut key = format!(
-        "{domain}.{host}{}/{user}.{initial}",
-        random.below(HOST_NUMBERS)
-    );
+    let number = random.below(HOST_NUMBERS);
+    let mut key = format!("{domain}.{host}{number}/{user}.{initial}");
     if random.once_in(4) {
-        key += &random.below(9).to_string();
+        key += &random.below(10).to_string();
     }
     key.into_bytes()
 }

@@ -17,8 +17,11 @@ const SEED: u64 = 1;
 const OTHER_SEED: u64 = 2;
 const QUESTION_SEED: u64 = 3;
 
-/// The keys that a round passes: lists with fewer keys are taken several times.
+/// The keys of a round: lists with fewer keys are taken several times.
 const KEYS_A_ROUND: usize = 1 << 16;
+
+/// How often a round makes calls that are short.
+const SHORT_CALLS: usize = 16;
 
 /// More bytes than the dense nodes of an image take.
 const DENSE_ROOM: usize = 1 << 16;
@@ -51,10 +54,10 @@ impl List {
         }
     }
 
-    /// Gives the effort of a measurement by keys.
-    fn effort(&self) -> Effort {
+    /// Gives the effort of a measurement by key whose calls are made so often.
+    fn effort(&self, times: usize) -> Effort {
         Effort {
-            calls: KEYS_A_ROUND / self.keys.len(),
+            calls: times * (KEYS_A_ROUND / self.keys.len()),
             units: self.keys.len(),
         }
     }
@@ -74,12 +77,17 @@ impl List {
     }
 }
 
+/// Gives the bytes of the image by key.
+pub fn image_bytes(list: &List, setting: Setting) -> f64 {
+    list.image(setting).len() as f64 / list.keys.len() as f64
+}
+
 /// Measures build by key.
 pub fn build(list: &List, Setting { dense_levels, n }: Setting) -> Figures {
     let [mut image, mut library_image] = [list.room(), list.room()];
     let bytes = list.bytes.as_slice();
     let figures = compare(
-        list.effort(),
+        list.effort(1),
         || library::build(bytes, dense_levels, n, &mut library_image).length(),
         || fast::build::build(bytes, dense_levels, n, &mut image).length(),
     );
@@ -91,7 +99,7 @@ pub fn build(list: &List, Setting { dense_levels, n }: Setting) -> Figures {
 pub fn check(list: &List, setting: Setting) -> Figures {
     let image = list.image(setting);
     compare(
-        list.effort(),
+        list.effort(SHORT_CALLS),
         || library::check(&image),
         || fast::check::check(&image),
     )
@@ -103,7 +111,7 @@ pub fn walk(list: &List, setting: Setting) -> Figures {
     let mut records = vec![0; list.keys.len() * RECORD_BYTES];
     let mut library_records = records.clone();
     let figures = compare(
-        list.effort(),
+        list.effort(1),
         || library::walk(&image, 0, &mut library_records).length(),
         || fast::walk::walk(&image, 0, &mut records).length(),
     );
@@ -125,7 +133,7 @@ pub fn ask(list: &List, setting: Setting, kind: &Kind, count: usize) -> Figures 
     let mut replies = vec![0; count * (REPLY_HEAD + MAX_KEY)];
     let mut library_replies = replies.clone();
     let effort = Effort {
-        calls: 1,
+        calls: if count == 1 { SHORT_CALLS } else { 1 },
         units: count,
     };
     let figures = compare(

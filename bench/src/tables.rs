@@ -3,7 +3,7 @@
 use crate::measure::{self, List, Setting};
 use crate::questions::KINDS;
 use crate::timing::{Figures, ROUNDS};
-use range_filter_bench::keys::{KeySet, KEY_SETS, RANDOM_13, STATION};
+use range_filter_bench::keys::{KeySet, BURST, KEY_SETS, RANDOM_13, STATION, STATIONS};
 use range_filter_tests::reference::keys::MAX_KEYS;
 use range_filter_tests::reference::questions::MAX_QUESTIONS;
 
@@ -41,13 +41,16 @@ const fn setting(dense_levels: u64, n: u64) -> Setting {
 
 /// Prints what stands before the tables.
 pub fn print_introduction() {
-    println!("# Benchmark");
-    println!();
-    println!("`rt staticlib range_filter && cargo run --release --offline --manifest-path bench/Cargo.toml --target-dir target/cargo >docs/benchmark.md` wrote this page; one of the words `build`, `check`, `walk`, `ask` and `growth` behind `--` makes one part of it.");
-    println!();
-    println!("The library is compared with a fast implementation without proofs (`bench/src/fast`), on the same input and in the same process; both are compiled for any x86-64. A round takes the time of the library and right behind it that of the fast implementation. Each figure is the median of {ROUNDS} rounds: times by the wall clock, and the ratio of the two, which is taken within a round. Both are called once before the first round, and buffers are not cleared between calls.");
-    println!();
-    println!("The keys, {} of each kind, come from a fixed seed. Those of stations are 4 bytes of the number of one of 300 stations, 8 of the time in milliseconds, high byte first, in bursts of up to 24, and 1 of the kind. Those of text are reversed host names and users (`com.example.depot12/anna.b`), of which some begin others. The 64-byte keys are random pairs.", with_commas(MAX_KEYS));
+    let keys = with_commas(MAX_KEYS);
+    println!(
+        "# Benchmark
+
+`rt staticlib range_filter && cargo run --release --offline --manifest-path bench/Cargo.toml --target-dir target/cargo >docs/benchmark.md` writes this page. With `-- build`, `-- check`, `-- walk`, `-- ask` or `-- growth` it writes that part of it.
+
+The library is compared with a fast implementation without proofs (`bench/src/fast`), on the same input and in the same process; both are compiled for any x86-64. A round times the library and right behind it the fast implementation, by the processor time of the thread. A figure is the median of {ROUNDS} rounds, and so is a ratio, which is taken within a round. Both are called once before the first round, and buffers are not cleared between calls.
+
+The keys come from a fixed seed, {keys} of each kind. A station key has 4 bytes of the number of one of {STATIONS} stations, 8 of the time in milliseconds, in bursts of up to {BURST} keys, and 1 of the kind, all with the high byte first. A text key is a reversed host name and a user, such as `com.example.depot12/anna.b`; some begin others. Of the 64-byte keys two each differ in the last byte alone."
+    );
 }
 
 /// Prints the table of build.
@@ -103,19 +106,19 @@ fn ask_cells(list: &List, setting: Setting) -> impl Iterator<Item = String> + '_
 pub fn print_growth() {
     print_heading(
         "Cost against the number of keys",
-        "Nanoseconds a key by the library; calls on short lists are repeated until a round has passed as many keys as the longest list has.",
+        "Nanoseconds a key by the library, and bytes of the image a key. With dense levels a short list has many dense nodes for its keys, of 96 bytes each. Calls on shorter lists are repeated so that a round takes as many keys as one call on the longest.",
     );
     print_row("keys", COUNTS.map(with_commas));
     print_rule(COUNTS.len());
     for key_set in &GROWING {
         let lists = COUNTS.map(|count| List::new(key_set, count));
         for setting in FEW_SETTINGS {
+            let name = format!("{}, {}", key_set.name, setting_name(setting));
+            let bytes = lists.iter().map(|list| measure::image_bytes(list, setting));
+            print_row(&format!("{name}: image bytes"), bytes.map(number));
             for (call, measure) in CALLS {
-                let name = format!("{call}, {}, {}", key_set.name, setting_name(setting));
-                let cells = lists
-                    .iter()
-                    .map(|list| number(measure(list, setting).library));
-                print_row(&name, cells);
+                let times = lists.iter().map(|list| measure(list, setting).library);
+                print_row(&format!("{name}: {call}"), times.map(number));
             }
         }
     }
@@ -132,17 +135,12 @@ fn print_by_setting(measure: Measure) {
     print_rule(SETTINGS.len());
     for key_set in &KEY_SETS {
         let list = List::new(key_set, MAX_KEYS);
-        print_row(
-            list.name,
-            SETTINGS.iter().map(|&setting| {
-                let Figures {
-                    library,
-                    fast,
-                    ratio,
-                } = measure(&list, setting);
-                format!("{}, {}, {ratio:.2}", number(library), number(fast))
-            }),
-        );
+        let cells = SETTINGS.map(|setting| {
+            let figures = measure(&list, setting);
+            let [library, fast] = [figures.library, figures.fast].map(number);
+            format!("{library}, {fast}, {:.2}", figures.ratio)
+        });
+        print_row(list.name, cells);
     }
 }
 
@@ -167,12 +165,15 @@ fn setting_name(Setting { dense_levels, n }: Setting) -> String {
     format!("dense {dense_levels}, n {n}")
 }
 
-/// Writes a time with one place behind the point, or none from 10 on.
-fn number(time: f64) -> String {
-    if time < 9.95 {
-        format!("{time:.1}")
+/// Writes a figure with two places behind the point below 1, with one below 10 and with
+/// none from there on.
+fn number(figure: f64) -> String {
+    if figure < 0.995 {
+        format!("{figure:.2}")
+    } else if figure < 9.95 {
+        format!("{figure:.1}")
     } else {
-        with_commas(time.round() as usize)
+        with_commas(figure.round() as usize)
     }
 }
 

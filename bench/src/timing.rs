@@ -1,21 +1,34 @@
 //! Timing two ways of doing the same work.
 //!
-//! Times are by the wall clock. A round times the library and right behind it the fast
-//! implementation, in the same process and on the same input; figures are medians over
-//! the rounds, and so is the ratio, which is taken within each round. Both are called
-//! once before the first round, so that their pages are mapped. Each has an output of
-//! its own, which is not cleared between calls; what a call clears or allocates is part
-//! of its time.
+//! A round times the library and right behind it the fast implementation, in the same
+//! process and on the same input. Times are medians over the rounds, and so is the ratio,
+//! which is taken within each round. Both are called once before the first round, so that
+//! their pages are mapped. Each has an output of its own, which is not cleared between
+//! calls; what a call clears or allocates is part of its time.
 
 use std::fmt::Debug;
 use std::hint::black_box;
-use std::time::Instant;
 
 /// The rounds of each measurement, an odd number.
-pub const ROUNDS: usize = 15;
+pub const ROUNDS: usize = 31;
 
-/// How a measurement is made: the calls that a round times together, and the units of
-/// work of one call, by which times are divided.
+/// The clock of the processor time of the calling thread, in which other work on the
+/// machine has no part.
+const THREAD_CPU_TIME: i32 = 3;
+
+/// A time of the C library.
+#[repr(C)]
+struct Timespec {
+    seconds: i64,
+    nanoseconds: i64,
+}
+
+extern "C" {
+    fn clock_gettime(clock: i32, time: *mut Timespec) -> i32;
+}
+
+/// How much a round does: the calls of each implementation, and the units of work of one
+/// call, by which times are divided.
 #[derive(Clone, Copy)]
 pub struct Effort {
     pub calls: usize,
@@ -44,13 +57,25 @@ pub fn compare<R: PartialEq + Debug>(
     }
 }
 
-/// Gives the nanoseconds a unit of some calls.
+/// Gives the nanoseconds a unit of the calls of one implementation in a round.
 fn time<R>(Effort { calls, units }: Effort, call: &mut impl FnMut() -> R) -> f64 {
-    let start = Instant::now();
+    let start = now();
     for _ in 0..calls {
         black_box(call());
     }
-    start.elapsed().as_nanos() as f64 / (calls * units) as f64
+    (now() - start) as f64 / (calls * units) as f64
+}
+
+/// Gives the processor time of this thread in nanoseconds.
+fn now() -> i64 {
+    let mut time = Timespec {
+        seconds: 0,
+        nanoseconds: 0,
+    };
+    // SAFETY: the pointer is to a time that is lent to the call alone.
+    let failed = unsafe { clock_gettime(THREAD_CPU_TIME, &mut time) };
+    assert_eq!(failed, 0, "the thread has a clock");
+    time.seconds * 1_000_000_000 + time.nanoseconds
 }
 
 /// Gives the middle one of the rounds' figures.

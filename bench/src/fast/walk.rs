@@ -10,6 +10,15 @@ use range_filter_tests::reference::format::{DC, DL, DP, NODE_BITS, SB, SC, SL};
 use range_filter_tests::reference::keys::MAX_KEY;
 use range_filter_tests::reference::walk::RECORD_BYTES;
 
+/// As many bytes FF as a key has at most, and as many zeros: from the right place on, the
+/// mask that keeps the cut key of a record and clears what is behind it.
+const KEPT: [u8; 2 * MAX_KEY] = {
+    let mut kept = [0; 2 * MAX_KEY];
+    let (ones, _) = kept.split_at_mut(MAX_KEY);
+    ones.copy_from_slice(&[0xFF; MAX_KEY]);
+    kept
+};
+
 /// What comes next on a level: a bit of D-Labels or a sparse entry, and a slot. Where a
 /// dense level has no open node, the position is the first bit of its next node.
 #[derive(Clone, Copy, Default)]
@@ -162,8 +171,9 @@ impl<'a> Walk<'a> {
         record[0] = if leaf.exact { 1 } else { 2 };
         record[1] = leaf.length as u8;
         let (key, suffix) = record[2..].split_at_mut(MAX_KEY);
-        for (at, (byte, &label)) in key.iter_mut().zip(&self.labels).enumerate() {
-            *byte = if at < leaf.length { label } else { 0 };
+        let kept = &KEPT[MAX_KEY - leaf.length..][..MAX_KEY];
+        for ((byte, label), kept) in key.iter_mut().zip(self.labels).zip(kept) {
+            *byte = label & kept;
         }
         let bits = slot(&self.image.frame, leaf.slot) as u16;
         suffix.copy_from_slice(&bits.to_le_bytes());
