@@ -137,10 +137,10 @@ pub fn select(body: &[u8], table: &[u8], number: usize) -> usize {
     }
 }
 
-/// Marks the bytes of a word that are not below the bytes of another, in eight bits.
+/// Gathers the lowest bits of 64 bytes that are 0 or 1.
 #[inline]
-pub fn not_below(left: u64, right: u64) -> u64 {
-    let differences = (left | HIGH_BITS) - (right & !HIGH_BITS);
-    let marks = (left & !right | !(left ^ right) & differences) & HIGH_BITS;
-    (marks >> 7).wrapping_mul(0x0102_0408_1020_4080) >> 56
+pub fn gather(marks: &[u8; 64]) -> u64 {
+    (0..8).fold(0, |bits, index| {
+        bits | (word(marks, index).wrapping_mul(0x0102_0408_1020_4080) >> 56) << (8 * index)
+    })
 }

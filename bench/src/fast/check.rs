@@ -1,7 +1,7 @@
 //! Checking an image in one pass over its words. Levels are followed by their
 //! starts alone: a level's nodes all come before their children if its first one does.
 
-use super::bits::{below, bit, entry, is_clear_from, load, not_below, ones, select_in_word, word};
+use super::bits::{below, bit, entry, gather, is_clear_from, load, ones, select_in_word, word};
 use range_filter_tests::reference::build::EXTRA_LABEL;
 use range_filter_tests::reference::check::{header_is_valid, lengths_are_valid};
 use range_filter_tests::reference::format::{
@@ -343,14 +343,35 @@ impl Entries {
 
 /// Marks the labels of a word of entries that are not above the label before.
 fn falls(labels: &[u8], index: usize) -> u64 {
-    let mut last = match index {
-        0 => 0,
-        _ => u64::from(labels[index * 64 - 1]),
+    let start = index * 64;
+    let before = start.checked_sub(1).and_then(|before| labels.get(before..));
+    match before.and_then(<[u8]>::first_chunk) {
+        Some(window) => falls_in(window),
+        None => falls_in(&window_at_end(labels, start)),
+    }
+}
+
+/// Marks the bytes behind the first that are not above the byte before; the loop becomes
+/// vector code.
+#[inline]
+fn falls_in(window: &[u8; 65]) -> u64 {
+    let mut marks = [0; 64];
+    for (mark, pair) in marks.iter_mut().zip(window.windows(2)) {
+        *mark = u8::from(pair[0] >= pair[1]);
+    }
+    gather(&marks)
+}
+
+/// Gives the label before a word of entries and those of the word, with zeros where there
+/// are none; this is rare.
+#[cold]
+fn window_at_end(labels: &[u8], start: usize) -> [u8; 65] {
+    let mut window = [0; 65];
+    let (missing, first) = match start {
+        0 => (1, 0),
+        _ => (0, start - 1),
     };
-    (0..8).fold(0, |marks, group| {
-        let here = load(labels, index * 64 + group * 8);
-        let before = here << 8 | last;
-        last = here >> 56;
-        marks | not_below(before, here) << (8 * group)
-    })
+    let found = &labels[first..labels.len().min(start + 64)];
+    window[missing..][..found.len()].copy_from_slice(found);
+    window
 }
