@@ -23,11 +23,18 @@ fn excess(x: usize, y: usize) -> usize
     x - y
 }
 
-// The level that starts at a dense node, or at the first sparse one.
+// The level that starts at a dense node, or at the first sparse one, before which stand all branches of dense nodes: these the frame has counted.
 fn dense_level(image: &[u8], f: Frame, from: Level, node: NodeNum) -> Level
     requires { ⌜ Louds-valid (now image) f × LevelOf (now image) f from × Behind f from (node .0) × (node .0 ≤ f .dense .nodes) ⌝ }
     ensures { λ r. ⌜ LevelOf (now (image .entry)) f r × (r .node .0 ≡ node .0) ⌝ }
 {
+    if node.0 == f.dense.nodes {
+        return Level {
+            node,
+            entry: BitPos(0),
+            branches: f.totals.children,
+        };
+    }
     let dc = part(image, f.dc, ROW_BYTES * f.dense.nodes);
     let branches = rank_on(dc, ROW_BITS * from.node.0, from.branches, ROW_BITS * node.0);
     Level {
