@@ -10,8 +10,6 @@ ghost use Rattle.check_trie_laws.specs.Positions.{is-set};
 ghost use Rattle.check_trie_laws.specs.BitTests.{counts-valid};
 ghost use Rattle.check_trie_laws.specs.Levels.{Louds-valid};
 ghost use Rattle.check_trie_laws.specs.BodyTests.{louds-test, dense-test, sparse-test, sums-test, Counts-few};
-use super::ROW_WORDS;
-use super::cover::covered;
 use super::dense::dense_valid;
 use super::sparse::sparse_valid;
 use bits::numbers::bytes_for;
@@ -52,7 +50,7 @@ fn dense_part_valid(image: &[u8], f: Frame) -> bool
     let dl = part(image, f.dl, ROW_BYTES * nodes);
     let dc = part(image, f.dc, ROW_BYTES * nodes);
     let dp = part(image, f.dp, bytes_for(nodes));
-    covered(dc, dl, ROW_WORDS * nodes) & dense_valid(dl, dc, dp, nodes)
+    dense_valid(dl, dc, dp, nodes)
 }
 
 // Whether the sparse entries are valid.
