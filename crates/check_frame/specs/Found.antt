@@ -8,8 +8,10 @@ use Rattle.theory.specs.Terms.{From}
 use Rattle.theory.specs.Demands.{Check-refusal}
 use Rattle.image_types.specs.Records.{row-at, stands, record-end}
 use Rattle.image_types.specs.FrameOf.{FrameOf}
-use Rattle.image_types.specs.declared.Framed.{Framed}
-use Rattle.image_types.specs.declared.Framed.the-variants as framed
+use Rattle.check_tables_laws.specs.Tables.{dense-agrees}
+use Rattle.check_frame.specs.declared.RankedFrame.{RankedFrame}
+use Rattle.check_frame.specs.declared.FrameRead.{FrameRead}
+use Rattle.check_frame.specs.declared.FrameRead.the-variants as read
 use Rattle.check_frame.specs.declared.RecordEnd.{RecordEnd}
 use Rattle.check_frame.specs.declared.RecordEnd.the-variants.{At, Missing}
 
@@ -23,7 +25,11 @@ abbrev pub end-found : RecordEnd → Option ℕ
 end-found (At e) = some e
 end-found Missing = none
 
+-- a frame of the image, and whether the rank tables of its dense nodes are right
+abbrev pub Ranked-frame : Bytes → RankedFrame → Type 0
+Ranked-frame s r = FrameOf s (r .frame) × (r .agrees ≡ dense-agrees s (r .frame))
+
 -- what reading the frame gives: a frame of the image; or 11 or 12, the number with which the check refuses it
-abbrev pub Framed-as : Bytes → Framed → Type 0
-Framed-as s (framed.At f) = FrameOf s f
-Framed-as s (framed.Refused n) = From 11 12 n × Check-refusal s n
+abbrev pub Read-as : Bytes → FrameRead → Type 0
+Read-as s (read.At r) = Ranked-frame s r
+Read-as s (read.Refused n) = From 11 12 n × Check-refusal s n

@@ -1,17 +1,16 @@
 // The frame of an image: the header and the records behind it, by their offsets. Judges the numbers 11 and 12 of the check.
 // Used by the check and by every call that reads an accepted image.
 ghost use mathlib.Core.Path.{_≡_};
-ghost use Prim.Native.Nat.{_-_, _*_, _≤_, _<_};
-ghost use lib.ListN.{length, drop};
+ghost use Prim.Native.Nat.{_≤_, _<_};
+ghost use lib.ListN.{length};
 ghost use Rattle.spec.specs.Image.{rows};
-ghost use Rattle.bits_laws.specs.Bits.{rank};
 ghost use Rattle.image_types.specs.Header.{settings-of, counts-of, Short-fields};
 ghost use Rattle.image_types.specs.Records.{records-end, lengths-agree};
-ghost use Rattle.image_types.specs.FrameOf.{FrameOf};
-ghost use Rattle.check_frame_laws.specs.FrameLaws.{settings-valid, Records-stand, Laid-out, Dense-within, Totals};
-ghost use Rattle.check_frame.specs.Found.{Record-found, end-found, Framed-as};
+ghost use Rattle.check_frame_laws.specs.FrameLaws.{settings-valid, Records-stand, Laid-out, Dense-placed, Totals};
+ghost use Rattle.check_tables_laws.specs.Tables.{dense-agrees};
+ghost use Rattle.check_frame.specs.Found.{Record-found, end-found, Ranked-frame, Read-as};
 use bits::numbers::read32;
-use bits::ones::rank_from;
+use check_tables::judge::ranks_at;
 use image_records::header::MAX_DENSE_LEVELS;
 use image_records::header::MAX_LEAVES;
 use image_records::header::MAX_SUFFIX_BITS;
@@ -26,9 +25,9 @@ use image_records::table::RECORDS;
 use image_records::table::body_size;
 use image_records::table::mark;
 use image_records::table::record_starts;
+use image_types::DENSE_BLOCK_WORDS;
 use image_types::DenseTotals;
 use image_types::Frame;
-use image_types::Framed;
 use image_types::Header;
 use image_types::ROW_BITS;
 
@@ -114,45 +113,59 @@ fn lengths_valid(image: &[u8], h: Header) -> bool
     true
 }
 
-// The ones among the first n bits of the body at an offset.
-fn count_ones(image: &[u8], at: usize, n: usize) -> usize
-    requires { ⌜ (at ≤ length (now image)) × (n ≤ 8 * (length (now image) - at)) ⌝ }
-    ensures { λ r. ⌜ r ≡ rank (drop at (now (image .entry))) n ⌝ }
-{
-    rank_from(&image[at..], 0, 0, n)
+// What is counted of the dense nodes, and whether their rank tables are right.
+pub struct DenseCounts {
+    pub totals: DenseTotals,
+    pub agrees: bool,
 }
 
-// The continuing branches and the entries of the n dense nodes, whose bodies stand at these offsets.
-fn dense_totals(image: &[u8], dl: usize, dc: usize, dp: usize, n: usize) -> DenseTotals
-    requires { ⌜ Dense-within (now image) dl dc dp n ⌝ }
-    ensures { λ r. ⌜ Totals (now (image .entry)) dl dc dp n r ⌝ }
+// The continuing branches and the entries of the dense nodes of a frame, and whether RL, RC and RP hold the ranks of DL, DC and DP.
+fn count_dense(image: &[u8], f: Frame) -> DenseCounts
+    requires { ⌜ Dense-placed (now image) f ⌝ }
+    ensures { λ r. ⌜ Totals (now (image .entry)) (f .dl) (f .dc) (f .dp) (f .dense .nodes) (r .totals) × (r .agrees ≡ dense-agrees (now (image .entry)) f) ⌝ }
 {
-    DenseTotals {
-        children: count_ones(image, dc, ROW_BITS * n),
-        entries: count_ones(image, dl, ROW_BITS * n) + count_ones(image, dp, n),
+    let n = f.dense.nodes;
+    let labels = ranks_at(image, f.dl, ROW_BITS * n, f.rl, DENSE_BLOCK_WORDS);
+    let children = ranks_at(image, f.dc, ROW_BITS * n, f.rc, DENSE_BLOCK_WORDS);
+    let exacts = ranks_at(image, f.dp, n, f.rp, DENSE_BLOCK_WORDS);
+    let entries = labels.ones + exacts.ones;
+    let totals = DenseTotals {
+        children: children.ones,
+        entries,
+    };
+    DenseCounts {
+        totals,
+        agrees: labels.agrees & children.agrees & exacts.agrees,
     }
 }
 
+// A frame, and whether the rank tables of its dense nodes are right, which is judged later.
+pub struct RankedFrame {
+    pub frame: Frame,
+    pub agrees: bool,
+}
+
 // The frame of an image whose records stand where its header says.
-fn laid_out(image: &[u8], h: Header) -> Frame
+fn laid_out(image: &[u8], h: Header) -> RankedFrame
     requires { ⌜ Laid-out (now image) h ⌝ }
-    ensures { λ r. ⌜ FrameOf (now (image .entry)) r ⌝ }
+    ensures { λ r. ⌜ Ranked-frame (now (image .entry)) r ⌝ }
 {
     let starts = record_starts(h);
-    let dl = starts[0] + BEFORE_BODY;
-    let dc = starts[1] + BEFORE_BODY;
-    let dp = starts[2] + BEFORE_BODY;
     let dense = h.dense;
     let sparse = h.sparse;
-    Frame {
+    let uncounted = DenseTotals {
+        children: 0,
+        entries: 0,
+    };
+    let mut frame = Frame {
         width: h.width,
         leaves: h.leaves,
         dense,
         sparse,
-        totals: dense_totals(image, dl, dc, dp, dense.nodes),
-        dl,
-        dc,
-        dp,
+        totals: uncounted,
+        dl: starts[0] + BEFORE_BODY,
+        dc: starts[1] + BEFORE_BODY,
+        dp: starts[2] + BEFORE_BODY,
         sl: starts[3] + BEFORE_BODY,
         sc: starts[4] + BEFORE_BODY,
         sb: starts[5] + BEFORE_BODY,
@@ -162,34 +175,47 @@ fn laid_out(image: &[u8], h: Header) -> Frame
         rp: starts[9] + BEFORE_BODY,
         rs: starts[10] + BEFORE_BODY,
         ts: starts[11] + BEFORE_BODY,
+    };
+    let counts = count_dense(image, frame);
+    let totals = counts.totals;
+    frame.totals = totals;
+    RankedFrame {
+        frame,
+        agrees: counts.agrees,
     }
 }
 
+// What reading an image gives: its frame, or the number with which it is refused.
+pub enum FrameRead {
+    At(RankedFrame),
+    Refused(u32),
+}
+
 // The frame of an image, or 11 where a part of it does not stand there, or 12 where the header or a length is wrong.
-pub fn read_frame(image: &[u8]) -> Framed
-    ensures { λ r. ⌜ Framed-as (now (image .entry)) r ⌝ }
+pub fn read_frame(image: &[u8]) -> FrameRead
+    ensures { λ r. ⌜ Read-as (now (image .entry)) r ⌝ }
 {
     if image.len() < HEADER {
-        return Framed::Refused(FRAME_MISSING);
+        return FrameRead::Refused(FRAME_MISSING);
     }
     if image[0] != b'H' {
-        return Framed::Refused(FRAME_MISSING);
+        return FrameRead::Refused(FRAME_MISSING);
     }
     if image[1] != b'D' {
-        return Framed::Refused(FRAME_MISSING);
+        return FrameRead::Refused(FRAME_MISSING);
     }
     let RecordEnd::At(end) = last_end(image) else {
-        return Framed::Refused(FRAME_MISSING);
+        return FrameRead::Refused(FRAME_MISSING);
     };
     if end != image.len() {
-        return Framed::Refused(FRAME_MISSING);
+        return FrameRead::Refused(FRAME_MISSING);
     }
     let h = read_header(image);
     if !settings_valid(image, h) {
-        return Framed::Refused(HEADER_WRONG);
+        return FrameRead::Refused(HEADER_WRONG);
     }
     if !lengths_valid(image, h) {
-        return Framed::Refused(HEADER_WRONG);
+        return FrameRead::Refused(HEADER_WRONG);
     }
-    Framed::At(laid_out(image, h))
+    FrameRead::At(laid_out(image, h))
 }

@@ -201,16 +201,21 @@ laid-totals s h = record {
 pub laid-within : (s : Bytes) (h : Header) → Laid-out s h → Within s (frame-at h (header-starts h) (laid-totals s h))
 laid-within s h o = within s (frame-at h (header-starts h) (laid-totals s h)) (frame-laid s h (laid-totals s h) o (record { children = refl; entries = refl }))
 
--- the dense nodes' bodies lie within the image
-pub record Dense-within (s : Bytes) (dl dc dp n : ℕ) : Type 0 where
-  pub few : n < 4294967296
-  pub labels : dl + 32 * n ≤ length s
-  pub has-child : dc + 32 * n ≤ length s
-  pub is-prefix-key : dp + blocks 8 n ≤ length s
+-- the dense nodes' bodies and their tables lie within the image
+pub record Dense-placed (s : Bytes) (f : Frame) : Type 0 where
+  pub few : f .dense .nodes < 4294967296
+  pub dl : f .dl + 32 * f .dense .nodes ≤ length s
+  pub dc : f .dc + 32 * f .dense .nodes ≤ length s
+  pub dp : f .dp + blocks 8 (f .dense .nodes) ≤ length s
+  pub rl : f .rl + 4 * blocks 64 (256 * f .dense .nodes) ≤ length s
+  pub rc : f .rc + 4 * blocks 64 (256 * f .dense .nodes) ≤ length s
+  pub rp : f .rp + 4 * blocks 64 (f .dense .nodes) ≤ length s
 
--- A laid-out image has them there.
-pub dense-laid : (s : Bytes) (h : Header) → Laid-out s h → Dense-within s (getD (header-starts h) 0 0 + 6) (getD (header-starts h) 1 0 + 6) (getD (header-starts h) 2 0 + 6) (h .dense .nodes)
-dense-laid s h o = let w = laid-within s h o in record { few = o .stands .reads .short .dense-nodes; labels = w .dl; has-child = w .dc; is-prefix-key = w .dp }
+-- A laid-out image has them there, whatever the totals are.
+pub dense-laid : (s : Bytes) (h : Header) (t : DenseTotals) → Laid-out s h → Dense-placed s (frame-at h (header-starts h) t)
+dense-laid s h t o =
+    let w = laid-within s h o in
+    record { few = o .stands .reads .short .dense-nodes; dl = w .dl; dc = w .dc; dp = w .dp; rl = w .rl; rc = w .rc; rp = w .rp }
 
 -- ---- the stage
 

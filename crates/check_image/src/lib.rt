@@ -1,13 +1,15 @@
 // The public call check, and the frame of an accepted image for the calls that read one.
 ghost use mathlib.Core.Path.{_≡_};
 ghost use Rattle.spec.specs.Check.{check};
+ghost use Rattle.check_frame.specs.Found.{Ranked-frame};
 ghost use Rattle.check_image.specs.Answers.{answer, Checked-as};
+use check_frame::FrameRead;
+use check_frame::RankedFrame;
 use check_frame::read_frame;
 use check_slots::judge::slots_valid;
-use check_tables::judge::tables_valid;
+use check_tables::judge::count_sparse;
 use check_tables::spare::spare_clear;
 use check_trie::trie::trie_valid;
-use image_types::Frame;
 use image_types::Framed;
 
 // The numbers of the stages behind the frame: a spare bit is set; the bits are not a builder's trie; a rank or sample is wrong; a slot has a bit that must be clear.
@@ -25,27 +27,36 @@ pub enum Checked {
     Refused(u32),
 }
 
-// The frame of an accepted image, or the number of the refusal.
-pub fn accept(image: &[u8]) -> Framed
+// The frame, if none of the numbers 13 to 16 applies, or the number of the refusal. The ranks are compared where the ones are counted, and judged in their turn.
+fn judge(image: &[u8], read: RankedFrame) -> Framed
+    requires { ⌜ Ranked-frame (now image) read ⌝ }
     ensures { λ r. ⌜ Checked-as (now (image .entry)) r ⌝ }
 {
-    let framed = read_frame(image);
-    let Framed::At(f) = framed else {
-        return framed;
-    };
+    let f = read.frame;
     if !spare_clear(image, f) {
         return Framed::Refused(SPARE_SET);
     }
-    if !trie_valid(image, f) {
+    let counts = count_sparse(image, f);
+    if !trie_valid(image, f, counts) {
         return Framed::Refused(NO_TRIE);
     }
-    if !tables_valid(image, f) {
+    if !(read.agrees & counts.agrees) {
         return Framed::Refused(RANK_WRONG);
     }
     if !slots_valid(image, f) {
         return Framed::Refused(SLOT_SET);
     }
     Framed::At(f)
+}
+
+// The frame of an accepted image, or the number of the refusal.
+pub fn accept(image: &[u8]) -> Framed
+    ensures { λ r. ⌜ Checked-as (now (image .entry)) r ⌝ }
+{
+    match read_frame(image) {
+        FrameRead::At(read) => judge(image, read),
+        FrameRead::Refused(n) => Framed::Refused(n),
+    }
 }
 
 // What check says of an image.

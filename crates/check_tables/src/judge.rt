@@ -1,68 +1,54 @@
-// Number 15: the rank tables and the samples of an image.
+// The tables of an image against the bodies that they index: the ones of a body are counted in the pass that compares its table, number 15.
 ghost use mathlib.Core.Path.{_≡_};
 ghost use Prim.Native.Nat.{_*_};
-ghost use Rattle.spec.specs.Frame.{parts};
-ghost use Rattle.spec.specs.Check.{ranks-valid};
-ghost use Rattle.image_types.specs.FrameOf.{FrameOf, frame-named};
-ghost use Rattle.check_tables_laws.specs.Tables.{Ranks-placed, Samples-placed, holds-ranks, holds-samples};
+ghost use Rattle.spec.specs.Bytes.{blocks};
+ghost use Rattle.bits_laws.specs.Bits.{rank, part};
+ghost use Rattle.image_types.specs.FrameOf.{FrameOf};
+ghost use Rattle.check_tables_laws.specs.Tables.{Ranks-placed, Samples-placed, Sparse-counted, holds-ranks, holds-samples};
 use bits::numbers::blocks_for;
 use bits::numbers::bytes_for;
 use bits::parts::part;
-use image_types::DENSE_BLOCK_WORDS;
+use check_tables_laws::SparseCounts;
 use image_types::Frame;
-use image_types::ROW_BITS;
 use image_types::SAMPLE_RATE;
 use image_types::SPARSE_BLOCK_WORDS;
-use rank_tables::rank_compare::ranks_valid;
-use rank_tables::sample_compare::samples_valid;
+use rank_tables::rank_compare::count_ranks;
+use rank_tables::sample_compare::count_samples;
+use rank_tables::words::Counted;
 
-// Whether the table at an offset holds the ranks of the body at another, which has n bits, by blocks of so many words.
-fn ranks_at(image: &[u8], at: usize, n: usize, table: usize, words: usize) -> bool
+// The ones of the body at an offset, which has n bits, and whether the table at another holds its ranks, by blocks of so many words.
+pub fn ranks_at(image: &[u8], at: usize, n: usize, table: usize, words: usize) -> Counted
     requires { ⌜ Ranks-placed (now image) at n table words ⌝ }
-    ensures { λ r. ⌜ r ≡ holds-ranks (now (image .entry)) at n table (64 * words) ⌝ }
+    ensures { λ r. ⌜ (r .ones ≡ rank (part (now (image .entry)) at (blocks 8 n)) n) × (r .agrees ≡ holds-ranks (now (image .entry)) at n table (64 * words)) ⌝ }
 {
     let entries = blocks_for(64 * words, n);
     let body = part(image, at, bytes_for(n));
     let ranks = part(image, table, 4 * entries);
-    ranks_valid(body, ranks, entries, words)
+    count_ranks(body, n, ranks, words)
 }
 
-// Whether the table at an offset, of m bytes, holds the samples of the body at another, which has n bits.
-fn samples_at(image: &[u8], at: usize, n: usize, table: usize, m: usize) -> bool
+// The ones of the body at an offset, which has n bits, and whether the table at another, of m bytes, holds its samples.
+fn samples_at(image: &[u8], at: usize, n: usize, table: usize, m: usize) -> Counted
     requires { ⌜ Samples-placed (now image) at n table m ⌝ }
-    ensures { λ r. ⌜ r ≡ holds-samples (now (image .entry)) at n table m ⌝ }
+    ensures { λ r. ⌜ (r .ones ≡ rank (part (now (image .entry)) at (blocks 8 n)) n) × (r .agrees ≡ holds-samples (now (image .entry)) at n table m) ⌝ }
 {
     let body = part(image, at, bytes_for(n));
     let samples = part(image, table, m);
-    samples_valid(body, n, samples)
+    count_samples(body, n, samples)
 }
 
-// Whether number 15 does not apply: RL, RC, RP and RS are the ranks of DL, DC, DP and SC, and TS the samples of SB.
-pub fn tables_valid(image: &[u8], f: Frame) -> bool
+// The ones of SB and SC, and whether RS holds the ranks of SC, and TS the samples of SB.
+pub fn count_sparse(image: &[u8], f: Frame) -> SparseCounts
     requires { ⌜ FrameOf (now image) f ⌝ }
-    ensures { λ r. ⌜ r ≡ ranks-valid (parts (now (image .entry)) (frame-named (now (image .entry)) f)) (frame-named (now (image .entry)) f) ⌝ }
+    ensures { λ r. ⌜ Sparse-counted (now (image .entry)) f r ⌝ }
 {
-    ranks_at(
-        image,
-        f.dl,
-        ROW_BITS * f.dense.nodes,
-        f.rl,
-        DENSE_BLOCK_WORDS,
-    )
-        & ranks_at(
-            image,
-            f.dc,
-            ROW_BITS * f.dense.nodes,
-            f.rc,
-            DENSE_BLOCK_WORDS,
-        )
-        & ranks_at(image, f.dp, f.dense.nodes, f.rp, DENSE_BLOCK_WORDS)
-        & ranks_at(image, f.sc, f.sparse.entries, f.rs, SPARSE_BLOCK_WORDS)
-        & samples_at(
-            image,
-            f.sb,
-            f.sparse.entries,
-            f.ts,
-            4 * blocks_for(SAMPLE_RATE, f.sparse.nodes),
-        )
+    let entries = f.sparse.entries;
+    let samples = 4 * blocks_for(SAMPLE_RATE, f.sparse.nodes);
+    let children = ranks_at(image, f.sc, entries, f.rs, SPARSE_BLOCK_WORDS);
+    let starts = samples_at(image, f.sb, entries, f.ts, samples);
+    SparseCounts {
+        starts: starts.ones,
+        children: children.ones,
+        agrees: children.agrees & starts.agrees,
+    }
 }

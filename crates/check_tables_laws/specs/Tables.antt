@@ -1,24 +1,24 @@
 -- What the numbers 13 and 15 ask of the bodies of an image: spare bits, rank tables and samples.
-use Prim.Native.Nat.{ℕ, _+_, _-_, _*_, _≤_, _<_}
+use Prim.Native.Nat.{ℕ, _+_, _*_, _≤_, _<_}
 use mathlib.Core.Path.{_≡_, sym, ap, ap₂, _∙_}
 use mathlib.Core.Bool.{Bool, true, _&&_, and-true, and-assoc}
 use native.Mathlib.Omega.{arith}
-use native.Mathlib.Nat.{mul-assoc}
 use lib.ListN.{length, take}
 use Rattle.spec.specs.Bytes.{Bytes, blocks, every, equal, unpack}
 use Rattle.spec.specs.Image.{ranks, samples}
 use Rattle.spec.specs.Frame.{Parts, parts, named}
 use Rattle.spec.specs.Check.{no-spare, spare-clear, ranks-valid}
-use Rattle.bits_laws.specs.Bits.{rank, select}
+use Rattle.bits_laws.specs.Bits.{rank}
 use Rattle.bits_laws.specs.Parts.{length-part}
 use Rattle.bits_laws.specs.PartLaws.{bits-room}
-use Rattle.rank_tables_laws.specs.Entries.{entries}
-use Rattle.rank_tables_laws.specs.Ranks.{block-start, ranks-are}
+use Rattle.rank_tables_laws.specs.Entries.{rank-entries, sample-entries}
+use Rattle.rank_tables_laws.specs.Ranks.{ranks-are}
 use Rattle.rank_tables_laws.specs.Samples.{samples-are}
 use Rattle.image_types.specs.declared.Frame.{Frame}
 use Rattle.bits_laws.specs.Bits.{part}
 use Rattle.image_types.specs.FrameOf.{FrameOf, frame-named}
 use Rattle.rank_tables_laws.specs.Tables.{Ranked}
+use Rattle.check_tables_laws.specs.declared.SparseCounts.{SparseCounts}
 
 -- the table at an offset holds the ranks, by blocks of w bits, of the n bits of the body at another
 abbrev pub holds-ranks : Bytes → ℕ → ℕ → ℕ → ℕ → Bool
@@ -27,6 +27,20 @@ holds-ranks s at n table w = equal (part s table (4 * blocks w n)) (ranks w (tak
 -- the m bytes at an offset hold the samples of the n bits of the body at another
 abbrev pub holds-samples : Bytes → ℕ → ℕ → ℕ → ℕ → Bool
 holds-samples s at n table m = equal (part s table m) (samples (take n (unpack (part s at (blocks 8 n)))))
+
+-- RL, RC and RP hold the ranks of DL, DC and DP
+abbrev pub dense-agrees : Bytes → Frame → Bool
+dense-agrees s f = (holds-ranks s (f .dl) (256 * f .dense .nodes) (f .rl) 64 && holds-ranks s (f .dc) (256 * f .dense .nodes) (f .rc) 64) && holds-ranks s (f .dp) (f .dense .nodes) (f .rp) 64
+
+-- RS holds the ranks of SC, and TS the samples of SB
+abbrev pub sparse-agrees : Bytes → Frame → Bool
+sparse-agrees s f = holds-ranks s (f .sc) (f .sparse .entries) (f .rs) 512 && holds-samples s (f .sb) (f .sparse .entries) (f .ts) (4 * blocks 64 (f .sparse .nodes))
+
+-- what was counted of the sparse bodies, and whether their tables are right
+pub record Sparse-counted (s : Bytes) (f : Frame) (c : SparseCounts) : Type 0 where
+  pub starts : c .starts ≡ rank (part s (f .sb) (blocks 8 (f .sparse .entries))) (f .sparse .entries)
+  pub children : c .children ≡ rank (part s (f .sc) (blocks 8 (f .sparse .entries))) (f .sparse .entries)
+  pub agrees : c .agrees ≡ sparse-agrees s f
 
 -- a body of n bits and the table of its ranks, by blocks of so many words, lie within the image
 pub record Ranks-placed (s : Bytes) (at n table words : ℕ) : Type 0 where
@@ -59,32 +73,26 @@ module _ (s : Bytes) (at n table words : ℕ) (p : Ranks-placed s at n table wor
   long = length-part s at (blocks 8 n) (p .body)
 
   -- they are what the comparison asks for
-  pub ranked-parts : Ranked (part s at (blocks 8 n)) (part s table (4 * blocks (64 * words) n)) (blocks (64 * words) n) words
+  pub ranked-parts : Ranked (part s at (blocks 8 n)) n (part s table (4 * blocks (64 * words) n)) words
   ranked-parts = record {
     some = p .some;
     few = p .few;
-    short = bytes-few (p .short) long;
+    short = p .short;
+    within = bits-room n (part s at (blocks 8 n)) long;
     sized = length-part s table (4 * blocks (64 * words) n) (p .ranks);
-    starts = λ b h. start b (block-start (64 * words) b n (positive (p .some)) h) long;
   }
-    where
-      bytes-few : {l : ℕ} → n < 1099511627776 → l ≡ blocks 8 n → l < 1099511627776
-      bytes-few h e = omega arith
-
-      start : (b : ℕ) → 64 * words * b ≤ n → length (part s at (blocks 8 n)) ≡ blocks 8 n → 8 * (words * b) ≤ length (part s at (blocks 8 n))
-      start b h l = omega (arith, mul-assoc 64 words b)
 
   -- and what it gives is what document 01 asks for
-  pub ranked-is : equal (part s table (4 * blocks (64 * words) n)) (entries (λ b. rank (part s at (blocks 8 n)) (64 * words * b)) (blocks (64 * words) n)) ≡ holds-ranks s at n table (64 * words)
+  pub ranked-is : equal (part s table (4 * blocks (64 * words) n)) (rank-entries (64 * words) (part s at (blocks 8 n)) (blocks (64 * words) n)) ≡ holds-ranks s at n table (64 * words)
   ranked-is = ap (equal (part s table (4 * blocks (64 * words) n))) (sym (ranks-are (64 * words) n (part s at (blocks 8 n)) (positive (p .some)) (bits-room n (part s at (blocks 8 n)) long)))
 
 -- samples and their body, as lent
 pub sampled-is : (s : Bytes) (at n table m : ℕ) → at + blocks 8 n ≤ length s
-    → equal (part s table m) (entries (λ t. select (part s at (blocks 8 n)) n (64 * t)) (blocks 64 (rank (part s at (blocks 8 n)) n))) ≡ holds-samples s at n table m
+    → equal (part s table m) (sample-entries (part s at (blocks 8 n)) n (blocks 64 (rank (part s at (blocks 8 n)) n))) ≡ holds-samples s at n table m
 sampled-is s at n table m h = ap (equal (part s table m)) (sym (samples-are n (part s at (blocks 8 n)) (bits-room n (part s at (blocks 8 n)) (length-part s at (blocks 8 n) h))))
 
 -- bytes of whole bits
-pub whole-bytes : (d : ℕ) → blocks 8 (256 * d) ≡ 32 * d
+whole-bytes : (d : ℕ) → blocks 8 (256 * d) ≡ 32 * d
 whole-bytes d = omega arith
 
 -- ---- what the numbers ask
@@ -106,7 +114,7 @@ module _ (s : Bytes) (f : Frame) (h : FrameOf s f) where
       ∙ four (no-spare (f .dense .nodes) (part s (f .dp) (blocks 8 (f .dense .nodes)))) (no-spare (f .sparse .entries) (part s (f .sc) (blocks 8 (f .sparse .entries)))) (no-spare (f .sparse .entries) (part s (f .sb) (blocks 8 (f .sparse .entries)))) (no-spare (f .leaves * f .width) (part s (f .sv) (blocks 8 (f .leaves * f .width))))
 
   -- five tests in a row
-  five : (a b c d e : Bool) → a && (b && (c && (d && (e && true)))) ≡ (((a && b) && c) && d) && e
+  five : (a b c d e : Bool) → a && (b && (c && (d && (e && true)))) ≡ ((a && b) && c) && (d && e)
   five a b c d e = simp (and-assoc, and-true)
 
   -- ranks of a body of whole bytes
@@ -115,12 +123,7 @@ module _ (s : Bytes) (f : Frame) (h : FrameOf s f) where
   whole-ranks at table = ap (λ (k : ℕ). equal (part s table (4 * blocks 64 (256 * f .dense .nodes))) (ranks 64 (take (256 * f .dense .nodes) (unpack (part s at k))))) (sym (whole-bytes (f .dense .nodes)))
 
   -- number 15 by the frame
-  pub tables-are : ranks-valid (parts s (frame-named s f)) (frame-named s f)
-      ≡ (((holds-ranks s (f .dl) (256 * f .dense .nodes) (f .rl) 64
-      && holds-ranks s (f .dc) (256 * f .dense .nodes) (f .rc) 64)
-      && holds-ranks s (f .dp) (f .dense .nodes) (f .rp) 64)
-      && holds-ranks s (f .sc) (f .sparse .entries) (f .rs) 512)
-      && holds-samples s (f .sb) (f .sparse .entries) (f .ts) (4 * blocks 64 (f .sparse .nodes))
+  pub tables-are : ranks-valid (parts s (frame-named s f)) (frame-named s f) ≡ dense-agrees s f && sparse-agrees s f
   unfolding ranks-valid every named
   tables-are =
       ap (λ (p : Parts). ranks-valid p (frame-named s f)) (h .parts-are)

@@ -6,7 +6,10 @@ ghost use lib.ListN.{length};
 ghost use lib.Dec.{eqb};
 ghost use Rattle.spec.specs.Trie.{builders-trie};
 ghost use Rattle.image_types.specs.FrameOf.{FrameOf, frame-parts};
+ghost use Rattle.bits_laws.specs.Bits.{rank};
+ghost use Rattle.check_tables_laws.specs.Tables.{Sparse-counted};
 ghost use Rattle.check_trie_laws.specs.Positions.{is-set};
+ghost use Rattle.check_trie_laws.specs.Bodies.{sc-body, sb-body};
 ghost use Rattle.check_trie_laws.specs.BitTests.{counts-valid};
 ghost use Rattle.check_trie_laws.specs.Levels.{Louds-valid};
 ghost use Rattle.check_trie_laws.specs.BodyTests.{louds-test, dense-test, sparse-test, sums-test, Counts-few};
@@ -14,9 +17,9 @@ use super::dense::dense_valid;
 use super::sparse::sparse_valid;
 use bits::numbers::bytes_for;
 use bits::ones::bit_at;
-use bits::ones::ones_of;
 use bits::parts::part;
 use check_levels::judge::levels_valid;
+use check_tables_laws::SparseCounts;
 use image_types::Frame;
 use image_types::ROW_BYTES;
 
@@ -31,14 +34,14 @@ fn first_set(s: &[u8], n: usize) -> bool
     bit_at(s, 0) == 1
 }
 
-// Whether S-LOUDS marks the first entry, and as many entries as there are sparse nodes.
-fn louds_valid(image: &[u8], f: Frame) -> bool
-    requires { ⌜ FrameOf (now image) f ⌝ }
+// Whether S-LOUDS, which marks so many entries, marks the first one, and as many as there are sparse nodes.
+fn louds_valid(image: &[u8], f: Frame, starts: usize) -> bool
+    requires { ⌜ FrameOf (now image) f × (starts ≡ rank (sb-body (now image) f) (f .sparse .entries)) ⌝ }
     ensures { λ r. ⌜ r ≡ louds-test (now (image .entry)) f ⌝ }
 {
     let entries = f.sparse.entries;
     let sb = part(image, f.sb, bytes_for(entries));
-    first_set(sb, entries) & (ones_of(sb, entries) == f.sparse.nodes)
+    first_set(sb, entries) & (starts == f.sparse.nodes)
 }
 
 // Whether the dense nodes are valid: what continues is a label, and each node has the labels that it needs.
@@ -76,30 +79,30 @@ fn sums_valid(f: Frame, children: usize) -> bool
         & (f.dense.nodes + f.sparse.nodes == children + 1)
 }
 
-// Whether the counts agree with the bits, and the levels are valid.
-fn counts_valid(image: &[u8], f: Frame) -> bool
-    requires { ⌜ Louds-valid (now image) f ⌝ }
+// Whether the counts agree with the bits, where so many sparse entries continue, and the levels are valid.
+fn counts_valid(image: &[u8], f: Frame, continuing: usize) -> bool
+    requires { ⌜ Louds-valid (now image) f × (continuing ≡ rank (sc-body (now image) f) (f .sparse .entries)) ⌝ }
     ensures { λ r. ⌜ r ≡ counts-valid (frame-parts (now (image .entry)) f) ⌝ }
 {
     if f.dense.nodes + f.sparse.nodes == 0 {
         return f.leaves == 0;
     }
-    let entries = f.sparse.entries;
-    let sc = part(image, f.sc, bytes_for(entries));
-    let children = f.totals.children + ones_of(sc, entries);
+    let children = f.totals.children + continuing;
     if !sums_valid(f, children) {
         return false;
     }
     levels_valid(image, f)
 }
 
-// Whether number 14 does not apply: the bits and labels are a builder's trie.
-pub fn trie_valid(image: &[u8], f: Frame) -> bool
-    requires { ⌜ FrameOf (now image) f ⌝ }
+// Whether number 14 does not apply: the bits and labels are a builder's trie. The ones of the sparse bodies have been counted.
+pub fn trie_valid(image: &[u8], f: Frame, counts: SparseCounts) -> bool
+    requires { ⌜ FrameOf (now image) f × Sparse-counted (now image) f counts ⌝ }
     ensures { λ r. ⌜ r ≡ builders-trie (frame-parts (now (image .entry)) f) ⌝ }
 {
-    if !louds_valid(image, f) {
+    if !louds_valid(image, f, counts.starts) {
         return false;
     }
-    dense_part_valid(image, f) & sparse_part_valid(image, f) & counts_valid(image, f)
+    dense_part_valid(image, f)
+        & sparse_part_valid(image, f)
+        & counts_valid(image, f, counts.children)
 }

@@ -1,29 +1,18 @@
 // The samples against S-LOUDS, by a running count of ones.
 ghost use mathlib.Core.Path.{_≡_};
-ghost use Prim.Native.Nat.{_+_, _*_, _≤_, _<_, min};
+ghost use Prim.Native.Nat.{_*_, _≤_, _<_};
 ghost use lib.ListN.{length};
 ghost use Rattle.spec.specs.Bytes.{equal, blocks};
-ghost use Rattle.bits_laws.specs.Bits.{rank, select};
-ghost use Rattle.rank_tables_laws.specs.Entries.{entries};
+ghost use Rattle.bits_laws.specs.Bits.{rank};
+ghost use Rattle.rank_tables_laws.specs.Entries.{sample-entries};
 ghost use Rattle.rank_tables_laws.specs.Samples.{sampled};
 ghost use Rattle.rank_tables_laws.specs.Tables.{Held};
-use super::words::whole_word_ones;
+use super::words::Counted;
+use super::words::ones_among;
 use bits::numbers::read32;
 use bits::ones::bit_at;
 use bits::ones::ones_before;
 use image_types::SAMPLE_RATE;
-
-// The number of ones in word q of s that stand among the first n bits of s.
-fn ones_among(s: &[u8], q: usize, n: usize) -> usize
-    requires { ⌜ (n ≤ 8 * length (now s)) × (64 * q < n) ⌝ }
-    ensures { λ r. ⌜ (rank (now (s .entry)) (min (64 * q + 64) n) ≡ rank (now (s .entry)) (64 * q) + r) × (r ≤ 64) ⌝ }
-{
-    let left = n - 64 * q;
-    if left < 64 {
-        return ones_before(s, q, left);
-    }
-    whole_word_ones(s, q)
-}
 
 // Whether entry t is there and is the position of the set bit number 64 t, counted from 0, which word q holds among the first n bits. So many set bits stand before the word.
 // The position is tested itself: it lies in the word, its bit is set, and just 64 t set bits stand before it.
@@ -51,26 +40,29 @@ fn sample_valid(s: &[u8], n: usize, q: usize, before: usize, table: &[u8], t: us
     bit_at(s, p) == 1
 }
 
-// Whether the table holds the position of every 64th set bit among the first n bits, the first among them.
+// The ones among the first n bits, and whether the table holds the position of every 64th of them, the first among them.
 // A word has at most 64 ones, so at most one of these stands in it.
-pub fn samples_valid(s: &[u8], n: usize, table: &[u8]) -> bool
+pub fn count_samples(s: &[u8], n: usize, table: &[u8]) -> Counted
     requires { ⌜ (n ≤ 8 * length (now s)) × (n < 4294967296) ⌝ }
-    ensures { λ r. ⌜ r ≡ equal (now (table .entry)) (entries (λ t. select (now (s .entry)) n (64 * t)) (blocks 64 (rank (now (s .entry)) n))) ⌝ }
+    ensures { λ r. ⌜ (r .ones ≡ rank (now (s .entry)) n) × (r .agrees ≡ equal (now (table .entry)) (sample-entries (now (s .entry)) n (blocks 64 (rank (now (s .entry)) n)))) ⌝ }
 {
     let mut q = 0usize; // the next word
     let mut ones = 0usize; // the ones before it
     let mut t = 0usize; // the next entry
+    let mut agrees = true; // whether the entries before it are right
     while 64 * q < n {
         let word = q;
         let before = ones;
         q = word + 1;
         ones = before + ones_among(s, word, n);
         if SAMPLE_RATE * t < ones {
-            if !sample_valid(s, n, word, before, table, t) {
-                return false;
-            }
+            agrees = agrees & sample_valid(s, n, word, before, table, t);
             t = t + 1;
         }
     }
-    4 * t == table.len()
+    let sized = 4 * t == table.len();
+    Counted {
+        ones,
+        agrees: agrees & sized,
+    }
 }

@@ -1,7 +1,7 @@
 -- Tables of 32-bit entries: when a byte string is the table whose entry i is a given number, entry by entry. Used by the laws of ranks and of samples.
 use Prim.Native.Nat.{ℕ, zero, suc, _+_, _*_, _%_, _/_, _≤_, _<_}
 use mathlib.Core.Path.{_≡_, refl, sym, ap, ap₂, _∙_}
-use mathlib.Core.Bool.{Bool, true, false, _&&_, and-false}
+use mathlib.Core.Bool.{Bool, true, false, _&&_, and-false, true≢false}
 use mathlib.Core.List.{List, [], _∷_, _++_, map, append-assoc, append-nil}
 use native.Mathlib.Omega.{arith}
 use native.Mathlib.Nat.{mod-lt, add-zero}
@@ -180,6 +180,58 @@ module _ (f : ℕ → ℕ) (n : ℕ) (t : Bytes) where
       go : (b : Bool) → eqb (length t) (4 * n) ≡ b → equal t (entries f n) ≡ false
       go true e = rows-false f n 0 t h (eqb-true (length t) (4 * n) e) i m (λ e. let z : 0 + i ≡ i = omega arith in r (rw z at e))
       go false e = table-sized (eqb-false (length t) (4 * n) e)
+
+-- ---- a table compared entry by entry
+
+-- the numbers below k pass a test
+unfoldable pub all-below : (ℕ → Bool) → ℕ → Bool
+all-below f zero = true
+all-below f (suc k) = all-below f k && f k
+
+-- no number
+pub all-none : (f : ℕ → Bool) → all-below f 0 ≡ true
+unfolding all-below
+all-none f = refl
+
+-- one number more
+pub all-more : (f : ℕ → Bool) (k : ℕ) → all-below f (k + 1) ≡ all-below f k && f k
+unfolding all-below
+all-more f k = ap (all-below f) (add-one k)
+
+-- all of them pass
+pub all-pass : (f : ℕ → Bool) (k : ℕ) → all-below f k ≡ true → (i : ℕ) → i < k → f i ≡ true
+unfolding all-below
+all-pass f zero h i l = absurd (omega arith)
+all-pass f (suc k) h i l = go (all-below f k) (all-pass f k) (f k) refl h (eqb i k) refl
+  where
+    go : (a : Bool) → (a ≡ true → (j : ℕ) → j < k → f j ≡ true) → (b : Bool) → f k ≡ b → a && b ≡ true → (c : Bool) → eqb i k ≡ c → f i ≡ true
+    go true ih true g q true w = ap f (eqb-true i k w) ∙ g
+    go true ih true g q false w = let n = eqb-false i k w in ih refl i (omega arith)
+    go true ih false g q c w = absurd (true≢false (sym q))
+    go false ih b g q c w = absurd (true≢false (sym q))
+
+-- one of them fails
+pub all-fail : (f : ℕ → Bool) (k : ℕ) → all-below f k ≡ false → (i : ℕ) × (i < k) × (f i ≡ false)
+unfolding all-below
+all-fail f zero h = absurd (true≢false h)
+all-fail f (suc k) h = go (all-below f k) (all-fail f k) (f k) refl h
+  where
+    go : (a : Bool) → (a ≡ false → (i : ℕ) × (i < k) × (f i ≡ false)) → (b : Bool) → f k ≡ b → a && b ≡ false → (i : ℕ) × (i < suc k) × (f i ≡ false)
+    go true ih true g q = absurd (true≢false q)
+    go true ih false g q = (k, omega arith, g)
+    go false ih b g q = let r = ih refl in (r .0, omega (arith, r .1), r .2)
+
+-- entry i of a table has its number, modulo 2^32
+abbrev pub entry-right : (ℕ → ℕ) → Bytes → ℕ → Bool
+entry-right f t i = eqb (entry t i) (f i % 4294967296)
+
+-- a table of n entries is right exactly if each of them is
+pub table-agrees : (f : ℕ → ℕ) (n : ℕ) (t : Bytes) → Small t → length t ≡ 4 * n → all-below (entry-right f t) n ≡ equal t (entries f n)
+table-agrees f n t h l = go (all-below (entry-right f t) n) refl
+  where
+    go : (b : Bool) → all-below (entry-right f t) n ≡ b → b ≡ equal t (entries f n)
+    go true e = sym (table-valid f n t h l (λ i m. eqb-true (entry t i) (f i % 4294967296) (all-pass (entry-right f t) n e i m)))
+    go false e = let r = all-fail (entry-right f t) n e in sym (table-wrong f n t h (r .0) (r .1) (eqb-false (entry t (r .0)) (f (r .0) % 4294967296) (r .2)))
 
 -- ---- a table written entry by entry
 

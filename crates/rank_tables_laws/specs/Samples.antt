@@ -17,7 +17,7 @@ use Rattle.bits_laws.specs.Bits.{bit-at, rank, select}
 use Rattle.bits_laws.specs.ValueLaws.{Small}
 use Rattle.bits_laws.specs.RankLaws.{rank-next, rank-up, rank-slow}
 use Rattle.bits_laws.specs.SelectLaws.{select-is, select-here}
-use Rattle.rank_tables_laws.specs.Entries.{entries, entries-same, entry, table-valid, table-sized, table-wrong}
+use Rattle.rank_tables_laws.specs.Entries.{entries, entries-same, entry, table-valid, table-sized, table-wrong, all-below, all-pass, all-fail}
 use Rattle.rank_tables_laws.specs.Ranks.{length-first, rank-first}
 
 -- ---- positions of ones
@@ -117,7 +117,7 @@ module _ (s : Bytes) (n : ℕ) (table : Bytes) (small : Small table) (short : n 
   fits t = mod-eq-of-lt (omega (arith, select-is s n (64 * t) .0))
 
   -- the samples are not those of the table, where one of them is not
-  pub samples-wrong : (t : ℕ) → 64 * t < rank s n → sampled s n table t ≡ false → equal table (entries (λ t. select s n (64 * t)) (blocks 64 (rank s n))) ≡ false
+  samples-wrong : (t : ℕ) → 64 * t < rank s n → sampled s n table t ≡ false → equal table (entries (λ t. select s n (64 * t)) (blocks 64 (rank s n))) ≡ false
   samples-wrong t h e = go (leb (4 * t + 4) (length table)) refl (eqb (entry table t) (select s n (64 * t))) refl e
     where
       go : (a : Bool) → leb (4 * t + 4) (length table) ≡ a → (b : Bool) → eqb (entry table t) (select s n (64 * t)) ≡ b → a && b ≡ false
@@ -128,7 +128,7 @@ module _ (s : Bytes) (n : ℕ) (table : Bytes) (small : Small table) (short : n 
       go true p true q e = absurd (true≢false e)
 
   -- the samples are those of the table, where each of them is and there are no others
-  pub samples-valid : (k : ℕ) → k ≡ blocks 64 (rank s n) → ((t : ℕ) → t < k → sampled s n table t ≡ true)
+  samples-valid : (k : ℕ) → k ≡ blocks 64 (rank s n) → ((t : ℕ) → t < k → sampled s n table t ≡ true)
       → eqb (4 * k) (length table) ≡ equal table (entries (λ t. select s n (64 * t)) (blocks 64 (rank s n)))
   samples-valid k e h = go (eqb (4 * k) (length table)) refl
     where
@@ -144,3 +144,11 @@ module _ (s : Bytes) (n : ℕ) (table : Bytes) (small : Small table) (short : n 
       go false q =
           let l = eqb-false (4 * k) (length table) q in
           sym (table-sized (λ t. select s n (64 * t)) (blocks 64 (rank s n)) table (λ z. l (omega arith)))
+
+  -- the samples are those of the table exactly if each of them is and there are no others
+  pub samples-agree : (k : ℕ) → k ≡ blocks 64 (rank s n) → all-below (sampled s n table) k && eqb (4 * k) (length table) ≡ equal table (entries (λ t. select s n (64 * t)) (blocks 64 (rank s n)))
+  samples-agree k e = go (all-below (sampled s n table) k) refl
+    where
+      go : (b : Bool) → all-below (sampled s n table) k ≡ b → b && eqb (4 * k) (length table) ≡ equal table (entries (λ t. select s n (64 * t)) (blocks 64 (rank s n)))
+      go true q = samples-valid k e (all-pass (sampled s n table) k q)
+      go false q = let r = all-fail (sampled s n table) k q in sym (samples-wrong (r .0) (omega (arith, r .1)) (r .2))

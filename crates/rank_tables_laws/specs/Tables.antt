@@ -35,13 +35,22 @@ pub record Samples-room (out : Bytes) (body : Span) (bits table : ℕ) : Type 0 
 
 -- ---- a table compared
 
--- a body, and a table of n entries, one for each block of so many words that starts within the body
-pub record Ranked (body table : Bytes) (n words : ℕ) : Type 0 where
+-- the first n bits of a body, and a table with an entry for each block of so many words of them
+pub record Ranked (body : Bytes) (n : ℕ) (table : Bytes) (words : ℕ) : Type 0 where
   pub some : 0 < words
   pub few : words ≤ 8
-  pub short : length body < 1099511627776
-  pub sized : length table ≡ 4 * n
-  pub starts : (b : ℕ) → b < n → 8 * (words * b) ≤ length body
+  pub short : n < 1099511627776
+  pub within : n ≤ 8 * length body
+  pub sized : length table ≡ 4 * blocks (64 * words) n
+
+-- the ones up to the end of word q, among the first n bits, from those before it
+pub word-counted : (s : Bytes) (n q before r : ℕ) → 64 * q < n → before ≡ rank s (min (64 * q) n) → rank s (min (64 * q + 64) n) ≡ rank s (64 * q) + r
+    → (before ≡ rank s (64 * q)) × (before + r ≡ rank s (min (64 * (q + 1)) n))
+word-counted s n q before r l e f =
+    let w : min (64 * q) n ≡ 64 * q = omega arith in
+    let g : before ≡ rank s (64 * q) = e ∙ ap (rank s) w in
+    let v : min (64 * q + 64) n ≡ min (64 * (q + 1)) n = omega arith in
+    (g, ap (λ (x : ℕ). x + r) g ∙ sym f ∙ ap (rank s) v)
 
 -- word q holds the set bit number 64 t, counted from 0, of the first n bits; so many ones stand before the word
 pub record Held (s : Bytes) (n q before t : ℕ) : Type 0 where

@@ -40,8 +40,8 @@ mul-part c = rw (c .before .before .blocks-for .ensures) (inside (c .before .bef
 part-requires-2 : tie.Need-part-requires-2
 part-requires-2 c κs = rw (c .before .before .blocks-for .ensures) (c .before .before .before .before .pre .ranks)
 
-ranks-valid-requires : tie.Need-ranks-valid-requires
-ranks-valid-requires c κs =
+count-ranks-requires : tie.Need-count-ranks-requires
+count-ranks-requires c κs =
     let a = c .before .before .before .before .before .args in
     let s : Bytes = a .image .now in
     let body : c .before .part .result .now ≡ part s (a .at) (blocks 8 (a .n)) = lent-part s (a .at) (c .before .part .ensures) (c .before .before .bytes-for .ensures) in
@@ -53,7 +53,8 @@ returns c =
     let a = c .before .before .before .before .before .before .args in
     let s : Bytes = a .image .now in
     let body : part-call .result .now ≡ part s (a .at) (blocks 8 (a .n)) = lent-part s (a .at) (part-call .ensures) (c .before .before .before .bytes-for .ensures) in
-    (rw (body, c .before .part2 .ensures, c .before .before .before .before .blocks-for .ensures) at (c .ranks-valid .ensures)) ∙ ranked-is s (a .at) (a .n) (a .table) (a .words) (c .before .before .before .before .before .before .pre)
+    let r = rw (body, c .before .part2 .ensures, c .before .before .before .before .blocks-for .ensures) at (c .count-ranks .ensures) in
+    (r .0, r .1 ∙ ranked-is s (a .at) (a .n) (a .table) (a .words) (c .before .before .before .before .before .before .pre))
 
 pub ranks-at-spec : {M : Type 1} → statement M
 ranks-at-spec =
@@ -65,5 +66,5 @@ ranks-at-spec =
     part-requires
     mul-part
     part-requires-2
-    ranks-valid-requires
+    count-ranks-requires
     returns)

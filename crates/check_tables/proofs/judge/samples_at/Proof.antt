@@ -18,8 +18,8 @@ part-requires c κs = rw (c .bytes-for .ensures) (c .before .before .pre .body)
 part-requires-2 : tie.Need-part-requires-2
 part-requires-2 c κs = c .before .before .before .pre .samples
 
-samples-valid-requires : tie.Need-samples-valid-requires
-samples-valid-requires c κs =
+count-samples-requires : tie.Need-count-samples-requires
+count-samples-requires c κs =
     let a = c .before .before .before .before .args in
     let p = c .before .before .before .before .pre in
     let s : Bytes = a .image .now in
@@ -32,9 +32,10 @@ returns c =
     let a = c .before .before .before .before .before .args in
     let s : Bytes = a .image .now in
     let body : part-call .result .now ≡ part s (a .at) (blocks 8 (a .n)) = lent-part s (a .at) (part-call .ensures) (c .before .before .before .bytes-for .ensures) in
-    (rw (body, c .before .part2 .ensures) at (c .samples-valid .ensures)) ∙ sampled-is s (a .at) (a .n) (a .table) (a .m) (c .before .before .before .before .before .pre .body)
+    let r = rw (body, c .before .part2 .ensures) at (c .count-samples .ensures) in
+    (r .0, r .1 ∙ sampled-is s (a .at) (a .n) (a .table) (a .m) (c .before .before .before .before .before .pre .body))
 
 pub samples-at-spec : {M : Type 1} → statement M
 samples-at-spec =
     tie.close
-    (tie.spec bytes-for-requires part-requires part-requires-2 samples-valid-requires returns)
+    (tie.spec bytes-for-requires part-requires part-requires-2 count-samples-requires returns)

@@ -18,31 +18,25 @@ bytes-for-requires c κs = search needs
 part-requires : tie.Need-part-requires
 part-requires c κs =
     let a = c .before .before .args in
-    rw (c .bytes-for .ensures) (within (a .image .now) (a .f) (c .before .before .pre) .sb)
+    rw (c .bytes-for .ensures) (within (a .image .now) (a .f) (c .before .before .pre .0) .sb)
 
 first-set-requires : tie.Need-first-set-requires
 first-set-requires c κs =
     let a = c .before .before .before .args in
     let s : Bytes = a .image .now in
     let sb : c .part .result .now ≡ sb-body s (a .f) = lent-part s (a .f .sb) (c .part .ensures) (c .before .bytes-for .ensures) in
-    rw sb (bits-room (a .f .sparse .entries) (sb-body s (a .f)) (bodies-sized s (a .f) (c .before .before .before .pre) .sb))
-
-ones-of-requires : tie.Need-ones-of-requires
-ones-of-requires c κs =
-    let a = c .before .before .before .before .args in
-    let s : Bytes = a .image .now in
-    let sb : c .before .part .result .now ≡ sb-body s (a .f) = lent-part s (a .f .sb) (c .before .part .ensures) (c .before .before .bytes-for .ensures) in
-    rw sb (bits-room (a .f .sparse .entries) (sb-body s (a .f)) (bodies-sized s (a .f) (c .before .before .before .before .pre) .sb))
+    rw sb (bits-room (a .f .sparse .entries) (sb-body s (a .f)) (bodies-sized s (a .f) (c .before .before .before .pre .0) .sb))
 
 returns : tie.Need-returns
 returns c =
-    let part = c .before .before .before .part in
-    let a = c .before .before .before .before .before .before .args in
+    let part = c .before .before .part in
+    let a = c .before .before .before .before .before .args in
+    let p = c .before .before .before .before .before .pre in
     let s : Bytes = a .image .now in
-    let sb : part .result .now ≡ sb-body s (a .f) = lent-part s (a .f .sb) (part .ensures) (c .before .before .before .before .bytes-for .ensures) in
-    let r = bits-room (a .f .sparse .entries) (sb-body s (a .f)) (bodies-sized s (a .f) (c .before .before .before .before .before .before .pre) .sb) in
-    ap₂ _&&_ ((rw sb at (c .before .before .first-set .ensures)) ∙ sym (first-bit (sb-body s (a .f)) (a .f .sparse .entries) r)) (ap (λ (k : ℕ). eqb k (a .f .sparse .nodes)) (rw sb at (c .before .ones-of .ensures)))
+    let sb : part .result .now ≡ sb-body s (a .f) = lent-part s (a .f .sb) (part .ensures) (c .before .before .before .bytes-for .ensures) in
+    let r = bits-room (a .f .sparse .entries) (sb-body s (a .f)) (bodies-sized s (a .f) (p .0) .sb) in
+    ap₂ _&&_ ((rw sb at (c .before .first-set .ensures)) ∙ sym (first-bit (sb-body s (a .f)) (a .f .sparse .entries) r)) (ap (λ (k : ℕ). eqb k (a .f .sparse .nodes)) (p .1))
 
 pub louds-valid-spec : {M : Type 1} → statement M
 louds-valid-spec =
-    tie.close (tie.spec bytes-for-requires part-requires first-set-requires ones-of-requires returns)
+    tie.close (tie.spec bytes-for-requires part-requires first-set-requires returns)

@@ -4,8 +4,8 @@ use mathlib.Core.Path.{_≡_, ap, _∙_}
 use native.Mathlib.Omega.{arith}
 use Rattle.bits_laws.specs.Bits.{rank}
 use borrow.Author.Needs.{needs}
-use Rattle.rank_tables.proofs.sample_compare.ones_among.Statement.{statement}
-use Rattle.rank_tables.proofs.sample_compare.ones_among.Tie as tie
+use Rattle.rank_tables.proofs.words.ones_among.Statement.{statement}
+use Rattle.rank_tables.proofs.words.ones_among.Tie as tie
 
 mul-left : tie.Need-mul-left
 mul-left c = search needs
