@@ -1,9 +1,11 @@
 // Number 14's tests of the levels: each level ends where the next one starts, one behind the branches that continue before the end of the last.
 ghost use mathlib.Core.Path.{_≡_};
 ghost use mathlib.Core.Bool.{cond};
-ghost use Prim.Native.Nat.{_<_};
-ghost use Rattle.check_trie_laws.specs.Levels.{Louds-valid, node-count, levels-valid};
+ghost use Prim.Native.Nat.{_≤_, _<_};
+ghost use Rattle.check_tables_laws.specs.Tables.{sparse-agrees};
+ghost use Rattle.check_trie_laws.specs.Levels.{Louds-valid, LevelOf, node-count, levels-valid};
 use super::step::level_at;
+use super::tables::level_by_tables;
 use check_trie_laws::Level;
 use image_types::BitPos;
 use image_types::Frame;
@@ -17,9 +19,20 @@ fn pick(first: bool, x: usize, y: usize) -> usize
     if first { x } else { y }
 }
 
+// The level that starts at a node, by the tables of the sparse bodies where these are right, else counted on from a level at or before it.
+fn next_level(image: &[u8], f: Frame, agrees: bool, from: Level, node: NodeNum) -> Level
+    requires { ⌜ Louds-valid (now image) f × (agrees ≡ sparse-agrees (now image) f) × LevelOf (now image) f from × (from .node .0 ≤ node .0) × (node .0 < node-count f) ⌝ }
+    ensures { λ r. ⌜ LevelOf (now (image .entry)) f r × (r .node .0 ≡ node .0) ⌝ }
+{
+    if agrees & (f.dense.nodes <= node.0) {
+        return level_by_tables(image, f, node);
+    }
+    level_at(image, f, from, node)
+}
+
 // Whether the ends of the levels rise to the node count in at most 64 levels, and the dense nodes are those on the dense levels.
-pub fn levels_valid(image: &[u8], f: Frame) -> bool
-    requires { ⌜ Louds-valid (now image) f × (0 < node-count f) ⌝ }
+pub fn levels_valid(image: &[u8], f: Frame, agrees: bool) -> bool
+    requires { ⌜ Louds-valid (now image) f × (0 < node-count f) × (agrees ≡ sparse-agrees (now image) f) ⌝ }
     ensures { λ r. ⌜ r ≡ levels-valid (now (image .entry)) f ⌝ }
 {
     let nodes = f.dense.nodes + f.sparse.nodes;
@@ -35,7 +48,7 @@ pub fn levels_valid(image: &[u8], f: Frame) -> bool
         if depth == MAX_LEVELS {
             return false;
         }
-        level = level_at(image, f, level, NodeNum(end));
+        level = next_level(image, f, agrees, level, NodeNum(end));
         let next = level.branches + 1;
         if next <= end {
             return false;

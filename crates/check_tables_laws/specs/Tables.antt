@@ -1,18 +1,24 @@
 -- What the numbers 13 and 15 ask of the bodies of an image: spare bits, rank tables and samples.
-use Prim.Native.Nat.{ℕ, _+_, _*_, _≤_, _<_}
-use mathlib.Core.Path.{_≡_, sym, ap, ap₂, _∙_}
-use mathlib.Core.Bool.{Bool, true, _&&_, and-true, and-assoc}
+use Prim.Native.Nat.{ℕ, _+_, _*_, _%_, _≤_, _<_}
+use mathlib.Core.Path.{_≡_, refl, sym, ap, ap₂, _∙_}
+use mathlib.Core.Bool.{Bool, true, false, _&&_, and-true, and-assoc, true≢false}
 use native.Mathlib.Omega.{arith}
+use native.Mathlib.Nat.{mod-eq-of-lt}
+use lib.Dec.{eqb}
 use lib.ListN.{length, take}
+use borrow.Author.Tests.{eqb-true, eqb-false}
 use Rattle.spec.specs.Bytes.{Bytes, blocks, every, equal, unpack}
 use Rattle.spec.specs.Image.{ranks, samples}
 use Rattle.spec.specs.Frame.{Parts, parts, named}
 use Rattle.spec.specs.Check.{no-spare, spare-clear, ranks-valid}
-use Rattle.bits_laws.specs.Bits.{rank}
+use Rattle.bits_laws.specs.Bits.{rank, select}
+use Rattle.bits_laws.specs.RankLaws.{rank-le}
+use Rattle.bits_laws.specs.SelectLaws.{select-le}
+use Rattle.bits_laws.specs.ValueLaws.{Small}
 use Rattle.bits_laws.specs.Parts.{length-part}
-use Rattle.bits_laws.specs.PartLaws.{bits-room}
-use Rattle.rank_tables_laws.specs.Entries.{rank-entries, sample-entries}
-use Rattle.rank_tables_laws.specs.Ranks.{ranks-are}
+use Rattle.bits_laws.specs.PartLaws.{bits-room, small-part}
+use Rattle.rank_tables_laws.specs.Entries.{entries, rank-entries, sample-entries, entry, table-wrong}
+use Rattle.rank_tables_laws.specs.Ranks.{block-begun, ranks-are}
 use Rattle.rank_tables_laws.specs.Samples.{samples-are}
 use Rattle.image_types.specs.declared.Frame.{Frame}
 use Rattle.bits_laws.specs.Bits.{part}
@@ -90,6 +96,30 @@ module _ (s : Bytes) (at n table words : ℕ) (p : Ranks-placed s at n table wor
 pub sampled-is : (s : Bytes) (at n table m : ℕ) → at + blocks 8 n ≤ length s
     → equal (part s table m) (sample-entries (part s at (blocks 8 n)) n (blocks 64 (rank (part s at (blocks 8 n)) n))) ≡ holds-samples s at n table m
 sampled-is s at n table m h = ap (equal (part s table m)) (sym (samples-are n (part s at (blocks 8 n)) (bits-room n (part s at (blocks 8 n)) (length-part s at (blocks 8 n) h))))
+
+-- ---- what is read in a table that is right
+
+-- an entry of it
+table-entry : (f : ℕ → ℕ) (n : ℕ) (t : Bytes) → Small t → equal t (entries f n) ≡ true → (i : ℕ) → i < n → entry t i ≡ f i % 4294967296
+table-entry f n t h e i l = go (eqb (entry t i) (f i % 4294967296)) refl
+  where
+    go : (b : Bool) → eqb (entry t i) (f i % 4294967296) ≡ b → entry t i ≡ f i % 4294967296
+    go true q = eqb-true (entry t i) (f i % 4294967296) q
+    go false q = absurd (true≢false (sym e ∙ table-wrong f n t h i l (eqb-false (entry t i) (f i % 4294967296) q)))
+
+-- a rank: the ones before a block
+pub stored-rank : (s : Bytes) (at n table words b : ℕ) → Small s → Ranks-placed s at n table words → holds-ranks s at n table (64 * words) ≡ true → n < 4294967296 → 64 * words * b < n
+    → entry (part s table (4 * blocks (64 * words) n)) b ≡ rank (part s at (blocks 8 n)) (64 * words * b)
+stored-rank s at n table words b h p e l k =
+    table-entry (λ i. rank (part s at (blocks 8 n)) (64 * words * i)) (blocks (64 * words) n) (part s table (4 * blocks (64 * words) n)) (small-part s table (4 * blocks (64 * words) n) h) (ranked-is s at n table words p ∙ e) b (block-begun (64 * words) b n (positive (p .some)) k)
+    ∙ mod-eq-of-lt (omega (arith, rank-le (part s at (blocks 8 n)) (64 * words * b)))
+
+-- a sample: the position of the set bit number 64 t, counted from 0
+pub stored-sample : (s : Bytes) (at n table m t : ℕ) → Small s → at + blocks 8 n ≤ length s → holds-samples s at n table m ≡ true → n < 4294967296 → 64 * t < rank (part s at (blocks 8 n)) n
+    → entry (part s table m) t ≡ select (part s at (blocks 8 n)) n (64 * t)
+stored-sample s at n table m t h p e l k =
+    table-entry (λ i. select (part s at (blocks 8 n)) n (64 * i)) (blocks 64 (rank (part s at (blocks 8 n)) n)) (part s table m) (small-part s table m h) (sampled-is s at n table m p ∙ e) t (omega arith)
+    ∙ mod-eq-of-lt (omega (arith, select-le (part s at (blocks 8 n)) n (64 * t)))
 
 -- bytes of whole bits
 whole-bytes : (d : ℕ) → blocks 8 (256 * d) ≡ 32 * d

@@ -9,7 +9,7 @@ ghost use Rattle.image_types.specs.FrameOf.{FrameOf, frame-parts};
 ghost use Rattle.bits_laws.specs.Bits.{rank};
 ghost use Rattle.check_tables_laws.specs.Tables.{Sparse-counted};
 ghost use Rattle.check_trie_laws.specs.Positions.{is-set};
-ghost use Rattle.check_trie_laws.specs.Bodies.{sc-body, sb-body};
+ghost use Rattle.check_trie_laws.specs.Bodies.{sb-body};
 ghost use Rattle.check_trie_laws.specs.BitTests.{counts-valid};
 ghost use Rattle.check_trie_laws.specs.Levels.{Louds-valid};
 ghost use Rattle.check_trie_laws.specs.BodyTests.{louds-test, dense-test, sparse-test, sums-test, Counts-few};
@@ -79,22 +79,23 @@ fn sums_valid(f: Frame, children: usize) -> bool
         & (f.dense.nodes + f.sparse.nodes == children + 1)
 }
 
-// Whether the counts agree with the bits, where so many sparse entries continue, and the levels are valid.
-fn counts_valid(image: &[u8], f: Frame, continuing: usize) -> bool
-    requires { ⌜ Louds-valid (now image) f × (continuing ≡ rank (sc-body (now image) f) (f .sparse .entries)) ⌝ }
+// Whether the counts agree with the bits, and the levels are valid.
+fn counts_valid(image: &[u8], f: Frame, counts: SparseCounts) -> bool
+    requires { ⌜ Louds-valid (now image) f × Sparse-counted (now image) f counts ⌝ }
     ensures { λ r. ⌜ r ≡ counts-valid (frame-parts (now (image .entry)) f) ⌝ }
 {
     if f.dense.nodes + f.sparse.nodes == 0 {
         return f.leaves == 0;
     }
-    let children = f.totals.children + continuing;
+    let children = f.totals.children + counts.children;
     if !sums_valid(f, children) {
         return false;
     }
-    levels_valid(image, f)
+    levels_valid(image, f, counts.agrees)
 }
 
 // Whether number 14 does not apply: the bits and labels are a builder's trie. The ones of the sparse bodies have been counted.
+// The levels are judged last: a sparse node that has passed has at most 257 entries, so that a search from a sample is short.
 pub fn trie_valid(image: &[u8], f: Frame, counts: SparseCounts) -> bool
     requires { ⌜ FrameOf (now image) f × Sparse-counted (now image) f counts ⌝ }
     ensures { λ r. ⌜ r ≡ builders-trie (frame-parts (now (image .entry)) f) ⌝ }
@@ -102,7 +103,8 @@ pub fn trie_valid(image: &[u8], f: Frame, counts: SparseCounts) -> bool
     if !louds_valid(image, f, counts.starts) {
         return false;
     }
-    dense_part_valid(image, f)
-        & sparse_part_valid(image, f)
-        & counts_valid(image, f, counts.children)
+    if !(dense_part_valid(image, f) & sparse_part_valid(image, f)) {
+        return false;
+    }
+    counts_valid(image, f, counts)
 }

@@ -19,10 +19,10 @@ abbrev Passed : Bytes → Frame → ℕ → ℕ → ℕ → Type 0
 Passed s f = Ends-to (branches-before s f) (node-count f) (f .dense .levels) (f .dense .nodes)
 
 abbrev Inv-loop : tie.InvT-loop
-Inv-loop image f nodes level₀ end₀ depth₀ above₀ level end depth above = Passed image f depth end above × LevelOf image f level × (level .node .0 ≤ end)
+Inv-loop image f agrees nodes level₀ end₀ depth₀ above₀ level end depth above = Passed image f depth end above × LevelOf image f level × (level .node .0 ≤ end)
 
 abbrev μ-loop : tie.MeasureT-loop
-μ-loop image f nodes level₀ end₀ depth₀ above₀ level end depth above = nodes - end
+μ-loop image f agrees nodes level₀ end₀ depth₀ above₀ level end depth above = nodes - end
 
 nodes-fit : {d n : ℕ} → d < 4294967296 → n < 4294967296 → Fits w64 (d + n)
 nodes-fit h l = record { fits = omega arith }
@@ -38,9 +38,6 @@ some h = omega arith
 
 at-64 : {d : ℕ} → d ≡ 64 → 64 ≤ d
 at-64 e = omega arith
-
-below : {x y : ℕ} → x < y → x ≤ y
-below h = omega arith
 
 closer : {e k n : ℕ} → e < k → k ≤ n → e < n → n - k < n - e
 closer h l g = omega arith
@@ -66,24 +63,25 @@ returns c =
     let l = c .before .before .loop in
     sym (ends-level-64 (branches-before (a .image .now) (a .f)) (node-count (a .f)) (a .f .dense .levels) (a .f .dense .nodes) (l .depth) (l .end) (l .above) _ (l .inv .0) refl (c .before .loop-test .taken) (at-64 (c .if1 .taken)))
 
-level-at-requires : tie.Need-level-at-requires Inv-loop μ-loop
-level-at-requires c κs =
+next-level-requires : tie.Need-next-level-requires Inv-loop μ-loop
+next-level-requires c κs =
     let l = c .before .before .loop in
-    (c .before .before .before .before .before .pre .0, l .inv .1, record { from = l .inv .2; to = below (c .before .loop-test .taken) })
+    let p = c .before .before .before .before .before .pre in
+    (p .0, p .2, l .inv .1, l .inv .2, c .before .loop-test .taken)
 
 add-next : tie.Need-add-next Inv-loop μ-loop
 add-next c =
     let a = c .before .before .before .before .before .before .before .args in
     let o = c .before .before .before .before .before .before .before .pre .0 .frame in
     let s : Bytes = a .image .now in
-    let r = c .before .level-at in
+    let r = c .before .next-level in
     branches-fit (r .ensures .0 .branches) (branches-le (a .f .dense .nodes) (a .f .sparse .entries) (dc-body s (a .f)) (sc-body s (a .f)) (sb-body s (a .f)) (r .result .node .0)) (o .dense) (o .entries)
 
 returns-2 : tie.Need-returns-2 Inv-loop μ-loop
 returns-2 c =
     let a = c .before .before .before .before .before .before .before .before .args in
     let l = c .before .before .before .before .before .loop in
-    let r = c .before .before .level-at in
+    let r = c .before .before .next-level in
     let k = r .ensures .0 .branches ∙ ap (branches-before (a .image .now) (a .f)) (r .ensures .1) in
     sym (ends-stuck (branches-before (a .image .now) (a .f)) (node-count (a .f)) (a .f .dense .levels) (a .f .dense .nodes) (l .depth) (l .end) (l .above) (r .result .branches) (l .inv .0) k (c .before .before .before .before .loop-test .taken) (less-64 (l .depth) (l .inv .0 .most) (c .before .before .before .if1 .left)) (c .if2 .taken))
 
@@ -91,7 +89,7 @@ returns-3 : tie.Need-returns-3 Inv-loop μ-loop
 returns-3 c =
     let a = c .before .before .before .before .before .before .before .before .before .args in
     let l = c .before .before .before .before .before .before .loop in
-    let r = c .before .before .before .level-at in
+    let r = c .before .before .before .next-level in
     let k = r .ensures .0 .branches ∙ ap (branches-before (a .image .now) (a .f)) (r .ensures .1) in
     sym (ends-over (branches-before (a .image .now) (a .f)) (node-count (a .f)) (a .f .dense .levels) (a .f .dense .nodes) (l .depth) (l .end) (l .above) (r .result .branches) (l .inv .0) k (c .before .before .before .before .before .loop-test .taken) (less-64 (l .depth) (l .inv .0 .most) (c .before .before .before .before .if1 .left)) (c .if3 .taken))
 
@@ -109,7 +107,7 @@ loop-again c =
     let if2 = c .before .before .before .if2 in
     let a = c .before .before .before .before .before .before .before .before .before .before .before .args in
     let l = c .before .before .before .before .before .before .before .before .loop in
-    let r = c .before .before .before .before .before .level-at in
+    let r = c .before .before .before .before .before .next-level in
     let k = r .ensures .0 .branches ∙ ap (branches-before (a .image .now) (a .f)) (r .ensures .1) in
     let next = ends-next (branches-before (a .image .now) (a .f)) (node-count (a .f)) (a .f .dense .levels) (a .f .dense .nodes) (l .depth) (l .end) (l .above) (r .result .branches) (l .inv .0) k (c .before .before .before .before .before .before .before .loop-test .taken) (less-64 (l .depth) (l .inv .0 .most) (c .before .before .before .before .before .before .if1 .left)) (if2 .left) (c .before .before .if3 .left) in
     (rw (c .pick .ensures) next, r .ensures .0, behind (r .ensures .1) (if2 .left))
@@ -132,7 +130,7 @@ levels-valid-spec =
     add-nodes
     loop-holds
     returns
-    level-at-requires
+    next-level-requires
     add-next
     returns-2
     returns-3

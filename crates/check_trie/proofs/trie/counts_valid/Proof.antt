@@ -26,35 +26,35 @@ returns c =
 
 add-children : tie.Need-add-children
 add-children c =
-    let b = c .before .before .before .before in
+    let b = c .before .before .before .before .before in
     let a = b .args in
-    children-fit (a .f .totals .children) (counts-few (a .image .now) (a .f) (b .pre .0 .frame) .children) (b .pre .1)
+    children-fit (a .f .totals .children) (counts-few (a .image .now) (a .f) (b .pre .0 .frame) .children) (b .pre .1 .children)
 
 sums-valid-requires : tie.Need-sums-valid-requires
 sums-valid-requires c κs =
-    let b = c .before .before .before .before in
+    let b = c .before .before .before .before .before in
     let a = b .args in
-    rw (b .pre .1) (counts-few (a .image .now) (a .f) (b .pre .0 .frame))
+    rw (b .pre .1 .children) (counts-few (a .image .now) (a .f) (b .pre .0 .frame))
 
 returns-2 : tie.Need-returns-2
 returns-2 c =
-    let b = c .before .before .before .before .before .before in
+    let b = c .before .before .before .before .before .before .before in
     let a = b .args in
-    let e = ap (λ (k : ℕ). sums-test (a .f) (a .f .totals .children + k)) (b .pre .1) in
-    sym (sums-fail (a .image .now) (a .f) (b .pre .0 .frame) (some-nodes (node-count (a .f)) (c .before .before .before .if1 .left)) (sym (c .before .sums-valid .ensures ∙ e) ∙ not-true _ (c .if2 .taken)))
+    let e = ap (λ (k : ℕ). sums-test (a .f) (a .f .totals .children + k)) (b .pre .1 .children) in
+    sym (sums-fail (a .image .now) (a .f) (b .pre .0 .frame) (some-nodes (node-count (a .f)) (c .before .before .before .before .if1 .left)) (sym (c .before .sums-valid .ensures ∙ e) ∙ not-true _ (c .if2 .taken)))
 
 levels-valid-requires : tie.Need-levels-valid-requires
 levels-valid-requires c κs =
-    let b = c .before .before .before .before .before .before in
-    (b .pre .0, some-nodes (node-count (b .args .f)) (c .before .before .before .if1 .left))
+    let b = c .before .before .before .before .before .before .before in
+    (b .pre .0, some-nodes (node-count (b .args .f)) (c .before .before .before .before .if1 .left), b .pre .1 .agrees)
 
 returns-3 : tie.Need-returns-3
 returns-3 c =
-    let b = c .before .before .before .before .before .before .before in
+    let b = c .before .before .before .before .before .before .before .before in
     let a = b .args in
-    let e = ap (λ (k : ℕ). sums-test (a .f) (a .f .totals .children + k)) (b .pre .1) in
+    let e = ap (λ (k : ℕ). sums-test (a .f) (a .f .totals .children + k)) (b .pre .1 .children) in
     c .levels-valid .ensures
-    ∙ sym (sums-pass (a .image .now) (a .f) (b .pre .0 .frame) (some-nodes (node-count (a .f)) (c .before .before .before .before .if1 .left)) (sym (c .before .before .sums-valid .ensures ∙ e) ∙ not-false _ (c .before .if2 .left)))
+    ∙ sym (sums-pass (a .image .now) (a .f) (b .pre .0 .frame) (some-nodes (node-count (a .f)) (c .before .before .before .before .before .if1 .left)) (sym (c .before .before .sums-valid .ensures ∙ e) ∙ not-false _ (c .before .if2 .left)))
 
 pub counts-valid-spec : {M : Type 1} → statement M
 counts-valid-spec =

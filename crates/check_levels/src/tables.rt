@@ -1,0 +1,60 @@
+// A level of sparse nodes by the tables, where these are known to be right.
+ghost use mathlib.Core.Path.{_≡_};
+ghost use Prim.Native.Nat.{_≤_, _<_};
+ghost use Rattle.bits_laws.specs.Bits.{rank, select};
+ghost use Rattle.check_trie_laws.specs.Bodies.{sc-body, sb-body};
+ghost use Rattle.check_trie_laws.specs.Levels.{LevelOf, node-count};
+ghost use Rattle.check_levels.specs.Indexed.{Indexed};
+use bits::numbers::blocks_for;
+use bits::numbers::bytes_for;
+use bits::numbers::read32;
+use bits::ones::rank_from;
+use bits::parts::part;
+use bits::select::select_from;
+use check_trie_laws::Level;
+use image_types::BitPos;
+use image_types::Frame;
+use image_types::NodeNum;
+use image_types::SAMPLE_RATE;
+use image_types::SPARSE_BLOCK_BITS;
+use image_types::SPARSE_BLOCK_WORDS;
+
+// Where sparse node m, counted from 0 among the sparse ones, begins: the search starts at the sample before it.
+fn first_entry(image: &[u8], f: Frame, m: usize) -> usize
+    requires { ⌜ Indexed (now image) f × (m < f .sparse .nodes) ⌝ }
+    ensures { λ r. ⌜ r ≡ select (sb-body (now (image .entry)) f) (f .sparse .entries) m ⌝ }
+{
+    let entries = f.sparse.entries;
+    let sb = part(image, f.sb, bytes_for(entries));
+    let samples = part(image, f.ts, 4 * blocks_for(SAMPLE_RATE, f.sparse.nodes));
+    let t = m / SAMPLE_RATE;
+    let sample = read32(samples, 4 * t);
+    select_from(sb, entries, sample, SAMPLE_RATE * t, m)
+}
+
+// The sparse entries that continue before one, counted on from the rank of its block.
+fn children_before(image: &[u8], f: Frame, entry: usize) -> usize
+    requires { ⌜ Indexed (now image) f × (entry < f .sparse .entries) ⌝ }
+    ensures { λ r. ⌜ r ≡ rank (sc-body (now (image .entry)) f) entry ⌝ }
+{
+    let entries = f.sparse.entries;
+    let sc = part(image, f.sc, bytes_for(entries));
+    let ranks = part(image, f.rs, 4 * blocks_for(SPARSE_BLOCK_BITS, entries));
+    let block = entry / SPARSE_BLOCK_BITS;
+    let before = read32(ranks, 4 * block);
+    rank_from(sc, SPARSE_BLOCK_WORDS * block, before, entry)
+}
+
+// The level that starts at a sparse node.
+pub fn level_by_tables(image: &[u8], f: Frame, node: NodeNum) -> Level
+    requires { ⌜ Indexed (now image) f × (f .dense .nodes ≤ node .0) × (node .0 < node-count f) ⌝ }
+    ensures { λ r. ⌜ LevelOf (now (image .entry)) f r × (r .node .0 ≡ node .0) ⌝ }
+{
+    let entry = first_entry(image, f, node.0 - f.dense.nodes);
+    let branches = f.totals.children + children_before(image, f, entry);
+    Level {
+        node,
+        entry: BitPos(entry),
+        branches,
+    }
+}
