@@ -1,27 +1,22 @@
 // The exact leaves among the sparse nodes, by words of S-LOUDS: first entries with the label FF that are not alone.
 ghost use mathlib.Core.Path.{_≡_};
-ghost use mathlib.Core.Bool.{not};
-ghost use Prim.Native.Nat.{_+_, _*_, _≤_, _<_};
-ghost use lib.ListN.{length};
-ghost use Rattle.bits_laws.specs.Bits.{bit-at};
-ghost use Rattle.check_trie_laws.specs.Ranges.{all-from};
+ghost use Prim.Native.Nat.{_+_, _*_, _<_};
+ghost use Rattle.spec.specs.Bytes.{Bytes};
+ghost use Rattle.check_trie_laws.specs.Bodies.{sl-body, sb-body};
 ghost use Rattle.check_slots_laws.specs.Passed.{Passed-to-15};
-ghost use Rattle.check_slots_laws.specs.SparseWords.{Several-starts, Range-judged};
-ghost use Rattle.check_slots_laws.specs.SlotTests.{sparse-clear};
+ghost use Rattle.check_slots_laws.specs.SparseWords.{Candidates, Range-judged};
+ghost use Rattle.check_slots_laws.specs.SlotTests.{sparse-test, sparse-clear};
 ghost use Rattle.check_slots.specs.Entries.{Sized, Word-of, Entry-of, entry-clear, exact-test};
 use super::clear::slot_clear;
+use super::ranks::children_before;
+use super::starts::candidates;
 use bits::numbers::bytes_for;
-use bits::numbers::read_word;
 use bits::ones::ones_before;
-use bits::ones::ones_word;
 use bits::parts::part;
 use image_types::BitPos;
 use image_types::EXTRA_LABEL;
 use image_types::Frame;
 use image_types::ValuePos;
-
-// 2^63: the highest bit of a word.
-const HIGHEST_BIT: u64 = 9223372036854775808;
 
 // By what the slot of a sparse entry is found and read: the counts of leaves and of sparse entries, the width of a slot, and the slot of the first sparse leaf.
 pub struct SparseSlots {
@@ -37,26 +32,6 @@ pub struct EntryWord {
     pub children: usize,
 }
 
-// The lowest bit of the byte of s at an offset, zero where s has ended.
-fn low_bit(s: &[u8], at: usize) -> u64
-    ensures { λ r. ⌜ (r ≡ bit-at (now (s .entry)) (8 * at)) × (r < 2) ⌝ }
-{
-    if s.len() <= at {
-        return 0;
-    }
-    (s[at] % 2) as u64
-}
-
-// The starts of nodes with several entries in word q of S-LOUDS: set bits whose next bit is not set.
-fn several(sb: &[u8], q: usize) -> u64
-    requires { ⌜ q * 8 < length (now sb) ⌝ }
-    ensures { λ r. ⌜ Several-starts (now (sb .entry)) q r ⌝ }
-{
-    let w = read_word(sb, q);
-    let next = low_bit(sb, q * 8 + 8);
-    w ^ (w & (w / 2 + next * HIGHEST_BIT))
-}
-
 // Whether the entry at a position of a word, the start of a node with several entries, has another label than FF, or the exact leaf's slot is clear.
 fn entry_clear(sl: &[u8], sc: &[u8], sv: &[u8], z: SparseSlots, word: EntryWord, at: BitPos) -> bool
     requires { ⌜ Sized (now sl) (now sc) (now sv) z × Entry-of (now sc) z word (at .0) ⌝ }
@@ -70,12 +45,19 @@ fn entry_clear(sl: &[u8], sc: &[u8], sv: &[u8], z: SparseSlots, word: EntryWord,
     slot_clear(sv, z.leaves, z.width, ValuePos(slot))
 }
 
-// Whether the entries of a word pass: the starts of nodes with several entries, lowest first.
-fn word_clear(sl: &[u8], sc: &[u8], sb: &[u8], sv: &[u8], z: SparseSlots, word: EntryWord) -> bool
-    requires { ⌜ Sized (now sl) (now sc) (now sv) z × (z .entries ≤ 8 * length (now sb)) × Word-of (now sc) z word ⌝ }
-    ensures { λ r. ⌜ Range-judged (exact-test (now (sl .entry)) (now (sc .entry)) (now (sb .entry)) (now (sv .entry)) z) (64 * word .number) (64 * word .number + 64) (z .entries) r ⌝ }
+// Whether the entries of a word pass, of which those that may be exact leaves are given: these, lowest first.
+fn starts_clear(
+    sl: &[u8],
+    sc: &[u8],
+    sv: &[u8],
+    z: SparseSlots,
+    word: EntryWord,
+    starts: u64,
+) -> bool
+    requires { ⌜ Sized (now sl) (now sc) (now sv) z × Word-of (now sc) z word ⌝ }
+    ensures { λ r. ⌜ ((sb : Bytes) → Candidates (now (sl .entry)) sb (word .number) starts → Range-judged (exact-test (now (sl .entry)) (now (sc .entry)) sb (now (sv .entry)) z) (64 * word .number) (64 * word .number + 64) (z .entries) r) ⌝ }
 {
-    let mut rest = several(sb, word.number);
+    let mut rest = starts;
     let mut j = 0usize;
     while rest != 0 {
         let step = u64::trailing_zeros(rest) as usize;
@@ -92,33 +74,14 @@ fn word_clear(sl: &[u8], sc: &[u8], sb: &[u8], sv: &[u8], z: SparseSlots, word: 
     true
 }
 
-// Whether the slots of the exact leaves among the sparse nodes are clear, by their bodies.
-fn entries_clear(sl: &[u8], sc: &[u8], sb: &[u8], sv: &[u8], z: SparseSlots) -> bool
-    requires { ⌜ Sized (now sl) (now sc) (now sv) z × (z .entries ≤ 8 * length (now sb)) ⌝ }
-    ensures { λ r. ⌜ r ≡ all-from (exact-test (now (sl .entry)) (now (sc .entry)) (now (sb .entry)) (now (sv .entry)) z) 0 (z .entries) ⌝ }
-{
-    let entries = z.entries;
-    let mut number = 0usize;
-    let mut children = 0usize;
-    while 64 * number < entries {
-        if !word_clear(sl, sc, sb, sv, z, EntryWord { number, children }) {
-            return false;
-        }
-        children = children + ones_word(sc, number);
-        number = number + 1;
-    }
-    true
-}
-
-// Whether the slots of the exact leaves among the sparse nodes are clear.
-pub fn sparse_clear(image: &[u8], f: Frame) -> bool
-    requires { ⌜ Passed-to-15 (now image) f × (0 < f .leaves) ⌝ }
-    ensures { λ r. ⌜ r ≡ sparse-clear (now (image .entry)) f ⌝ }
+// Whether the entries of a word by its number pass, of which those that may be exact leaves are given.
+fn word_clear(image: &[u8], f: Frame, number: usize, starts: u64) -> bool
+    requires { ⌜ Passed-to-15 (now image) f × (0 < f .leaves) × (64 * number < f .sparse .entries) × Candidates (sl-body (now image) f) (sb-body (now image) f) number starts ⌝ }
+    ensures { λ r. ⌜ Range-judged (sparse-test (now (image .entry)) f) (64 * number) (64 * number + 64) (f .sparse .entries) r ⌝ }
 {
     let entries = f.sparse.entries;
     let sl = part(image, f.sl, entries);
     let sc = part(image, f.sc, bytes_for(entries));
-    let sb = part(image, f.sb, bytes_for(entries));
     let sv = part(image, f.sv, bytes_for(f.leaves * f.width));
     let z = SparseSlots {
         leaves: f.leaves,
@@ -126,5 +89,27 @@ pub fn sparse_clear(image: &[u8], f: Frame) -> bool
         entries,
         first: ValuePos(f.totals.entries - f.totals.children),
     };
-    entries_clear(sl, sc, sb, sv, z)
+    let children = children_before(image, f, BitPos(64 * number));
+    starts_clear(sl, sc, sv, z, EntryWord { number, children }, starts)
+}
+
+// Whether the slots of the exact leaves among the sparse nodes are clear. Only words where some may be are looked at entry by entry.
+pub fn sparse_clear(image: &[u8], f: Frame) -> bool
+    requires { ⌜ Passed-to-15 (now image) f × (0 < f .leaves) ⌝ }
+    ensures { λ r. ⌜ r ≡ sparse-clear (now (image .entry)) f ⌝ }
+{
+    let entries = f.sparse.entries;
+    let sl = part(image, f.sl, entries);
+    let sb = part(image, f.sb, bytes_for(entries));
+    let mut number = 0usize;
+    while 64 * number < entries {
+        let starts = candidates(sl, sb, number);
+        if starts != 0 {
+            if !word_clear(image, f, number, starts) {
+                return false;
+            }
+        }
+        number = number + 1;
+    }
+    true
 }

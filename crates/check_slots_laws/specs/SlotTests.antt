@@ -43,9 +43,13 @@ slots-sized s f o = record { few-leaves = o .leaves; narrow = o .width; room = b
 abbrev pub dense-clear : Bytes → Frame → Bool
 dense-clear s f = all-from (dense-exact (clear-at s f 0) (dl-body s f) (dc-body s f) (dp-body s f)) 0 (f .dense .nodes)
 
--- those among the sparse nodes
+-- a sparse entry is no exact leaf's, or the leaf's slot is clear
+abbrev pub sparse-test : Bytes → Frame → ℕ → Bool
+sparse-test s f = sparse-exact (clear-at s f 0) (sl-body s f) (sc-body s f) (sb-body s f) (f .sparse .entries) (dense-leaf-count f)
+
+-- the slots of the exact leaves among the sparse nodes are clear
 abbrev pub sparse-clear : Bytes → Frame → Bool
-sparse-clear s f = all-from (sparse-exact (clear-at s f 0) (sl-body s f) (sc-body s f) (sb-body s f) (f .sparse .entries) (dense-leaf-count f)) 0 (f .sparse .entries)
+sparse-clear s f = all-from (sparse-test s f) 0 (f .sparse .entries)
 
 -- the first slot of level t
 abbrev pub level-slot : Bytes → Frame → ℕ → ℕ

@@ -1,22 +1,21 @@
 -- The exact leaves among the sparse nodes by words of S-LOUDS: the starts of nodes with several entries, lowest first.
 use Prim.Native.Nat.{ℕ, suc, _+_, _-_, _*_, _/_, _%_, _^_, _<_, _≤_}
 use mathlib.Core.Path.{_≡_, refl, sym, ap, _∙_}
-use mathlib.Core.Bool.{Bool, true, false, _&&_, _||_, not}
+use mathlib.Core.Bool.{Bool, true, false, _&&_, _||_, not, true≢false}
 use native.Mathlib.Omega.{arith}
-use native.Mathlib.Nat.{div-eq-of-lt, zero-div}
+use native.Mathlib.Nat.{zero-div}
 use lib.ListN.{getD}
 use lib.Dec.{eqb, ltb}
-use lib.Pow.{shr-shr, pow-mono, shr-le}
 use lib.Bits.{bitAnd, xor-lt, and-le-l}
-use lib.Count.{trailingZeros, trailing-le}
-use borrow.Author.Tests.{ltb-true, ltb-false, lt-ltb, le-ltb}
+use lib.Count.{trailingZeros}
+use borrow.Author.Tests.{eqb-true, lt-ltb, le-ltb}
 use Rattle.spec.specs.Bytes.{Bytes, bit}
 use Rattle.bits_laws.specs.Bits.{bit-at, word}
 use Rattle.bits_laws.specs.ValueLaws.{Small, word-lt}
 use Rattle.check_trie_laws.specs.Positions.{is-set}
 use Rattle.check_trie_laws.specs.Ranges.{all-from, from-skip, from-fail, from-step}
 use Rattle.check_slots_laws.specs.SparseExact.{sparse-slot, sparse-exact}
-use Rattle.check_slots_laws.specs.WordDigits.{digit, trailing-clear, trailing-set, trailing-all, lone, lone-is}
+use Rattle.check_slots_laws.specs.WordDigits.{digit, digits-end, lowest-set, lowest-within, lowest-clear, lone, lone-is}
 
 -- x has the starts of nodes with several entries in word q of S-LOUDS
 pub record Several-starts (sb : Bytes) (q x : ℕ) : Type 0 where
@@ -33,12 +32,54 @@ starts-are s small q w next e h =
       is = λ j m. ap (λ (v : ℕ). digit (lone v next) j) e ∙ lone-is s small q next j (h ∙ ap (bit-at s) k) m;
     }
 
+-- no entry that x has is labelled FF
+abbrev pub No-full : Bytes → ℕ → ℕ → Type 0
+No-full sl q x = (j : ℕ) → j < 64 → digit x j ≡ 1 → getD sl (64 * q + j) 0 ≡ 255 → ⊥
+
+-- x has some of the starts, and at least those with the label FF
+pub record Candidates (sl sb : Bytes) (q x : ℕ) : Type 0 where
+  pub few : x < 2 ^ 64
+  pub starts : (j : ℕ) → j < 64 → digit x j ≡ 1 → (is-set sb (64 * q + j) && not (is-set sb (64 * q + j + 1))) ≡ true
+  pub others : (j : ℕ) → j < 64 → digit x j ≡ 0 → (is-set sb (64 * q + j) && not (is-set sb (64 * q + j + 1)) && eqb (getD sl (64 * q + j) 0) 255) ≡ false
+
+module _ (sl sb : Bytes) (q x : ℕ) (s : Several-starts sb q x) where
+  -- all starts
+  pub all-starts : Candidates sl sb q x
+  all-starts = record {
+    few = s .few;
+    starts = λ j l d. set (is-set sb (64 * q + j) && not (is-set sb (64 * q + j + 1))) (sym (s .is j l) ∙ d);
+    others = λ j l d. clear (is-set sb (64 * q + j)) (not (is-set sb (64 * q + j + 1))) (eqb (getD sl (64 * q + j) 0) 255) (sym (s .is j l) ∙ d);
+  }
+    where
+      set : (a : Bool) → bit a ≡ 1 → a ≡ true
+      set true h = refl
+      set false h = absurd (omega arith)
+
+      clear : (a b t : Bool) → bit (a && b) ≡ 0 → (a && b && t) ≡ false
+      clear false b t h = refl
+      clear true false t h = refl
+      clear true true t h = absurd (omega arith)
+
+  -- none, where none is labelled FF
+  pub no-starts : No-full sl q x → Candidates sl sb q 0
+  no-starts n = record {
+    few = omega arith;
+    starts = λ j l d. absurd (omega (arith, d, zero-div (2 ^ j)));
+    others = λ j l d. other j (is-set sb (64 * q + j)) (not (is-set sb (64 * q + j + 1))) (eqb (getD sl (64 * q + j) 0) 255) refl (λ e. n j l (s .is j l ∙ ap bit e));
+  }
+    where
+      other : (j : ℕ) (a b t : Bool) → eqb (getD sl (64 * q + j) 0) 255 ≡ t → ((a && b) ≡ true → getD sl (64 * q + j) 0 ≡ 255 → ⊥) → (a && b && t) ≡ false
+      other j false b t e h = refl
+      other j true false t e h = refl
+      other j true true false e h = refl
+      other j true true true e h = absurd (h refl (eqb-true (getD sl (64 * q + j) 0) 255 e))
+
 -- the numbers from i to k of those up to n were judged: all pass, or one of them fails
 pub record Range-judged (f : ℕ → Bool) (i k n : ℕ) (r : Bool) : Type 0 where
   pub passed : r ≡ true → all-from f i (n - i) ≡ all-from f k (n - k)
   pub failed : r ≡ false → all-from f i (n - i) ≡ false
 
-module _ (g : ℕ → Bool) (sl sc sb : Bytes) (n d q x : ℕ) (s : Several-starts sb q x) where
+module _ (g : ℕ → Bool) (sl sc sb : Bytes) (n d q x : ℕ) (s : Candidates sl sb q x) where
   abbrev F : ℕ → Bool
   F = sparse-exact g sl sc sb n d
 
@@ -49,83 +90,59 @@ module _ (g : ℕ → Bool) (sl sc sb : Bytes) (n d q x : ℕ) (s : Several-star
   no-start : (p : ℕ) (j : ℕ) → p ≡ 64 * q + j → j < 64 → digit x j ≡ 0 → F p ≡ true
   no-start p j e l h =
       let b : suc (64 * q + j) ≡ 64 * q + j + 1 = omega arith in
-      rw (e, b) (none (is-set sb (64 * q + j)) (is-set sb (64 * q + j + 1)) (ltb (64 * q + j + 1) n) (eqb (getD sl (64 * q + j) 0) 255) (g (sparse-slot sc d (64 * q + j))) (sym (s .is j l) ∙ h))
+      rw (e, b) (none (is-set sb (64 * q + j)) (is-set sb (64 * q + j + 1)) (ltb (64 * q + j + 1) n) (eqb (getD sl (64 * q + j) 0) 255) (g (sparse-slot sc d (64 * q + j))) (s .others j l h))
     where
-      none : (a b c t u : Bool) → bit (a && not b) ≡ 0 → (not (a && (c && not b) && t) || u) ≡ true
+      none : (a b c t u : Bool) → (a && not b && t) ≡ false → (not (a && (c && not b) && t) || u) ≡ true
       none false b c t u h = refl
       none true true true t u h = refl
       none true true false t u h = refl
-      none true false c t u h = absurd (omega arith)
+      none true false true false u h = refl
+      none true false false false u h = refl
+      none true false c true u h = absurd (true≢false h)
 
   a-start : (j : ℕ) → j < 64 → digit x j ≡ 1 → 64 * q + j + 1 < n → F (64 * q + j) ≡ entry-test (64 * q + j)
   a-start j l h k =
       let b : suc (64 * q + j) ≡ 64 * q + j + 1 = omega arith in
-      rw (b, lt-ltb (64 * q + j + 1) n k) (one (is-set sb (64 * q + j)) (is-set sb (64 * q + j + 1)) (eqb (getD sl (64 * q + j) 0) 255) (g (sparse-slot sc d (64 * q + j))) (sym (s .is j l) ∙ h))
+      rw (b, lt-ltb (64 * q + j + 1) n k) (one (is-set sb (64 * q + j)) (is-set sb (64 * q + j + 1)) (eqb (getD sl (64 * q + j) 0) 255) (g (sparse-slot sc d (64 * q + j))) (s .starts j l h))
     where
-      one : (a b t u : Bool) → bit (a && not b) ≡ 1 → (not (a && (true && not b) && t) || u) ≡ (not t || u)
+      one : (a b t u : Bool) → (a && not b) ≡ true → (not (a && (true && not b) && t) || u) ≡ (not t || u)
       one true false t u h = refl
-      one true true t u h = absurd (omega arith)
-      one false b t u h = absurd (omega arith)
+      one true true t u h = absurd (true≢false (sym h))
+      one false b t u h = absurd (true≢false (sym h))
 
-  high-clear : (k : ℕ) → 64 ≤ k → digit x k ≡ 0
-  high-clear k h = ap (λ (n : ℕ). n % 2) (div-eq-of-lt (below (s .few)))
-    where
-      below : x < 2 ^ 64 → x < 2 ^ k
-      below l = omega (arith, l, pow-mono {i = 64} {j = k} h)
+  -- there are none
+  pub starts-none : x ≡ 0 → all-from F (64 * q) (n - 64 * q) ≡ all-from F (64 * q + 64) (n - (64 * q + 64))
+  starts-none z =
+      from-skip F (64 * q) (64 * q + 64) n (omega arith)
+      (λ p a b c. no-start p (p - 64 * q) (omega arith) (omega arith) (ap (λ (n : ℕ). n / 2 ^ (p - 64 * q) % 2) z ∙ ap (λ (n : ℕ). n % 2) (zero-div (2 ^ (p - 64 * q)))))
 
-  -- the digits of x from j on, of which the lowest set one is to be judged next
+  -- the candidates from j on, of which the lowest is to be judged next
   module _ (j y : ℕ) (le : j ≤ 64) (is : y ≡ x / 2 ^ j) where
-    digit-behind : (i : ℕ) → digit y i ≡ digit x (j + i)
-    digit-behind i = ap (λ (n : ℕ). n / 2 ^ i % 2) is ∙ ap (λ (n : ℕ). n % 2) (shr-shr x j i)
-
     -- none is left
     pub starts-end : y ≡ 0 → all-from F (64 * q + j) (n - (64 * q + j)) ≡ all-from F (64 * q + 64) (n - (64 * q + 64))
     starts-end z =
         from-skip F (64 * q + j) (64 * q + 64) n (omega arith)
-        (λ p a b c. no-start p (p - 64 * q) (omega arith) (omega arith) (at (p - 64 * q) (omega arith)))
-      where
-        at : (k : ℕ) → j ≤ k → digit x k ≡ 0
-        at k h =
-            let e : j + (k - j) ≡ k = omega arith in
-            ap (digit x) (sym e) ∙ sym (digit-behind (k - j)) ∙ ap (λ (n : ℕ). n / 2 ^ (k - j) % 2) z ∙ ap (λ (n : ℕ). n % 2) (zero-div (2 ^ (k - j)))
+        (λ p a b c. no-start p (p - 64 * q) (omega arith) (omega arith) (digits-end x j y is z (p - 64 * q) (omega arith)))
 
     module _ (some : y ≡ 0 → ⊥) where
       abbrev t : ℕ
       t = trailingZeros 64 y
 
-      low : t < 64
-      low = below (ltb t 64) refl
-        where
-          small : y < 2 ^ 64
-          small = omega (arith, is, shr-le x j, s .few)
-
-          below : (b : Bool) → ltb t 64 ≡ b → t < 64
-          below true e = ltb-true t 64 e
-          below false e = absurd (some (trailing-all 64 y small (omega (arith, ltb-false t 64 e, trailing-le 64 y))))
+      within : j + t < 64
+      within = lowest-within x j y is (s .few) some
 
       one : digit x (j + t) ≡ 1
-      one = sym (digit-behind t) ∙ trailing-set 64 y low
-
-      -- it is in the word
-      pub start-within : j + t < 64
-      start-within = go (ltb (j + t) 64) refl
-        where
-          go : (b : Bool) → ltb (j + t) 64 ≡ b → j + t < 64
-          go true e = ltb-true (j + t) 64 e
-          go false e = absurd (omega (arith, one, high-clear (j + t) (ltb-false (j + t) 64 e)))
+      one = lowest-set x j y is (s .few) some
 
       skip : all-from F (64 * q + j) (n - (64 * q + j)) ≡ all-from F (64 * q + (j + t)) (n - (64 * q + (j + t)))
       skip =
           from-skip F (64 * q + j) (64 * q + (j + t)) n (omega arith)
-          (λ p a b c. no-start p (p - 64 * q) (omega arith) (omega (arith, start-within)) (at (p - 64 * q) (omega arith) (omega arith)))
-        where
-          at : (k : ℕ) → j ≤ k → k < j + t → digit x k ≡ 0
-          at k h l = let e : j + (k - j) ≡ k = omega arith in ap (digit x) (sym e) ∙ sym (digit-behind (k - j)) ∙ trailing-clear 64 y (k - j) (omega arith)
+          (λ p a b c. no-start p (p - 64 * q) (omega arith) (omega (arith, within)) (lowest-clear x j y is (s .few) some (p - 64 * q) (omega arith) (omega arith)))
 
       -- no entry follows it
       pub start-last : n ≤ 64 * q + (j + t) + 1 → all-from F (64 * q + j) (n - (64 * q + j)) ≡ all-from F (64 * q + 64) (n - (64 * q + 64))
       start-last h =
-          skip ∙ from-skip F (64 * q + (j + t)) (64 * q + 64) n (omega (arith, start-within)) (λ p a b c. last p (omega arith))
+          skip ∙ from-skip F (64 * q + (j + t)) (64 * q + 64) n (omega (arith, within)) (λ p a b c. last p (omega arith))
         where
           last : (p : ℕ) → n ≤ suc p → F p ≡ true
           last p l = rw (le-ltb (suc p) n l) (none (is-set sb p) (not (is-set sb (suc p))) (eqb (getD sl p 0) 255) (g (sparse-slot sc d p)))
@@ -136,17 +153,11 @@ module _ (g : ℕ → Bool) (sl sc sb : Bytes) (n d q x : ℕ) (s : Several-star
 
       -- it fails
       pub start-fail : 64 * q + (j + t) + 1 < n → entry-test (64 * q + (j + t)) ≡ false → all-from F (64 * q + j) (n - (64 * q + j)) ≡ false
-      start-fail h e = skip ∙ from-fail F (64 * q + (j + t)) n (omega arith) (a-start (j + t) start-within one h ∙ e)
+      start-fail h e = skip ∙ from-fail F (64 * q + (j + t)) n (omega arith) (a-start (j + t) within one h ∙ e)
 
       -- it passes
       pub start-pass : 64 * q + (j + t) + 1 < n → entry-test (64 * q + (j + t)) ≡ true
           → all-from F (64 * q + j) (n - (64 * q + j)) ≡ all-from F (64 * q + (j + t + 1)) (n - (64 * q + (j + t + 1)))
       start-pass h e =
           let w : 64 * q + (j + t) + 1 ≡ 64 * q + (j + t + 1) = omega arith in
-          skip ∙ from-step F (64 * q + (j + t)) n (omega arith) (a-start (j + t) start-within one h ∙ e) ∙ ap (λ (k : ℕ). all-from F k (n - k)) w
-
-      -- what is left behind it
-      pub start-rest : y / 2 ^ t / 2 ≡ x / 2 ^ (j + t + 1)
-      start-rest =
-          let w : j + t + 1 ≡ j + (t + 1) = omega arith in
-          shr-shr y t 1 ∙ ap (λ (k : ℕ). k / 2 ^ (t + 1)) is ∙ shr-shr x j (t + 1) ∙ ap (λ (k : ℕ). x / 2 ^ k) (sym w)
+          skip ∙ from-step F (64 * q + (j + t)) n (omega arith) (a-start (j + t) within one h ∙ e) ∙ ap (λ (k : ℕ). all-from F k (n - k)) w

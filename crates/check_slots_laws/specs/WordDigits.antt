@@ -1,14 +1,14 @@
 -- 64-bit words of bits: the lowest set digit, and the starts of nodes with several entries.
-use Prim.Native.Nat.{ℕ, zero, suc, _+_, _-_, _*_, _/_, _%_, _^_, _<_}
+use Prim.Native.Nat.{ℕ, zero, suc, _+_, _-_, _*_, _/_, _%_, _^_, _<_, _≤_}
 use mathlib.Core.Path.{_≡_, refl, sym, ap, ap₂, _∙_}
 use mathlib.Core.Bool.{Bool, true, false, _&&_, not}
 use native.Mathlib.Omega.{arith}
-use native.Mathlib.Nat.{mod-lt, zero-lt-suc}
+use native.Mathlib.Nat.{mod-lt, zero-lt-suc, div-eq-of-lt, zero-div}
 use lib.ListN.{getD}
 use lib.Dec.{eqb, ltb}
-use lib.Pow.{shr-shr, high, low, shr-lt, field, mod-mod-pow}
+use lib.Pow.{shr-shr, high, low, shr-lt, shr-le, pow-mono, field, mod-mod-pow}
 use lib.Bits.{bitAnd, bitXor, and-shr, and-mod, xor-shr, xor-mod}
-use lib.Count.{trailingZeros, under}
+use lib.Count.{trailingZeros, trailing-le, under}
 use borrow.Author.Tests.{ltb-true, ltb-false}
 use Rattle.spec.specs.Bytes.{Bytes, bit}
 use Rattle.bits_laws.specs.Bits.{bit-at, word}
@@ -25,7 +25,7 @@ digit-half x j = let w : 1 + j ≡ suc j = omega arith in ap (λ (n : ℕ). n % 
 -- ---- the lowest set digit
 
 -- no digit below it is set
-pub trailing-clear : (k x j : ℕ) → j < trailingZeros k x → digit x j ≡ 0
+trailing-clear : (k x j : ℕ) → j < trailingZeros k x → digit x j ≡ 0
 unfolding trailingZeros
 trailing-clear zero x j h = absurd (omega arith)
 trailing-clear (suc k) x j h = go (x % 2) refl j h (λ i l. trailing-clear k (x / 2) i l)
@@ -36,7 +36,7 @@ trailing-clear (suc k) x j h = go (x % 2) refl j h (λ i l. trailing-clear k (x 
     go (suc d) e j l ih = absurd (omega arith)
 
 -- it is set
-pub trailing-set : (k x : ℕ) → trailingZeros k x < k → digit x (trailingZeros k x) ≡ 1
+trailing-set : (k x : ℕ) → trailingZeros k x < k → digit x (trailingZeros k x) ≡ 1
 unfolding trailingZeros
 trailing-set zero x h = absurd (omega arith)
 trailing-set (suc k) x h = go (x % 2) refl h (λ l. trailing-set k (x / 2) l)
@@ -47,7 +47,7 @@ trailing-set (suc k) x h = go (x % 2) refl h (λ l. trailing-set k (x / 2) l)
     go (suc d) e l ih = let z : x / 2 ^ 0 ≡ x = omega arith in rw z (omega (arith, mod-lt x (zero-lt-suc 1)))
 
 -- a number below 2 ^ k has a set digit, or is zero
-pub trailing-all : (k x : ℕ) → x < 2 ^ k → trailingZeros k x ≡ k → x ≡ 0
+trailing-all : (k x : ℕ) → x < 2 ^ k → trailingZeros k x ≡ k → x ≡ 0
 unfolding trailingZeros
 trailing-all zero x h e = omega arith
 trailing-all (suc k) x h e = go (x % 2) refl e (λ l. trailing-all k (x / 2) (shr-lt k 1 (let w : k + 1 ≡ suc k = omega arith in rw w h)) l)
@@ -55,6 +55,60 @@ trailing-all (suc k) x h e = go (x % 2) refl e (λ l. trailing-all k (x / 2) (sh
     go : (d : ℕ) → x % 2 ≡ d → under d (trailingZeros k (x / 2)) ≡ suc k → (trailingZeros k (x / 2) ≡ k → x / 2 ≡ 0) → x ≡ 0
     go zero p l ih = omega (arith, ih (omega arith))
     go (suc d) p l ih = absurd (omega arith)
+
+-- ---- the set digits of x, lowest first: y has those from j on
+
+module _ (x j y : ℕ) (is : y ≡ x / 2 ^ j) where
+  digit-behind : (i : ℕ) → digit y i ≡ digit x (j + i)
+  digit-behind i = ap (λ (n : ℕ). n / 2 ^ i % 2) is ∙ ap (λ (n : ℕ). n % 2) (shr-shr x j i)
+
+  -- none is left
+  pub digits-end : y ≡ 0 → (k : ℕ) → j ≤ k → digit x k ≡ 0
+  digits-end z k h =
+      let e : j + (k - j) ≡ k = omega arith in
+      ap (digit x) (sym e) ∙ sym (digit-behind (k - j)) ∙ ap (λ (n : ℕ). n / 2 ^ (k - j) % 2) z ∙ ap (λ (n : ℕ). n % 2) (zero-div (2 ^ (k - j)))
+
+  module _ (few : x < 2 ^ 64) (some : y ≡ 0 → ⊥) where
+    abbrev t : ℕ
+    t = trailingZeros 64 y
+
+    inside : t < 64
+    inside = below (ltb t 64) refl
+      where
+        small : y < 2 ^ 64
+        small = omega (arith, is, shr-le x j, few)
+
+        below : (b : Bool) → ltb t 64 ≡ b → t < 64
+        below true e = ltb-true t 64 e
+        below false e = absurd (some (trailing-all 64 y small (omega (arith, ltb-false t 64 e, trailing-le 64 y))))
+
+    -- the lowest that is left is set
+    pub lowest-set : digit x (j + t) ≡ 1
+    lowest-set = sym (digit-behind t) ∙ trailing-set 64 y inside
+
+    -- it is one of the 64
+    pub lowest-within : j + t < 64
+    lowest-within = go (ltb (j + t) 64) refl
+      where
+        high-clear : 64 ≤ j + t → digit x (j + t) ≡ 0
+        high-clear h = ap (λ (n : ℕ). n % 2) (div-eq-of-lt (below few))
+          where
+            below : x < 2 ^ 64 → x < 2 ^ (j + t)
+            below l = omega (arith, l, pow-mono {i = 64} {j = j + t} h)
+
+        go : (b : Bool) → ltb (j + t) 64 ≡ b → j + t < 64
+        go true e = ltb-true (j + t) 64 e
+        go false e = absurd (omega (arith, lowest-set, high-clear (ltb-false (j + t) 64 e)))
+
+    -- those before it are not set
+    pub lowest-clear : (k : ℕ) → j ≤ k → k < j + t → digit x k ≡ 0
+    lowest-clear k h l = let e : j + (k - j) ≡ k = omega arith in ap (digit x) (sym e) ∙ sym (digit-behind (k - j)) ∙ trailing-clear 64 y (k - j) (omega arith)
+
+    -- what is left behind it
+    pub lowest-rest : y / 2 ^ t / 2 ≡ x / 2 ^ (j + t + 1)
+    lowest-rest =
+        let w : j + t + 1 ≡ j + (t + 1) = omega arith in
+        shr-shr y t 1 ∙ ap (λ (k : ℕ). k / 2 ^ (t + 1)) is ∙ shr-shr x j (t + 1) ∙ ap (λ (k : ℕ). x / 2 ^ k) (sym w)
 
 -- ---- starts of nodes with several entries
 

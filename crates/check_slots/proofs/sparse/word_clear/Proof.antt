@@ -1,197 +1,102 @@
--- The loop: the entries of the word before j are judged, and the starts from j on are left.
-use mathlib.Core.List.{[]}
-use Rattle.spec.specs.Bytes.{Bytes}
-use mathlib.Core.Path.{_≡_, sym, ap, _∙_}
-use Prim.Native.Nat.{ℕ, _+_, _*_, _-_, _/_, _≤_, _<_}
+-- The three bodies lie within the image and have the lengths that the counts give.
+use mathlib.Core.Path.{_≡_}
+use Prim.Native.Nat.{ℕ, _*_, _-_, _≤_}
 use native.Mathlib.Omega.{arith}
-use lib.ListN.{length}
-use mathlib.Core.Bool.{Bool, true, true≢false}
-use Prim.Native.Nat.{_^_}
-use lib.Count.{trailingZeros}
-use Rattle.check_trie_laws.specs.Ranges.{all-from}
-use Rattle.check_slots_laws.specs.SparseWords.{Several-starts, starts-end, start-within, start-last, start-fail, start-pass, start-rest}
-use Rattle.check_slots.specs.Entries.{clear-slot, exact-test}
-use Rattle.check_slots.specs.declared.sparse.SparseSlots.{SparseSlots}
-use borrow.Author.Tests.{not-true, not-false}
 use mir.Val.{Fits}
 use mir.Syntax.{w64}
+use Rattle.spec.specs.Bytes.{Bytes}
+use Rattle.bits_laws.specs.PartLaws.{bits-room, lent-part}
+use Rattle.image_types.specs.FrameOf.{within}
+use Rattle.check_trie_laws.specs.Bodies.{sc-body, sb-body, sv-body, bodies-sized}
+use Rattle.check_slots_laws.specs.LevelStarts.{dense-room, dense-few}
+use Rattle.check_slots_laws.specs.SlotTests.{slots-sized}
+use borrow.Author.Needs.{needs}
 use Rattle.check_slots.proofs.sparse.word_clear.Statement.{statement}
 use Rattle.check_slots.proofs.sparse.word_clear.Tie as tie
 
--- the entries from one on
-abbrev left : Bytes → Bytes → Bytes → Bytes → SparseSlots → ℕ → Bool
-left sl sc sb sv z i = all-from (exact-test sl sc sb sv z) i (z .entries - i)
+bits-fit : {n : ℕ} → n ≤ 1048560 → Fits w64 n
+bits-fit h = record { fits = omega arith }
 
-abbrev Inv-loop : tie.InvT-loop
-Inv-loop sl sc sb sv z word rest₀ j₀ rest j = Several-starts sb (word .number) rest₀ × (j ≤ 64) × (rest ≡ rest₀ / 2 ^ j) × (left sl sc sb sv z (64 * word .number) ≡ left sl sc sb sv z (64 * word .number + j))
+part-requires : tie.Need-part-requires
+part-requires c κs = within (c .before .args .image .now) (c .before .args .f) (c .before .pre .0 .frame) .sl
 
-abbrev μ-loop : tie.MeasureT-loop
-μ-loop sl sc sb sv z word rest₀ j₀ rest j = 64 - j
+bytes-for-requires : tie.Need-bytes-for-requires
+bytes-for-requires c κs = search needs
 
--- the next start is in the word
-within : (sb : Bytes) (q x j y : ℕ) → Several-starts sb q x → j ≤ 64 → y ≡ x / 2 ^ j → (y ≡ 0 → ⊥) → j + trailingZeros 64 y < 64
-within sb q x j y s le is some = start-within (λ v. true) [] [] sb 0 0 q x s j y le is some
+part-requires-2 : tie.Need-part-requires-2
+part-requires-2 c κs =
+    let a = c .before .before .before .args in
+    rw (c .bytes-for .ensures) (within (a .image .now) (a .f) (c .before .before .before .pre .0 .frame) .sc)
 
-starts-room : (q n l : ℕ) → 64 * q < n → n ≤ 8 * l → q * 8 < l
-starts-room q n l h k = omega arith
-
-fits-few : (j : ℕ) {t : ℕ} → j + t < 64 → Fits w64 t × Fits w64 (j + t)
-fits-few j h = (record { fits = omega arith }, record { fits = omega arith })
-
-fits-entry : (q n : ℕ) {i : ℕ} → 64 * q < n → n < 4294967296 → i < 64 → Fits w64 (64 * q) × Fits w64 (64 * q + i) × Fits w64 (64 * q + i + 1)
-fits-entry q n h l k = (record { fits = omega arith }, record { fits = omega arith }, record { fits = omega arith })
-
-fits-next : (j t : ℕ) → j + t < 64 → Fits w64 (j + t + 1)
-fits-next j t h = record { fits = omega arith }
-
-entry-below : {p n : ℕ} → p + 1 < n → p < n
-entry-below h = omega arith
-
-closer : (j t : ℕ) → j + t < 64 → 64 - (j + t + 1) < 64 - j
-closer j t h = omega arith
-
-below-end : (j t : ℕ) → j + t < 64 → j + t + 1 ≤ 64
-below-end j t h = omega arith
-
-step-below : (j t : ℕ) → j + t < 64 → t < 64
-step-below j t h = omega arith
-
-several-requires : tie.Need-several-requires Inv-loop μ-loop
-several-requires c κs =
-    let a = c .before .before .before .before .args in
-    let p = c .before .before .before .before .pre in
-    starts-room (a .word .number) (a .z .entries) (length (a .sb .now)) (p .2 .some) (p .1)
-
-loop-holds : tie.Need-loop-holds Inv-loop μ-loop
-loop-holds c =
+mul-bytes-for : tie.Need-mul-bytes-for
+mul-bytes-for c =
     let a = c .before .before .before .before .before .args in
-    let e : 64 * a .word .number ≡ 64 * a .word .number + 0 = omega arith in
-    let d : c .several .result / 1 ≡ c .several .result = omega arith in
-    (c .several .ensures, omega arith, sym d, ap (left (a .sl .now) (a .sc .now) (a .sb .now) (a .sv .now) (a .z)) e)
+    bits-fit (within (a .image .now) (a .f) (c .before .before .before .before .before .pre .0 .frame) .slots)
 
-cast-step : tie.Need-cast-step Inv-loop μ-loop
-cast-step c =
-    let a = c .before .before .before .before .before .before .before .args in
-    let l = c .before .loop in
-    let some = c .loop-test .taken in
-    let w = within (a .sb .now) (a .word .number) (c .before .before .several .result) (l .j) (l .rest) (l .inv .0) (l .inv .1) (l .inv .2) some in
-    fits-few (l .j) w .0
+bytes-for-requires-2 : tie.Need-bytes-for-requires-2
+bytes-for-requires-2 c κs = search needs
 
-add-at : tie.Need-add-at Inv-loop μ-loop
-add-at c =
-    let a = c .before .before .before .before .before .before .before .args in
-    let l = c .before .loop in
-    let some = c .loop-test .taken in
-    let w = within (a .sb .now) (a .word .number) (c .before .before .several .result) (l .j) (l .rest) (l .inv .0) (l .inv .1) (l .inv .2) some in
-    fits-few (l .j) w .1
+part-requires-3 : tie.Need-part-requires-3
+part-requires-3 c κs =
+    let a = c .before .before .before .before .before .before .args in
+    rw (c .bytes-for2 .ensures) (within (a .image .now) (a .f) (c .before .before .before .before .before .before .pre .0 .frame) .sv)
 
-mul-if1 : tie.Need-mul-if1 Inv-loop μ-loop
-mul-if1 c =
+sub-t11 : tie.Need-sub-t11
+sub-t11 c =
     let a = c .before .before .before .before .before .before .before .before .args in
     let p = c .before .before .before .before .before .before .before .before .pre in
-    let l = c .before .before .loop in
-    let some = c .before .loop-test .taken in
-    let w = within (a .sb .now) (a .word .number) (c .before .before .before .several .result) (l .j) (l .rest) (l .inv .0) (l .inv .1) (l .inv .2) some in
-    fits-entry (a .word .number) (a .z .entries) (p .2 .some) (p .0 .few-entries) w .0
+    dense-room (a .image .now) (a .f) (p .0) (p .1)
 
-add-if1 : tie.Need-add-if1 Inv-loop μ-loop
-add-if1 c =
-    let a = c .before .before .before .before .before .before .before .before .args in
-    let p = c .before .before .before .before .before .before .before .before .pre in
-    let l = c .before .before .loop in
-    let some = c .before .loop-test .taken in
-    let w = within (a .sb .now) (a .word .number) (c .before .before .before .several .result) (l .j) (l .rest) (l .inv .0) (l .inv .1) (l .inv .2) some in
-    fits-entry (a .word .number) (a .z .entries) (p .2 .some) (p .0 .few-entries) w .1
+mul-t12 : tie.Need-mul-t12
+mul-t12 c = search needs
 
-add-if1-2 : tie.Need-add-if1-2 Inv-loop μ-loop
-add-if1-2 c =
-    let a = c .before .before .before .before .before .before .before .before .args in
-    let p = c .before .before .before .before .before .before .before .before .pre in
-    let l = c .before .before .loop in
-    let some = c .before .loop-test .taken in
-    let w = within (a .sb .now) (a .word .number) (c .before .before .before .several .result) (l .j) (l .rest) (l .inv .0) (l .inv .1) (l .inv .2) some in
-    fits-entry (a .word .number) (a .z .entries) (p .2 .some) (p .0 .few-entries) w .2
+children-before-requires : tie.Need-children-before-requires
+children-before-requires c κs = search needs
 
-returns : tie.Need-returns Inv-loop μ-loop
+starts-clear-requires : tie.Need-starts-clear-requires
+starts-clear-requires c κs =
+    let part2 = c .before .before .before .before .before .part2 in
+    let part3 = c .before .before .part3 in
+    let a = c .before .before .before .before .before .before .before .before .before .args in
+    let s : Bytes = a .image .now in
+    let sc : part2 .result .now ≡ sc-body s (a .f) = lent-part s (a .f .sc) (part2 .ensures) (c .before .before .before .before .before .before .bytes-for .ensures) in
+    let sv : part3 .result .now ≡ sv-body s (a .f) = lent-part s (a .f .sv) (part3 .ensures) (c .before .before .before .bytes-for2 .ensures) in
+    let p = c .before .before .before .before .before .before .before .before .before .pre in
+    let z = bodies-sized s (a .f) (p .0 .frame) in
+    rw (c .before .before .before .before .before .before .before .part .ensures, sc, sv) (
+      record {
+        labels = z .sl;
+        children = bits-room (a .f .sparse .entries) (sc-body s (a .f)) (z .sc);
+        slots = slots-sized s (a .f) (p .0 .frame);
+        few-entries = p .0 .frame .entries;
+        few-dense = dense-few s (a .f) (p .0) (p .1);
+      },
+      record { some = p .2; children = c .children-before .ensures },
+    )
+
+returns : tie.Need-returns
 returns c =
+    let part2 = c .before .before .before .before .before .before .part2 in
+    let part3 = c .before .before .before .part3 in
     let a = c .before .before .before .before .before .before .before .before .before .before .args in
-    let l = c .before .before .before .before .loop in
-    let some = c .before .before .before .loop-test .taken in
-    record { passed = λ t. l .inv .3 ∙ start-last (clear-slot (a .sv .now) (a .z)) (a .sl .now) (a .sc .now) (a .sb .now) (a .z .entries) (a .z .first .0) (a .word .number) (c .before .before .before .before .before .several .result) (l .inv .0) (l .j) (l .rest) (l .inv .1) (l .inv .2) some (c .if1 .taken); failed = λ t. absurd (true≢false t) }
-
-entry-clear-requires : tie.Need-entry-clear-requires Inv-loop μ-loop
-entry-clear-requires c κs =
-    let a = c .before .before .before .before .before .before .before .before .before .before .args in
+    let s : Bytes = a .image .now in
+    let sc : part2 .result .now ≡ sc-body s (a .f) = lent-part s (a .f .sc) (part2 .ensures) (c .before .before .before .before .before .before .before .bytes-for .ensures) in
+    let sv : part3 .result .now ≡ sv-body s (a .f) = lent-part s (a .f .sv) (part3 .ensures) (c .before .before .before .before .bytes-for2 .ensures) in
     let p = c .before .before .before .before .before .before .before .before .before .before .pre in
-    let l = c .before .before .before .before .loop in
-    let some = c .before .before .before .loop-test .taken in
-    let w = within (a .sb .now) (a .word .number) (c .before .before .before .before .before .several .result) (l .j) (l .rest) (l .inv .0) (l .inv .1) (l .inv .2) some in
-    (p .0, record { word = p .2; inside = w; some = entry-below (c .if1 .left) })
-
-returns-2 : tie.Need-returns-2 Inv-loop μ-loop
-returns-2 c =
-    let a = c .before .before .before .before .before .before .before .before .before .before .before .before .args in
-    let l = c .before .before .before .before .before .before .loop in
-    let some = c .before .before .before .before .before .loop-test .taken in
-    record { passed = λ t. absurd (true≢false (sym t)); failed = λ t. l .inv .3 ∙ start-fail (clear-slot (a .sv .now) (a .z)) (a .sl .now) (a .sc .now) (a .sb .now) (a .z .entries) (a .z .first .0) (a .word .number) (c .before .before .before .before .before .before .before .several .result) (l .inv .0) (l .j) (l .rest) (l .inv .1) (l .inv .2) some (c .before .before .if1 .left) (sym (c .before .entry-clear .ensures) ∙ not-true _ (c .if2 .taken)) }
-
-shr-rest : tie.Need-shr-rest Inv-loop μ-loop
-shr-rest c =
-    let a = c .before .before .before .before .before .before .before .before .before .before .before .before .args in
-    let l = c .before .before .before .before .before .before .loop in
-    let some = c .before .before .before .before .before .loop-test .taken in
-    let w = within (a .sb .now) (a .word .number) (c .before .before .before .before .before .before .before .several .result) (l .j) (l .rest) (l .inv .0) (l .inv .1) (l .inv .2) some in
-    step-below (l .j) (trailingZeros 64 (l .rest)) w
-
-add-j : tie.Need-add-j Inv-loop μ-loop
-add-j c =
-    let a = c .before .before .before .before .before .before .before .before .before .before .before .before .args in
-    let l = c .before .before .before .before .before .before .loop in
-    let some = c .before .before .before .before .before .loop-test .taken in
-    let w = within (a .sb .now) (a .word .number) (c .before .before .before .before .before .before .before .several .result) (l .j) (l .rest) (l .inv .0) (l .inv .1) (l .inv .2) some in
-    fits-next (l .j) (trailingZeros 64 (l .rest)) w
-
-loop-less : tie.Need-loop-less Inv-loop μ-loop
-loop-less c =
-    let a = c .before .before .before .before .before .before .before .before .before .before .before .before .args in
-    let l = c .before .before .before .before .before .before .loop in
-    let some = c .before .before .before .before .before .loop-test .taken in
-    let w = within (a .sb .now) (a .word .number) (c .before .before .before .before .before .before .before .several .result) (l .j) (l .rest) (l .inv .0) (l .inv .1) (l .inv .2) some in
-    closer (l .j) (trailingZeros 64 (l .rest)) w
-
-loop-again : tie.Need-loop-again Inv-loop μ-loop
-loop-again c =
-    let several = c .before .before .before .before .before .before .before .several in
-    let a = c .before .before .before .before .before .before .before .before .before .before .before .before .args in
-    let l = c .before .before .before .before .before .before .loop in
-    let some = c .before .before .before .before .before .loop-test .taken in
-    let w = within (a .sb .now) (a .word .number) (several .result) (l .j) (l .rest) (l .inv .0) (l .inv .1) (l .inv .2) some in
-    (l .inv .0, below-end (l .j) (trailingZeros 64 (l .rest)) w, start-rest (clear-slot (a .sv .now) (a .z)) (a .sl .now) (a .sc .now) (a .sb .now) (a .z .entries) (a .z .first .0) (a .word .number) (several .result) (l .inv .0) (l .j) (l .rest) (l .inv .1) (l .inv .2) some, l .inv .3 ∙ start-pass (clear-slot (a .sv .now) (a .z)) (a .sl .now) (a .sc .now) (a .sb .now) (a .z .entries) (a .z .first .0) (a .word .number) (several .result) (l .inv .0) (l .j) (l .rest) (l .inv .1) (l .inv .2) some (c .before .before .if1 .left) (sym (c .before .entry-clear .ensures) ∙ not-false _ (c .if2 .left)))
-
-returns-3 : tie.Need-returns-3 Inv-loop μ-loop
-returns-3 c =
-    let a = c .before .before .before .before .before .before .before .args in
-    let l = c .before .loop in
-    record { passed = λ t. l .inv .3 ∙ starts-end (clear-slot (a .sv .now) (a .z)) (a .sl .now) (a .sc .now) (a .sb .now) (a .z .entries) (a .z .first .0) (a .word .number) (c .before .before .several .result) (l .inv .0) (l .j) (l .rest) (l .inv .1) (l .inv .2) (c .loop-test .left); failed = λ t. absurd (true≢false t) }
+    (rw (c .before .before .before .before .before .before .before .before .part .ensures, sc, sv) at (c .starts-clear .ensures)) (sb-body s (a .f)) (p .3)
 
 pub word-clear-spec : {M : Type 1} → statement M
 word-clear-spec =
     tie.close
     (tie.spec
-    Inv-loop
-    μ-loop
-    several-requires
-    loop-holds
-    cast-step
-    add-at
-    mul-if1
-    add-if1
-    add-if1-2
-    returns
-    entry-clear-requires
-    returns-2
-    shr-rest
-    add-j
-    loop-less
-    loop-again
-    returns-3)
+    part-requires
+    bytes-for-requires
+    part-requires-2
+    mul-bytes-for
+    bytes-for-requires-2
+    part-requires-3
+    sub-t11
+    mul-t12
+    children-before-requires
+    starts-clear-requires
+    returns)

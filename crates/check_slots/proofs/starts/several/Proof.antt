@@ -2,8 +2,8 @@
 use Rattle.bits_laws.specs.ValueLaws.{Small}
 use Rattle.check_slots_laws.specs.SparseWords.{starts-are}
 use borrow.Author.Needs.{needs}
-use Rattle.check_slots.proofs.sparse.several.Statement.{statement}
-use Rattle.check_slots.proofs.sparse.several.Tie as tie
+use Rattle.check_slots.proofs.starts.several.Statement.{statement}
+use Rattle.check_slots.proofs.starts.several.Tie as tie
 
 read-word-requires : tie.Need-read-word-requires
 read-word-requires c κs = search needs

@@ -5,8 +5,8 @@ use native.Mathlib.Omega.{arith}
 use lib.ListN.{List·getD-eq-default}
 use Rattle.check_slots_laws.specs.WordDigits.{bit-low}
 use borrow.Author.Needs.{needs}
-use Rattle.check_slots.proofs.sparse.low_bit.Statement.{statement}
-use Rattle.check_slots.proofs.sparse.low_bit.Tie as tie
+use Rattle.check_slots.proofs.starts.low_bit.Statement.{statement}
+use Rattle.check_slots.proofs.starts.low_bit.Tie as tie
 
 returns : tie.Need-returns
 returns c =
