@@ -6,17 +6,22 @@ use native.Mathlib.Omega.{arith}
 use native.Mathlib.Nat.{mul-le-mul-right}
 use borrow.Author.Tests.{lt-ltb, le-ltb, eq-eqb}
 use Rattle.spec.specs.Bytes.{Bytes}
-use Rattle.bits_laws.specs.Bits.{rank}
+use Rattle.bits_laws.specs.Bits.{rank, select}
 use Rattle.bits_laws.specs.RankLaws.{rank-le}
 use Rattle.image_types.specs.declared.Frame.{Frame}
 use Rattle.check_trie_laws.specs.declared.Level.{Level}
-use Rattle.check_trie_laws.specs.Bodies.{sc-body, sv-body}
-use Rattle.check_trie_laws.specs.Levels.{node-count, branches-before, Louds-valid, LevelOf, Behind, level-sparse, entry-within, branches-from}
+use Rattle.check_trie_laws.specs.Bodies.{sc-body, sb-body, sv-body}
+use Rattle.check_trie_laws.specs.Levels.{node-count, branches-before, Louds-valid, LevelOf, Behind, level-sparse, sparse-level, entry-within, branches-from}
 use Rattle.check_trie_laws.specs.BodyTests.{counts-few}
 use Rattle.check_trie_laws.specs.Ranges.{all-from, from-none}
 use Rattle.check_slots_laws.specs.Passed.{Passed-to-15, bits-pass}
 use Rattle.check_slots_laws.specs.LevelStarts.{level-start, dense-leaf-count, leaves-to, dense-room, start-first, start-low, start-next, start-up, start-last, leaves-last}
 use Rattle.check_slots_laws.specs.SlotTests.{clear-at, level-slot, last-levels-clear, slots-within}
+
+-- a sparse node, counted among all nodes
+pub record Sparse-node (f : Frame) (i : ℕ) : Type 0 where
+  pub from : f .dense .nodes ≤ i
+  pub to : i < node-count f
 
 -- a level by its number: what is known of it, and that its first node is the level's
 pub record Level-at (s : Bytes) (f : Frame) (t : ℕ) (l : Level) : Type 0 where
@@ -31,6 +36,14 @@ slot-of f l = f .totals .entries + l .entry .0 - l .branches
 pub record Slot-room (f : Frame) (l : Level) : Type 0 where
   pub branches : l .branches ≤ f .totals .entries + l .entry .0
   pub few : f .totals .entries + l .entry .0 < 1108101562368
+
+module _ (s : Bytes) (f : Frame) (j : Passed-to-15 s f) where
+  -- a sampled sparse node as a level, by its first entry
+  pub sampled-level : (t : ℕ) → 64 * t < f .sparse .nodes → (l : Level) → l .node .0 ≡ f .dense .nodes + 64 * t → l .entry .0 ≡ select (sb-body s f) (f .sparse .entries) (64 * t)
+      → l .branches ≡ f .totals .children + rank (sc-body s f) (l .entry .0) → LevelOf s f l
+  sampled-level t h l n e b =
+      let d : 64 * t ≡ l .node .0 - f .dense .nodes = omega arith in
+      sparse-level s f (bits-pass s f j .louds) l (omega arith) (omega arith) (e ∙ ap (select (sb-body s f) (f .sparse .entries)) d) b
 
 module _ (s : Bytes) (f : Frame) (j : Passed-to-15 s f) (some : 0 < f .leaves) where
   louds : Louds-valid s f
@@ -71,9 +84,9 @@ module _ (s : Bytes) (f : Frame) (j : Passed-to-15 s f) (some : 0 < f .leaves) w
         start-within : (t : ℕ) → t ≤ 64 → level-start s f t ≤ node-count f
         start-within t h = let e : t + (64 - t) ≡ 64 = omega arith in omega (arith, up (64 - t) t (omega arith), ap (level-start s f) e, start-last s f j some)
 
-    -- its number is small
-    pub next-fits : l .branches + 1 < 8589934592
-    next-fits = omega (arith, next-behind .to, j .frame .dense, j .frame .sparse)
+    -- its first node is sparse
+    pub level-first : Sparse-node f (l .node .0)
+    level-first = record { from = rw (a .start) (start-low s f j some t low (omega arith)); to = m }
 
     pub level-below : (next : Level) → LevelOf s f next → next .node .0 ≡ l .branches + 1 → Level-at s f (suc t) next
     level-below next o e = record { level = o; start = e ∙ next-start }

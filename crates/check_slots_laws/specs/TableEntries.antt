@@ -15,7 +15,7 @@ use Rattle.spec.specs.Check.{ranks-valid}
 use Rattle.bits_laws.specs.Bits.{part, rank, select}
 use Rattle.bits_laws.specs.PartLaws.{bits-room}
 use Rattle.bits_laws.specs.RankLaws.{rank-le}
-use Rattle.bits_laws.specs.SelectLaws.{select-le}
+use Rattle.bits_laws.specs.SelectLaws.{select-le, select-found}
 use Rattle.image_types.specs.FrameOf.{frame-named, frame-parts}
 use Rattle.image_types.specs.declared.Frame.{Frame}
 use Rattle.check_trie_laws.specs.SparseNodes.{position-of}
@@ -137,11 +137,16 @@ module _ (s : Bytes) (f : Frame) (j : Passed-to-15 s f) where
       ∙ mod-eq-of-lt (omega (arith, rank-le (sc-body s f) (512 * b), j .frame .entries))
 
   -- the first entry of sparse node 64 t, counted among the sparse nodes
-  pub start-entry : (t : ℕ) → 64 * t < f .sparse .nodes → from32 (drop (f .ts + 4 * t) s) ≡ select (sb-body s f) (f .sparse .entries) (64 * t)
-  start-entry t h =
-      let l = bits-room (f .sparse .entries) (sb-body s f) (bodies-sized s f (j .frame) .sb) in
-      let c : rank (sb-body s f) (f .sparse .entries) ≡ f .sparse .nodes = bits-pass s f j .louds .count in
-      sym (from-part s (f .ts) (4 * blocks 64 (f .sparse .nodes)) (4 * t) (omega arith)) ∙ ap (λ (b : Bytes). from32 (drop (4 * t) b)) (tables .ts)
-      ∙ sample-entry (bits (sb-body s f) (f .sparse .entries)) t (omega (arith, ones-all (sb-body s f) (f .sparse .entries), c))
-      ∙ ap (λ (k : ℕ). k % 4294967296) (position-select (sb-body s f) (f .sparse .entries) (64 * t) l)
-      ∙ mod-eq-of-lt (omega (arith, select-le (sb-body s f) (f .sparse .entries) (64 * t), j .frame .entries))
+  pub start-entry : (t : ℕ) → 64 * t < f .sparse .nodes → (from32 (drop (f .ts + 4 * t) s) ≡ select (sb-body s f) (f .sparse .entries) (64 * t)) × (select (sb-body s f) (f .sparse .entries) (64 * t) < f .sparse .entries)
+  start-entry t h = (read, select-found (sb-body s f) (f .sparse .entries) (64 * t) (omega (arith, count)) .0)
+    where
+      count : rank (sb-body s f) (f .sparse .entries) ≡ f .sparse .nodes
+      count = bits-pass s f j .louds .count
+
+      read : from32 (drop (f .ts + 4 * t) s) ≡ select (sb-body s f) (f .sparse .entries) (64 * t)
+      read =
+          let l = bits-room (f .sparse .entries) (sb-body s f) (bodies-sized s f (j .frame) .sb) in
+          sym (from-part s (f .ts) (4 * blocks 64 (f .sparse .nodes)) (4 * t) (omega arith)) ∙ ap (λ (b : Bytes). from32 (drop (4 * t) b)) (tables .ts)
+          ∙ sample-entry (bits (sb-body s f) (f .sparse .entries)) t (omega (arith, ones-all (sb-body s f) (f .sparse .entries), count))
+          ∙ ap (λ (k : ℕ). k % 4294967296) (position-select (sb-body s f) (f .sparse .entries) (64 * t) l)
+          ∙ mod-eq-of-lt (omega (arith, select-le (sb-body s f) (f .sparse .entries) (64 * t), j .frame .entries))

@@ -5,8 +5,7 @@ use native.Mathlib.Omega.{arith}
 use mir.Val.{Fits}
 use mir.Syntax.{w64}
 use Rattle.check_slots_laws.specs.LevelStarts.{level-start}
-use Rattle.check_slots_laws.specs.Passed.{bits-pass}
-use Rattle.check_slots_laws.specs.LastLevels.{Level-at, first-level, no-level, next-behind, level-below, next-fits}
+use Rattle.check_slots_laws.specs.LastLevels.{Level-at, first-level, no-level, next-behind, level-first, level-below}
 use Rattle.check_slots.proofs.levels.find_level.Statement.{statement}
 use Rattle.check_slots.proofs.levels.find_level.Tie as tie
 
@@ -18,9 +17,6 @@ abbrev μ-loop : tie.MeasureT-loop
 
 nodes-fit : {d n : ℕ} → d < 4294967296 → n < 4294967296 → Fits w64 (d + n)
 nodes-fit h l = record { fits = omega arith }
-
-branches-fit : (b : ℕ) → b + 1 < 8589934592 → Fits w64 (b + 1)
-branches-fit b h = record { fits = omega arith }
 
 inside : {d n : ℕ} → d < n → n < 64 → d < 64
 inside h l = omega arith
@@ -52,41 +48,39 @@ returns c =
     let e : l .depth + (a .number - l .depth) ≡ a .number = rejoin (l .inv .1) in
     record { level = i .level; start = i .start ∙ sym (no-level (a .image .now) (a .f) (p .0) (p .1) (a .number - l .depth) (l .depth) (rw (i .start) at (c .if1 .taken))) ∙ ap (level-start (a .image .now) (a .f)) e }
 
-add-t10 : tie.Need-add-t10 Inv-loop μ-loop
-add-t10 c =
-    let a = c .before .before .before .before .before .before .before .args in
-    let p = c .before .before .before .before .before .before .before .pre in
-    let l = c .before .before .before .before .loop in
-    branches-fit (l .level .branches) (next-fits (a .image .now) (a .f) (p .0) (p .1) (l .depth) (l .inv .0) (inside (c .before .before .before .loop-test .taken) (p .3)) (l .level) (l .inv .2) (c .before .if1 .left))
-
-level-at-requires : tie.Need-level-at-requires Inv-loop μ-loop
-level-at-requires c κs =
-    let a = c .before .before .before .before .before .before .before .args in
-    let p = c .before .before .before .before .before .before .before .pre in
-    let l = c .before .before .before .before .loop in
-    (bits-pass (a .image .now) (a .f) (p .0) .louds, l .inv .2 .level, next-behind (a .image .now) (a .f) (p .0) (p .1) (l .depth) (l .inv .0) (inside (c .before .before .before .loop-test .taken) (p .3)) (l .level) (l .inv .2) (c .before .if1 .left))
+level-below-requires : tie.Need-level-below-requires Inv-loop μ-loop
+level-below-requires c κs =
+    let a = c .before .before .before .before .before .before .args in
+    let p = c .before .before .before .before .before .before .pre in
+    let l = c .before .before .before .loop in
+    let t = inside (c .before .before .loop-test .taken) (p .3) in (
+      p .0,
+      l .inv .2 .level,
+      next-behind (a .image .now) (a .f) (p .0) (p .1) (l .depth) (l .inv .0) t (l .level) (l .inv .2) (c .if1 .left),
+      level-first (a .image .now) (a .f) (p .0) (p .1) (l .depth) (l .inv .0) t (l .level) (l .inv .2) (c .if1 .left),
+    )
 
 add-depth : tie.Need-add-depth Inv-loop μ-loop
-add-depth c = depth-fits (c .before .before .before .before .loop-test .taken) (c .before .before .before .before .before .before .before .before .pre .3)
+add-depth c = depth-fits (c .before .before .before .loop-test .taken) (c .before .before .before .before .before .before .before .pre .3)
   where
     depth-fits : {d n : ℕ} → d < n → n < 64 → Fits w64 (d + 1)
     depth-fits h l = record { fits = omega arith }
 
 loop-less : tie.Need-loop-less Inv-loop μ-loop
-loop-less c = closer (c .before .before .before .before .loop-test .taken)
+loop-less c = closer (c .before .before .before .loop-test .taken)
   where
     closer : {d n : ℕ} → d < n → n - (d + 1) < n - d
     closer h = omega arith
 
 loop-again : tie.Need-loop-again Inv-loop μ-loop
 loop-again c =
-    let a = c .before .before .before .before .before .before .before .before .args in
-    let p = c .before .before .before .before .before .before .before .before .pre in
-    let l = c .before .before .before .before .before .loop in
-    let t = c .before .before .before .before .loop-test .taken in
-    let r = c .level-at in
+    let a = c .before .before .before .before .before .before .before .args in
+    let p = c .before .before .before .before .before .before .before .pre in
+    let l = c .before .before .before .before .loop in
+    let t = c .before .before .before .loop-test .taken in
+    let r = c .level-below in
     let e : suc (l .depth) ≡ l .depth + 1 = omega arith in
-    (more (l .inv .0), next t, rw e at (level-below (a .image .now) (a .f) (p .0) (p .1) (l .depth) (l .inv .0) (inside t (p .3)) (l .level) (l .inv .2) (c .before .before .if1 .left) (r .result) (r .ensures .0) (r .ensures .1)))
+    (more (l .inv .0), next t, rw e at (level-below (a .image .now) (a .f) (p .0) (p .1) (l .depth) (l .inv .0) (inside t (p .3)) (l .level) (l .inv .2) (c .before .if1 .left) (r .result) (r .ensures .0) (r .ensures .1)))
 
 returns-2 : tie.Need-returns-2 Inv-loop μ-loop
 returns-2 c =
@@ -106,8 +100,7 @@ find-level-spec =
     add-nodes
     loop-holds
     returns
-    add-t10
-    level-at-requires
+    level-below-requires
     add-depth
     loop-less
     loop-again

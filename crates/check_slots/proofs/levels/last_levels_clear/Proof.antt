@@ -13,19 +13,16 @@ use Rattle.check_trie_laws.specs.declared.Level.{Level}
 use Rattle.check_trie_laws.specs.Bodies.{sv-body}
 use Rattle.check_trie_laws.specs.Levels.{node-count, LevelOf}
 use Rattle.check_trie_laws.specs.Ranges.{all-from}
-use Rattle.check_slots_laws.specs.Passed.{Passed-to-15, bits-pass}
+use Rattle.check_slots_laws.specs.Passed.{Passed-to-15}
 use Rattle.check_slots_laws.specs.SlotBits.{bits-clear}
 use Rattle.check_slots_laws.specs.SlotTests.{clear-at, level-slot, slots-within, slots-sized}
-use Rattle.check_slots_laws.specs.LastLevels.{Level-at, Slot-room, slot-of, next-behind, next-fits, level-below, slot-room, slot-is, last-levels-none, last-slots-within}
+use Rattle.check_slots_laws.specs.LastLevels.{Level-at, Slot-room, slot-of, next-behind, level-first, level-below, slot-room, slot-is, last-levels-none, last-slots-within}
 use borrow.Author.Needs.{needs}
 use Rattle.check_slots.proofs.levels.last_levels_clear.Statement.{statement}
 use Rattle.check_slots.proofs.levels.last_levels_clear.Tie as tie
 
 nodes-fit : {d n : ℕ} → d < 4294967296 → n < 4294967296 → Fits w64 (d + n)
 nodes-fit h l = record { fits = omega arith }
-
-branches-fit : (b : ℕ) → b + 1 < 8589934592 → Fits w64 (b + 1)
-branches-fit b h = record { fits = omega arith }
 
 bits-fit : {x n : ℕ} → x ≤ n → n ≤ 1048560 → Fits w64 x
 bits-fit h l = record { fits = omega arith }
@@ -62,95 +59,93 @@ returns c =
     let p = c .before .before .before .before .before .pre in
     sym (last-levels-none (a .image .now) (a .f) (p .0) (p .1) (rw (c .before .before .before .find-level .ensures .start) at (c .if1 .taken)))
 
-add-part : tie.Need-add-part
-add-part c =
-    let a = c .before .before .before .before .before .before .args in
-    let p = c .before .before .before .before .before .before .pre in
-    let r = c .before .before .before .before .find-level in
-    branches-fit (r .result .branches) (next-fits (a .image .now) (a .f) (p .0) (p .1) 62 (shallow (p .0 .frame .levels) .0) (omega arith) (r .result) (r .ensures) (c .before .if1 .left))
-
-level-at-requires : tie.Need-level-at-requires
-level-at-requires c κs =
-    let a = c .before .before .before .before .before .before .args in
-    let p = c .before .before .before .before .before .before .pre in
-    let r = c .before .before .before .before .find-level in
-    (bits-pass (a .image .now) (a .f) (p .0) .louds, r .ensures .level, next-behind (a .image .now) (a .f) (p .0) (p .1) 62 (shallow (p .0 .frame .levels) .0) (omega arith) (r .result) (r .ensures) (c .before .if1 .left))
+level-below-requires : tie.Need-level-below-requires
+level-below-requires c κs =
+    let a = c .before .before .before .before .before .args in
+    let p = c .before .before .before .before .before .pre in
+    let r = c .before .before .before .find-level in
+    let low = shallow (p .0 .frame .levels) .0 in (
+      p .0,
+      r .ensures .level,
+      next-behind (a .image .now) (a .f) (p .0) (p .1) 62 low (omega arith) (r .result) (r .ensures) (c .if1 .left),
+      level-first (a .image .now) (a .f) (p .0) (p .1) 62 low (omega arith) (r .result) (r .ensures) (c .if1 .left),
+    )
 
 first-slot-requires : tie.Need-first-slot-requires
 first-slot-requires c κs =
-    let a = c .before .before .before .before .before .before .before .args in
-    let p = c .before .before .before .before .before .before .before .pre in
-    let r = c .before .before .before .before .before .find-level in
-    let n = c .level-at in
-    rooms (a .image .now) (a .f) (p .0) (p .1) (r .result) (r .ensures) (c .before .before .if1 .left) (n .result) (n .ensures .0) (n .ensures .1) .0
+    let a = c .before .before .before .before .before .before .args in
+    let p = c .before .before .before .before .before .before .pre in
+    let r = c .before .before .before .before .find-level in
+    let n = c .level-below in
+    rooms (a .image .now) (a .f) (p .0) (p .1) (r .result) (r .ensures) (c .before .if1 .left) (n .result) (n .ensures .0) (n .ensures .1) .0
 
 first-slot-requires-2 : tie.Need-first-slot-requires-2
 first-slot-requires-2 c κs =
-    let a = c .before .before .before .before .before .before .before .before .args in
-    let p = c .before .before .before .before .before .before .before .before .pre in
-    let r = c .before .before .before .before .before .before .find-level in
-    let n = c .before .level-at in
-    rooms (a .image .now) (a .f) (p .0) (p .1) (r .result) (r .ensures) (c .before .before .before .if1 .left) (n .result) (n .ensures .0) (n .ensures .1) .1
+    let a = c .before .before .before .before .before .before .before .args in
+    let p = c .before .before .before .before .before .before .before .pre in
+    let r = c .before .before .before .before .before .find-level in
+    let n = c .before .level-below in
+    rooms (a .image .now) (a .f) (p .0) (p .1) (r .result) (r .ensures) (c .before .before .if1 .left) (n .result) (n .ensures .0) (n .ensures .1) .1
 
 mul-bits : tie.Need-mul-bits
 mul-bits c =
-    let a = c .before .before .before .before .before .before .before .before .before .before .args in
-    bits-fit (omega arith) (within (a .image .now) (a .f) (c .before .before .before .before .before .before .before .before .before .before .pre .0 .frame) .slots)
+    let a = c .before .before .before .before .before .before .before .before .before .args in
+    bits-fit (omega arith) (within (a .image .now) (a .f) (c .before .before .before .before .before .before .before .before .before .pre .0 .frame) .slots)
 
 bytes-for-requires : tie.Need-bytes-for-requires
 bytes-for-requires c κs = search needs
 
 part-requires : tie.Need-part-requires
 part-requires c κs =
-    let a = c .before .before .before .before .before .before .before .before .before .before .before .args in
-    rw (c .bytes-for .ensures) (within (a .image .now) (a .f) (c .before .before .before .before .before .before .before .before .before .before .before .pre .0 .frame) .sv)
+    let a = c .before .before .before .before .before .before .before .before .before .before .args in
+    rw (c .bytes-for .ensures) (within (a .image .now) (a .f) (c .before .before .before .before .before .before .before .before .before .before .pre .0 .frame) .sv)
 
 past-clear-requires : tie.Need-past-clear-requires
 past-clear-requires c κs =
-    let a = c .before .before .before .before .before .before .before .before .before .before .before .before .args in
-    let p = c .before .before .before .before .before .before .before .before .before .before .before .before .pre in
+    let a = c .before .before .before .before .before .before .before .before .before .before .before .args in
+    let p = c .before .before .before .before .before .before .before .before .before .before .before .pre in
     let s : Bytes = a .image .now in
     let sv : c .part .result .now ≡ sv-body s (a .f) = lent-part s (a .f .sv) (c .part .ensures) (c .before .bytes-for .ensures) in
-    let r = c .before .before .before .before .before .before .before .before .before .before .find-level in
-    let n = c .before .before .before .before .before .level-at in
-    let t = starts s (a .f) (p .0) (p .1) (r .result) (r .ensures) (c .before .before .before .before .before .before .before .if1 .left) (n .result) (n .ensures .0) (n .ensures .1) in
+    let r = c .before .before .before .before .before .before .before .before .before .find-level in
+    let n = c .before .before .before .before .before .level-below in
+    let t = starts s (a .f) (p .0) (p .1) (r .result) (r .ensures) (c .before .before .before .before .before .before .if1 .left) (n .result) (n .ensures .0) (n .ensures .1) in
     let e = c .before .before .before .first-slot2 .ensures ∙ t .1 in
     rw (sv, e) (slots-sized s (a .f) (p .0 .frame), slots-within s (a .f) (p .0) (p .1))
 
 mul-t9 : tie.Need-mul-t9
 mul-t9 c =
-    let a = c .before .before .before .before .before .before .before .before .before .before .before .before .before .before .before .args in
-    let p = c .before .before .before .before .before .before .before .before .before .before .before .before .before .before .before .pre in
+    let a = c .before .before .before .before .before .before .before .before .before .before .before .before .before .before .args in
+    let p = c .before .before .before .before .before .before .before .before .before .before .before .before .before .before .pre in
     let s : Bytes = a .image .now in
-    let r = c .before .before .before .before .before .before .before .before .before .before .before .before .before .find-level in
-    let n = c .before .before .before .before .before .before .before .before .level-at in
-    let t = starts s (a .f) (p .0) (p .1) (r .result) (r .ensures) (c .before .before .before .before .before .before .before .before .before .before .if1 .left) (n .result) (n .ensures .0) (n .ensures .1) in
+    let r = c .before .before .before .before .before .before .before .before .before .before .before .before .find-level in
+    let n = c .before .before .before .before .before .before .before .before .level-below in
+    let t = starts s (a .f) (p .0) (p .1) (r .result) (r .ensures) (c .before .before .before .before .before .before .before .before .before .if1 .left) (n .result) (n .ensures .0) (n .ensures .1) in
     let e = c .before .before .before .before .before .before .first-slot2 .ensures ∙ t .1 in
     rw e (bits-fit (last-slots-within s (a .f) (p .0) (p .1)) (within s (a .f) (p .0 .frame) .slots))
 
 bits-clear-requires : tie.Need-bits-clear-requires
 bits-clear-requires c κs =
     let part = c .before .before .before .part in
-    let a = c .before .before .before .before .before .before .before .before .before .before .before .before .before .before .before .args in
-    let p = c .before .before .before .before .before .before .before .before .before .before .before .before .before .before .before .pre in
+    let a = c .before .before .before .before .before .before .before .before .before .before .before .before .before .before .args in
+    let p = c .before .before .before .before .before .before .before .before .before .before .before .before .before .before .pre in
     let s : Bytes = a .image .now in
     let sv : part .result .now ≡ sv-body s (a .f) = lent-part s (a .f .sv) (part .ensures) (c .before .before .before .before .bytes-for .ensures) in
-    let r = c .before .before .before .before .before .before .before .before .before .before .before .before .before .find-level in
-    let n = c .before .before .before .before .before .before .before .before .level-at in
-    let t = starts s (a .f) (p .0) (p .1) (r .result) (r .ensures) (c .before .before .before .before .before .before .before .before .before .before .if1 .left) (n .result) (n .ensures .0) (n .ensures .1) in
+    let r = c .before .before .before .before .before .before .before .before .before .before .before .before .find-level in
+    let n = c .before .before .before .before .before .before .before .before .level-below in
+    let t = starts s (a .f) (p .0) (p .1) (r .result) (r .ensures) (c .before .before .before .before .before .before .before .before .before .if1 .left) (n .result) (n .ensures .0) (n .ensures .1) in
     let e = c .before .before .before .before .before .before .first-slot2 .ensures ∙ t .1 in
     rw (sv, e) (last-slots-within s (a .f) (p .0) (p .1), slots-sized s (a .f) (p .0 .frame) .room)
 
 returns-2 : tie.Need-returns-2
 returns-2 c =
     let part = c .before .before .before .before .part in
-    let a = c .before .before .before .before .before .before .before .before .before .before .before .before .before .before .before .before .args in
-    let p = c .before .before .before .before .before .before .before .before .before .before .before .before .before .before .before .before .pre in
+    let a = c .before .before .before .before .before .before .before .before .before .before .before .before .before .before .before .args in
+    let p = c .before .before .before .before .before .before .before .before .before .before .before .before .before .before .before .pre in
     let s : Bytes = a .image .now in
     let sv : part .result .now ≡ sv-body s (a .f) = lent-part s (a .f .sv) (part .ensures) (c .before .before .before .before .before .bytes-for .ensures) in
-    let r = c .before .before .before .before .before .before .before .before .before .before .before .before .before .before .find-level in
-    let n = c .before .before .before .before .before .before .before .before .before .level-at in
-    let t = starts s (a .f) (p .0) (p .1) (r .result) (r .ensures) (c .before .before .before .before .before .before .before .before .before .before .before .if1 .left) (n .result) (n .ensures .0) (n .ensures .1) in
+    let r = c .before .before .before .before .before .before .before .before .before .before .before .before .before .find-level in
+    let n = c .before .before .before .before .before .before .before .before .before .level-below in
+    let t = starts s (a .f) (p .0) (p .1) (r .result) (r .ensures) (c .before .before .before .before .before .before .before .before .before .before .if1 .left) (n .result) (n .ensures .0) (n .ensures .1) in
     let d = c .before .before .before .before .before .before .before .before .first-slot .ensures ∙ t .0 in
     let e = c .before .before .before .before .before .before .before .first-slot2 .ensures ∙ t .1 in
     ap₂ _&&_ (rw sv at (c .before .before .before .past-clear .ensures)) (rw sv at (c .bits-clear .ensures))
@@ -163,8 +158,7 @@ last-levels-clear-spec =
     find-level-requires
     add-if1
     returns
-    add-part
-    level-at-requires
+    level-below-requires
     first-slot-requires
     first-slot-requires-2
     mul-bits
