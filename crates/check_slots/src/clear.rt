@@ -1,11 +1,12 @@
-// Bits and suffix slots that are clear, by counts of ones in words.
+// Bits and suffix slots that are clear: a slot by one read, a run of bits by counts of ones in words.
 ghost use mathlib.Core.Path.{_≡_};
-ghost use Prim.Native.Nat.{_-_, _*_, _≤_};
+ghost use Prim.Native.Nat.{_+_, _-_, _*_, _≤_};
 ghost use lib.ListN.{length};
 ghost use Rattle.check_trie_laws.specs.Positions.{bits};
 ghost use Rattle.check_trie_laws.specs.Ranges.{all-from};
 ghost use Rattle.check_slots_laws.specs.NodeSlots.{slot-clear};
 ghost use Rattle.check_slots_laws.specs.SlotBits.{bits-clear, Slots-sized};
+use bits::numbers::read_from;
 use bits::ones::ones_before;
 use bits::ones::ones_between;
 use image_types::BitPos;
@@ -20,6 +21,15 @@ pub fn bits_clear(s: &[u8], from: BitPos, to: BitPos) -> bool
     ones_between(s, word, to.0) == ones_before(s, word, from.0 % 64)
 }
 
+// Whether none of at most 16 bits of s is set from one position to another, by one read.
+fn few_clear(s: &[u8], from: BitPos, to: BitPos) -> bool
+    requires { ⌜ (from .0 ≤ to .0) × (to .0 ≤ 8 * length (now s)) × (to .0 ≤ from .0 + 16) ⌝ }
+    ensures { λ r. ⌜ r ≡ bits-clear (now (s .entry)) (from .0) (to .0) ⌝ }
+{
+    let word = read_from(s, from.0 / 8) >> (from.0 % 8);
+    word % (1u64 << (to.0 - from.0)) == 0
+}
+
 // Whether a slot, of so many leaves, has no bit set; behind the last slot stand no bits.
 pub fn slot_clear(sv: &[u8], leaves: usize, width: usize, slot: ValuePos) -> bool
     requires { ⌜ Slots-sized (now sv) leaves width ⌝ }
@@ -29,7 +39,7 @@ pub fn slot_clear(sv: &[u8], leaves: usize, width: usize, slot: ValuePos) -> boo
         return true;
     }
     let at = slot.0 * width;
-    bits_clear(sv, BitPos(at), BitPos(at + width))
+    few_clear(sv, BitPos(at), BitPos(at + width))
 }
 
 // Whether the slots from one to another have no bit set behind their first byte.
@@ -43,7 +53,7 @@ pub fn past_clear(sv: &[u8], leaves: usize, width: usize, from: ValuePos, to: Va
     let mut v = from.0;
     while v < to.0 {
         let at = v * width;
-        if !bits_clear(sv, BitPos(at + 8), BitPos(at + width)) {
+        if !few_clear(sv, BitPos(at + 8), BitPos(at + width)) {
             return false;
         }
         v = v + 1;

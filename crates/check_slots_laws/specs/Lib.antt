@@ -8,6 +8,7 @@ pub mod LevelStarts
 pub mod TableEntries
 pub mod DenseSlots
 pub mod SlotBits
+pub mod SlotWords
 pub mod SlotTests
 pub mod LastLevels
 pub mod WordDigits

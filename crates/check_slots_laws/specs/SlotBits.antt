@@ -32,7 +32,8 @@ pub record Slots-sized (sv : Bytes) (leaves width : ℕ) : Type 0 where
   -- the bytes hold them all
   pub room : leaves * width ≤ 8 * length sv
 
-eqb-apart : (x a b : ℕ) → x + a ≡ b → eqb x 0 ≡ eqb a b
+-- a number is zero where two differ by it and are equal
+pub eqb-apart : (x a b : ℕ) → x + a ≡ b → eqb x 0 ≡ eqb a b
 eqb-apart x a b h = go (eqb x 0) refl
   where
     go : (t : Bool) → eqb x 0 ≡ t → t ≡ eqb a b

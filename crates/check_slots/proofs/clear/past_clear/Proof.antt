@@ -33,6 +33,9 @@ inside h l = omega arith
 room : {x n m : ℕ} → x ≤ n → n ≤ m → x ≤ m
 room h l = omega arith
 
+narrow : {w : ℕ} (a : ℕ) → w ≤ 16 → a + w ≤ a + 8 + 16
+narrow a h = omega arith
+
 behind : {w : ℕ} (a : ℕ) → 8 < w → a + 8 ≤ a + w
 behind a h = omega arith
 
@@ -68,13 +71,13 @@ add-t12 c =
     let t = slot-fits (a .leaves) (a .width) (l .v) (inside (c .if2 .taken) (p .1)) (p .0 .few-leaves) (p .0 .narrow) in
     few (l .v * a .width) (a .width) (t .0) (t .1) (l .inv .0) .2
 
-bits-clear-requires : tie.Need-bits-clear-requires Inv-loop μ-loop
-bits-clear-requires c κs =
+few-clear-requires : tie.Need-few-clear-requires Inv-loop μ-loop
+few-clear-requires c κs =
     let a = c .before .before .before .before .before .args in
     let p = c .before .before .before .before .before .pre in
     let l = c .before .before .loop in
     let t = slot-fits (a .leaves) (a .width) (l .v) (inside (c .if2 .taken) (p .1)) (p .0 .few-leaves) (p .0 .narrow) in
-    (behind (l .v * a .width) (l .inv .0), room (t .0) (p .0 .room))
+    (behind (l .v * a .width) (l .inv .0), room (t .0) (p .0 .room), narrow (l .v * a .width) (p .0 .narrow))
 
 returns-2 : tie.Need-returns-2 Inv-loop μ-loop
 returns-2 c =
@@ -83,7 +86,7 @@ returns-2 c =
     let l = c .before .before .before .before .loop in
     let t = c .before .before .if2 .taken in
     sym (l .inv .1 ∙ from-fail (test (a .sv .now) (a .leaves) (a .width)) (l .v) (a .to .0) t
-    (sym (slot-second (a .sv .now) (a .leaves) (a .width) (l .v) (inside t (p .1)) (p .0 .few-leaves) (p .0 .narrow) (l .inv .0)) ∙ sym (c .before .bits-clear .ensures) ∙ not-true _ (c .if3 .taken)))
+    (sym (slot-second (a .sv .now) (a .leaves) (a .width) (l .v) (inside t (p .1)) (p .0 .few-leaves) (p .0 .narrow) (l .inv .0)) ∙ sym (c .before .few-clear .ensures) ∙ not-true _ (c .if3 .taken)))
 
 add-v : tie.Need-add-v Inv-loop μ-loop
 add-v c =
@@ -107,7 +110,7 @@ loop-again c =
     let t = c .before .before .if2 .taken in (
       l .inv .0,
       l .inv .1 ∙ from-step (test (a .sv .now) (a .leaves) (a .width)) (l .v) (a .to .0) t
-          (sym (slot-second (a .sv .now) (a .leaves) (a .width) (l .v) (inside t (p .1)) (p .0 .few-leaves) (p .0 .narrow) (l .inv .0)) ∙ sym (c .before .bits-clear .ensures) ∙ not-false _ (c .if3 .left)),
+          (sym (slot-second (a .sv .now) (a .leaves) (a .width) (l .v) (inside t (p .1)) (p .0 .few-leaves) (p .0 .narrow) (l .inv .0)) ∙ sym (c .before .few-clear .ensures) ∙ not-false _ (c .if3 .left)),
     )
 
 returns-3 : tie.Need-returns-3 Inv-loop μ-loop
@@ -127,7 +130,7 @@ past-clear-spec =
     mul-at
     add-t10
     add-t12
-    bits-clear-requires
+    few-clear-requires
     returns-2
     add-v
     loop-less

@@ -14,6 +14,9 @@ few a w h l = (record { fits = omega arith }, record { fits = omega arith })
 room : {x n m : ℕ} → x ≤ n → n ≤ m → x ≤ m
 room h l = omega arith
 
+narrow : {w : ℕ} (a : ℕ) → w ≤ 16 → a + w ≤ a + 16
+narrow a h = omega arith
+
 returns : tie.Need-returns
 returns c =
     let a = c .before .before .before .args in
@@ -33,18 +36,18 @@ add-t8 c =
     let t = slot-fits (a .leaves) (a .width) (a .slot .0) (c .before .if1 .left) (p .few-leaves) (p .narrow) in
     few (a .slot .0 * a .width) (a .width) (t .0) (t .1) .1
 
-bits-clear-requires : tie.Need-bits-clear-requires
-bits-clear-requires c κs =
+few-clear-requires : tie.Need-few-clear-requires
+few-clear-requires c κs =
     let a = c .before .before .before .before .args in
     let p = c .before .before .before .before .pre in
     let t = slot-fits (a .leaves) (a .width) (a .slot .0) (c .before .if1 .left) (p .few-leaves) (p .narrow) in
-    (omega arith, room (t .0) (p .room))
+    (omega arith, room (t .0) (p .room), narrow (a .slot .0 * a .width) (p .narrow))
 
 returns-2 : tie.Need-returns-2
 returns-2 c =
     let a = c .before .before .before .before .before .args in
     let p = c .before .before .before .before .before .pre in
-    c .bits-clear .ensures ∙ slot-whole (a .sv .now) (a .leaves) (a .width) (a .slot .0) (c .before .before .if1 .left) (p .few-leaves) (p .narrow)
+    c .few-clear .ensures ∙ slot-whole (a .sv .now) (a .leaves) (a .width) (a .slot .0) (c .before .before .if1 .left) (p .few-leaves) (p .narrow)
 
 pub slot-clear-spec : {M : Type 1} → statement M
-slot-clear-spec = tie.close (tie.spec returns mul-at add-t8 bits-clear-requires returns-2)
+slot-clear-spec = tie.close (tie.spec returns mul-at add-t8 few-clear-requires returns-2)

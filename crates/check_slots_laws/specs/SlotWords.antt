@@ -1,0 +1,46 @@
+-- A few zero bits by one 64-bit number.
+use Prim.Native.Nat.{ℕ, zero, suc, _+_, _-_, _*_, _/_, _%_, _^_, _<_, _≤_}
+use mathlib.Core.Path.{_≡_, refl, sym, ap, _∙_}
+use native.Mathlib.Omega.{arith}
+use native.Mathlib.Nat.{mod-lt}
+use lib.ListN.{drop}
+use lib.Dec.{eqb}
+use lib.Pow.{shr-shr, shr-lt, field, mod-mod-pow, pow-pos}
+use lib.Count.{ones, ones-step}
+use borrow.Author.Tests.{ne-eqb}
+use Rattle.spec.specs.Bytes.{Bytes}
+use Rattle.bits_laws.specs.Bits.{rank, value, word}
+use Rattle.bits_laws.specs.RankLaws.{rank-step}
+use Rattle.bits_laws.specs.ValueLaws.{Small, value-drop}
+use Rattle.check_slots_laws.specs.SlotBits.{bits-clear, eqb-apart}
+
+-- a number that is not zero has a one
+ones-some : (k x : ℕ) → x < 2 ^ k → 0 < x → 0 < ones x
+ones-some zero x h l = absurd (omega arith)
+ones-some (suc k) x h l = go (x % 2) refl (λ m. ones-some k (x / 2) (shr-lt k 1 (let w : k + 1 ≡ suc k = omega arith in rw w h)) m)
+  where
+    go : (d : ℕ) → x % 2 ≡ d → (0 < x / 2 → 0 < ones (x / 2)) → 0 < ones x
+    go zero e ih = omega (arith, ones-step x, ih (omega arith))
+    go (suc d) e ih = omega (arith, ones-step x)
+
+-- at most 16 bits from bit a to bit b, by the 64-bit number from a's byte on
+pub few-bits : (s : Bytes) → Small s → (a b : ℕ) → a ≤ b → b ≤ a + 16 → eqb (word s (a / 8) / 2 ^ (a % 8) % 2 ^ (b - a)) 0 ≡ bits-clear s a b
+unfolding word ones
+few-bits s small a b h l =
+    let k : ℕ = b - a in
+    let n : ℕ = value (drop (a / 8) s) in
+    let e : 8 * (a / 8) + a % 8 ≡ a = omega arith in
+    let u : (64 - a % 8) + a % 8 ≡ 64 = omega arith in
+    let v : (64 - a % 8 - k) + k ≡ 64 - a % 8 = omega arith in
+    let m : a + k ≡ b = omega arith in
+    let f : n % 2 ^ 64 / 2 ^ (a % 8) % 2 ^ k ≡ value s / 2 ^ a % 2 ^ k =
+    ap (λ (z : ℕ). n % 2 ^ z / 2 ^ (a % 8) % 2 ^ k) (sym u) ∙ ap (λ (z : ℕ). z % 2 ^ k) (field n (64 - a % 8) (a % 8))
+    ∙ ap (λ (z : ℕ). n / 2 ^ (a % 8) % 2 ^ z % 2 ^ k) (sym v) ∙ mod-mod-pow (n / 2 ^ (a % 8)) (64 - a % 8 - k) k
+    ∙ ap (λ (z : ℕ). z / 2 ^ (a % 8) % 2 ^ k) (sym (value-drop (a / 8) s small)) ∙ ap (λ (z : ℕ). z % 2 ^ k) (shr-shr (value s) (8 * (a / 8)) (a % 8) ∙ ap (λ (z : ℕ). value s / 2 ^ z) e) in
+    let step : ones (value s / 2 ^ a % 2 ^ k) + rank s a ≡ rank s b = omega (arith, rank-step s small a k, ap (rank s) m) in
+    ap (λ (z : ℕ). eqb z 0) f ∙ none (value s / 2 ^ a % 2 ^ k) (ones-some k (value s / 2 ^ a % 2 ^ k) (mod-lt (value s / 2 ^ a) (pow-pos k)))
+    ∙ eqb-apart (ones (value s / 2 ^ a % 2 ^ k)) (rank s a) (rank s b) step
+  where
+    none : (x : ℕ) → (0 < x → 0 < ones x) → eqb x 0 ≡ eqb (ones x) 0
+    none zero p = refl
+    none (suc x) p = ne-eqb (suc x) 0 (λ q. omega arith) ∙ sym (ne-eqb (ones (suc x)) 0 (λ q. omega (arith, p (omega arith))))
