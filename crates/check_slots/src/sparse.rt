@@ -10,6 +10,7 @@ ghost use Rattle.check_slots.specs.Entries.{Sized, Word-of, Entry-of, en
 use super::clear::slot_clear;
 use super::ranks::children_before;
 use super::starts::candidates;
+use super::starts::last_several;
 use bits::numbers::bytes_for;
 use bits::ones::ones_before;
 use bits::parts::part;
@@ -101,8 +102,12 @@ pub fn sparse_clear(image: &[u8], f: Frame) -> bool
     let entries = f.sparse.entries;
     let sl = part(image, f.sl, entries);
     let sb = part(image, f.sb, bytes_for(entries));
+    if entries == 0 {
+        return true;
+    }
+    let last = (entries - 1) / 64;
     let mut number = 0usize;
-    while 64 * number < entries {
+    while number < last {
         let starts = candidates(sl, sb, number);
         if starts != 0 {
             if !word_clear(image, f, number, starts) {
@@ -111,5 +116,5 @@ pub fn sparse_clear(image: &[u8], f: Frame) -> bool
         }
         number = number + 1;
     }
-    true
+    word_clear(image, f, last, last_several(sb, last))
 }

@@ -3,32 +3,37 @@ ghost use mathlib.Core.Path.{_≡_};
 ghost use mathlib.Core.Bool.{true};
 ghost use Prim.Native.Nat.{ℕ, _+_, _*_, _≤_, _<_};
 ghost use lib.ListN.{length, getD};
-ghost use Rattle.bits_laws.specs.Bits.{bit-at};
+ghost use Rattle.check_slots_laws.specs.WordDigits.{lone};
 ghost use Rattle.check_slots_laws.specs.SparseWords.{Several-starts, No-full, Candidates};
 use bits::numbers::read_word;
+use bits::numbers::read64;
 use image_types::EXTRA_LABEL;
 
 // 2^63: the highest bit of a word.
 const HIGHEST_BIT: u64 = 9223372036854775808;
 
-// The lowest bit of the byte of s at an offset, zero where s has ended.
-fn low_bit(s: &[u8], at: usize) -> u64
-    ensures { λ r. ⌜ (r ≡ bit-at (now (s .entry)) (8 * at)) × (r < 2) ⌝ }
+// The set bits of a word whose next bit is not set, the one behind the word given.
+fn lone(word: u64, next: u64) -> u64
+    requires { ⌜ next < 2 ⌝ }
+    ensures { λ r. ⌜ r ≡ lone word next ⌝ }
 {
-    if s.len() <= at {
-        return 0;
-    }
-    (s[at] % 2) as u64
+    word ^ (word & (word / 2 + next * HIGHEST_BIT))
 }
 
-// The starts of nodes with several entries in word q of S-LOUDS: set bits whose next bit is not set.
+// The starts of nodes with several entries in word q of S-LOUDS, behind which it has a bit more.
 fn several(sb: &[u8], q: usize) -> u64
-    requires { ⌜ q * 8 < length (now sb) ⌝ }
+    requires { ⌜ q * 8 + 8 < length (now sb) ⌝ }
     ensures { λ r. ⌜ Several-starts (now (sb .entry)) q r ⌝ }
 {
-    let w = read_word(sb, q);
-    let next = low_bit(sb, q * 8 + 8);
-    w ^ (w & (w / 2 + next * HIGHEST_BIT))
+    lone(read64(sb, q * 8), (sb[q * 8 + 8] % 2) as u64)
+}
+
+// The starts of nodes with several entries in the last word of S-LOUDS, by its number.
+pub fn last_several(sb: &[u8], q: usize) -> u64
+    requires { ⌜ (q * 8 ≤ length (now sb)) × (length (now sb) ≤ q * 8 + 8) ⌝ }
+    ensures { λ r. ⌜ Several-starts (now (sb .entry)) q r ⌝ }
+{
+    lone(read_word(sb, q), 0)
 }
 
 // Whether none of the 64 labels from at on is FF, by the greatest of them.
@@ -67,17 +72,14 @@ fn none_extra(sl: &[u8], q: usize, starts: u64) -> bool
     true
 }
 
-// The starts of nodes with several entries in word q, or none where none of them has the label FF. Most words have no label FF at all, or no such start.
+// The starts of nodes with several entries in a word behind which S-LOUDS has a bit more, or none where none of them has the label FF. Most words have no such start, or no label FF at all.
 pub fn candidates(sl: &[u8], sb: &[u8], q: usize) -> u64
-    requires { ⌜ (64 * q ≤ length (now sl)) × (q * 8 < length (now sb)) ⌝ }
+    requires { ⌜ (64 * q + 64 ≤ length (now sl)) × (q * 8 + 8 < length (now sb)) ⌝ }
     ensures { λ r. ⌜ Candidates (now (sl .entry)) (now (sb .entry)) q r ⌝ }
 {
     let starts = several(sb, q);
     if starts == 0 {
         return 0;
-    }
-    if sl.len() - 64 * q < 64 {
-        return starts;
     }
     if none_full(sl, 64 * q) {
         return 0;

@@ -16,43 +16,31 @@ returns c =
     let s = c .before .several in
     rw (c .if1 .taken) at (all-starts (a .sl .now) (a .sb .now) (a .q) (s .result) (s .ensures))
 
-mul-if2 : tie.Need-mul-if2
-mul-if2 c = search needs
-
-sub-if2 : tie.Need-sub-if2
-sub-if2 c = search needs
-
-returns-2 : tie.Need-returns-2
-returns-2 c =
-    let a = c .before .before .before .before .before .args in
-    let s = c .before .before .several in
-    all-starts (a .sl .now) (a .sb .now) (a .q) (s .result) (s .ensures)
-
 mul-none-full : tie.Need-mul-none-full
 mul-none-full c = search needs
 
 none-full-requires : tie.Need-none-full-requires
 none-full-requires c κs = search needs
 
-returns-3 : tie.Need-returns-3
-returns-3 c =
-    let a = c .before .before .before .before .before .before .before .args in
-    let s = c .before .before .before .before .several in
-    no-starts (a .sl .now) (a .sb .now) (a .q) (s .result) (s .ensures) (λ j l d e. omega (arith, c .before .none-full .ensures (c .if3 .taken) j l))
+returns-2 : tie.Need-returns-2
+returns-2 c =
+    let a = c .before .before .before .before .before .before .args in
+    let s = c .before .before .before .several in
+    no-starts (a .sl .now) (a .sb .now) (a .q) (s .result) (s .ensures) (λ j l d e. omega (arith, c .before .none-full .ensures (c .if2 .taken) j l))
 
 none-extra-requires : tie.Need-none-extra-requires
 none-extra-requires c κs = search needs
 
+returns-3 : tie.Need-returns-3
+returns-3 c =
+    let a = c .before .before .before .before .before .before .before .before .args in
+    let s = c .before .before .before .before .before .several in
+    no-starts (a .sl .now) (a .sb .now) (a .q) (s .result) (s .ensures) (c .before .none-extra .ensures (c .if3 .taken))
+
 returns-4 : tie.Need-returns-4
 returns-4 c =
-    let a = c .before .before .before .before .before .before .before .before .before .args in
-    let s = c .before .before .before .before .before .before .several in
-    no-starts (a .sl .now) (a .sb .now) (a .q) (s .result) (s .ensures) (c .before .none-extra .ensures (c .if4 .taken))
-
-returns-5 : tie.Need-returns-5
-returns-5 c =
-    let a = c .before .before .before .before .before .before .before .before .before .args in
-    let s = c .before .before .before .before .before .before .several in
+    let a = c .before .before .before .before .before .before .before .before .args in
+    let s = c .before .before .before .before .before .several in
     all-starts (a .sl .now) (a .sb .now) (a .q) (s .result) (s .ensures)
 
 pub candidates-spec : {M : Type 1} → statement M
@@ -61,12 +49,9 @@ candidates-spec =
     (tie.spec
     several-requires
     returns
-    mul-if2
-    sub-if2
-    returns-2
     mul-none-full
     none-full-requires
-    returns-3
+    returns-2
     none-extra-requires
-    returns-4
-    returns-5)
+    returns-3
+    returns-4)
