@@ -1,4 +1,4 @@
-// Bits and suffix slots that are clear: a slot by one read, a run of bits by counts of ones in words.
+// Bits and suffix slots that are clear: a slot by one read, a run of bits by its bytes.
 ghost use mathlib.Core.Path.{_≡_};
 ghost use Prim.Native.Nat.{_+_, _-_, _*_, _≤_};
 ghost use lib.ListN.{length};
@@ -6,20 +6,10 @@ ghost use Rattle.check_trie_laws.specs.Positions.{bits};
 ghost use Rattle.check_trie_laws.specs.Ranges.{all-from};
 ghost use Rattle.check_slots_laws.specs.NodeSlots.{slot-clear};
 ghost use Rattle.check_slots_laws.specs.SlotBits.{bits-clear, Slots-sized};
+use bits::numbers::bytes_for;
 use bits::numbers::read_from;
-use bits::ones::ones_before;
-use bits::ones::ones_between;
 use image_types::BitPos;
 use image_types::ValuePos;
-
-// Whether no bit of s is set from one position to another.
-pub fn bits_clear(s: &[u8], from: BitPos, to: BitPos) -> bool
-    requires { ⌜ (from .0 ≤ to .0) × (to .0 ≤ 8 * length (now s)) ⌝ }
-    ensures { λ r. ⌜ r ≡ bits-clear (now (s .entry)) (from .0) (to .0) ⌝ }
-{
-    let word = from.0 / 64;
-    ones_between(s, word, to.0) == ones_before(s, word, from.0 % 64)
-}
 
 // Whether none of at most 16 bits of s is set from one position to another, by one read.
 fn few_clear(s: &[u8], from: BitPos, to: BitPos) -> bool
@@ -28,6 +18,38 @@ fn few_clear(s: &[u8], from: BitPos, to: BitPos) -> bool
 {
     let word = read_from(s, from.0 / 8) >> (from.0 % 8);
     word % (1u64 << (to.0 - from.0)) == 0
+}
+
+// Whether the bytes of s from one offset to another are zero, by the greatest of them.
+fn bytes_clear(s: &[u8], from: usize, to: usize) -> bool
+    requires { ⌜ (from ≤ to) × (to ≤ length (now s)) ⌝ }
+    ensures { λ r. ⌜ r ≡ bits-clear (now (s .entry)) (8 * from) (8 * to) ⌝ }
+{
+    let mut greatest = 0u8;
+    let mut i = from;
+    while i < to {
+        let byte = s[i];
+        if greatest < byte {
+            greatest = byte;
+        }
+        i = i + 1;
+    }
+    greatest == 0
+}
+
+// Whether no bit of s is set from one position to another: the whole bytes between them, and the bits before and behind these.
+pub fn bits_clear(s: &[u8], from: BitPos, to: BitPos) -> bool
+    requires { ⌜ (from .0 ≤ to .0) × (to .0 ≤ 8 * length (now s)) ⌝ }
+    ensures { λ r. ⌜ r ≡ bits-clear (now (s .entry)) (from .0) (to .0) ⌝ }
+{
+    let first = bytes_for(from.0);
+    let last = to.0 / 8;
+    if last < first {
+        return few_clear(s, from, to);
+    }
+    few_clear(s, from, BitPos(8 * first))
+        & bytes_clear(s, first, last)
+        & few_clear(s, BitPos(8 * last), to)
 }
 
 // Whether a slot, of so many leaves, has no bit set; behind the last slot stand no bits.

@@ -77,7 +77,8 @@ module _ (s : Bytes) (n w : ℕ) where
   unfolding clear
   slot-within m v h = behind m (take w (drop (v * w) (bits s n))) ∙ ap clear (drop-of-length-le (take w (drop (v * w) (bits s n))) {i = 8 * m} (omega (arith, length-take w (drop (v * w) (bits s n)))))
 
-bits-parts : (s : Bytes) (a b c : ℕ) → a ≤ b → b ≤ c → bits-clear s a b && bits-clear s b c ≡ bits-clear s a c
+-- a run in two parts
+pub bits-parts : (s : Bytes) (a b c : ℕ) → a ≤ b → b ≤ c → bits-clear s a b && bits-clear s b c ≡ bits-clear s a c
 bits-parts s a b c h l = go (eqb (rank s a) (rank s b)) refl
   where
     go : (t : Bool) → eqb (rank s a) (rank s b) ≡ t → t && bits-clear s b c ≡ bits-clear s a c
@@ -101,14 +102,6 @@ slots-bits s n w (suc k) v h =
     up : (a k : ℕ) → a * w ≤ (a + k) * w
     up a zero = let e : a + 0 ≡ a = omega arith in rw e (omega arith)
     up a (suc k) = let e : a + suc k ≡ suc (a + k) = omega arith in rw e (omega (arith, up a k, suc-mul (a + k) w))
-
--- a run is clear where as many ones stand before its end as before its start, both counted on from one place
-pub bits-counted : (s : Bytes) (a b base low ones : ℕ) → rank s a ≡ base + low → rank s b ≡ base + ones → eqb ones low ≡ bits-clear s a b
-bits-counted s a b base low ones h l = go (eqb ones low) refl
-  where
-    go : (t : Bool) → eqb ones low ≡ t → t ≡ bits-clear s a b
-    go true e = sym (eq-eqb (rank s a) (rank s b) (omega (arith, eqb-true ones low e)))
-    go false e = sym (ne-eqb (rank s a) (rank s b) (λ q. eqb-false ones low e (omega arith)))
 
 -- a slot among so many ends within their bits, which are few
 pub slot-fits : (leaves w v : ℕ) → v < leaves → leaves ≤ 65535 → w ≤ 16 → (v * w + w ≤ leaves * w) × (leaves * w ≤ 1048560)

@@ -1,18 +1,19 @@
--- A few zero bits by one 64-bit number.
+-- Zero bits by bytes: a few by one 64-bit number, a run by the greatest of its bytes.
 use Prim.Native.Nat.{ℕ, zero, suc, _+_, _-_, _*_, _/_, _%_, _^_, _<_, _≤_}
-use mathlib.Core.Path.{_≡_, refl, sym, ap, _∙_}
+use mathlib.Core.Path.{_≡_, refl, sym, ap, ap₂, _∙_}
+use mathlib.Core.Bool.{Bool, true, false, _&&_}
 use native.Mathlib.Omega.{arith}
 use native.Mathlib.Nat.{mod-lt}
-use lib.ListN.{drop}
+use lib.ListN.{getD, drop}
 use lib.Dec.{eqb}
 use lib.Pow.{shr-shr, shr-lt, field, mod-mod-pow, pow-pos}
 use lib.Count.{ones, ones-step}
-use borrow.Author.Tests.{ne-eqb}
+use borrow.Author.Tests.{eqb-true, eq-eqb, ne-eqb}
 use Rattle.spec.specs.Bytes.{Bytes}
 use Rattle.bits_laws.specs.Bits.{rank, value, word}
 use Rattle.bits_laws.specs.RankLaws.{rank-step}
-use Rattle.bits_laws.specs.ValueLaws.{Small, value-drop}
-use Rattle.check_slots_laws.specs.SlotBits.{bits-clear, eqb-apart}
+use Rattle.bits_laws.specs.ValueLaws.{Small, value-drop, value-byte}
+use Rattle.check_slots_laws.specs.SlotBits.{bits-clear, bits-parts, eqb-apart}
 
 -- a number that is not zero has a one
 ones-some : (k x : ℕ) → x < 2 ^ k → 0 < x → 0 < ones x
@@ -44,3 +45,34 @@ few-bits s small a b h l =
     none : (x : ℕ) → (0 < x → 0 < ones x) → eqb x 0 ≡ eqb (ones x) 0
     none zero p = refl
     none (suc x) p = ne-eqb (suc x) 0 (λ q. omega arith) ∙ sym (ne-eqb (ones (suc x)) 0 (λ q. omega (arith, p (omega arith))))
+
+-- the bits of a byte
+clear-byte : (s : Bytes) → Small s → (i : ℕ) → bits-clear s (8 * i) (8 * (i + 1)) ≡ eqb (getD s i 0) 0
+unfolding word
+clear-byte s small i =
+    let a : 8 * i / 8 ≡ i = omega arith in
+    let b : 8 * i % 8 ≡ 0 = omega arith in
+    let d : 8 * (i + 1) - 8 * i ≡ 8 = omega arith in
+    let e : value (drop i s) % 2 ^ 64 / 2 ^ 0 % 2 ^ 8 ≡ getD s i 0 = omega (arith, value-byte i s small) in
+    sym (few-bits s small (8 * i) (8 * (i + 1)) (omega arith) (omega arith)) ∙ rw (a, b, d) (ap (λ (n : ℕ). eqb n 0) e)
+
+-- the bytes before i are zero by the greatest of them, and the byte at i is at most the greater of both
+module _ (s : Bytes) (small : Small s) (from i g : ℕ) (h : from ≤ i) (e : eqb g 0 ≡ bits-clear s (8 * from) (8 * i)) where
+  next-byte : bits-clear s (8 * from) (8 * (i + 1)) ≡ eqb g 0 && eqb (getD s i 0) 0
+  next-byte = sym (bits-parts s (8 * from) (8 * i) (8 * (i + 1)) (omega arith) (omega arith)) ∙ ap₂ _&&_ (sym e) (clear-byte s small i)
+
+  -- the byte at i is greater
+  pub byte-greater : g < getD s i 0 → eqb (getD s i 0) 0 ≡ bits-clear s (8 * from) (8 * (i + 1))
+  byte-greater l = go (eqb g 0) ∙ sym next-byte
+    where
+      go : (t : Bool) → eqb (getD s i 0) 0 ≡ t && eqb (getD s i 0) 0
+      go true = refl
+      go false = ne-eqb (getD s i 0) 0 (λ z. absurd (omega arith))
+
+  -- it is not
+  pub byte-smaller : getD s i 0 ≤ g → eqb g 0 ≡ bits-clear s (8 * from) (8 * (i + 1))
+  byte-smaller l = go (eqb g 0) refl ∙ sym next-byte
+    where
+      go : (t : Bool) → eqb g 0 ≡ t → t ≡ t && eqb (getD s i 0) 0
+      go true p = sym (eq-eqb (getD s i 0) 0 (omega (arith, eqb-true g 0 p)))
+      go false p = refl
