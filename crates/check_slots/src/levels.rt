@@ -17,13 +17,11 @@ use check_trie_laws::Level;
 use image_types::BitPos;
 use image_types::Frame;
 use image_types::NodeNum;
+use image_types::SAMPLE_RATE;
 use image_types::ValuePos;
 
 // The level whose slots may have bits past the 64th byte behind their first byte; all bits of the slots on the level below it are past that byte.
 const LEVEL_BEFORE_LAST: usize = 62;
-
-// The sparse nodes for which TS has one sample.
-const SAMPLE_NODES: usize = 64;
 
 // From where the level that starts at a node is found: the last sampled node at or before it, as a level, or one before it where that comes later. A sample gives the first entry of every 64th sparse node.
 fn level_near(image: &[u8], f: Frame, from: Level, node: NodeNum) -> Level
@@ -31,8 +29,8 @@ fn level_near(image: &[u8], f: Frame, from: Level, node: NodeNum) -> Level
     ensures { λ r. ⌜ LevelOf (now (image .entry)) f r × Behind f r (node .0) ⌝ }
 {
     let last = f.dense.nodes + f.sparse.nodes - 1;
-    let sample = (smaller(node.0, last) - f.dense.nodes) / SAMPLE_NODES;
-    let first = f.dense.nodes + SAMPLE_NODES * sample;
+    let sample = (smaller(node.0, last) - f.dense.nodes) / SAMPLE_RATE;
+    let first = f.dense.nodes + SAMPLE_RATE * sample;
     if first <= from.node.0 {
         return from;
     }

@@ -10,12 +10,8 @@ use bits::ones::rank_from;
 use bits::parts::part;
 use image_types::BitPos;
 use image_types::Frame;
-
-// The entries, and so the bits of S-HasChild, for which RS has one table entry.
-const BLOCK_ENTRIES: usize = 512;
-
-// The 64-bit words of a block.
-const BLOCK_WORDS: usize = 8;
+use image_types::SPARSE_BLOCK_BITS;
+use image_types::SPARSE_BLOCK_WORDS;
 
 // The sparse entries that continue before the one at a position: those before its block by RS, and those in it by at most eight words of S-HasChild.
 pub fn children_before(image: &[u8], f: Frame, at: BitPos) -> usize
@@ -23,7 +19,7 @@ pub fn children_before(image: &[u8], f: Frame, at: BitPos) -> usize
     ensures { λ r. ⌜ r ≡ rank (sc-body (now (image .entry)) f) (at .0) ⌝ }
 {
     let sc = part(image, f.sc, bytes_for(f.sparse.entries));
-    let block = at.0 / BLOCK_ENTRIES;
+    let block = at.0 / SPARSE_BLOCK_BITS;
     let before = read32(image, f.rs + 4 * block);
-    rank_from(sc, BLOCK_WORDS * block, before, at.0)
+    rank_from(sc, SPARSE_BLOCK_WORDS * block, before, at.0)
 }
