@@ -4,7 +4,7 @@ ghost use mathlib.Core.Bool.{true};
 ghost use Prim.Native.Nat.{ℕ, _+_, _*_, _≤_, _<_};
 ghost use lib.ListN.{length, getD};
 ghost use Rattle.check_slots_laws.specs.WordDigits.{lone};
-ghost use Rattle.check_slots_laws.specs.SparseWords.{Several-starts, No-full, Candidates};
+ghost use Rattle.check_slots_laws.specs.SparseWords.{Several-starts, Full-kept, Candidates};
 use bits::numbers::read_word;
 use bits::numbers::read64;
 use image_types::EXTRA_LABEL;
@@ -53,26 +53,23 @@ fn none_full(sl: &[u8], at: usize) -> bool
     greatest < EXTRA_LABEL
 }
 
-// Whether none of some entries of word q, given by their bits, has the label FF.
-fn none_extra(sl: &[u8], q: usize, starts: u64) -> bool
+// Of some entries of word q, given by their bits, those from the first with the label FF on, or none where none has it.
+fn from_full(sl: &[u8], q: usize, starts: u64) -> u64
     requires { ⌜ 64 * q + 64 ≤ length (now sl) ⌝ }
-    ensures { λ r. ⌜ (r ≡ true → No-full (now (sl .entry)) q starts) ⌝ }
+    ensures { λ r. ⌜ Full-kept (now (sl .entry)) q starts r ⌝ }
 {
     let mut rest = starts;
-    let mut j = 0usize;
     while rest != 0 {
-        let step = u64::trailing_zeros(rest) as usize;
-        let at = j + step;
+        let at = u64::trailing_zeros(rest) as usize;
         if sl[64 * q + at] == EXTRA_LABEL {
-            return false;
+            return rest;
         }
-        rest = (rest >> step) / 2;
-        j = at + 1;
+        rest = rest - (1u64 << at);
     }
-    true
+    0
 }
 
-// The starts of nodes with several entries in a word behind which S-LOUDS has a bit more, or none where none of them has the label FF. Most words have no such start, or no label FF at all.
+// Of the starts of nodes with several entries in a word behind which S-LOUDS has a bit more, those from the first with the label FF on. Most words have no such start, or no label FF at all.
 pub fn candidates(sl: &[u8], sb: &[u8], q: usize) -> u64
     requires { ⌜ (64 * q + 64 ≤ length (now sl)) × (q * 8 + 8 < length (now sb)) ⌝ }
     ensures { λ r. ⌜ Candidates (now (sl .entry)) (now (sb .entry)) q r ⌝ }
@@ -84,8 +81,5 @@ pub fn candidates(sl: &[u8], sb: &[u8], q: usize) -> u64
     if none_full(sl, 64 * q) {
         return 0;
     }
-    if none_extra(sl, q, starts) {
-        return 0;
-    }
-    starts
+    from_full(sl, q, starts)
 }

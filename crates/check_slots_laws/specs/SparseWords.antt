@@ -8,14 +8,14 @@ use lib.ListN.{getD}
 use lib.Dec.{eqb, ltb}
 use lib.Bits.{bitAnd, xor-lt, and-le-l}
 use lib.Count.{trailingZeros}
-use borrow.Author.Tests.{eqb-true, lt-ltb, le-ltb}
+use borrow.Author.Tests.{eqb-true, ltb-true, ltb-false, lt-ltb, le-ltb}
 use Rattle.spec.specs.Bytes.{Bytes, bit}
 use Rattle.bits_laws.specs.Bits.{bit-at, word}
 use Rattle.bits_laws.specs.ValueLaws.{Small, word-lt}
 use Rattle.check_trie_laws.specs.Positions.{is-set}
 use Rattle.check_trie_laws.specs.Ranges.{all-from, from-skip, from-fail, from-step}
 use Rattle.check_slots_laws.specs.SparseExact.{sparse-slot, sparse-exact}
-use Rattle.check_slots_laws.specs.WordDigits.{digit, digits-end, lowest-set, lowest-within, lowest-clear, lone, lone-is}
+use Rattle.check_slots_laws.specs.WordDigits.{digit, trailing-clear, kept-low, kept-high, lowest-less, digits-end, lowest-set, lowest-within, lowest-clear, lone, lone-is}
 
 -- x has the starts of nodes with several entries in word q of S-LOUDS
 pub record Several-starts (sb : Bytes) (q x : ℕ) : Type 0 where
@@ -32,9 +32,41 @@ starts-are s small q w next e h =
       is = λ j m. ap (λ (v : ℕ). digit (lone v next) j) e ∙ lone-is s small q next j (h ∙ ap (bit-at s) k) m;
     }
 
--- no entry that x has is labelled FF
-abbrev pub No-full : Bytes → ℕ → ℕ → Type 0
-No-full sl q x = (j : ℕ) → j < 64 → digit x j ≡ 1 → getD sl (64 * q + j) 0 ≡ 255 → ⊥
+-- y has some of the entries that x has, and at least those with the label FF
+pub record Full-kept (sl : Bytes) (q x y : ℕ) : Type 0 where
+  pub few : y < 2 ^ 64
+  pub some : (j : ℕ) → j < 64 → digit y j ≡ 1 → digit x j ≡ 1
+  pub others : (j : ℕ) → j < 64 → digit y j ≡ 0 → digit x j ≡ 1 → getD sl (64 * q + j) 0 ≡ 255 → ⊥
+
+module _ (sl : Bytes) (q x : ℕ) where
+  -- all of them
+  pub all-kept : x < 2 ^ 64 → Full-kept sl q x x
+  all-kept h = record { few = h; some = λ j l d. d; others = λ j l d e f. absurd (omega arith) }
+
+  -- none, where none has the label FF
+  pub none-kept : ((j : ℕ) → j < 64 → digit x j ≡ 1 → getD sl (64 * q + j) 0 ≡ 255 → ⊥) → Full-kept sl q x 0
+  none-kept h = record { few = omega arith; some = λ j l d. absurd (omega (arith, d, zero-div (2 ^ j))); others = λ j l d. h j l }
+
+  -- one less, the lowest, which has another label
+  pub one-less : (y : ℕ) → Full-kept sl q x y → (y ≡ 0 → ⊥) → (getD sl (64 * q + trailingZeros 64 y) 0 ≡ 255 → ⊥) → Full-kept sl q x (y - 2 ^ trailingZeros 64 y)
+  one-less y k some h = record { few = omega (arith, k .few); some = λ i l d. kept i l d (ltb i (t + 1)) refl; others = λ i l d. lost i l d (ltb i (t + 1)) refl (ltb i t) refl }
+    where
+      t : ℕ
+      t = trailingZeros 64 y
+
+      is : y - 2 ^ t ≡ y / 2 ^ (t + 1) * 2 ^ (t + 1)
+      is = lowest-less y (k .few) some .1
+
+      kept : (i : ℕ) → i < 64 → digit (y - 2 ^ t) i ≡ 1 → (b : Bool) → ltb i (t + 1) ≡ b → digit x i ≡ 1
+      kept i l d true e = absurd (omega (arith, d, ap (λ (n : ℕ). digit n i) is, kept-low y (t + 1) i (ltb-true i (t + 1) e)))
+      kept i l d false e = k .some i l (sym (kept-high y (t + 1) i (ltb-false i (t + 1) e)) ∙ ap (λ (n : ℕ). digit n i) (sym is) ∙ d)
+
+      lost : (i : ℕ) → i < 64 → digit (y - 2 ^ t) i ≡ 0 → (b : Bool) → ltb i (t + 1) ≡ b → (c : Bool) → ltb i t ≡ c → digit x i ≡ 1 → getD sl (64 * q + i) 0 ≡ 255 → ⊥
+      lost i l d b e true f g u = k .others i l (trailing-clear 64 y i (ltb-true i t f)) g u
+      lost i l d true e false f g u =
+          let w : i ≡ t = omega (arith, ltb-true i (t + 1) e, ltb-false i t f) in
+          h (rw w at u)
+      lost i l d false e false f g u = k .others i l (sym (kept-high y (t + 1) i (ltb-false i (t + 1) e)) ∙ ap (λ (n : ℕ). digit n i) (sym is) ∙ d) g u
 
 -- x has some of the starts, and at least those with the label FF
 pub record Candidates (sl sb : Bytes) (q x : ℕ) : Type 0 where
@@ -42,37 +74,23 @@ pub record Candidates (sl sb : Bytes) (q x : ℕ) : Type 0 where
   pub starts : (j : ℕ) → j < 64 → digit x j ≡ 1 → (is-set sb (64 * q + j) && not (is-set sb (64 * q + j + 1))) ≡ true
   pub others : (j : ℕ) → j < 64 → digit x j ≡ 0 → (is-set sb (64 * q + j) && not (is-set sb (64 * q + j + 1)) && eqb (getD sl (64 * q + j) 0) 255) ≡ false
 
-module _ (sl sb : Bytes) (q x : ℕ) (s : Several-starts sb q x) where
-  -- all starts
-  pub all-starts : Candidates sl sb q x
-  all-starts = record {
-    few = s .few;
-    starts = λ j l d. set (is-set sb (64 * q + j) && not (is-set sb (64 * q + j + 1))) (sym (s .is j l) ∙ d);
-    others = λ j l d. clear (is-set sb (64 * q + j)) (not (is-set sb (64 * q + j + 1))) (eqb (getD sl (64 * q + j) 0) 255) (sym (s .is j l) ∙ d);
-  }
-    where
-      set : (a : Bool) → bit a ≡ 1 → a ≡ true
-      set true h = refl
-      set false h = absurd (omega arith)
+-- so have the starts that are kept
+pub starts-kept : (sl sb : Bytes) (q x y : ℕ) → Several-starts sb q x → Full-kept sl q x y → Candidates sl sb q y
+starts-kept sl sb q x y s k = record {
+  few = k .few;
+  starts = λ j l d. set (is-set sb (64 * q + j) && not (is-set sb (64 * q + j + 1))) (sym (s .is j l) ∙ k .some j l d);
+  others = λ j l d. other j (is-set sb (64 * q + j)) (not (is-set sb (64 * q + j + 1))) (eqb (getD sl (64 * q + j) 0) 255) refl (λ e. k .others j l d (s .is j l ∙ ap bit e));
+}
+  where
+    set : (a : Bool) → bit a ≡ 1 → a ≡ true
+    set true h = refl
+    set false h = absurd (omega arith)
 
-      clear : (a b t : Bool) → bit (a && b) ≡ 0 → (a && b && t) ≡ false
-      clear false b t h = refl
-      clear true false t h = refl
-      clear true true t h = absurd (omega arith)
-
-  -- none, where none is labelled FF
-  pub no-starts : No-full sl q x → Candidates sl sb q 0
-  no-starts n = record {
-    few = omega arith;
-    starts = λ j l d. absurd (omega (arith, d, zero-div (2 ^ j)));
-    others = λ j l d. other j (is-set sb (64 * q + j)) (not (is-set sb (64 * q + j + 1))) (eqb (getD sl (64 * q + j) 0) 255) refl (λ e. n j l (s .is j l ∙ ap bit e));
-  }
-    where
-      other : (j : ℕ) (a b t : Bool) → eqb (getD sl (64 * q + j) 0) 255 ≡ t → ((a && b) ≡ true → getD sl (64 * q + j) 0 ≡ 255 → ⊥) → (a && b && t) ≡ false
-      other j false b t e h = refl
-      other j true false t e h = refl
-      other j true true false e h = refl
-      other j true true true e h = absurd (h refl (eqb-true (getD sl (64 * q + j) 0) 255 e))
+    other : (j : ℕ) (a b t : Bool) → eqb (getD sl (64 * q + j) 0) 255 ≡ t → ((a && b) ≡ true → getD sl (64 * q + j) 0 ≡ 255 → ⊥) → (a && b && t) ≡ false
+    other j false b t e h = refl
+    other j true false t e h = refl
+    other j true true false e h = refl
+    other j true true true e h = absurd (h refl (eqb-true (getD sl (64 * q + j) 0) 255 e))
 
 -- the numbers from i to k of those up to n were judged: all pass, or one of them fails
 pub record Range-judged (f : ℕ → Bool) (i k n : ℕ) (r : Bool) : Type 0 where

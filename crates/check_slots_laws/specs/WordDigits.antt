@@ -3,11 +3,11 @@ use Prim.Native.Nat.{ℕ, zero, suc, _+_, _-_, _*_, _/_, _%_, _^_, _<_, _≤_}
 use mathlib.Core.Path.{_≡_, refl, sym, ap, ap₂, _∙_}
 use mathlib.Core.Bool.{Bool, true, false, _&&_, not}
 use native.Mathlib.Omega.{arith}
-use native.Mathlib.Nat.{mod-lt, zero-lt-suc, div-eq-of-lt, zero-div}
+use native.Mathlib.Nat.{mod-lt, mul-assoc, suc-mul, pow-suc, zero-lt-suc, div-eq-of-lt, zero-div}
 use lib.ListN.{getD}
 use lib.Dec.{eqb, ltb}
-use lib.Pow.{shr-shr, high, low, shr-lt, shr-le, pow-mono, field, mod-mod-pow}
-use lib.Bits.{bitAnd, bitXor, and-shr, and-mod, xor-shr, xor-mod}
+use lib.Pow.{shr-shr, shl-shr, high, low, shr-lt, shr-le, pow-add, pow-mono, field, mod-mod-pow}
+use lib.Bits.{bitAnd, bitXor, and-shr, and-mod, xor-shr, xor-mod, shifted-even}
 use lib.Count.{trailingZeros, trailing-le, under}
 use borrow.Author.Tests.{ltb-true, ltb-false}
 use Rattle.spec.specs.Bytes.{Bytes, bit}
@@ -25,7 +25,7 @@ digit-half x j = let w : 1 + j ≡ suc j = omega arith in ap (λ (n : ℕ). n % 
 -- ---- the lowest set digit
 
 -- no digit below it is set
-trailing-clear : (k x j : ℕ) → j < trailingZeros k x → digit x j ≡ 0
+pub trailing-clear : (k x j : ℕ) → j < trailingZeros k x → digit x j ≡ 0
 unfolding trailingZeros
 trailing-clear zero x j h = absurd (omega arith)
 trailing-clear (suc k) x j h = go (x % 2) refl j h (λ i l. trailing-clear k (x / 2) i l)
@@ -109,6 +109,60 @@ module _ (x j y : ℕ) (is : y ≡ x / 2 ^ j) where
     lowest-rest =
         let w : j + t + 1 ≡ j + (t + 1) = omega arith in
         shr-shr y t 1 ∙ ap (λ (k : ℕ). k / 2 ^ (t + 1)) is ∙ shr-shr x j (t + 1) ∙ ap (λ (k : ℕ). x / 2 ^ k) (sym w)
+
+-- ---- the digits of x from j on, at their places
+
+module _ (x j : ℕ) where
+  -- those before j are not set
+  pub kept-low : (i : ℕ) → i < j → digit (x / 2 ^ j * 2 ^ j) i ≡ 0
+  kept-low i h =
+      let e : suc (j - i - 1) + i ≡ j = omega arith in
+      ap (λ (k : ℕ). x / 2 ^ j * 2 ^ k / 2 ^ i % 2) (sym e)
+      ∙ ap (λ (n : ℕ). n / 2 ^ i % 2) (ap (λ (n : ℕ). x / 2 ^ j * n) (pow-add 2 (suc (j - i - 1)) i) ∙ sym (mul-assoc (x / 2 ^ j) (2 ^ suc (j - i - 1)) (2 ^ i)))
+      ∙ ap (λ (n : ℕ). n % 2) (shl-shr (x / 2 ^ j * 2 ^ suc (j - i - 1)) i) ∙ shifted-even (x / 2 ^ j) (j - i - 1)
+
+  -- the others are those of x
+  pub kept-high : (i : ℕ) → j ≤ i → digit (x / 2 ^ j * 2 ^ j) i ≡ digit x i
+  kept-high i h =
+      let e : j + (i - j) ≡ i = omega arith in
+      ap (digit (x / 2 ^ j * 2 ^ j)) (sym e) ∙ ap (λ (n : ℕ). n % 2) (sym (shr-shr (x / 2 ^ j * 2 ^ j) j (i - j))) ∙ ap (λ (n : ℕ). n / 2 ^ (i - j) % 2) (shl-shr (x / 2 ^ j) j)
+      ∙ ap (λ (n : ℕ). n % 2) (shr-shr x j (i - j)) ∙ ap (digit x) e
+
+-- one place further is twice as much
+shift-suc : (a k : ℕ) → a * 2 ^ suc k ≡ a * 2 ^ k * 2
+shift-suc a k = ap (λ (x : ℕ). a * x) (pow-suc 2 k) ∙ sym (mul-assoc a (2 ^ k) 2)
+
+-- a number is a multiple of 2 to its lowest set digit's place
+trailing-shift : (k x : ℕ) → x ≡ x / 2 ^ trailingZeros k x * 2 ^ trailingZeros k x
+unfolding trailingZeros
+trailing-shift zero x = omega arith
+trailing-shift (suc k) x = go (x % 2) refl (trailing-shift k (x / 2))
+  where
+    go : (d : ℕ) → x % 2 ≡ d → x / 2 ≡ x / 2 / 2 ^ trailingZeros k (x / 2) * 2 ^ trailingZeros k (x / 2) → x ≡ x / 2 ^ under d (trailingZeros k (x / 2)) * 2 ^ under d (trailingZeros k (x / 2))
+    go zero e ih =
+        let t : ℕ = trailingZeros k (x / 2) in
+        let w : 1 + t ≡ suc t = omega arith in
+        let m : x / 2 / 2 ^ t ≡ x / 2 ^ suc t = shr-shr x 1 t ∙ ap (λ (z : ℕ). x / 2 ^ z) w in
+        omega (arith, ap (λ (n : ℕ). n * 2 ^ t) m, shift-suc (x / 2 ^ suc t) t)
+    go (suc d) e ih = omega arith
+
+-- without its lowest set digit it has those behind
+module _ (x : ℕ) (few : x < 2 ^ 64) (some : x ≡ 0 → ⊥) where
+  abbrev lowest : ℕ
+  lowest = trailingZeros 64 x
+
+  pub lowest-less : (2 ^ lowest ≤ x) × (x - 2 ^ lowest ≡ x / 2 ^ (lowest + 1) * 2 ^ (lowest + 1))
+  lowest-less =
+      let m : ℕ = x / 2 ^ (lowest + 1) in
+      let is : x ≡ x / 2 ^ 0 = omega arith in
+      let e : 0 + lowest ≡ lowest = omega arith in
+      let set : x / 2 ^ lowest % 2 ≡ 1 = ap (digit x) (sym e) ∙ lowest-set x 0 x is few some in
+      let half : x / 2 ^ lowest / 2 ≡ m = shr-shr x lowest 1 in
+      let odd : x / 2 ^ lowest ≡ suc (2 * m) = omega arith in
+      let w : suc lowest ≡ lowest + 1 = omega arith in
+      let whole : x ≡ 2 * m * 2 ^ lowest + 2 ^ lowest = trailing-shift 64 x ∙ ap (λ (n : ℕ). n * 2 ^ lowest) odd ∙ suc-mul (2 * m) (2 ^ lowest) in
+      let twice : m * 2 ^ (lowest + 1) ≡ m * 2 ^ lowest * 2 = ap (λ (k : ℕ). m * 2 ^ k) (sym w) ∙ shift-suc m lowest in
+      (omega arith, omega (arith, mul-assoc 2 m (2 ^ lowest)))
 
 -- ---- starts of nodes with several entries
 

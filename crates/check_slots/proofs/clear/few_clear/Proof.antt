@@ -1,8 +1,6 @@
 -- The bits are digits of the number from their first byte on.
-use mathlib.Core.Path.{_≡_, ap, _∙_}
-use Prim.Native.Nat.{ℕ, _-_, _/_, _%_, _^_}
+use Prim.Native.Nat.{_-_}
 use native.Mathlib.Omega.{arith}
-use lib.Dec.{eqb}
 use lib.Pow.{pow-pos}
 use Rattle.bits_laws.specs.ValueLaws.{Small}
 use Rattle.bits_laws.specs.RankLaws.{one-shl}

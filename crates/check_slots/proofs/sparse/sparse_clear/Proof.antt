@@ -14,7 +14,7 @@ use Rattle.image_types.specs.FrameOf.{within}
 use Rattle.check_trie_laws.specs.Bodies.{sl-body, sc-body, sb-body, bodies-sized}
 use Rattle.check_trie_laws.specs.Ranges.{all-from, from-none, from-end}
 use Rattle.check_slots_laws.specs.LevelStarts.{dense-leaf-count}
-use Rattle.check_slots_laws.specs.SparseWords.{Range-judged, all-starts, starts-none}
+use Rattle.check_slots_laws.specs.SparseWords.{Range-judged, all-kept, starts-kept, starts-none}
 use Rattle.check_slots_laws.specs.SlotTests.{clear-at, sparse-test, sparse-clear}
 use borrow.Author.Needs.{needs}
 use Rattle.check_slots.proofs.sparse.sparse_clear.Statement.{statement}
@@ -150,7 +150,7 @@ word-clear-requires-2 c κs =
     let part2 = c .before .before .before .before .part2 in
     let sb : part2 .result .now ≡ sb-body s (a .f) = lent-part s (a .f .sb) (part2 .ensures) (c .before .before .before .before .before .bytes-for .ensures) in
     let t = last-word (a .f .sparse .entries) (some _ (c .before .before .before .if1 .left)) in
-    (p .0, p .1, t .0, all-starts (sl-body s (a .f)) (sb-body s (a .f)) ((a .f .sparse .entries - 1) / 64) (c .last-several .result) (rw sb at (c .last-several .ensures)))
+    (p .0, p .1, t .0, starts-kept (sl-body s (a .f)) (sb-body s (a .f)) ((a .f .sparse .entries - 1) / 64) _ (c .last-several .result) (rw sb at (c .last-several .ensures)) (all-kept (sl-body s (a .f)) ((a .f .sparse .entries - 1) / 64) (c .last-several .result) (c .last-several .ensures .few)))
 
 returns-3 : tie.Need-returns-3 Inv-loop μ-loop
 returns-3 c =
