@@ -2,7 +2,7 @@
 ghost use mathlib.Core.Path.{_≡_};
 ghost use Prim.Native.Nat.{_+_, _*_, _≤_, _<_};
 ghost use lib.ListN.{length};
-ghost use Rattle.bits_laws.specs.Bits.{bit-at, rank, with-bit};
+ghost use Rattle.bits_laws.specs.Bits.{bit-at, rank, with-bit, with-ones, with-number};
 use super::numbers::read_word;
 use super::numbers::wide;
 
@@ -21,6 +21,28 @@ pub fn set_bit(out: &mut [u8], i: usize)
 {
     let b = i / 8;
     out[b] = out[b] | (1u8 << (i % 8));
+}
+
+// The ones of b are set in byte q of out, where out has that byte.
+fn set_ones(out: &mut [u8], q: usize, b: usize)
+    requires { ⌜ b < 256 ⌝ }
+    ensures { λ _. ⌜ now (out .exit) ≡ with-ones (now (out .entry)) q b ⌝ }
+{
+    if q < out.len() {
+        out[q] = out[q] | (b as u8);
+    }
+}
+
+// The ones of a number of at most 16 bits are set from bit i of out on, in three bytes at most.
+pub fn set_number(out: &mut [u8], i: usize, v: usize)
+    requires { ⌜ v < 65536 ⌝ }
+    ensures { λ _. ⌜ now (out .exit) ≡ with-number (now (out .entry)) i v ⌝ }
+{
+    let q = i / 8;
+    let w = v << (i % 8);
+    set_ones(out, q, w % 256);
+    set_ones(out, q + 1, w / 256 % 256);
+    set_ones(out, q + 2, w / 65536 % 256);
 }
 
 // The ones in word q of s, that is, in bits 64 q to 64 q + 63.

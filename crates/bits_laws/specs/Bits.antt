@@ -5,7 +5,7 @@ use mathlib.Core.List.{[], _∷_, _++_}
 use lib.ListN.{length, getD, take, drop, set}
 use lib.Dec.{leb}
 use lib.Bits.{bitOr}
-use Rattle.spec.specs.Bytes.{Bytes}
+use Rattle.spec.specs.Bytes.{Bytes, low-first, high-first}
 
 -- bit i, as a number: it stands in byte i div 8 with weight 2^(i mod 8)
 abbrev pub bit-at : Bytes → ℕ → ℕ
@@ -39,6 +39,21 @@ word s at = value (drop at s) % 2 ^ 64
 -- s with bit i set
 unfoldable pub with-bit : Bytes → ℕ → Bytes
 with-bit s i = set s (i / 8) (bitOr (getD s (i / 8) 0) (2 ^ (i % 8)))
+
+-- s with the ones of b set in byte q, where it has that byte
+unfoldable pub with-ones : Bytes → ℕ → ℕ → Bytes
+with-ones s q b = set s q (bitOr (getD s q 0) b)
+
+-- s with the ones of a number of at most 16 bits set from bit i on, in three bytes
+unfoldable pub with-number : Bytes → ℕ → ℕ → Bytes
+unfolding with-ones
+with-number s i v =
+    let w : ℕ = v * 2 ^ (i % 8) in
+    with-ones (with-ones (with-ones s (i / 8) (w % 256)) (i / 8 + 1) (w / 256 % 256)) (i / 8 + 2) (w / 65536 % 256)
+
+-- the bits of a byte in the other order
+abbrev pub reversed : ℕ → ℕ
+reversed b = low-first (high-first 8 b)
 
 -- len bytes from an offset
 abbrev pub part : Bytes → ℕ → ℕ → Bytes

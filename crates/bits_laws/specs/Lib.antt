@@ -1,5 +1,7 @@
 pub mod Bits
 pub mod BitLaws
+pub mod NumberLaws
+pub mod ReverseLaws
 pub mod UnpackLaws
 pub mod ValueLaws
 pub mod CoverLaws

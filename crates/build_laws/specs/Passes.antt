@@ -5,13 +5,11 @@ use mathlib.Core.List.{List, [], _∷_}
 use lib.ListN.{length, getD, set}
 use lib.Dec.{leb, ltb, eqb}
 use Rattle.spec.specs.Bytes.{Bytes, Bits}
-use Rattle.spec.specs.Leaves.{bits-behind}
-use Rattle.spec.specs.Image.{positions}
 use Rattle.bits_laws.specs.Bits.{with-bit, key}
 use Rattle.build_laws.specs.LevelEntries.{pred}
 use Rattle.build_laws.specs.Emissions.{Emission, emission, key-emissions, emissions}
 use Rattle.build_laws.specs.KeyEntries.{entry-at, exact-entry}
-use Rattle.build_laws.specs.BitPass.{Room, Positions-below}
+use Rattle.build_laws.specs.BitPass.{Room}
 use Rattle.build_laws.specs.BytePass.{Byte-state, put-byte, one-step, at-cursor}
 use Rattle.build_laws.specs.DenseRows.{cell-step, cell-ones, label-cell, child-cell, exact-cell}
 use Rattle.build_laws.specs.PassEmissions.{leaf-level, key-slot, slot-emissions, Key-numbers}
@@ -127,14 +125,6 @@ listed-entries l k b = key-entries (l .lo) (l .hi) (k .first) (k .next) b
 -- the slot of n bits of a key of these bytes, on the level of its leaf
 abbrev pub listed-slot : ℕ → Key → Bytes → Emission Bits
 listed-slot n k b = emission (leaf-level (pred (k .first)) (k .next) (length b)) (key-slot n (pred (k .first)) (k .next) b)
-
--- the n bits of a key behind its cut have room from bit `base` of so many bytes on
-pub record Suffix-room (s : Bytes) (k : Key) (cut n base size : ℕ) : Type 0 where
-  pub within : k .at + k .len ≤ length s  -- the key's bytes are there
-  pub cut-within : cut ≤ k .len  -- the cut is not behind the key's end
-  pub narrow : n ≤ 16  -- no slot has more bits
-  pub low : base ≤ 16 * counter-max  -- the position fits
-  pub below : Positions-below (8 * size) (positions base (bits-behind n cut (key-bytes s k)))  -- the bits that are set are within the bytes
 
 -- ---- bodies
 

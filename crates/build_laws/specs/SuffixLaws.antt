@@ -1,128 +1,129 @@
--- The bits of a key behind its cut, by position. Used by the functions that write suffix slots.
-use Prim.Native.Nat.{ℕ, zero, suc, _+_, _*_, _-_, _/_, _%_, _^_, _≤_, _<_}
+-- The bits of a key behind its cut as a number, the first bit lowest; and that setting a number's ones from a bit on sets its bits there. Used by the functions that write suffix slots.
+use Prim.Native.Nat.{ℕ, suc, _+_, _*_, _-_, _/_, _%_, _^_, _≤_, _<_}
 use mathlib.Core.Path.{_≡_, refl, sym, ap, ap₂, _∙_}
-use mathlib.Core.Bool.{Bool, true, false, cond}
-use mathlib.Core.List.{[], _∷_, _++_}
+use mathlib.Core.Bool.{Bool, true, false}
+use mathlib.Core.List.{[], _∷_}
 use native.Mathlib.Omega.{arith}
-use native.Mathlib.Numerals.{add-one}
-use lib.ListN.{length, getD, take, drop, length-append, List·getD-append, List·getD-eq-default}
-use lib.Seq.{getD-append-add, drop-cons}
-use lib.Dec.{leb, eqb}
-use borrow.Author.Tests.{leb-true, leb-false, eq-eqb, ne-eqb}
-use Rattle.spec.specs.Bytes.{Bytes, Bits, high-first, bits-of, padded}
+use native.Mathlib.Nat.{mul-mod-left, zero-mul, mul-one, mul-assoc, mul-left-comm, pow-succ', lt-of-lt-of-le}
+use lib.ListN.{length, getD, drop, length-drop, drop-of-length-le}
+use lib.Seq.{drop-nil, getD-drop}
+use lib.Dec.{ltb}
+use lib.Pow.{mod-mod-pow, pow-mono}
+use borrow.Author.Tests.{ltb-true, ltb-false}
+use Rattle.spec.specs.Bytes.{Bytes, Bits, low-first, high-first, bits-of}
 use Rattle.spec.specs.Leaves.{bits-behind}
 use Rattle.spec.specs.Image.{positions}
-use Rattle.theory.specs.Terms.{Is-bytes}
 use Rattle.theory.specs.KeyLeaves.{length-padded}
-use Rattle.theory.specs.Lists.{bytes-drop, bytes-take}
+use Rattle.bits_laws.specs.Bits.{with-bit, with-ones, with-number, reversed}
+use Rattle.bits_laws.specs.NumberLaws.{with-ones-none, with-ones-twice, with-bit-ones, number-set, or-bits, shifted-high, low-padded, low-drop, low-append, low-lt}
+use Rattle.build_laws.specs.Passes.{with-bits}
 
--- a test of a number's bit
-bit-test : (w a b : ℕ) → (w ≤ a → b ≡ 1) → (a < w → b ≡ 0) → leb w a ≡ eqb b 1
-bit-test w a b f g = go (leb w a) refl
+-- ---- a number's ones, set byte by byte
+
+-- a bit that is set at place r of byte q, and the byte's share of the bits behind it
+share-one : (q r : ℕ) (bs : Bits) (s : Bytes) → r < 8 → with-ones (with-bit s (8 * q + r)) q (low-first bs * 2 ^ suc r % 2 ^ 8) ≡ with-ones s q (low-first (true ∷ bs) * 2 ^ r % 2 ^ 8)
+unfolding low-first
+share-one q r bs s h =
+    let x : ℕ = low-first bs * 2 ^ suc r % 2 ^ 8 in
+    ap (λ (z : Bytes). with-ones z q x) (with-bit-ones s q r h) ∙ with-ones-twice s q (2 ^ r) x ∙ ap (with-ones s q) (or-bits r (low-first bs) h)
+
+-- a bit that is not set
+share-zero : (q r : ℕ) (bs : Bits) (s : Bytes) → with-ones s q (low-first bs * 2 ^ suc r % 2 ^ 8) ≡ with-ones s q (low-first (false ∷ bs) * 2 ^ r % 2 ^ 8)
+unfolding low-first
+share-zero q r bs s =
+    let l : ℕ = low-first bs in
+    let e : l * 2 ^ suc r ≡ (0 + 2 * l) * 2 ^ r = ap (λ (p : ℕ). l * p) (pow-succ' 2 r) ∙ omega (arith, mul-left-comm l 2 (2 ^ r), mul-assoc 2 l (2 ^ r)) in
+    ap (λ (n : ℕ). with-ones s q (n % 2 ^ 8)) e
+
+-- the share of byte q in bits from its place r on
+byte-share : (q r : ℕ) (bs : Bits) (s : Bytes) → r ≤ 8 → with-bits (positions (8 * q + r) bs) s ≡ with-bits (positions (8 * (q + 1)) (drop (8 - r) bs)) (with-ones s q (low-first bs * 2 ^ r % 2 ^ 8))
+unfolding low-first with-bits positions
+byte-share q r [] s h = rw (drop-nil {A = Bool} (8 - r), zero-mul (2 ^ r)) (sym (with-ones-none s q))
+byte-share q r (b ∷ bs) s h = go (ltb r 8) refl b (λ z l. byte-share q (suc r) bs z l)
   where
-    go : (t : Bool) → leb w a ≡ t → t ≡ eqb b 1
-    go true e = sym (eq-eqb b 1 (f (leb-true w a e)))
-    go false e = let z = g (leb-false w a e) in sym (ne-eqb b 1 (λ q. omega arith))
+    goal : Bool → Type 0
+    goal b = with-bits (positions (8 * q + r) (b ∷ bs)) s ≡ with-bits (positions (8 * (q + 1)) (drop (8 - r) (b ∷ bs))) (with-ones s q (low-first (b ∷ bs) * 2 ^ r % 2 ^ 8))
 
--- the bits of a byte, the high bit first
-byte-bit : (x r : ℕ) → x < 256 → r < 8 → getD (high-first 8 x) r false ≡ eqb (x / 2 ^ (7 - r) % 2) 1
-unfolding high-first
-byte-bit x zero h l = bit-test 128 x (x / 128 % 2) (λ z. omega arith) (λ z. omega arith)
-byte-bit x (suc zero) h l = bit-test 64 (x % 128) (x / 64 % 2) (λ z. omega arith) (λ z. omega arith)
-byte-bit x (suc (suc zero)) h l = bit-test 32 (x % 128 % 64) (x / 32 % 2) (λ z. omega arith) (λ z. omega arith)
-byte-bit x (suc (suc (suc zero))) h l = bit-test 16 (x % 128 % 64 % 32) (x / 16 % 2) (λ z. omega arith) (λ z. omega arith)
-byte-bit x (suc (suc (suc (suc zero)))) h l = bit-test 8 (x % 128 % 64 % 32 % 16) (x / 8 % 2) (λ z. omega arith) (λ z. omega arith)
-byte-bit x (suc (suc (suc (suc (suc zero))))) h l = bit-test 4 (x % 128 % 64 % 32 % 16 % 8) (x / 4 % 2) (λ z. omega arith) (λ z. omega arith)
-byte-bit x (suc (suc (suc (suc (suc (suc zero)))))) h l = bit-test 2 (x % 128 % 64 % 32 % 16 % 8 % 4) (x / 2 % 2) (λ z. omega arith) (λ z. omega arith)
-byte-bit x (suc (suc (suc (suc (suc (suc (suc zero))))))) h l = bit-test 1 (x % 128 % 64 % 32 % 16 % 8 % 4 % 2) (x / 1 % 2) (λ z. omega arith) (λ z. omega arith)
-byte-bit x (suc (suc (suc (suc (suc (suc (suc (suc r)))))))) h l = absurd (omega arith)
+    go : (v : Bool) → ltb r 8 ≡ v → (b : Bool)
+        → ((z : Bytes) → suc r ≤ 8 → with-bits (positions (8 * q + suc r) bs) z ≡ with-bits (positions (8 * (q + 1)) (drop (8 - suc r) bs)) (with-ones z q (low-first bs * 2 ^ suc r % 2 ^ 8)))
+        → goal b
+    go true e true ih =
+        let l : r < 8 = ltb-true r 8 e in
+        let w : suc (8 * q + r) ≡ 8 * q + suc r = omega arith in
+        let d : suc (8 - suc r) ≡ 8 - r = omega arith in
+        ap (λ (k : ℕ). with-bits (positions k bs) (with-bit s (8 * q + r))) w ∙ ih (with-bit s (8 * q + r)) l
+        ∙ ap₂ (λ (k : ℕ) (z : Bytes). with-bits (positions (8 * (q + 1)) (drop k (true ∷ bs))) z) d (share-one q r bs s l)
+    go true e false ih =
+        let l : r < 8 = ltb-true r 8 e in
+        let w : suc (8 * q + r) ≡ 8 * q + suc r = omega arith in
+        let d : suc (8 - suc r) ≡ 8 - r = omega arith in
+        ap (λ (k : ℕ). with-bits (positions k bs) s) w ∙ ih s l
+        ∙ ap₂ (λ (k : ℕ) (z : Bytes). with-bits (positions (8 * (q + 1)) (drop k (false ∷ bs))) z) d (share-zero q r bs s)
+    go false e b ih =
+        let l : 8 ≡ r = omega (arith, ltb-false r 8 e) in
+        let w : 8 * q + r ≡ 8 * (q + 1) = omega arith in
+        let d : 0 ≡ 8 - r = omega arith in
+        let z : 0 ≡ low-first (b ∷ bs) * 2 ^ r % 2 ^ 8 = sym (mul-mod-left (low-first (b ∷ bs)) (2 ^ 8)) ∙ ap (λ (k : ℕ). low-first (b ∷ bs) * 2 ^ k % 2 ^ 8) l in
+        ap₂ (λ (k : ℕ) (o : Bytes). with-bits (positions k (b ∷ bs)) o) w (sym (with-ones-none s q))
+        ∙ ap₂ (λ (k x : ℕ). with-bits (positions (8 * (q + 1)) (drop k (b ∷ bs))) (with-ones s q x)) d z
 
--- a byte has eight bits
-length-high : (x : ℕ) → length (high-first 8 x) ≡ 8
-unfolding high-first
-length-high x = refl
+-- the share of byte q in bits from its first bit on
+whole-share : (q : ℕ) (bs : Bits) (s : Bytes) → with-bits (positions (8 * q) bs) s ≡ with-bits (positions (8 * (q + 1)) (drop 8 bs)) (with-ones s q (low-first bs % 2 ^ 8))
+whole-share q bs s =
+    let w : 8 * q + 0 ≡ 8 * q = omega arith in
+    ap (λ (k : ℕ). with-bits (positions k bs) s) (sym w) ∙ byte-share q 0 bs s (omega arith) ∙ ap (λ (n : ℕ). with-bits (positions (8 * (q + 1)) (drop 8 bs)) (with-ones s q (n % 2 ^ 8))) (mul-one (low-first bs))
 
--- bytes have eight bits each
-length-bits : (xs : Bytes) → length (bits-of xs) ≡ 8 * length xs
-unfolding bits-of
-length-bits [] = refl
-length-bits (x ∷ xs) = length-append (high-first 8 x) (bits-of xs) ∙ omega (arith, length-high x, length-bits xs)
+-- Setting the ones of the number of at most 16 bits sets these bits.
+pub number-bits : (bs : Bits) (base : ℕ) (s : Bytes) → length bs ≤ 16 → with-number s base (low-first bs) ≡ with-bits (positions base bs) s
+unfolding with-bits positions
+number-bits bs base s h =
+    let q : ℕ = base / 8 in
+    let r : ℕ = base % 8 in
+    let w : ℕ = low-first bs * 2 ^ r in
+    let bs₁ : Bits = drop (8 - r) bs in
+    let bs₂ : Bits = drop 8 bs₁ in
+    let s₁ : Bytes = with-ones s q (w % 256) in
+    let at : 8 * q + r ≡ base = omega arith in
+    let l₁ : low-first bs₁ ≡ w / 256 = low-drop (8 - r) bs ∙ sym (shifted-high r (low-first bs) (omega arith)) in
+    let l₂ : low-first bs₂ ≡ w / 65536 = low-drop 8 bs₁ ∙ omega (arith, l₁) in
+    let two : q + 1 + 1 ≡ q + 2 = omega arith in
+    let end : drop 8 bs₂ ≡ [] = let l : length bs₂ ≤ 8 = omega (arith, length-drop 8 bs₁, length-drop (8 - r) bs) in drop-of-length-le bs₂ l in
+    sym
+    (ap (λ (k : ℕ). with-bits (positions k bs) s) (sym at) ∙ byte-share q r bs s (omega arith) ∙ whole-share (q + 1) bs₁ s₁ ∙ whole-share (q + 1 + 1) bs₂ (with-ones s₁ (q + 1) (low-first bs₁ % 256))
+    ∙ ap (λ (z : Bits). with-bits (positions (8 * (q + 1 + 1 + 1)) z) (with-ones (with-ones s₁ (q + 1) (low-first bs₁ % 256)) (q + 1 + 1) (low-first bs₂ % 256))) end
+    ∙ number-set s s₁ (with-ones s₁ (q + 1) (low-first bs₁ % 256)) _ base (low-first bs) w refl refl (ap (λ (n : ℕ). with-ones s₁ (q + 1) (n % 256)) l₁)
+    (ap₂ (λ (k n : ℕ). with-ones (with-ones s₁ (q + 1) (low-first bs₁ % 256)) k (n % 256)) two l₂))
 
--- bit r of byte j
-bits-at : (xs : Bytes) (j r : ℕ) → Is-bytes xs → j < length xs → r < 8 → getD (bits-of xs) (8 * j + r) false ≡ eqb (getD xs j 0 / 2 ^ (7 - r) % 2) 1
-unfolding bits-of
-bits-at [] j r s h l = absurd (omega arith)
-bits-at (x ∷ xs) zero r s h l =
-    let w : 8 * 0 + r ≡ r = omega arith in
-    ap (λ (i : ℕ). getD (high-first 8 x ++ bits-of xs) i false) w ∙ List·getD-append (high-first 8 x) (bits-of xs) false r (omega (arith, length-high x)) ∙ byte-bit x r (s .0) l
-bits-at (x ∷ xs) (suc j) r s h l =
-    let w : 8 * suc j + r ≡ length (high-first 8 x) + (8 * j + r) = omega (arith, length-high x) in
-    ap (λ (i : ℕ). getD (high-first 8 x ++ bits-of xs) i false) w ∙ getD-append-add (high-first 8 x) (bits-of xs) (8 * j + r) false ∙ bits-at xs j r (s .1) (omega arith) l
+-- ---- the number of a slot
 
--- the key has ended
-pub suffix-ended : (xs : Bytes) (i : ℕ) → length xs ≤ i / 8 → false ≡ getD (bits-of xs) i false
-suffix-ended xs i h = let w : length (bits-of xs) ≤ i = omega (arith, length-bits xs) in sym (List·getD-eq-default (bits-of xs) false w)
-
--- a bit of the key
-pub suffix-at : (xs : Bytes) (i x : ℕ) → Is-bytes xs → i / 8 < length xs → x ≡ getD xs (i / 8) 0 → eqb (x / 2 ^ (7 - i % 8) % 2) 1 ≡ getD (bits-of xs) i false
-suffix-at xs i x s h e =
-    let w : 8 * (i / 8) + i % 8 ≡ i = omega arith in
-    ap (λ (y : ℕ). eqb (y / 2 ^ (7 - i % 8) % 2) 1) e ∙ sym (bits-at xs (i / 8) (i % 8) s h (omega arith)) ∙ ap (λ (k : ℕ). getD (bits-of xs) k false) w
-
--- ---- the bits of a slot
-
-padded-none : (n i : ℕ) → getD (padded n []) i false ≡ false
-unfolding padded
-padded-none zero i = refl
-padded-none (suc n) zero = refl
-padded-none (suc n) (suc i) = padded-none n i
-
-padded-at : (n i : ℕ) (bs : Bits) → i < n → getD (padded n bs) i false ≡ getD bs i false
-unfolding padded
-padded-at zero i bs h = absurd (omega arith)
-padded-at (suc n) i [] h = padded-none (suc n) i
-padded-at (suc n) zero (b ∷ bs) h = refl
-padded-at (suc n) (suc i) (b ∷ bs) h = padded-at n i bs (omega arith)
+bits-first : (xs : Bytes) → low-first (bits-of xs) ≡ reversed (getD xs 0 0) + 256 * low-first (bits-of (drop 1 xs))
+unfolding low-first bits-of high-first
+bits-first [] = refl
+bits-first (x ∷ xs) = low-append (high-first 8 x) (bits-of xs)
 
 -- a slot has n bits
 pub length-behind : (n c : ℕ) (k : Bytes) → length (bits-behind n c k) ≡ n
 unfolding bits-behind
 length-behind n c k = length-padded n (bits-of (drop c k))
 
--- bit i of a slot
-pub behind-at : (n c i : ℕ) (k : Bytes) → i < n → getD (bits-behind n c k) i false ≡ getD (bits-of (drop c k)) i false
+-- numbers with the same 16 low bits have the same n low bits
+same-low : (n x y : ℕ) → n ≤ 16 → x % 2 ^ 16 ≡ y % 2 ^ 16 → x % 2 ^ n ≡ y % 2 ^ n
+same-low n x y h e =
+    let u : (16 - n) + n ≡ 16 = omega arith in
+    let f : (z : ℕ) → z % 2 ^ 16 % 2 ^ n ≡ z % 2 ^ n = λ z. ap (λ (k : ℕ). z % 2 ^ k % 2 ^ n) (sym u) ∙ mod-mod-pow z (16 - n) n in
+    sym (f x) ∙ ap (λ (z : ℕ). z % 2 ^ n) e ∙ f y
+
+-- the number of the n bits of a key behind its cut, of at most two bytes
+pub suffix-number : (n c a b : ℕ) (k : Bytes) → n ≤ 16 → a ≡ reversed (getD k c 0) → b ≡ reversed (getD k (c + 1) 0) → (a + 256 * b) % 2 ^ n ≡ low-first (bits-behind n c k)
 unfolding bits-behind
-behind-at n c i k h = padded-at n i (bits-of (drop c k)) h
+suffix-number n c a b k h e f =
+    let xs : Bytes = drop c k in
+    let v : c + 0 ≡ c = omega arith in
+    let p : a ≡ reversed (getD xs 0 0) = e ∙ ap (λ (i : ℕ). reversed (getD k i 0)) (sym v) ∙ ap reversed (sym (getD-drop c k 0 0)) in
+    let q : b ≡ reversed (getD (drop 1 xs) 0 0) = f ∙ ap reversed (sym (getD-drop 1 xs 0 0 ∙ getD-drop c k 1 0)) in
+    let w : (a + 256 * b) % 2 ^ 16 ≡ low-first (bits-of xs) % 2 ^ 16 = omega (arith, bits-first xs, bits-first (drop 1 xs)) in
+    same-low n (a + 256 * b) (low-first (bits-of xs)) h w ∙ sym (low-padded n (bits-of xs))
 
--- the positions of ones from bit i on: of bit i itself, and from the next bit on
-pub positions-on : (bs : Bits) (base i : ℕ) (b : Bool) → i < length bs → getD bs i false ≡ b → positions (base + i) (drop i bs) ≡ cond b ((base + i) ∷ positions (base + (i + 1)) (drop (i + 1) bs)) (positions (base + (i + 1)) (drop (i + 1) bs))
-unfolding positions
-positions-on bs base i b h e =
-    let w : suc (base + i) ≡ base + (i + 1) = omega arith in
-    ap (positions (base + i)) (drop-cons bs i false h ∙ ap₂ (λ (x : Bool) (k : ℕ). x ∷ drop k bs) e (sym (add-one i))) ∙ go b
-  where
-    go : (b : Bool) → positions (base + i) (b ∷ drop (i + 1) bs) ≡ cond b ((base + i) ∷ positions (base + (i + 1)) (drop (i + 1) bs)) (positions (base + (i + 1)) (drop (i + 1) bs))
-    go true = let w : suc (base + i) ≡ base + (i + 1) = omega arith in ap (λ (k : ℕ). (base + i) ∷ positions k (drop (i + 1) bs)) w
-    go false = let w : suc (base + i) ≡ base + (i + 1) = omega arith in ap (λ (k : ℕ). positions k (drop (i + 1) bs)) w
-
--- no bit, no position
-pub positions-none : (bs : Bits) (base i : ℕ) → length bs ≤ i → positions (base + i) (drop i bs) ≡ []
-unfolding positions
-positions-none bs base i h = ap (positions (base + i)) (none bs i h) ∙ nil (base + i)
-  where
-    none : (bs : Bits) (i : ℕ) → length bs ≤ i → drop i bs ≡ []
-    none [] zero h = refl
-    none [] (suc i) h = refl
-    none (b ∷ bs) zero h = absurd (omega arith)
-    none (b ∷ bs) (suc i) h = none bs i (omega arith)
-
-    nil : (k : ℕ) → positions k [] ≡ []
-    nil k = refl
-
--- the positions from the first bit on
-pub positions-first : (bs : Bits) (base : ℕ) → positions (base + 0) (drop 0 bs) ≡ positions base bs
-positions-first bs base = let w : base + 0 ≡ base = omega arith in ap (λ (k : ℕ). positions k bs) w
-
--- what a key has behind its cut are bytes
-pub small-part : (cut a n : ℕ) (s : Bytes) → Is-bytes s → Is-bytes (drop cut (take n (drop a s)))
-small-part cut a n s h = bytes-drop cut (take n (drop a s)) (bytes-take n (drop a s) (bytes-drop a s h))
+-- it has at most 16 bits
+pub suffix-small : (n c : ℕ) (k : Bytes) → n ≤ 16 → low-first (bits-behind n c k) < 65536
+suffix-small n c k h = lt-of-lt-of-le (rw (length-behind n c k) at (low-lt (bits-behind n c k))) (pow-mono h)

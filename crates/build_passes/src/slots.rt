@@ -1,62 +1,63 @@
 // A key's suffix slot: n bits at n times the cursor of its leaf's level.
 ghost use mathlib.Core.Path.{_≡_};
-ghost use mathlib.Core.Bool.{false};
 ghost use mathlib.Core.List.{[], _∷_};
-ghost use Prim.Native.Nat.{_+_, _*_, _≤_, _<_};
-ghost use lib.ListN.{length, getD, drop};
-ghost use Rattle.spec.specs.Bytes.{bits-of};
+ghost use Prim.Native.Nat.{_+_, _*_, _≤_};
+ghost use lib.ListN.{length, getD};
+ghost use Rattle.spec.specs.Bytes.{low-first};
 ghost use Rattle.spec.specs.Leaves.{bits-behind};
 ghost use Rattle.spec.specs.Image.{positions};
 ghost use Rattle.build_laws.specs.BytePass.{byte-state, one-step};
 ghost use Rattle.build_laws.specs.BodyLaws.{slot-at};
-ghost use Rattle.build_laws.specs.Passes.{with-bits, set-at-cursor, key-bytes, Listed-key, listed-slot, Slots-room, Suffix-room};
+ghost use Rattle.build_laws.specs.Passes.{with-bits, set-at-cursor, key-bytes, Listed-key, listed-slot, Slots-room};
 ghost use Rattle.build_laws.specs.Limits.{counter-max};
 use super::numbers::cut_length;
 use super::numbers::leaf_level;
 use super::numbers::one_less;
-use bits::numbers::wide;
 use bits::numbers::wide32;
-use bits::ones::set_bit;
+use bits::ones::set_number;
+use bits::reverse::reversed;
 use build_laws::Counters;
 use build_laws::Key;
 use image_types::BitPos;
 use image_types::ValuePos;
 
-// Bit i of a key behind its cut, zero where the key has ended. The high bit of each byte comes first.
-fn suffix_bit(s: &[u8], k: Key, cut: usize, i: usize) -> bool
-    requires { ⌜ (k .at + k .len ≤ length (now s)) × (cut ≤ k .len) × (i < 16) ⌝ }
-    ensures { λ r. ⌜ r ≡ getD (bits-of (drop cut (key-bytes (now (s .entry)) k))) i false ⌝ }
+// Byte i of a key, 0 where the key has ended.
+fn byte_or_zero(s: &[u8], k: Key, i: usize) -> u8
+    requires { ⌜ k .at + k .len ≤ length (now s) ⌝ }
+    ensures { λ r. ⌜ r ≡ getD (key-bytes (now (s .entry)) k) i 0 ⌝ }
 {
-    let at = cut + i / 8;
-    if k.len <= at {
-        return false;
+    if k.len <= i {
+        return 0;
     }
-    let byte = k.at + at;
-    (wide(s[byte]) >> (7 - i % 8)) % 2 == 1
+    let at = k.at + i;
+    s[at]
+}
+
+// The n bits of a key behind its cut as a number, the first bit lowest, zeros where the key has ended. The high bit of each byte comes first.
+fn suffix_number(s: &[u8], k: Key, cut: usize, n: usize) -> usize
+    requires { ⌜ (k .at + k .len ≤ length (now s)) × (cut ≤ k .len) × (n ≤ 16) ⌝ }
+    ensures { λ r. ⌜ r ≡ low-first (bits-behind n cut (key-bytes (now (s .entry)) k)) ⌝ }
+{
+    let first = reversed(byte_or_zero(s, k, cut));
+    let second = reversed(byte_or_zero(s, k, cut + 1));
+    (first + 256 * second) % (1usize << n)
 }
 
 // The first bit of a suffix slot of n bits.
 fn slot_bit(n: usize, v: ValuePos) -> BitPos
     requires { ⌜ (n ≤ 16) × (v .0 ≤ counter-max) ⌝ }
-    ensures { λ r. ⌜ (r .0 ≡ n * v .0) × (r .0 ≤ 16 * counter-max) ⌝ }
+    ensures { λ r. ⌜ r .0 ≡ n * v .0 ⌝ }
 {
     BitPos(n * v.0)
 }
 
 // The n bits of a key behind its cut go to the bits of out from `base`, which are zero.
 fn write_suffix(out: &mut [u8], base: BitPos, s: &[u8], k: Key, cut: usize, n: usize)
-    requires { ⌜ Suffix-room (now s) k cut n (base .0) (length (now out)) ⌝ }
+    requires { ⌜ (k .at + k .len ≤ length (now s)) × (cut ≤ k .len) × (n ≤ 16) ⌝ }
     ensures { λ _. ⌜ now (out .exit) ≡ with-bits (positions (base .0) (bits-behind n cut (key-bytes (now (s .entry)) k))) (now (out .entry)) ⌝ }
 {
-    let mut i = 0usize;
-    while i < n {
-        let b = suffix_bit(s, k, cut, i);
-        let to = base.0 + i;
-        i = i + 1;
-        if b {
-            set_bit(out, to);
-        }
-    }
+    let v = suffix_number(s, k, cut, n);
+    set_number(out, base.0, v);
 }
 
 // The slot of a key's leaf is written at the cursor of the leaf's level, which moves on by one. An exact leaf's slot is zero.

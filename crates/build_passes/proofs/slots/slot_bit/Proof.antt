@@ -11,9 +11,7 @@ mul-t3 c =
     omega (arith, mul-le-mul (pre .0) (pre .1))
 
 returns : tie.Need-returns
-returns c =
-    let pre = c .before .pre in
-    (refl, omega (arith, mul-le-mul (pre .0) (pre .1)))
+returns c = refl
 
 pub slot-bit-spec : {M : Type 1} → statement M
 slot-bit-spec = tie.close (tie.spec mul-t3 returns)

@@ -8,7 +8,6 @@ use Rattle.spec.specs.Image.{positions}
 use Rattle.bits_laws.specs.Bits.{key}
 use Rattle.build_laws.specs.LevelEntries.{pred}
 use Rattle.build_laws.specs.NeighbourLeaves.{cut-length}
-use Rattle.build_laws.specs.BitPass.{Positions-below}
 use Rattle.build_laws.specs.PassEmissions.{Key-numbers, leaf-level, key-slot}
 use Rattle.build_laws.specs.Passes.{with-bits}
 use Rattle.build_laws.specs.KeyLaws.{key-length}
@@ -80,25 +79,8 @@ slot-bit-requires c κs =
 write-suffix-requires : tie.Need-write-suffix-requires
 write-suffix-requires c κs =
     let pre = c .before .before .before .before .before .before .before .before .before .before .before .pre in
-    let one-less = c .before .before .before .before .before .before .before .before .one-less in
-    let leaf-level-known = c .before .before .before .before .before .before .before .leaf-level in
     let cut-length-known = c .before .before .before .before .before .before .cut-length in
-    let if1 = c .before .before .before .if1 in
-    let wide32 = c .before .before .wide32 in
-    let slot-bit = c .before .slot-bit in
-    let a = c .before .before .before .before .before .before .before .before .before .before .before .args in
-    let k = a .k in
-    let e = level-is (a .s .now) (k .at) (k .len) (k .first) (k .next) _ _ (pre .0 .within) (one-less .ensures) (leaf-level-known .ensures .0) in
-    let v : wide32 .result ≡ getD (a .cur .now) (leaf-level (pred (k .first)) (k .next) (length (key (a .s .now) (k .at) (k .len)))) 0 = wide32 .ensures ∙ ap (λ (d : ℕ). getD (a .cur .now) d 0) e in
-    let b = open-slot (a .s .now) (k .at) (k .len) (k .first) (k .next) _ _ (a .n) (pre .0 .within) (one-less .ensures) (cut-length-known .ensures .0) (if1 .taken) in
-    record {
-      within = pre .0 .within;
-      cut-within = cut-length-known .ensures .1;
-      narrow = pre .1;
-      low = slot-bit .ensures .1;
-      below = subst (λ (z : Bits). Positions-below (8 * length (a .out .now)) (positions (slot-bit .result .0) z)) (sym b)
-          (subst (λ (i : ℕ). Positions-below (8 * length (a .out .now)) (positions i (key-slot (a .n) (pred (k .first)) (k .next) (key (a .s .now) (k .at) (k .len))))) (sym (slot-bit .ensures .0 ∙ ap (λ (i : ℕ). a .n * i) v)) (pre .2 .2));
-    }
+    (pre .0 .within, cut-length-known .ensures .1, pre .1)
 
 same-length : tie.Need-same-length
 same-length c = search needs
@@ -117,7 +99,7 @@ returns c =
     let k = a .k in
     let e = level-is (a .s .now) (k .at) (k .len) (k .first) (k .next) _ _ (pre .0 .within) (one-less .ensures) (leaf-level-known .ensures .0) in
     let b = open-slot (a .s .now) (k .at) (k .len) (k .first) (k .next) _ _ (a .n) (pre .0 .within) (one-less .ensures) (cut-length-known .ensures .0) (if1 .taken) in
-    slot-done (a .cur .now) (a .out .now) _ _ _ (a .n) (slot-bit .result .0) (key-slot (a .n) (pred (k .first)) (k .next) (key (a .s .now) (k .at) (k .len))) e (slot-bit .ensures .0 ∙ ap (λ (i : ℕ). a .n * i) (wide32 .ensures))
+    slot-done (a .cur .now) (a .out .now) _ _ _ (a .n) (slot-bit .result .0) (key-slot (a .n) (pred (k .first)) (k .next) (key (a .s .now) (k .at) (k .len))) e (slot-bit .ensures ∙ ap (λ (i : ℕ). a .n * i) (wide32 .ensures))
     (write-suffix .ensures ∙ ap (λ (z : Bits). with-bits (positions (slot-bit .result .0) z) (a .out .now)) b)
 
 returns-2 : tie.Need-returns-2
