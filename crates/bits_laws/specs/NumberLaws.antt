@@ -83,7 +83,7 @@ with-bit-ones s q r h =
 -- ---- numbers of bits
 
 -- a bit and the bits behind it, up to bit n
-pub mod-bits : (n b x : ℕ) → b < 2 → (b + 2 * x) % 2 ^ suc n ≡ b + 2 * (x % 2 ^ n)
+mod-bits : (n b x : ℕ) → b < 2 → (b + 2 * x) % 2 ^ suc n ≡ b + 2 * (x % 2 ^ n)
 mod-bits n b x h =
     let d : (b + 2 * x) / 2 ^ 1 ≡ x = omega arith in
     let m : (b + 2 * x) % 2 ^ 1 ≡ b = omega arith in

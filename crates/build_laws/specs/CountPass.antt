@@ -29,9 +29,9 @@ starts-of k = key-starts (k .first) (k .next) (k .len)
 abbrev pub leaf-level-of : Key → ℕ
 leaf-level-of k = leaf-level (pred (k .first)) (k .next) (k .len)
 
--- the counters with one leaf more on level d
-abbrev pub with-leaf : List ℕ → ℕ → List ℕ
-with-leaf l d = set l d (getD l d 0 + 1)
+-- the counters with one more on level d
+abbrev pub raised : List ℕ → ℕ → List ℕ
+raised c d = set c d (getD c d 0 + 1)
 
 -- the counters have room for these emissions
 abbrev pub Counter-room : {A : Type 0} → (A → ℕ) → List (Emission A) → List ℕ → Type 0
@@ -59,7 +59,7 @@ list-counts ks = level-counts (entry-counts ks) (node-counts ks) (leaf-counts ks
 
 -- what a key adds to them
 abbrev pub count-key : Key → Level-counts → Level-counts
-count-key k c = level-counts (counts one-step (starts-of k) (c .entries)) (counts bit (starts-of k) (c .nodes)) (with-leaf (c .leaves) (leaf-level-of k))
+count-key k c = level-counts (counts one-step (starts-of k) (c .entries)) (counts bit (starts-of k) (c .nodes)) (raised (c .leaves) (leaf-level-of k))
 
 -- counters that are equal one by one
 pub counts-same : {e e′ n n′ l l′ : List ℕ} → e ≡ e′ → n ≡ n′ → l ≡ l′ → level-counts e n l ≡ level-counts e′ n′ l′

@@ -7,7 +7,9 @@ use mathlib.Core.Logic.{inr}
 use native.Mathlib.Omega.{arith}
 use native.Mathlib.Nat.{suc-mul}
 use lib.ListN.{length, getD, set, replicate, length-replicate}
-use lib.Dec.{leb, eqb}
+use lib.Seq.{set-out, getD-set-same, getD-set-other}
+use lib.Dec.{leb, ltb, eqb}
+use borrow.Author.Tests.{eqb-true, eqb-false, ltb-true, ltb-false}
 use Rattle.spec.specs.Bytes.{Bytes, bit}
 use Rattle.spec.specs.Image.{has}
 use Rattle.theory.specs.Terms.{Ascending, Keys}
@@ -37,6 +39,20 @@ module _ {A : Type 0} (inc : A → ℕ) where
   counter-room top es l f =
       room-of inc no-ones 0 top es (replicate counters 0) (omega (arith, length-replicate {A = ℕ} counters 0)) l (λ d h. inr (omega (arith, f d, zeros-at d (omega arith))))
       (λ j h. absurd (true≢false (sym h ∙ none-emitted es (replicate counters 0) j)))
+
+  -- no counter passes top, before and behind emissions for which there is room
+  pub room-within : (top : ℕ) (es : List (Emission A)) (c : List ℕ) → Room inc no-ones 0 top es c → ((d : ℕ) → getD c d 0 ≤ top) → (d : ℕ) → getD (counts inc es c) d 0 ≤ top
+  unfolding counts
+  room-within top [] c r f d = f d
+  room-within top (emission e x ∷ es) c r f d = room-within top es (set c e (getD c e 0 + inc x)) (r .3) more d
+    where
+      more : (d : ℕ) → getD (set c e (getD c e 0 + inc x)) d 0 ≤ top
+      more d = go (eqb d e) refl (ltb e (length c)) refl
+        where
+          go : (b : Bool) → eqb d e ≡ b → (y : Bool) → ltb e (length c) ≡ y → getD (set c e (getD c e 0 + inc x)) d 0 ≤ top
+          go true q true y = let w : d ≡ e = eqb-true d e q in rw (w, getD-set-same c e (getD c e 0 + inc x) 0 (ltb-true e (length c) y)) (r .1)
+          go true q false y = rw (set-out c e (getD c e 0 + inc x) (ltb-false e (length c) y)) (f d)
+          go false q y h = let w : d ≡ e → ⊥ = eqb-false d e q in rw (getD-set-other c e d (getD c e 0 + inc x) 0 w) (f d)
 
 -- ---- how many on a level
 
@@ -70,17 +86,15 @@ starts-below ks s a = emissions-below 0 64 _ true 0 ks (first-longer ks s) s a
 
 -- ---- room
 
--- The three counters have room for a list of keys, none of them above top.
+-- The counters of entries and leaves have room for a list of keys, none of them above top.
 pub record Counters-room (top : ℕ) (ks : List Bytes) : Type 0 where
   pub entries : Room one-step no-ones 0 top (start-emissions 0 0 ks) (replicate counters 0)
-  pub nodes : Room bit no-ones 0 top (start-emissions 0 0 ks) (replicate counters 0)
   pub leaves : Room one-step no-ones 0 top (slot-emissions 0 0 ks) (replicate counters 0)
 
 -- for any list of at most 65,535 keys
 pub counters-room : (top : ℕ) (ks : List Bytes) → 131070 ≤ top → Keys ks → Ascending ks → length ks ≤ 65535 → Counters-room top ks
 counters-room top ks t s a h = record {
   entries = counter-room one-step top (start-emissions 0 0 ks) (starts-below ks s a) (λ d. omega (arith, sum-length (level-values d (start-emissions 0 0 ks)), starts-few ks d));
-  nodes = counter-room bit top (start-emissions 0 0 ks) (starts-below ks s a) (λ d. omega (arith, bits-few (level-values d (start-emissions 0 0 ks)), starts-few ks d));
   leaves = counter-room one-step top (slot-emissions 0 0 ks) (slots-below 0 0 ks (first-longer ks s) s a)
       (λ d. omega (arith, sum-length (level-values d (slot-emissions 0 0 ks)), level-few d (slot-emissions 0 0 ks), length-slots 0 0 ks));
 }

@@ -35,6 +35,7 @@ pub mod ByteLevel
 pub mod BodyFilled
 pub mod CounterSums
 pub mod CountPass
+pub mod LevelSums
 pub mod EntryLaws
 pub mod SlotLaws
 pub mod SuffixLaws
@@ -43,3 +44,4 @@ pub mod RecordsWritten
 pub mod Plan
 pub mod BodyWritten
 pub mod ListPass
+pub mod CountedKeys

@@ -192,7 +192,6 @@ pub record Counting (s : Bytes) (at first : ℕ) (c final : Level-counts) : Type
   pub nodes : counts bit (start-emissions 0 first ks) (c .nodes) ≡ final .nodes
   pub leaves : counts one-step (slot-emissions 0 first ks) (c .leaves) ≡ final .leaves
   pub entry-room : Counter-room one-step (start-emissions 0 first ks) (c .entries)
-  pub node-room : Counter-room bit (start-emissions 0 first ks) (c .nodes)
   pub leaf-room : Counter-room one-step (slot-emissions 0 first ks) (c .leaves)
 
 -- one key of the counting pass: it is a key of the list, there is room for it, and what holds behind it
@@ -200,7 +199,6 @@ pub record Counted-key (s : Bytes) (at : ℕ) (c final : Level-counts) (k : Key)
   pub listed : Listed-key s k
   pub after : at < k .at
   pub entry-room : Counter-room one-step (starts-of k) (c .entries)
-  pub node-room : Counter-room bit (starts-of k) (c .nodes)
   pub leaf-room : getD (c .leaves) (leaf-level-of k) 0 + 1 ≤ counter-max
   pub behind : Counting s (k .at + k .len) (k .next + 1) (count-key k c) final
 
@@ -233,13 +231,11 @@ module _ (s : Bytes) (at first : ℕ) (c final : Level-counts) where
           ∙ ap₂ (λ (i j : ℕ). emission (leaf-level (pred first) i j) (key-slot 0 (pred first) i b) ∷ slot-emissions 0 (suc i) (t .ks)) (t .shares) size
           ∙ ap (λ (i : ℕ). emission (leaf-level (pred first) q m) (key-slot 0 (pred first) q b) ∷ slot-emissions 0 i (t .ks)) (sym (add-one q)) in
           let re = room-append one-step no-ones 0 counter-max (key-starts first q m) (start-emissions 0 (q + 1) (t .ks)) (c .entries) (rw starts at (f .entry-room)) in
-          let rn = room-append bit no-ones 0 counter-max (key-starts first q m) (start-emissions 0 (q + 1) (t .ks)) (c .nodes) (rw starts at (f .node-room)) in
           let rl : Counter-room one-step (emission (leaf-level (pred first) q m) (key-slot 0 (pred first) q b) ∷ slot-emissions 0 (q + 1) (t .ks)) (c .leaves) = rw slots at (f .leaf-room) in
           record {
             listed = record { within = t .fits; numbers = t .numbers };
             after = omega arith;
             entry-room = re .0;
-            node-room = rn .0;
             leaf-room = rl .1;
             behind = record {
               ks = t .ks;
@@ -248,7 +244,6 @@ module _ (s : Bytes) (at first : ℕ) (c final : Level-counts) where
               nodes = sym (counts-append bit (key-starts first q m) (start-emissions 0 (q + 1) (t .ks)) (c .nodes)) ∙ ap (λ es. counts bit es (c .nodes)) (sym starts) ∙ f .nodes;
               leaves = ap (λ es. counts one-step es (c .leaves)) (sym slots) ∙ f .leaves;
               entry-room = re .1;
-              node-room = rn .1;
               leaf-room = rl .3;
             };
           }
@@ -277,6 +272,5 @@ count-start s c a r e = subst (λ (x : Level-counts). Counting s 0 0 x (list-cou
   nodes = refl;
   leaves = refl;
   entry-room = r .entries;
-  node-room = r .nodes;
   leaf-room = r .leaves;
 })

@@ -154,7 +154,17 @@ pub first-longer : (ks : List Bytes) → Keys ks → Next-longer 0 ks
 first-longer [] s = tt
 first-longer (k ∷ ks) s = s .0 .least
 
-leaf-level-below : (p q n : ℕ) → Key-numbers p q n → leaf-level p q n < 64
+-- a leaf's level is not before the level where its key leaves the key before it
+pub leaf-level-from : (p q n : ℕ) → Key-numbers p q n → p ≤ leaf-level p q n
+unfolding leaf-level
+leaf-level-from p q n u = go (eqb q n)
+  where
+    go : (b : Bool) → p ≤ cond b n (max p q)
+    go true = omega (arith, u .before)
+    go false = omega arith
+
+-- a leaf's level is below 64
+pub leaf-level-below : (p q n : ℕ) → Key-numbers p q n → leaf-level p q n < 64
 unfolding leaf-level
 leaf-level-below p q n u = go (eqb q n) refl
   where

@@ -1,72 +1,72 @@
-// Entries, nodes and leaves of each level, counted in one pass over the list.
+// Entries, nodes and leaves of each level: one pass over the list counts where keys start and where their leaves are, and one over the levels sums.
 ghost use mathlib.Core.Path.{_≡_};
 ghost use Prim.Native.Nat.{_+_, _≤_, _<_};
-ghost use lib.ListN.{getD, set};
-ghost use Rattle.spec.specs.Bytes.{bit};
+ghost use lib.ListN.{length, getD, replicate};
 ghost use Rattle.spec.specs.Keys.{keys-of};
 ghost use Rattle.build_laws.specs.LevelEntries.{pred};
-ghost use Rattle.build_laws.specs.Cursors.{counts};
-ghost use Rattle.build_laws.specs.BytePass.{one-step};
 ghost use Rattle.build_laws.specs.PassEmissions.{Key-numbers};
 ghost use Rattle.build_laws.specs.KeyRecords.{Accepted-list};
 ghost use Rattle.build_laws.specs.CounterRoom.{Counters-room};
-ghost use Rattle.build_laws.specs.CountPass.{starts-of, leaf-level-of, with-leaf, Counter-room, level-counts, no-counts, list-counts};
+ghost use Rattle.build_laws.specs.CountPass.{leaf-level-of, raised, level-counts, no-counts, list-counts};
+ghost use Rattle.build_laws.specs.LevelSums.{Balanced, Summable, Summed};
 ghost use Rattle.build_laws.specs.Limits.{counters, counter-max};
-use super::entries::has_exact;
-use super::numbers::cut_length;
 use super::numbers::leaf_level;
 use super::numbers::one_less;
-use bits::numbers::larger;
-use bits::numbers::one_if;
 use bits::numbers::smaller;
+use bits::numbers::wide32;
 use build_laws::Counters;
 use build_laws::Key;
-use build_laws::Levels;
 use build_list::read::read_key;
 use image_types::MAX_LEVELS;
 
-// The counter of level d is raised by one if b holds.
-fn count_if(cnt: &mut Counters, d: usize, b: bool)
-    requires { ⌜ (d < counters) × (getD (now cnt) d 0 + bit b ≤ counter-max) ⌝ }
-    ensures { λ _. ⌜ now (cnt .exit) ≡ set (now (cnt .entry)) d (getD (now (cnt .entry)) d 0 + bit b) ⌝ }
+// The counter of level d is raised by one.
+fn count_one(cnt: &mut Counters, d: usize)
+    requires { ⌜ (d < counters) × (getD (now cnt) d 0 + 1 ≤ counter-max) ⌝ }
+    ensures { λ _. ⌜ now (cnt .exit) ≡ raised (now (cnt .entry)) d ⌝ }
 {
-    cnt[d] = cnt[d] + (one_if(b) as u32);
+    cnt[d] = cnt[d] + 1;
 }
 
-// The entries of a key, and the nodes that it starts, are counted on their levels.
-fn count_entries(entries: &mut Counters, nodes: &mut Counters, k: Key)
+// The level where a key leaves the key before it, and the level of its leaf are counted.
+fn count_key(starts: &mut Counters, leaves: &mut Counters, k: Key)
     requires { ⌜ Key-numbers (pred (k .first)) (k .next) (k .len) ⌝ }
-    requires { ⌜ Counter-room one-step (starts-of k) (now entries) × Counter-room bit (starts-of k) (now nodes) ⌝ }
-    ensures { λ _. ⌜ (now (entries .exit) ≡ counts one-step (starts-of k) (now (entries .entry))) × (now (nodes .exit) ≡ counts bit (starts-of k) (now (nodes .entry))) ⌝ }
-{
-    let b = one_less(k.first);
-    let end = smaller(cut_length(b, k.next, k.len), MAX_LEVELS);
-    let mut d = larger(b, 0);
-    while d < end {
-        count_if(entries, d, true);
-        count_if(nodes, d, k.first <= d);
-        d = d + 1;
-    }
-    if has_exact(
-        k,
-        Levels {
-            lo: 0,
-            hi: MAX_LEVELS,
-        },
-    ) {
-        count_if(entries, k.len, true);
-        count_if(nodes, k.len, true);
-    }
-}
-
-// The leaf of a key is counted on its level.
-fn count_leaf(leaves: &mut Counters, k: Key)
-    requires { ⌜ Key-numbers (pred (k .first)) (k .next) (k .len) × (getD (now leaves) (leaf-level-of k) 0 + 1 ≤ counter-max) ⌝ }
-    ensures { λ _. ⌜ now (leaves .exit) ≡ with-leaf (now (leaves .entry)) (leaf-level-of k) ⌝ }
+    requires { ⌜ (getD (now starts) (pred (k .first)) 0 + 1 ≤ counter-max) × (getD (now leaves) (leaf-level-of k) 0 + 1 ≤ counter-max) ⌝ }
+    ensures { λ _. ⌜ (now (starts .exit) ≡ raised (now (starts .entry)) (pred (k .first))) × (now (leaves .exit) ≡ raised (now (leaves .entry)) (leaf-level-of k)) ⌝ }
 {
     let b = one_less(k.first);
     let d = leaf_level(b, k.next, k.len);
-    count_if(leaves, d, true);
+    count_one(starts, b);
+    count_one(leaves, d);
+}
+
+// Where the keys of a list start and where their leaves are, counted from zero.
+fn count_keys(starts: &mut Counters, leaves: &mut Counters, s: &[u8])
+    requires { ⌜ Accepted-list (now s) × Counters-room counter-max (keys-of (now s)) × (now starts ≡ replicate counters 0) × (now leaves ≡ replicate counters 0) ⌝ }
+    ensures { λ _. ⌜ (now (leaves .exit) ≡ list-counts (keys-of (now (s .entry))) .leaves) × Balanced (now (starts .exit)) (list-counts (keys-of (now (s .entry)))) × Summable (now (starts .exit)) (now (leaves .exit)) ⌝ }
+{
+    let mut at = 0usize;
+    let mut first = 0usize;
+    while at < s.len() {
+        let k = read_key(s, at, first);
+        count_key(starts, leaves, k);
+        first = k.next + 1;
+        at = k.at + k.len;
+    }
+}
+
+// Each level's entries and nodes from where keys start, which `entries` has, and where their leaves are: an entry that is no leaf has a node below it, and an entry is the first of its node or where a key starts.
+fn sum_levels(entries: &mut Counters, nodes: &mut Counters, leaves: &Counters)
+    requires { ⌜ Summable (now entries) (now leaves) × (length (now nodes) ≡ counters) ⌝ }
+    ensures { λ _. ⌜ Summed (now (entries .entry)) (now (leaves .entry)) (now (entries .exit)) (now (nodes .exit)) ⌝ }
+{
+    nodes[0] = smaller(1, wide32(entries[0])) as u32;
+    let mut d = 0usize;
+    while d < MAX_LEVELS {
+        let below = entries[d] - leaves[d];
+        d = d + 1;
+        nodes[d] = below;
+        entries[d] = below + entries[d];
+    }
 }
 
 // The entries, nodes and leaves of each level, counted from zero.
@@ -74,13 +74,6 @@ pub fn count_levels(entries: &mut Counters, nodes: &mut Counters, leaves: &mut C
     requires { ⌜ Accepted-list (now s) × Counters-room counter-max (keys-of (now s)) × (level-counts (now entries) (now nodes) (now leaves) ≡ no-counts) ⌝ }
     ensures { λ _. ⌜ level-counts (now (entries .exit)) (now (nodes .exit)) (now (leaves .exit)) ≡ list-counts (keys-of (now (s .entry))) ⌝ }
 {
-    let mut at = 0usize;
-    let mut first = 0usize;
-    while at < s.len() {
-        let k = read_key(s, at, first);
-        count_entries(entries, nodes, k);
-        count_leaf(leaves, k);
-        first = k.next + 1;
-        at = k.at + k.len;
-    }
+    count_keys(entries, leaves, s);
+    sum_levels(entries, nodes, leaves);
 }
