@@ -97,3 +97,14 @@ pub fn select_in_word(x: u64, m: usize) -> usize
     let bits = ((x >> field.at) % 16) as usize;
     field.at + wide(place_in_half(bits, field.left))
 }
+
+// The same with no table: the four bits are halved twice more. It takes longer, and its frame is small.
+pub fn select_by_halves(x: u64, m: usize) -> usize
+    requires { ⌜ m < ones x ⌝ }
+    ensures { λ r. ⌜ (ones (x % 2 ^ r) ≤ m) × (m < ones (x % 2 ^ (r + 1))) × (r < 64) ⌝ }
+{
+    let of_2 = paired(x, 1, BITS);
+    let in_2 = half_of(of_2, 2, four_bits(x, m));
+    let bit = half_of(x, 1, in_2);
+    bit.at
+}

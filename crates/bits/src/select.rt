@@ -4,6 +4,7 @@ ghost use Prim.Native.Nat.{_+_, _*_, _%_, _^_, _≤_, _<_};
 ghost use lib.ListN.{length};
 ghost use lib.Count.{ones};
 ghost use Rattle.bits_laws.specs.Bits.{rank, select};
+use super::in_word::select_by_halves;
 use super::in_word::select_in_word;
 use super::numbers::read_word;
 use super::numbers::smaller;
@@ -62,4 +63,12 @@ pub fn select_from(s: &[u8], n: usize, from: usize, before: usize, m: usize) -> 
         q = q + 1;
     }
     n
+}
+
+// The position of the set bit in word q that has m set bits of the word below it, or n where it is not among the first n bits. No table is read.
+pub fn select_in(s: &[u8], n: usize, q: usize, m: usize) -> usize
+    requires { ⌜ (n ≤ 8 * length (now s)) × (64 * q ≤ n) × (rank (now s) (64 * q) + m < rank (now s) (64 * q + 64)) ⌝ }
+    ensures { λ r. ⌜ (r ≡ select (now (s .entry)) n (rank (now (s .entry)) (64 * q) + m)) × (r ≤ n) ⌝ }
+{
+    smaller(64 * q + select_by_halves(read_word(s, q), m), n)
 }

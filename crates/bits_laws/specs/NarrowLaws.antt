@@ -15,7 +15,7 @@ use Rattle.bits_laws.specs.ValueLaws.{Small}
 use Rattle.bits_laws.specs.RankLaws.{ones-behind, rank-ones, rank-up}
 use Rattle.bits_laws.specs.SelectLaws.{select-is}
 use Rattle.bits_laws.specs.WordLaws.{ones-none}
-use Rattle.bits_laws.specs.CountLaws.{Counts, counts-at}
+use Rattle.bits_laws.specs.CountLaws.{Counts, every-other, paired, counts-at, counts-digits, counts-paired}
 
 -- the one of x that has m ones below it stands in field `index` of the k fields of w bits, which starts at bit `at`, with `left` ones below it in the field
 pub record Narrowed (x m w k at left : ℕ) : Type 0 where
@@ -92,3 +92,11 @@ narrowed-place x m at left p =
     let s : at + t + 1 ≡ at + (t + 1) = omega arith in
     let b = p .below in
     (omega (arith, ones-behind x at t, ap ones c, f .1), omega (arith, ones-behind x at (t + 1), ap ones d, f .2, ap (λ (n : ℕ). ones (x % 2 ^ n)) s), omega (arith, p .inside, p .aligned))
+
+-- the counts of the fields of two bits
+pub counts-pairs : (x n : ℕ) → n ≡ paired 1 (every-other 1 32) x → Counts 2 32 n x
+counts-pairs x n e = rw e (counts-paired 1 32 x x (omega arith) (counts-digits 64 x))
+
+-- a field of one bit is the one
+pub narrowed-bit : (x m at left : ℕ) → Narrowed x m 1 64 at left → (ones (x % 2 ^ at) ≤ m) × (m < ones (x % 2 ^ (at + 1))) × (at < 64)
+narrowed-bit x m at left p = (omega (arith, p .below), omega (arith, p .below, p .held, ones-behind x at 1), omega (arith, p .inside, p .aligned))

@@ -7,7 +7,7 @@ ghost use Rattle.rank_tables_laws.specs.Tables.{spanned, Samples-room};
 use bits::numbers::smaller;
 use bits::numbers::write32;
 use bits::ones::rank_from;
-use bits::select::select_from;
+use bits::select::select_in;
 use image_types::SAMPLE_RATE;
 use rank_tables_laws::Span;
 
@@ -28,7 +28,7 @@ pub fn fill_samples(out: &mut [u8], body: Span, bits: usize, table: usize)
         at = smaller(start + 64, bits);
         r = rank_from(&out[from..end], start / 64, before, at);
         if SAMPLE_RATE * t < r {
-            let p = select_from(&out[from..end], bits, start, before, SAMPLE_RATE * t);
+            let p = select_in(&out[from..end], bits, start / 64, SAMPLE_RATE * t - before);
             write32(&mut out[table..], 4 * t, p);
             t = t + 1;
         }

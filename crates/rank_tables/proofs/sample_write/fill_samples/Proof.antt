@@ -87,17 +87,17 @@ mul-if1 c =
     let s : List ℕ = part (a .out .now) from m in
     omega (arith, l .inv .2, l .inv .3, rank-le s (l .at), start .pre .short)
 
-sub-select-from : tie.Need-sub-select-from Inv-loop μ-loop
-sub-select-from c = search needs
+sub-select-in : tie.Need-sub-select-in Inv-loop μ-loop
+sub-select-in c = search needs
 
-part-select-from-start : tie.Need-part-select-from-start Inv-loop μ-loop
-part-select-from-start c = search needs
+part-select-in-start : tie.Need-part-select-in-start Inv-loop μ-loop
+part-select-in-start c = search needs
 
-part-select-from-end : tie.Need-part-select-from-end Inv-loop μ-loop
-part-select-from-end c = search needs
+part-select-in-end : tie.Need-part-select-in-end Inv-loop μ-loop
+part-select-in-end c = search needs
 
-mul-select-from : tie.Need-mul-select-from Inv-loop μ-loop
-mul-select-from c =
+mul-select-in : tie.Need-mul-select-in Inv-loop μ-loop
+mul-select-in c =
     let start = c .before .before .before .before .before .before .before .before .before .before .before in
     let a = start .args in
     let l = c .before .before .before .before .before .before .before .before .loop in
@@ -106,17 +106,32 @@ mul-select-from c =
     let s : List ℕ = part (a .out .now) from m in
     omega (arith, l .inv .2, l .inv .3, rank-le s (l .at), start .pre .short)
 
-select-from-requires : tie.Need-select-from-requires Inv-loop μ-loop
-select-from-requires c κs =
+sub-select-in-2 : tie.Need-sub-select-in-2 Inv-loop μ-loop
+sub-select-in-2 c =
+    let l = c .before .before .before .before .before .before .before .before .loop in
+    omega (arith, l .inv .3)
+
+select-in-requires : tie.Need-select-in-requires Inv-loop μ-loop
+select-in-requires c κs =
+    let loop-test = c .before .before .before .before .before .before .before .loop-test in
+    let if1 = c .before .before .if1 in
     let start = c .before .before .before .before .before .before .before .before .before .before .before in
     let a = start .args in
     let l = c .before .before .before .before .before .before .before .before .loop in
     let from : ℕ = a .body .at in
     let m : ℕ = from + a .body .len - from in
     let s : List ℕ = part (a .out .now) from m in
+    let next = c .before .before .before .before .before .before .smaller in
+    let counted = c .before .before .before .rank-from in
+    let w = word-start (l .at) (l .inv .4 (loop-test .taken)) in
     let size : length (l .out) ≡ length (a .out .now) = l .inv .1 .size in
     let n = length-part (l .out) from m (omega (arith, size, start .pre .behind, start .pre .room)) in
-    (omega (arith, n, start .pre .within), l .inv .0, l .inv .2 ∙ ap (λ (z : List ℕ). rank z (l .at)) (sym (l .inv .1 .kept)), omega (arith, l .inv .3))
+    let kept = l .inv .1 .kept in
+    let e : counted .result ≡ rank s (next .result) = counted .ensures ∙ ap (λ (z : List ℕ). rank z (next .result)) kept in
+    let b : rank (part (l .out) from m) (64 * (l .at / 64)) ≡ l .r = ap₂ rank kept w ∙ sym (l .inv .2) in
+    let f : rank (part (l .out) from m) (64 * (l .at / 64) + 64) ≡ rank s (l .at + 64) = ap₂ (λ (z : List ℕ) (k : ℕ). rank z (k + 64)) kept w in
+    let up = rank-slow s (next .result) (l .at + 64) (omega (arith, next .ensures)) in
+    (omega (arith, n, start .pre .within), omega (arith, w, l .inv .0), omega (arith, b, f, e, up .0, l .inv .3, if1 .taken))
 
 sub-write32 : tie.Need-sub-write32 Inv-loop μ-loop
 sub-write32 c = search needs
@@ -168,7 +183,7 @@ loop-again : tie.Need-loop-again Inv-loop μ-loop
 loop-again c =
     let loop-test = c .before .before .before .before .before .before .before .before .before .before .before .before .loop-test in
     let if1 = c .before .before .before .before .before .before .before .if1 in
-    let select-from = c .before .before .before .before .select-from in
+    let select-in = c .before .before .before .before .select-in in
     let write32 = c .before .before .write32 in
     let start = c .before .before .before .before .before .before .before .before .before .before .before .before .before .before .before .before in
     let a = start .args in
@@ -184,7 +199,9 @@ loop-again c =
     let n = within (l .r) (counted .result) (rank s (a .bits)) (l .t) (l .inv .3) (if1 .taken) (omega (arith, e, up .0)) in
     let q : m ≡ a .body .len = omega arith in
     let room = ap (λ (k : ℕ). rank (part (a .out .now) from k) (a .bits)) q in
-    let v = select-from .ensures .0 ∙ ap (λ (z : List ℕ). select z (a .bits) (64 * l .t)) (l .inv .1 .kept) in (
+    let w = word-start (l .at) (l .inv .4 (loop-test .taken)) in
+    let b : rank (part (l .out) from m) (64 * (l .at / 64)) + (64 * l .t - l .r) ≡ 64 * l .t = omega (arith, ap₂ rank (l .inv .1 .kept) w, l .inv .2, l .inv .3) in
+    let v = select-in .ensures .0 ∙ ap₂ (λ (z : List ℕ) (k : ℕ). select z (a .bits) k) (l .inv .1 .kept) b in (
       omega (arith, next .ensures),
       filled-more (a .out .now) from m (a .table) (samples s (a .bits)) (l .t) (l .out) _ _ (omega (arith, start .pre .behind)) (omega (arith, n, room, start .pre .room)) (l .inv .1) v (write32 .ensures),
       e,
@@ -245,11 +262,12 @@ fill-samples-spec =
     part-rank-from-end
     rank-from-requires
     mul-if1
-    sub-select-from
-    part-select-from-start
-    part-select-from-end
-    mul-select-from
-    select-from-requires
+    sub-select-in
+    part-select-in-start
+    part-select-in-end
+    mul-select-in
+    sub-select-in-2
+    select-in-requires
     sub-write32
     part-write32-start
     part-write32-end
