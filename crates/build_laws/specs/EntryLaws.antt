@@ -1,11 +1,13 @@
 -- A key's emissions from a level on, one at a time: what is left to be written, and that there is room for it. Used by the functions that go over a key's levels.
 use Prim.Native.Nat.{ℕ, suc, _+_, _-_, _≤_, _<_, max, min}
-use mathlib.Core.Path.{_≡_, refl, sym, ap, subst, _∙_}
+use mathlib.Core.Path.{_≡_, refl, sym, ap, ap₂, subst, _∙_}
 use mathlib.Core.Bool.{true, false, cond}
 use mathlib.Core.List.{List, [], _∷_, _++_}
 use native.Mathlib.Omega.{arith}
 use native.Mathlib.Numerals.{add-one}
-use lib.ListN.{getD, set}
+use lib.ListN.{length, getD, set}
+use Rattle.spec.specs.Bytes.{Bytes}
+use Rattle.build_laws.specs.LevelEntries.{pred}
 use Rattle.build_laws.specs.NeighbourLeaves.{cut-length}
 use Rattle.build_laws.specs.Emissions.{Emission, emission, consecutive, key-emissions}
 use Rattle.build_laws.specs.BitPass.{Room}
@@ -13,7 +15,11 @@ use Rattle.build_laws.specs.BytePass.{Byte-state}
 use Rattle.build_laws.specs.declared.Entry.{Entry}
 use Rattle.build_laws.specs.declared.Kind.{Kind}
 use Rattle.build_laws.specs.declared.Kind.the-variants.{DL, DC, DP, SL, SC, SB}
-use Rattle.build_laws.specs.Passes.{key-exact, kind-step, kind-ones, capacity, write-entry, write-entries}
+use Rattle.build_laws.specs.declared.Key.{Key}
+use Rattle.build_laws.specs.declared.Levels.{Levels}
+use Rattle.build_laws.specs.KeyEntries.{entry-at, exact-entry}
+use Rattle.build_laws.specs.KeyLaws.{key-length}
+use Rattle.build_laws.specs.Passes.{key-bytes, listed-entries, key-exact, kind-step, kind-ones, capacity, write-entry, write-entries}
 use Rattle.build_laws.specs.Limits.{counter-max}
 
 -- what a key emits from level d to below `end`, and for its exact leaf
@@ -44,6 +50,40 @@ module _ {A : Type 0} (v : ℕ → A) (t : A) (q n lo hi : ℕ) where
   pub rest-none : (d end : ℕ) → end ≤ d → key-exact q n lo hi ≡ false → key-rest v t q n lo hi d end ≡ []
   unfolding key-rest consecutive
   rest-none d end h e = let w : end - d ≡ 0 = omega arith in rw (w, e)
+
+-- ---- a key's entries
+
+-- what is left of the entries of a key of the list, from level d to below `end`, and for its exact leaf
+unfoldable pub entry-rest : Bytes → Key → Levels → ℕ → ℕ → List (Emission Entry)
+unfolding key-rest
+entry-rest s k l d end = key-rest (entry-at (k .first) (k .next) (key-bytes s k)) exact-entry (k .next) (length (key-bytes s k)) (l .lo) (l .hi) d end
+
+module _ (s : Bytes) (k : Key) (l : Levels) (h : k .at + k .len ≤ length s) where
+  -- from the first level on it is all, the first level and the end as they are computed
+  pub entries-all : (b c end d : ℕ) → b ≡ pred (k .first) → c ≡ cut-length b (k .next) (k .len) → end ≡ min c (l .hi) → d ≡ max b (l .lo) → entry-rest s k l d end ≡ listed-entries l k (key-bytes s k)
+  unfolding entry-rest
+  entries-all b c end d e f g i =
+      rest-start (entry-at (k .first) (k .next) (key-bytes s k)) exact-entry (k .next) (length (key-bytes s k)) (l .lo) (l .hi) (pred (k .first)) d end (i ∙ ap (λ (j : ℕ). max j (l .lo)) e)
+      (g ∙ ap (λ (j : ℕ). min j (l .hi)) (f ∙ ap₂ (λ (j m : ℕ). cut-length j (k .next) m) e (sym (key-length s (k .at) (k .len) h))))
+
+  -- one entry, and what is left from the next level on
+  pub entries-more : (d end : ℕ) → d < end → entry-rest s k l d end ≡ emission d (entry-at (k .first) (k .next) (key-bytes s k) d) ∷ entry-rest s k l (d + 1) end
+  unfolding entry-rest
+  entries-more d end i = rest-more (entry-at (k .first) (k .next) (key-bytes s k)) exact-entry (k .next) (length (key-bytes s k)) (l .lo) (l .hi) d end i
+
+  -- behind the last level the exact leaf is left
+  pub entries-exact : (d end : ℕ) → end ≤ d → key-exact (k .next) (k .len) (l .lo) (l .hi) ≡ true → entry-rest s k l d end ≡ emission (k .len) exact-entry ∷ []
+  unfolding entry-rest
+  entries-exact d end i e =
+      ap (λ (m : ℕ). key-rest (entry-at (k .first) (k .next) (key-bytes s k)) exact-entry (k .next) m (l .lo) (l .hi) d end) (key-length s (k .at) (k .len) h)
+      ∙ rest-exact (entry-at (k .first) (k .next) (key-bytes s k)) exact-entry (k .next) (k .len) (l .lo) (l .hi) d end i e
+
+  -- or nothing
+  pub entries-none : (d end : ℕ) → end ≤ d → key-exact (k .next) (k .len) (l .lo) (l .hi) ≡ false → entry-rest s k l d end ≡ []
+  unfolding entry-rest
+  entries-none d end i e =
+      ap (λ (m : ℕ). key-rest (entry-at (k .first) (k .next) (key-bytes s k)) exact-entry (k .next) m (l .lo) (l .hi) d end) (key-length s (k .at) (k .len) h)
+      ∙ rest-none (entry-at (k .first) (k .next) (key-bytes s k)) exact-entry (k .next) (k .len) (l .lo) (l .hi) d end i e
 
 -- room for one emission, out of room for it and others
 pub room-one : {A : Type 0} (inc : A → ℕ) (ones-at : ℕ → A → List ℕ) (cap top d : ℕ) (x : A) (es : List (Emission A)) (c : List ℕ) → Room inc ones-at cap top (emission d x ∷ es) c → Room inc ones-at cap top (emission d x ∷ []) c

@@ -150,6 +150,14 @@ Keys-room Slots lo hi n p ks size c = Room one-step (slot-at n) (8 * size) count
 
 -- ---- passes
 
+-- the pass of a body of entries on some levels
+abbrev pub entries-pass : Kind → Levels → Pass
+entries-pass kind l = record { body = Entries kind; levels = l; width = 0 }
+
+-- the pass of the slots of n bits
+abbrev pub slots-pass : ℕ → Pass
+slots-pass n = record { body = Slots; levels = record { lo = 0; hi = 0 }; width = n }
+
 -- what a pass does with one key, of these bytes
 abbrev pub pass-key : Pass → Key → Bytes → Byte-state → Byte-state
 pass-key p k b s = write-key (p .body) (p .levels .lo) (p .levels .hi) (p .width) (k .first) (k .next) b s

@@ -7,9 +7,11 @@ ghost use Rattle.build_laws.specs.NeighbourLeaves.{cut-length};
 ghost use Rattle.build_laws.specs.KeyEntries.{continues-at, entry-at, exact-entry};
 ghost use Rattle.build_laws.specs.BytePass.{byte-state};
 ghost use Rattle.build_laws.specs.Passes.{key-bytes, Listed-key, listed-entries, key-exact, Entries-room, write-entries};
+ghost use Rattle.build_laws.specs.declared.Kind.the-variants.{SL};
 ghost use Rattle.build_laws.specs.Limits.{counters};
 use super::numbers::cut_length;
 use super::numbers::one_less;
+use super::put::put_byte;
 use super::put::write_entry;
 use bits::numbers::larger;
 use bits::numbers::smaller;
@@ -63,6 +65,25 @@ pub fn has_exact(k: Key, l: Levels) -> bool
     ensures { λ r. ⌜ r ≡ key-exact (k .next) (k .len) (l .lo) (l .hi) ⌝ }
 {
     k.next == k.len && (l.lo <= k.len && k.len < l.hi)
+}
+
+// The labels of a key's entries on the levels are written at the levels' cursors: a byte of the key on each level, and FF for its exact leaf.
+pub fn write_labels(out: &mut [u8], cur: &mut Counters, s: &[u8], k: Key, l: Levels)
+    requires { ⌜ Listed-key (now s) k × (length (now cur) ≡ counters) × Entries-room SL (listed-entries l k (key-bytes (now s) k)) (length (now out)) (now cur) ⌝ }
+    ensures { λ _. ⌜ byte-state (now (out .exit)) (now (cur .exit)) ≡ write-entries SL (listed-entries l k (key-bytes (now (s .entry)) k)) (byte-state (now (out .entry)) (now (cur .entry))) ⌝ }
+{
+    let b = one_less(k.first);
+    let c = cut_length(b, k.next, k.len);
+    let end = smaller(c, l.hi);
+    let mut d = larger(b, l.lo);
+    while d < end {
+        let at = k.at + d;
+        put_byte(out, cur, d, s[at]);
+        d = d + 1;
+    }
+    if has_exact(k, l) {
+        put_byte(out, cur, k.len, EXTRA_LABEL);
+    }
 }
 
 // What a body holds of a key's entries on the levels is written at the levels' cursors.

@@ -24,7 +24,7 @@ use image_types::NodeNum;
 use image_types::ROW_BITS;
 
 // The byte x is written at the cursor of level d, which moves on by one.
-fn put_byte(out: &mut [u8], cur: &mut Counters, d: usize, x: u8)
+pub fn put_byte(out: &mut [u8], cur: &mut Counters, d: usize, x: u8)
     requires { ⌜ Room one-step at-cursor (length (now out)) counter-max (emission d x ∷ []) (now cur) ⌝ }
     ensures { λ _. ⌜ byte-state (now (out .exit)) (now (cur .exit)) ≡ put-byte (emission d x) (byte-state (now (out .entry)) (now (cur .entry))) ⌝ }
 {

@@ -1,91 +1,96 @@
--- What the keys left do gives what all keys do, and there is room for it.
-use Prim.Native.Nat.{ℕ, _+_, _-_}
-use mathlib.Core.Path.{subst, _≡_, refl, sym}
+-- By cases of the body.
+use Prim.Native.Nat.{ℕ}
+use mathlib.Core.Path.{subst, _≡_, sym, ap, _∙_}
+use mathlib.Core.List.{List}
 use lib.ListN.{length}
+use Rattle.spec.specs.Bytes.{Bytes}
 use Rattle.spec.specs.Keys.{keys-of}
 use Rattle.build_laws.specs.BytePass.{Byte-state, byte-state}
-use Rattle.build_laws.specs.Passes.{key-bytes, pass-keys, Key-room-of}
-use Rattle.build_laws.specs.ListPass.{Filling, fill-key, fill-reads, fill-done, fill-start}
-use native.Mathlib.Omega.{arith}
+use Rattle.build_laws.specs.declared.Pass.{Pass}
+use Rattle.build_laws.specs.declared.Kind.the-variants.{SL}
+use Rattle.build_laws.specs.declared.Body.{Body}
+use Rattle.build_laws.specs.declared.Body.the-variants.{Entries, Slots}
+use Rattle.build_laws.specs.Passes.{pass-keys, Pass-room}
+use borrow.Author.Needs.{needs}
 use Rattle.build_passes.proofs.fill.write_keys.Statement.{statement}
 use Rattle.build_passes.proofs.fill.write_keys.Tie as tie
 
-abbrev Inv-loop : tie.InvT-loop
-Inv-loop out₀ cur₀ s pass at₀ first₀ out cur at first = (length out ≡ length out₀) × Filling pass s (length out₀) at first (byte-state out cur) (pass-keys pass 0 (keys-of s) (byte-state out₀ cur₀))
+-- a pass whose body is known
+abbrev with-body : Pass → Body → Pass
+with-body p b = record { body = b; levels = p .levels; width = p .width }
 
-abbrev μ-loop : tie.MeasureT-loop
-μ-loop out₀ cur₀ s pass at₀ first₀ out cur at first = length s - at
+-- room in a body that is known
+known : (p : Pass) (b : Body) (ks : List Bytes) (size : ℕ) (c : List ℕ) → p .body ≡ b → Pass-room p 0 ks size c → Pass-room (with-body p b) 0 ks size c
+known p b ks size c e r = subst (λ (i : Body). Pass-room (with-body p i) 0 ks size c) e r
 
-loop-holds : tie.Need-loop-holds Inv-loop μ-loop
-loop-holds c =
-    let a = c .before .before .args in
-    let pre = c .before .before .pre in
-    (refl, fill-start (a .pass) (a .s .now) (length (a .out .now)) (byte-state (a .out .now) (a .cur .now)) (pre .0 .0) (pre .0 .1) (pre .1))
+-- what keys do in a body that is known
+does : (p : Pass) (b : Body) (ks : List Bytes) (s z : Byte-state) → p .body ≡ b → z ≡ pass-keys (with-body p b) 0 ks s → z ≡ pass-keys p 0 ks s
+does p b ks s z e h = h ∙ ap (λ (i : Body). pass-keys (with-body p i) 0 ks s) (sym e)
 
-read-key-requires : tie.Need-read-key-requires Inv-loop μ-loop
-read-key-requires c κs =
-    let a = c .before .before .before .before .args in
-    let l = c .before .loop in
-    fill-reads (a .pass) (a .s .now) (length (a .out .now)) (l .at) (l .first) (byte-state (l .out) (l .cur)) _ (c .loop-test .taken) (l .inv .1)
+enum-known-body : tie.Need-enum-known-body
+enum-known-body c = search needs
 
-write-key-requires : tie.Need-write-key-requires Inv-loop μ-loop
-write-key-requires c κs =
+enum-told : tie.Need-enum-told
+enum-told c = search needs
+
+fill-labels-requires : tie.Need-fill-labels-requires
+fill-labels-requires c κs =
+    let a = c .before .before .before .before .before .before .before .before .before .before .args in
+    let pre = c .before .before .before .before .before .before .before .before .before .before .pre in
+    ((pre .0 .0, pre .0 .1), known (a .pass) (Entries SL) (keys-of (a .s .now)) (length (a .out .now)) (a .cur .now) (c .before .before .before .before .before .body .given .1 ∙ ap Entries (c .before .before .enum-told .given .1)) (pre .1))
+
+fill-entries-requires : tie.Need-fill-entries-requires
+fill-entries-requires c κs =
+    let a = c .before .before .before .before .before .before .before .before .before .args in
+    let pre = c .before .before .before .before .before .before .before .before .before .pre in
+    ((pre .0 .0, pre .0 .1), known (a .pass) (Entries (c .before .before .before .before .body .given .0 .0)) (keys-of (a .s .now)) (length (a .out .now)) (a .cur .now) (c .before .before .before .before .body .given .1) (pre .1))
+
+enum-told-2 : tie.Need-enum-told-2
+enum-told-2 c = search needs
+
+fill-slots-requires : tie.Need-fill-slots-requires
+fill-slots-requires c κs =
     let a = c .before .before .before .before .before .before .before .args in
-    let l = c .before .before .before .before .loop in
-    let t = fill-key (a .pass) (a .s .now) (length (a .out .now)) (l .at) (l .first) (byte-state (l .out) (l .cur)) _ (c .before .before .read-key .result) (c .before .before .read-key .ensures) (c .before .before .before .loop-test .taken) (l .inv .1) in
-    let k = c .before .before .read-key .result in
-    ((t .listed, l .inv .1 .width, c .before .before .before .before .before .before .before .pre .0 .2), subst (λ (i : ℕ). Key-room-of (a .pass) k (key-bytes (a .s .now) k) i (l .cur)) (sym (l .inv .0)) (t .room))
+    let pre = c .before .before .before .before .before .before .before .pre in
+    (pre .0, known (a .pass) Slots (keys-of (a .s .now)) (length (a .out .now)) (a .cur .now) (c .before .before .enum-told2 .given .1) (pre .1))
 
-add-first : tie.Need-add-first Inv-loop μ-loop
-add-first c =
-    let a = c .before .before .before .before .before .before .before .before .before .before .before .args in
-    let l = c .before .before .before .before .before .before .before .before .loop in
-    let t = fill-key (a .pass) (a .s .now) (length (a .out .now)) (l .at) (l .first) (byte-state (l .out) (l .cur)) _ (c .before .before .before .before .before .before .read-key .result) (c .before .before .before .before .before .before .read-key .ensures) (c .before .before .before .before .before .before .before .loop-test .taken) (l .inv .1) in
-    omega (arith, t .listed .numbers .behind, t .listed .numbers .size)
+same-length : tie.Need-same-length
+same-length c = search needs
 
-add-at : tie.Need-add-at Inv-loop μ-loop
-add-at c =
-    let a = c .before .before .before .before .before .before .before .before .before .before .before .before .args in
-    let l = c .before .before .before .before .before .before .before .before .before .loop in
-    let t = fill-key (a .pass) (a .s .now) (length (a .out .now)) (l .at) (l .first) (byte-state (l .out) (l .cur)) _ (c .before .before .before .before .before .before .before .read-key .result) (c .before .before .before .before .before .before .before .read-key .ensures) (c .before .before .before .before .before .before .before .before .loop-test .taken) (l .inv .1) in
-    omega (arith, t .listed .within)
-
-loop-less : tie.Need-loop-less Inv-loop μ-loop
-loop-less c =
-    let a = c .before .before .before .before .before .before .before .before .before .before .before .before .args in
-    let l = c .before .before .before .before .before .before .before .before .before .loop in
-    let t = fill-key (a .pass) (a .s .now) (length (a .out .now)) (l .at) (l .first) (byte-state (l .out) (l .cur)) _ (c .before .before .before .before .before .before .before .read-key .result) (c .before .before .before .before .before .before .before .read-key .ensures) (c .before .before .before .before .before .before .before .before .loop-test .taken) (l .inv .1) in
-    omega (arith, t .listed .within, t .after)
-
-loop-again : tie.Need-loop-again Inv-loop μ-loop
-loop-again c =
-    let a = c .before .before .before .before .before .before .before .before .before .before .before .before .args in
-    let l = c .before .before .before .before .before .before .before .before .before .loop in
-    let t = fill-key (a .pass) (a .s .now) (length (a .out .now)) (l .at) (l .first) (byte-state (l .out) (l .cur)) _ (c .before .before .before .before .before .before .before .read-key .result) (c .before .before .before .before .before .before .before .read-key .ensures) (c .before .before .before .before .before .before .before .before .loop-test .taken) (l .inv .1) in
-    let k = c .before .before .before .before .before .before .before .read-key .result in
-    (omega (arith, c .before .before .before .before .write-key .kept .0, l .inv .0), subst (λ (z : Byte-state). Filling (a .pass) (a .s .now) (length (a .out .now)) (k .at + k .len) (k .next + 1) z (pass-keys (a .pass) 0 (keys-of (a .s .now)) (byte-state (a .out .now) (a .cur .now)))) (sym (c .before .before .before .before .write-key .ensures)) (t .behind))
-
-same-length : tie.Need-same-length Inv-loop μ-loop
-same-length c = c .before .loop .inv .0
-
-returns : tie.Need-returns Inv-loop μ-loop
+returns : tie.Need-returns
 returns c =
-    let a = c .before .before .before .before .args in
-    let l = c .before .loop in
-    fill-done (a .pass) (a .s .now) (length (a .out .now)) (l .at) (l .first) (byte-state (l .out) (l .cur)) _ (c .loop-test .left) (l .inv .1)
+    let a = c .before .before .before .before .before .before .before .before .before .before .before .before .before .args in
+    does (a .pass) (Entries SL) (keys-of (a .s .now)) (byte-state (a .out .now) (a .cur .now)) _ (c .before .before .before .before .before .before .before .before .body .given .1 ∙ ap Entries (c .before .before .before .before .before .enum-told .given .1)) (c .before .before .fill-labels .ensures)
+
+same-length-2 : tie.Need-same-length-2
+same-length-2 c = search needs
+
+returns-2 : tie.Need-returns-2
+returns-2 c =
+    let a = c .before .before .before .before .before .before .before .before .before .before .before .before .args in
+    does (a .pass) (Entries (c .before .before .before .before .before .before .before .body .given .0 .0)) (keys-of (a .s .now)) (byte-state (a .out .now) (a .cur .now)) _ (c .before .before .before .before .before .before .before .body .given .1) (c .before .before .fill-entries .ensures)
+
+same-length-3 : tie.Need-same-length-3
+same-length-3 c = search needs
+
+returns-3 : tie.Need-returns-3
+returns-3 c =
+    let a = c .before .before .before .before .before .before .before .before .before .before .args in
+    does (a .pass) Slots (keys-of (a .s .now)) (byte-state (a .out .now) (a .cur .now)) _ (c .before .before .before .before .before .enum-told2 .given .1) (c .before .before .fill-slots .ensures)
 
 pub write-keys-spec : {M : Type 1} → statement M
 write-keys-spec =
     tie.close
     (tie.spec
-    Inv-loop
-    μ-loop
-    loop-holds
-    read-key-requires
-    write-key-requires
-    add-first
-    add-at
-    loop-less
-    loop-again
+    enum-known-body
+    enum-told
+    fill-labels-requires
+    fill-entries-requires
+    enum-told-2
+    fill-slots-requires
     same-length
-    returns)
+    returns
+    same-length-2
+    returns-2
+    same-length-3
+    returns-3)
