@@ -5,6 +5,7 @@ ghost use Prim.Native.Nat.{_+_, _<_};
 ghost use lib.ListN.{drop};
 ghost use Rattle.bits_laws.specs.Bits.{placed};
 ghost use Rattle.build_laws.specs.BodyChoice.{levels-of};
+ghost use Rattle.build_laws.specs.BodyFilled.{left-flipped};
 ghost use Rattle.build_laws.specs.Plan.{source-at, list-body, plan-counters, Body-room, Laid-out, span-at, body-at, start-at, Writing};
 use build_laws::Body;
 use build_laws::COUNTERS;
@@ -15,6 +16,7 @@ use build_laws::Pass;
 use build_laws::Plan;
 use build_laws::Source;
 use build_passes::fill::write_keys;
+use build_passes::flip::flip;
 use build_passes::starts::start_levels;
 use image_records::header::clear;
 use image_records::table::BEFORE_BODY;
@@ -93,6 +95,23 @@ fn counters_of(plan: Plan, body: Body) -> Counters
     }
 }
 
+// Whether the pass of a body leaves its bits flipped: those of which most are ones.
+fn leaves_flipped(body: Body) -> bool
+    ensures { λ r. ⌜ r ≡ left-flipped body ⌝ }
+{
+    match body {
+        Body::Slots => false,
+        Body::Entries(kind) => match kind {
+            Kind::DL => false,
+            Kind::DC => false,
+            Kind::DP => false,
+            Kind::SL => false,
+            Kind::SC => true,
+            Kind::SB => true,
+        },
+    }
+}
+
 // A body of so many bytes, filled by a pass over the keys, goes to the front of out, and all else stays; an empty one takes no pass.
 fn fill_from_keys(out: &mut [u8], len: usize, list: &[u8], plan: Plan, body: Body)
     requires { ⌜ Body-room (now list) plan body len (now out) ⌝ }
@@ -112,6 +131,9 @@ fn fill_from_keys(out: &mut [u8], len: usize, list: &[u8], plan: Plan, body: Bod
         width: plan.header.width,
     };
     write_keys(out, &mut cur, list, pass);
+    if leaves_flipped(body) {
+        flip(out, plan.header.sparse.entries);
+    }
 }
 
 // The bytes of record i's body in the output.

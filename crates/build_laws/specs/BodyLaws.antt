@@ -2,11 +2,11 @@
 -- and that there is room for all that it writes. Used by the builder's fillers.
 use Prim.Native.Nat.{ℕ, _*_, _≤_}
 use mathlib.Core.Path.{_≡_, refl, sym, ap, ap₂, _∙_}
-use mathlib.Core.Bool.{Bool, true, false, cond}
-use mathlib.Core.List.{List, [], _∷_, _++_, map}
+use mathlib.Core.Bool.{Bool, true, false, cond, not}
+use mathlib.Core.List.{List, [], _∷_, _++_, map, map-map}
 use mathlib.Core.Logic.{inl, inr, ⊎-elim}
 use native.Mathlib.Omega.{arith}
-use lib.ListN.{length, getD, drop, replicate}
+use lib.ListN.{length, getD, drop, replicate, length-map}
 use Rattle.spec.specs.Bytes.{Bytes, Bits, concat, blocks, pack, unpack}
 use Rattle.spec.specs.Leaves.{leaves}
 use Rattle.spec.specs.Image.{Settings, Bodies, has, positions}
@@ -22,7 +22,7 @@ use Rattle.build_laws.specs.NodeBodies.{leaves-slotted, labels-slotted, 
 use Rattle.build_laws.specs.DenseRows.{cell-step, cell-ones, label-cell, child-cell, exact-cell, on-entry, label-ones, child-ones, exact-ones}
 use Rattle.build_laws.specs.BytePass.{byte-state, put-bytes, put-bytes-is, one-step, at-cursor, byte-room}
 use Rattle.build_laws.specs.PackedBody.{filled-body}
-use Rattle.build_laws.specs.PassEmissions.{label-emissions, child-emissions, start-emissions, dense-label-emissions, dense-child-emissions, dense-exact-emissions, slot-emissions, label-of-slotted, child-of-slotted, start-of-slotted, label-cells-of-slotted, child-cells-of-slotted, exact-cells-of-slotted, emissions-below, first-longer, slots-below}
+use Rattle.build_laws.specs.PassEmissions.{label-emissions, leaf-emissions, later-emissions, dense-label-emissions, dense-child-emissions, dense-exact-emissions, slot-emissions, label-of-slotted, leaf-of-slotted, later-of-slotted, label-cells-of-slotted, child-cells-of-slotted, exact-cells-of-slotted, emissions-below, first-longer, slots-below}
 use Rattle.build_laws.specs.SlotEntries.{leaf-slots, values-slots, slots-concat, sum-slots}
 use Rattle.build_laws.specs.TrieFacts.{dense-nodes, sparse-nodes, nodes-both}
 use Rattle.build_laws.specs.KeyBits.{key-bodies, bodies-are, some, facts, sparse-values, dense-values, all-values, mapped-values, DL-bits, DC-bits, DP-bits, SC-bits, SB-bits, SV-bits}
@@ -122,58 +122,63 @@ module _ (st : Settings) (ks : List Bytes) (b : Built-from st ks) where
 
   -- ---- SC and SB
 
-  child-values : values-below (child-emissions (st .dense-levels) 0 ks) 64 ≡ (SC-bits st ks b)
-  child-values =
-      (mapped-values st ks b) (λ (i : Slotted). i .entry .child) (st .dense-levels) 64 (child-emissions (st .dense-levels) 0 ks) (slotted-of (sparse-nodes st (leaves (st .width) ks))) (child-of-slotted (st .width) (st .dense-levels) ks) (sparse-values st ks b)
-      ∙ sym (children-slotted (sparse-nodes st (leaves (st .width) ks)))
+  leaf-values : values-below (leaf-emissions (st .dense-levels) 0 ks) 64 ≡ map not (SC-bits st ks b)
+  leaf-values =
+      (mapped-values st ks b) (λ (i : Slotted). not (i .entry .child)) (st .dense-levels) 64 (leaf-emissions (st .dense-levels) 0 ks) (slotted-of (sparse-nodes st (leaves (st .width) ks))) (leaf-of-slotted (st .width) (st .dense-levels) ks) (sparse-values st ks b)
+      ∙ sym (map-map not (λ (i : Slotted). i .entry .child) (slotted-of (sparse-nodes st (leaves (st .width) ks)))) ∙ ap (map not) (sym (children-slotted (sparse-nodes st (leaves (st .width) ks))))
 
-  start-values : values-below (start-emissions (st .dense-levels) 0 ks) 64 ≡ (SB-bits st ks b)
-  start-values =
-      (mapped-values st ks b) (λ (i : Slotted). i .entry .start) (st .dense-levels) 64 (start-emissions (st .dense-levels) 0 ks) (slotted-of (sparse-nodes st (leaves (st .width) ks))) (start-of-slotted (st .width) (st .dense-levels) ks) (sparse-values st ks b)
-      ∙ sym (starts-slotted (sparse-nodes st (leaves (st .width) ks)) ((facts st ks b) .sparse-fit))
+  later-values : values-below (later-emissions (st .dense-levels) 0 ks) 64 ≡ map not (SB-bits st ks b)
+  later-values =
+      (mapped-values st ks b) (λ (i : Slotted). not (i .entry .start)) (st .dense-levels) 64 (later-emissions (st .dense-levels) 0 ks) (slotted-of (sparse-nodes st (leaves (st .width) ks))) (later-of-slotted (st .width) (st .dense-levels) ks) (sparse-values st ks b)
+      ∙ sym (map-map not (λ (i : Slotted). i .entry .start) (slotted-of (sparse-nodes st (leaves (st .width) ks)))) ∙ ap (map not) (sym (starts-slotted (sparse-nodes st (leaves (st .width) ks)) ((facts st ks b) .sparse-fit)))
 
-  children-below : Levels-below 64 (child-emissions (st .dense-levels) 0 ks)
-  unfolding child-emissions
-  children-below = emissions-below (st .dense-levels) 64 _ false 0 ks (first-longer ks (b .keys)) (b .keys) (b .up)
+  leaves-below : Levels-below 64 (leaf-emissions (st .dense-levels) 0 ks)
+  unfolding leaf-emissions
+  leaves-below = emissions-below (st .dense-levels) 64 _ true 0 ks (first-longer ks (b .keys)) (b .keys) (b .up)
 
-  starts-below : Levels-below 64 (start-emissions (st .dense-levels) 0 ks)
-  unfolding start-emissions
-  starts-below = emissions-below (st .dense-levels) 64 _ true 0 ks (first-longer ks (b .keys)) (b .keys) (b .up)
+  later-below : Levels-below 64 (later-emissions (st .dense-levels) 0 ks)
+  unfolding later-emissions
+  later-below = emissions-below (st .dense-levels) 64 _ false 0 ks (first-longer ks (b .keys)) (b .keys) (b .up)
 
   module _ (cur : List ℕ) (w : length cur ≡ counters) (c : Cursors-at (entry-counts ks) (st .dense-levels) cur) where
-    children-started : Started one-step bit-at (child-emissions (st .dense-levels) 0 ks) cur
-    children-started d h = inr (sparse-starts-at (st .width) ks (some st ks b) (b .up) (st .dense-levels) (omega (arith, b .dense-range)) (λ (i : Slotted). i .entry .child) (child-emissions (st .dense-levels) 0 ks) (child-of-slotted (st .width) (st .dense-levels) ks) cur c d h)
+    leaves-started : Started one-step bit-at (leaf-emissions (st .dense-levels) 0 ks) cur
+    leaves-started d h = inr (sparse-starts-at (st .width) ks (some st ks b) (b .up) (st .dense-levels) (omega (arith, b .dense-range)) (λ (i : Slotted). not (i .entry .child)) (leaf-emissions (st .dense-levels) 0 ks) (leaf-of-slotted (st .width) (st .dense-levels) ks) cur c d h)
 
-    starts-started : Started one-step bit-at (start-emissions (st .dense-levels) 0 ks) cur
-    starts-started d h = inr (sparse-starts-at (st .width) ks (some st ks b) (b .up) (st .dense-levels) (omega (arith, b .dense-range)) (λ (i : Slotted). i .entry .start) (start-emissions (st .dense-levels) 0 ks) (start-of-slotted (st .width) (st .dense-levels) ks) cur c d h)
+    later-started : Started one-step bit-at (later-emissions (st .dense-levels) 0 ks) cur
+    later-started d h = inr (sparse-starts-at (st .width) ks (some st ks b) (b .up) (st .dense-levels) (omega (arith, b .dense-range)) (λ (i : Slotted). not (i .entry .start)) (later-emissions (st .dense-levels) 0 ks) (later-of-slotted (st .width) (st .dense-levels) ks) cur c d h)
 
-    -- SC: child bits set at entry cursors, in bytes that were zero
+    leaf-ones : (j : ℕ) → has (cursor-ones one-step bit-at 0 (values-below (leaf-emissions (st .dense-levels) 0 ks) 64)) j ≡ has (positions 0 (map not (SC-bits st ks b))) j
+    leaf-ones j = ap (λ (z : Bits). has (cursor-ones one-step bit-at 0 z) j) leaf-values ∙ ap (λ (z : List ℕ). has z j) (bits-ones (map not (SC-bits st ks b)))
+
+    later-ones : (j : ℕ) → has (cursor-ones one-step bit-at 0 (values-below (later-emissions (st .dense-levels) 0 ks) 64)) j ≡ has (positions 0 (map not (SB-bits st ks b))) j
+    later-ones j = ap (λ (z : Bits). has (cursor-ones one-step bit-at 0 z) j) later-values ∙ ap (λ (z : List ℕ). has z j) (bits-ones (map not (SB-bits st ks b)))
+
+    opposite-size : (bs : Bits) → length (pack bs) ≡ length (pack (map not bs))
+    opposite-size bs = length-pack bs ∙ ap (blocks 8) (sym (length-map bs not)) ∙ sym (length-pack (map not bs))
+
+    -- SC: the bits of leaves set at entry cursors, in bytes that were zero
     pub SC-filled : (o rest : Bytes) → Is-bytes o → Is-bytes rest
-        → unpack o ≡ write-all-bits one-step bit-at (child-emissions (st .dense-levels) 0 ks) (bit-state (unpack (replicate (length (key-bodies st ks .SC)) 0 ++ rest)) cur) .bits
-        → o ≡ key-bodies st ks .SC ++ rest
+        → unpack o ≡ write-all-bits one-step bit-at (leaf-emissions (st .dense-levels) 0 ks) (bit-state (unpack (replicate (length (key-bodies st ks .SC)) 0 ++ rest)) cur) .bits
+        → o ≡ pack (map not (SC-bits st ks b)) ++ rest
     SC-filled o rest p q e =
-        let y = ap (λ (z : Bodies). z .SC) (bodies-are st ks b) in
-        pass-filled one-step bit-at (child-emissions (st .dense-levels) 0 ks) cur (SC-bits st ks b) w children-below children-started
-        (λ j. ap (λ (z : Bits). has (cursor-ones one-step bit-at 0 z) j) child-values ∙ ap (λ (z : List ℕ). has z j) (bits-ones (SC-bits st ks b))) _ (ap length y) o rest p q e ∙ ap (λ (z : Bytes). z ++ rest) (sym y)
+        pass-filled one-step bit-at (leaf-emissions (st .dense-levels) 0 ks) cur (map not (SC-bits st ks b)) w leaves-below leaves-started leaf-ones _
+        (ap (λ (z : Bodies). length (z .SC)) (bodies-are st ks b) ∙ opposite-size (SC-bits st ks b)) o rest p q e
 
     -- SC: there is room for what is set
-    pub SC-room : Room one-step bit-at (sums (entry-counts ks) (st .dense-levels) 64) (sums (entry-counts ks) (st .dense-levels) 64) (child-emissions (st .dense-levels) 0 ks) cur
-    SC-room = rw (length-SC-bits st ks b, sparse-top (st .width) ks (some st ks b) (b .up) (st .dense-levels) (omega (arith, b .dense-range)) (λ (i : Slotted). i .entry .child) (child-emissions (st .dense-levels) 0 ks) (child-of-slotted (st .width) (st .dense-levels) ks)) at (pass-room one-step bit-at (child-emissions (st .dense-levels) 0 ks) cur (SC-bits st ks b) w children-below children-started
-        (λ j. ap (λ (z : Bits). has (cursor-ones one-step bit-at 0 z) j) child-values ∙ ap (λ (z : List ℕ). has z j) (bits-ones (SC-bits st ks b))))
+    pub SC-room : Room one-step bit-at (sums (entry-counts ks) (st .dense-levels) 64) (sums (entry-counts ks) (st .dense-levels) 64) (leaf-emissions (st .dense-levels) 0 ks) cur
+    SC-room = rw (length-map (SC-bits st ks b) not, length-SC-bits st ks b, sparse-top (st .width) ks (some st ks b) (b .up) (st .dense-levels) (omega (arith, b .dense-range)) (λ (i : Slotted). not (i .entry .child)) (leaf-emissions (st .dense-levels) 0 ks) (leaf-of-slotted (st .width) (st .dense-levels) ks)) at (pass-room one-step bit-at (leaf-emissions (st .dense-levels) 0 ks) cur (map not (SC-bits st ks b)) w leaves-below leaves-started leaf-ones)
 
-    -- SB: start bits set at entry cursors, in bytes that were zero
+    -- SB: the bits of entries that start no node set at entry cursors, in bytes that were zero
     pub SB-filled : (o rest : Bytes) → Is-bytes o → Is-bytes rest
-        → unpack o ≡ write-all-bits one-step bit-at (start-emissions (st .dense-levels) 0 ks) (bit-state (unpack (replicate (length (key-bodies st ks .SB)) 0 ++ rest)) cur) .bits
-        → o ≡ key-bodies st ks .SB ++ rest
+        → unpack o ≡ write-all-bits one-step bit-at (later-emissions (st .dense-levels) 0 ks) (bit-state (unpack (replicate (length (key-bodies st ks .SB)) 0 ++ rest)) cur) .bits
+        → o ≡ pack (map not (SB-bits st ks b)) ++ rest
     SB-filled o rest p q e =
-        let y = ap (λ (z : Bodies). z .SB) (bodies-are st ks b) in
-        pass-filled one-step bit-at (start-emissions (st .dense-levels) 0 ks) cur (SB-bits st ks b) w starts-below starts-started
-        (λ j. ap (λ (z : Bits). has (cursor-ones one-step bit-at 0 z) j) start-values ∙ ap (λ (z : List ℕ). has z j) (bits-ones (SB-bits st ks b))) _ (ap length y) o rest p q e ∙ ap (λ (z : Bytes). z ++ rest) (sym y)
+        pass-filled one-step bit-at (later-emissions (st .dense-levels) 0 ks) cur (map not (SB-bits st ks b)) w later-below later-started later-ones _
+        (ap (λ (z : Bodies). length (z .SB)) (bodies-are st ks b) ∙ opposite-size (SB-bits st ks b)) o rest p q e
 
     -- SB: there is room for what is set
-    pub SB-room : Room one-step bit-at (sums (entry-counts ks) (st .dense-levels) 64) (sums (entry-counts ks) (st .dense-levels) 64) (start-emissions (st .dense-levels) 0 ks) cur
-    SB-room = rw (length-SB-bits st ks b, sparse-top (st .width) ks (some st ks b) (b .up) (st .dense-levels) (omega (arith, b .dense-range)) (λ (i : Slotted). i .entry .start) (start-emissions (st .dense-levels) 0 ks) (start-of-slotted (st .width) (st .dense-levels) ks)) at (pass-room one-step bit-at (start-emissions (st .dense-levels) 0 ks) cur (SB-bits st ks b) w starts-below starts-started
-        (λ j. ap (λ (z : Bits). has (cursor-ones one-step bit-at 0 z) j) start-values ∙ ap (λ (z : List ℕ). has z j) (bits-ones (SB-bits st ks b))))
+    pub SB-room : Room one-step bit-at (sums (entry-counts ks) (st .dense-levels) 64) (sums (entry-counts ks) (st .dense-levels) 64) (later-emissions (st .dense-levels) 0 ks) cur
+    SB-room = rw (length-map (SB-bits st ks b) not, length-SB-bits st ks b, sparse-top (st .width) ks (some st ks b) (b .up) (st .dense-levels) (omega (arith, b .dense-range)) (λ (i : Slotted). not (i .entry .start)) (later-emissions (st .dense-levels) 0 ks) (later-of-slotted (st .width) (st .dense-levels) ks)) at (pass-room one-step bit-at (later-emissions (st .dense-levels) 0 ks) cur (map not (SB-bits st ks b)) w later-below later-started later-ones)
 
   -- ---- SV
 

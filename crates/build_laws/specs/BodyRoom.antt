@@ -1,6 +1,7 @@
 -- Room in a body for what its pass writes, by the number of its bytes. Used by the function that fills a body.
 use Prim.Native.Nat.{ℕ, _+_, _*_, _<_, _≤_}
 use mathlib.Core.Path.{_≡_, sym}
+use mathlib.Core.Bool.{not}
 use mathlib.Core.List.{List, [], _∷_}
 use native.Mathlib.Omega.{arith}
 use lib.ListN.{length, getD, set}
@@ -13,7 +14,7 @@ use Rattle.build_laws.specs.BitPass.{Room, Positions-below}
 use Rattle.build_laws.specs.BytePass.{one-step, at-cursor}
 use Rattle.build_laws.specs.DenseRows.{cell-step, cell-ones, label-cell, child-cell, exact-cell}
 use Rattle.build_laws.specs.KeyEntries.{entry-at, exact-entry}
-use Rattle.build_laws.specs.PassEmissions.{label-emissions, child-emissions, start-emissions, dense-label-emissions, dense-child-emissions, dense-exact-emissions, slot-emissions}
+use Rattle.build_laws.specs.PassEmissions.{label-emissions, leaf-emissions, later-emissions, dense-label-emissions, dense-child-emissions, dense-exact-emissions, slot-emissions}
 use Rattle.build_laws.specs.SmallCounters.{room-map}
 use Rattle.build_laws.specs.Counters.{entry-counts, node-counts, leaf-counts, Cursors-at}
 use Rattle.build_laws.specs.CounterRoom.{entry-counts-few, node-counts-few, leaf-counts-few, sums-few}
@@ -47,15 +48,15 @@ module _ (lo : ℕ) (ks : List Bytes) where
   unfolding label-emissions
   labels-map = sym (map-keys (λ (e : Entry). e .label) lo 64 entry-at exact-entry 0 ks)
 
-  -- whether they continue
-  pub children-map : child-emissions lo 0 ks ≡ map-emissions (λ (e : Entry). e .child) (all-entries lo 64 0 ks)
-  unfolding child-emissions
-  children-map = sym (map-keys (λ (e : Entry). e .child) lo 64 entry-at exact-entry 0 ks)
+  -- whether they are leaves
+  pub leaves-map : leaf-emissions lo 0 ks ≡ map-emissions (λ (e : Entry). not (e .child)) (all-entries lo 64 0 ks)
+  unfolding leaf-emissions
+  leaves-map = sym (map-keys (λ (e : Entry). not (e .child)) lo 64 entry-at exact-entry 0 ks)
 
-  -- whether they start a node
-  pub starts-map : start-emissions lo 0 ks ≡ map-emissions (λ (e : Entry). e .start) (all-entries lo 64 0 ks)
-  unfolding start-emissions
-  starts-map = sym (map-keys (λ (e : Entry). e .start) lo 64 entry-at exact-entry 0 ks)
+  -- whether they start no node
+  pub later-map : later-emissions lo 0 ks ≡ map-emissions (λ (e : Entry). not (e .start)) (all-entries lo 64 0 ks)
+  unfolding later-emissions
+  later-map = sym (map-keys (λ (e : Entry). not (e .start)) lo 64 entry-at exact-entry 0 ks)
 
 module _ (hi : ℕ) (ks : List Bytes) where
   -- label cells
@@ -103,12 +104,12 @@ module _ (st : Settings) (ks : List Bytes) (b : Built-from st ks) (cur : List �
   room-SL c h = room-more one-step at-cursor _ size _ counter-max (label-emissions (st .dense-levels) 0 ks) cur (omega (arith, length-SL st ks b)) (counters-few (Entries SL) ks (st .dense-levels) 64 (b .few) (omega arith)) (SL-room st ks b cur w c)
 
   -- S-HasChild: room in so many bytes
-  pub room-SC : Cursors-at (entry-counts ks) (st .dense-levels) cur → length (key-bodies st ks .SC) ≤ size → Room one-step bit-at (8 * size) counter-max (child-emissions (st .dense-levels) 0 ks) cur
-  room-SC c h = room-more one-step bit-at _ (8 * size) _ counter-max (child-emissions (st .dense-levels) 0 ks) cur (eight _ size (omega (arith, length-SC st ks b))) (counters-few (Entries SC) ks (st .dense-levels) 64 (b .few) (omega arith)) (SC-room st ks b cur w c)
+  pub room-SC : Cursors-at (entry-counts ks) (st .dense-levels) cur → length (key-bodies st ks .SC) ≤ size → Room one-step bit-at (8 * size) counter-max (leaf-emissions (st .dense-levels) 0 ks) cur
+  room-SC c h = room-more one-step bit-at _ (8 * size) _ counter-max (leaf-emissions (st .dense-levels) 0 ks) cur (eight _ size (omega (arith, length-SC st ks b))) (counters-few (Entries SC) ks (st .dense-levels) 64 (b .few) (omega arith)) (SC-room st ks b cur w c)
 
   -- S-LOUDS: room in so many bytes
-  pub room-SB : Cursors-at (entry-counts ks) (st .dense-levels) cur → length (key-bodies st ks .SB) ≤ size → Room one-step bit-at (8 * size) counter-max (start-emissions (st .dense-levels) 0 ks) cur
-  room-SB c h = room-more one-step bit-at _ (8 * size) _ counter-max (start-emissions (st .dense-levels) 0 ks) cur (eight _ size (omega (arith, length-SB st ks b))) (counters-few (Entries SB) ks (st .dense-levels) 64 (b .few) (omega arith)) (SB-room st ks b cur w c)
+  pub room-SB : Cursors-at (entry-counts ks) (st .dense-levels) cur → length (key-bodies st ks .SB) ≤ size → Room one-step bit-at (8 * size) counter-max (later-emissions (st .dense-levels) 0 ks) cur
+  room-SB c h = room-more one-step bit-at _ (8 * size) _ counter-max (later-emissions (st .dense-levels) 0 ks) cur (eight _ size (omega (arith, length-SB st ks b))) (counters-few (Entries SB) ks (st .dense-levels) 64 (b .few) (omega arith)) (SB-room st ks b cur w c)
 
   -- D-Labels: room in so many bytes
   pub room-DL : Cursors-at (node-counts ks) 0 cur → length (key-bodies st ks .DL) ≤ size → Room cell-step (cell-ones 256) (8 * size) counter-max (dense-label-emissions (st .dense-levels) 0 ks) cur
@@ -130,8 +131,8 @@ module _ (st : Settings) (ks : List Bytes) (b : Built-from st ks) (cur : List �
   pub body-room : (body : Body) → Cursors-at (counters-of body ks) (levels-of body (st .dense-levels) .lo) cur → length (body-of body (key-bodies st ks)) ≤ size
       → Keys-room body (levels-of body (st .dense-levels) .lo) (levels-of body (st .dense-levels) .hi) (st .width) 0 ks size cur
   body-room (Entries SL) c h = room-map (λ (e : Entry). e .label) one-step at-cursor size counter-max (all-entries (st .dense-levels) 64 0 ks) cur (rw (labels-map (st .dense-levels) ks) at (room-SL c h))
-  body-room (Entries SC) c h = room-map (λ (e : Entry). e .child) one-step bit-at (8 * size) counter-max (all-entries (st .dense-levels) 64 0 ks) cur (rw (children-map (st .dense-levels) ks) at (room-SC c h))
-  body-room (Entries SB) c h = room-map (λ (e : Entry). e .start) one-step bit-at (8 * size) counter-max (all-entries (st .dense-levels) 64 0 ks) cur (rw (starts-map (st .dense-levels) ks) at (room-SB c h))
+  body-room (Entries SC) c h = room-map (λ (e : Entry). not (e .child)) one-step bit-at (8 * size) counter-max (all-entries (st .dense-levels) 64 0 ks) cur (rw (leaves-map (st .dense-levels) ks) at (room-SC c h))
+  body-room (Entries SB) c h = room-map (λ (e : Entry). not (e .start)) one-step bit-at (8 * size) counter-max (all-entries (st .dense-levels) 64 0 ks) cur (rw (later-map (st .dense-levels) ks) at (room-SB c h))
   body-room (Entries DL) c h = room-map label-cell cell-step (cell-ones 256) (8 * size) counter-max (all-entries 0 (st .dense-levels) 0 ks) cur (rw (label-cells-map (st .dense-levels) ks) at (room-DL c h))
   body-room (Entries DC) c h = room-map child-cell cell-step (cell-ones 256) (8 * size) counter-max (all-entries 0 (st .dense-levels) 0 ks) cur (rw (child-cells-map (st .dense-levels) ks) at (room-DC c h))
   body-room (Entries DP) c h = room-map exact-cell cell-step (cell-ones 1) (8 * size) counter-max (all-entries 0 (st .dense-levels) 0 ks) cur (rw (exact-cells-map (st .dense-levels) ks) at (room-DP c h))

@@ -1,12 +1,14 @@
 -- What fills a record's body leaves that body: a pass over the keys, ranks, and samples. Used by the functions that fill the records of a plan.
 use Prim.Native.Nat.{ℕ, _+_, _*_, _-_, _/_, _≤_, _<_}
 use mathlib.Core.Path.{_≡_, refl, sym, ap, ap₂, subst, _∙_}
+use mathlib.Core.Bool.{true, false}
 use mathlib.Core.List.{List, [], _∷_, _++_}
 use native.Mathlib.Omega.{arith}
 use borrow.Rule.Slice.PartMut.{putMid, midOf}
 use lib.ListN.{length, drop, replicate, length-drop}
 use Rattle.spec.specs.Bytes.{Bytes, blocks}
 use Rattle.spec.specs.Keys.{keys-of}
+use Rattle.spec.specs.Image.{Counts}
 use Rattle.theory.specs.Terms.{Is-bytes}
 use Rattle.bits_laws.specs.Bits.{part, placed, rank}
 use Rattle.bits_laws.specs.Placing.{lent-front}
@@ -22,7 +24,8 @@ use Rattle.build_laws.specs.KeyRecords.{Accepted-list}
 use Rattle.build_laws.specs.Passes.{pass-keys, Pass-room}
 use Rattle.build_laws.specs.BodyChoice.{counters-of, levels-of}
 use Rattle.build_laws.specs.BodyRoom.{counters-few, body-room}
-use Rattle.build_laws.specs.BodyFilled.{body-filled}
+use Rattle.build_laws.specs.BodyFilled.{left-body, body-filled, left-flipped, flipped-fits, flipped-again, left-whole}
+use Rattle.build_laws.specs.FlippedBits.{flipped}
 use Rattle.build_laws.specs.Plan.{Ready, Planned, plan-settings, plan-counters, plan-counted, list-body, body-at, size-at, start-at, span-at, body-size, ends-before, plan-short, entries-few, Laid-out, Body-room, Ranks-of, Samples-of, Gives, Writing, record-room}
 use Rattle.build_laws.specs.declared.Body.{Body}
 use Rattle.build_laws.specs.declared.Levels.{Levels}
@@ -58,13 +61,28 @@ module _ (list : Bytes) (p : Plan) (w : Planned list p) (b : Body) (cnt : List �
     pub pass-room : (size : ℕ) → length (list-body list p b) ≤ size → Pass-room (body-pass l) 0 (keys-of list) size cur
     pass-room size h = subst (λ (i : Levels). Pass-room (body-pass i) 0 (keys-of list) size cur) (sym e) (body-room (plan-settings p) (keys-of list) (w .ready .built) cur wide size b starts h)
 
-    -- what the pass leaves in bytes that were zero is the body
+    -- what the pass leaves in bytes that were zero
     pub pass-leaves : (len : ℕ) (rest o z c′ : Bytes) → len ≡ length (list-body list p b) → Is-bytes o → Is-bytes rest → z ≡ replicate len 0 ++ rest
-        → byte-state o c′ ≡ pass-keys (body-pass l) 0 (keys-of list) (byte-state z cur) → o ≡ list-body list p b ++ rest
+        → byte-state o c′ ≡ pass-keys (body-pass l) 0 (keys-of list) (byte-state z cur) → o ≡ left-body (plan-settings p) (keys-of list) (w .ready .built) b ++ rest
     pass-leaves len rest o z c′ n x y q f =
         body-filled (plan-settings p) (keys-of list) (w .ready .built) cur wide rest o c′ x y b starts
         (f ∙ ap (λ (i : Levels). pass-keys (body-pass i) 0 (keys-of list) (byte-state z cur)) e
         ∙ ap (λ (s : Bytes). pass-keys (body-pass (levels-of b (p .header .dense .levels))) 0 (keys-of list) (byte-state s cur)) (q ∙ ap (λ (i : ℕ). replicate i 0 ++ rest) n))
+
+-- a body that is left with its bits flipped has room for a bit of each entry
+pub flip-room : (list : Bytes) (p : Plan) (w : Planned list p) (b : Body) (size : ℕ) → left-flipped b ≡ true → length (list-body list p b) ≤ size → p .header .sparse .entries ≤ 8 * size
+flip-room list p w b size f h = omega (arith, flipped-fits (plan-settings p) (keys-of list) (w .ready .built) b (p .header .sparse .entries) (ap (λ (c : Counts). c .sparse-entries) (w .counts)) f)
+
+-- what is left with its bits flipped is the body once they are flipped again
+pub body-again : (list : Bytes) (p : Plan) (w : Planned list p) (b : Body) (rest x o : Bytes) → left-flipped b ≡ true → x ≡ left-body (plan-settings p) (keys-of list) (w .ready .built) b ++ rest
+    → o ≡ flipped (blocks 8 (p .header .sparse .entries)) (p .header .sparse .entries) x → o ≡ list-body list p b ++ rest
+body-again list p w b rest x o f e g =
+    flipped-again (plan-settings p) (keys-of list) (w .ready .built) rest b (p .header .sparse .entries) o (ap (λ (c : Counts). c .sparse-entries) (w .counts)) f
+    (g ∙ ap (flipped (blocks 8 (p .header .sparse .entries)) (p .header .sparse .entries)) e)
+
+-- what is not is the body
+pub body-whole : (list : Bytes) (p : Plan) (w : Planned list p) (b : Body) (rest o : Bytes) → left-flipped b ≡ false → o ≡ left-body (plan-settings p) (keys-of list) (w .ready .built) b ++ rest → o ≡ list-body list p b ++ rest
+body-whole list p w b rest o f e = e ∙ ap (λ (z : Bytes). z ++ rest) (left-whole (plan-settings p) (keys-of list) (w .ready .built) b f)
 
 -- ---- a record's body by its source
 

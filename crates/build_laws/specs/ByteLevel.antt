@@ -1,6 +1,7 @@
 -- What the passes do to bytes is what they do to the bits of these bytes, and entries written are functions of them written. Used by the laws of the bodies.
 use Prim.Native.Nat.{ℕ, _+_, _*_}
 use mathlib.Core.Path.{_≡_, refl, sym, ap, _∙_}
+use mathlib.Core.Bool.{not}
 use mathlib.Core.List.{List, [], _∷_}
 use lib.ListN.{length, getD, set}
 use Rattle.spec.specs.Bytes.{Bytes, Bits, unpack}
@@ -53,17 +54,17 @@ unfolding write-entries put-bytes map-emissions
 labels-put [] z = refl
 labels-put (emission d e ∷ es) z = labels-put es (put-byte (emission d (e .label)) z)
 
--- child bits are set at the cursors
-pub children-set : (es : List (Emission Entry)) (z : Byte-state) → write-entries SC es z ≡ set-all one-step bit-at (map-emissions (λ (e : Entry). e .child) es) z
+-- the bits of leaves are set at the cursors
+pub leaves-set : (es : List (Emission Entry)) (z : Byte-state) → write-entries SC es z ≡ set-all one-step bit-at (map-emissions (λ (e : Entry). not (e .child)) es) z
 unfolding write-entries set-all map-emissions
-children-set [] z = refl
-children-set (emission d e ∷ es) z = children-set es (set-at-cursor one-step bit-at (emission d (e .child)) z)
+leaves-set [] z = refl
+leaves-set (emission d e ∷ es) z = leaves-set es (set-at-cursor one-step bit-at (emission d (not (e .child))) z)
 
--- start bits are set at the cursors
-pub starts-set : (es : List (Emission Entry)) (z : Byte-state) → write-entries SB es z ≡ set-all one-step bit-at (map-emissions (λ (e : Entry). e .start) es) z
+-- the bits of entries that are not the first of their node are set at the cursors
+pub later-set : (es : List (Emission Entry)) (z : Byte-state) → write-entries SB es z ≡ set-all one-step bit-at (map-emissions (λ (e : Entry). not (e .start)) es) z
 unfolding write-entries set-all map-emissions
-starts-set [] z = refl
-starts-set (emission d e ∷ es) z = starts-set es (set-at-cursor one-step bit-at (emission d (e .start)) z)
+later-set [] z = refl
+later-set (emission d e ∷ es) z = later-set es (set-at-cursor one-step bit-at (emission d (not (e .start))) z)
 
 -- label cells are set in their rows
 pub label-cells-set : (es : List (Emission Entry)) (z : Byte-state) → write-entries DL es z ≡ set-all cell-step (cell-ones 256) (map-emissions label-cell es) z

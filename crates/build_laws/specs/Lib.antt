@@ -11,6 +11,7 @@ pub mod NodeBodies
 pub mod DenseRows
 pub mod BytePass
 pub mod PackedBody
+pub mod FlippedBits
 pub mod PassEmissions
 pub mod SlotEntries
 pub mod TrieFacts
@@ -32,6 +33,7 @@ pub mod AcceptedList
 pub mod KeyLaws
 pub mod CursorWrites
 pub mod ByteLevel
+pub mod KeyMarks
 pub mod BodyFilled
 pub mod CounterSums
 pub mod CountPass

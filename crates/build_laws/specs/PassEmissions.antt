@@ -1,7 +1,7 @@
 -- What the passes over the keys emit, a function of the key and of what it shares with its neighbours for each body; and that no level is 64 or above. Used by the laws of the bodies and by the builder.
 use Prim.Native.Nat.{ℕ, zero, suc, _<_, _≤_, max}
 use mathlib.Core.Path.{_≡_, refl, sym, ap₂, _∙_}
-use mathlib.Core.Bool.{Bool, true, false, cond}
+use mathlib.Core.Bool.{Bool, true, false, cond, not}
 use mathlib.Core.List.{List, [], _∷_, _++_, map, map-append}
 use native.Mathlib.Omega.{arith}
 use lib.ListN.{length, getD, replicate}
@@ -27,12 +27,17 @@ unfoldable pub label-emissions : ℕ → ℕ → List Bytes → List (Emission �
 unfolding emissions
 label-emissions lo p ks = emissions lo 64 (λ p q k d. getD k d 0) 255 p ks
 
--- S-HasChild: whether the branch continues; an exact leaf does not
-unfoldable pub child-emissions : ℕ → ℕ → List Bytes → List (Emission Bool)
+-- the zeros of S-HasChild: whether the branch does not continue; an exact leaf does not
+unfoldable pub leaf-emissions : ℕ → ℕ → List Bytes → List (Emission Bool)
 unfolding emissions
-child-emissions lo p ks = emissions lo 64 (λ p q k d. continues-at p q (length k) d) false p ks
+leaf-emissions lo p ks = emissions lo 64 (λ p q k d. not (continues-at p q (length k) d)) true p ks
 
--- S-LOUDS: whether the key starts a node on the level; an exact leaf does
+-- the zeros of S-LOUDS: whether the key starts no node on the level; an exact leaf does
+unfoldable pub later-emissions : ℕ → ℕ → List Bytes → List (Emission Bool)
+unfolding emissions
+later-emissions lo p ks = emissions lo 64 (λ p q k d. not (leb p d)) false p ks
+
+-- whether the key starts a node on the level; an exact leaf does
 unfoldable pub start-emissions : ℕ → ℕ → List Bytes → List (Emission Bool)
 unfolding emissions
 start-emissions lo p ks = emissions lo 64 (λ p q k d. leb p d) true p ks
@@ -62,10 +67,15 @@ module _ (n lo : ℕ) (ks : List Bytes) where
   unfolding label-emissions slotted-emissions
   label-of-slotted = sym (map-keys (λ (i : Slotted). i .entry .label) lo 64 (slotted-at n) (exact-slotted n) 0 ks)
 
-  -- whether they continue
-  pub child-of-slotted : child-emissions lo 0 ks ≡ map-emissions (λ (i : Slotted). i .entry .child) (slotted-emissions lo 64 n ks)
-  unfolding child-emissions slotted-emissions
-  child-of-slotted = sym (map-keys (λ (i : Slotted). i .entry .child) lo 64 (slotted-at n) (exact-slotted n) 0 ks)
+  -- whether they are leaves
+  pub leaf-of-slotted : leaf-emissions lo 0 ks ≡ map-emissions (λ (i : Slotted). not (i .entry .child)) (slotted-emissions lo 64 n ks)
+  unfolding leaf-emissions slotted-emissions
+  leaf-of-slotted = sym (map-keys (λ (i : Slotted). not (i .entry .child)) lo 64 (slotted-at n) (exact-slotted n) 0 ks)
+
+  -- whether they start no node
+  pub later-of-slotted : later-emissions lo 0 ks ≡ map-emissions (λ (i : Slotted). not (i .entry .start)) (slotted-emissions lo 64 n ks)
+  unfolding later-emissions slotted-emissions
+  later-of-slotted = sym (map-keys (λ (i : Slotted). not (i .entry .start)) lo 64 (slotted-at n) (exact-slotted n) 0 ks)
 
   -- whether they start a node
   pub start-of-slotted : start-emissions lo 0 ks ≡ map-emissions (λ (i : Slotted). i .entry .start) (slotted-emissions lo 64 n ks)

@@ -8,7 +8,7 @@ use Rattle.spec.specs.Bytes.{Bytes, Bits}
 use Rattle.bits_laws.specs.Bits.{with-bit, key}
 use Rattle.build_laws.specs.LevelEntries.{pred}
 use Rattle.build_laws.specs.Emissions.{Emission, emission, key-emissions, emissions}
-use Rattle.build_laws.specs.KeyEntries.{entry-at, exact-entry}
+use Rattle.build_laws.specs.KeyEntries.{continues-at, entry-at, exact-entry}
 use Rattle.build_laws.specs.BitPass.{Room}
 use Rattle.build_laws.specs.BytePass.{Byte-state, put-byte, one-step, at-cursor}
 use Rattle.build_laws.specs.DenseRows.{cell-step, cell-ones, label-cell, child-cell, exact-cell}
@@ -55,14 +55,14 @@ kind-step SL e = 1
 kind-step SC e = 1
 kind-step SB e = 1
 
--- the positions that an entry sets: bits, and for S-Labels a byte
+-- the positions that an entry sets: bits, and for S-Labels a byte; those of S-HasChild and S-LOUDS are set where the body has zeros
 abbrev pub kind-ones : Kind → ℕ → Entry → List ℕ
 kind-ones DL c e = cell-ones 256 c (label-cell e)
 kind-ones DC c e = cell-ones 256 c (child-cell e)
 kind-ones DP c e = cell-ones 1 c (exact-cell e)
 kind-ones SL c e = at-cursor c (e .label)
-kind-ones SC c e = bit-at c (e .child)
-kind-ones SB c e = bit-at c (e .start)
+kind-ones SC c e = bit-at c (not (e .child))
+kind-ones SB c e = bit-at c (not (e .start))
 
 -- how many positions n bytes have
 abbrev pub capacity : Kind → ℕ → ℕ
@@ -79,8 +79,8 @@ write-entry DL (emission d e) s = set-at-cursor cell-step (cell-ones 256) (emiss
 write-entry DC (emission d e) s = set-at-cursor cell-step (cell-ones 256) (emission d (child-cell e)) s
 write-entry DP (emission d e) s = set-at-cursor cell-step (cell-ones 1) (emission d (exact-cell e)) s
 write-entry SL (emission d e) s = put-byte (emission d (e .label)) s
-write-entry SC (emission d e) s = set-at-cursor one-step bit-at (emission d (e .child)) s
-write-entry SB (emission d e) s = set-at-cursor one-step bit-at (emission d (e .start)) s
+write-entry SC (emission d e) s = set-at-cursor one-step bit-at (emission d (not (e .child))) s
+write-entry SB (emission d e) s = set-at-cursor one-step bit-at (emission d (not (e .start))) s
 
 -- entries one after the other
 unfoldable pub write-entries : Kind → List (Emission Entry) → Byte-state → Byte-state
@@ -121,6 +121,18 @@ pub record Listed-key (s : Bytes) (k : Key) : Type 0 where
 -- the entries of a key of these bytes on some levels
 abbrev pub listed-entries : Levels → Key → Bytes → List (Emission Entry)
 listed-entries l k b = key-entries (l .lo) (l .hi) (k .first) (k .next) b
+
+-- for each entry of a key on some levels, whether it is a leaf
+abbrev pub listed-leaves : Levels → Key → List (Emission Bool)
+listed-leaves l k = key-emissions (l .lo) (l .hi) (λ d. not (continues-at (k .first) (k .next) (k .len) d)) true (pred (k .first)) (k .next) (k .len)
+
+-- for each, whether it is not the first of its node
+abbrev pub listed-later : Levels → Key → List (Emission Bool)
+listed-later l k = key-emissions (l .lo) (l .hi) (λ d. not (leb (k .first) d)) false (pred (k .first)) (k .next) (k .len)
+
+-- there is room in so many bytes for the bits of entries
+abbrev pub Bits-room : List (Emission Bool) → ℕ → List ℕ → Type 0
+Bits-room es size c = Room one-step bit-at (8 * size) counter-max es c
 
 -- the slot of n bits of a key of these bytes, on the level of its leaf
 abbrev pub listed-slot : ℕ → Key → Bytes → Emission Bits

@@ -35,7 +35,7 @@ pub fn put_byte(out: &mut [u8], cur: &mut Counters, d: usize, x: u8)
 }
 
 // The bit at the cursor of level d is set if x holds, and the cursor moves on by one.
-fn put_bit(out: &mut [u8], cur: &mut Counters, d: usize, x: bool)
+pub fn put_bit(out: &mut [u8], cur: &mut Counters, d: usize, x: bool)
     requires { ⌜ Room one-step bit-at (8 * length (now out)) counter-max (emission d x ∷ []) (now cur) ⌝ }
     ensures { λ _. ⌜ byte-state (now (out .exit)) (now (cur .exit)) ≡ set-at-cursor one-step bit-at (emission d x) (byte-state (now (out .entry)) (now (cur .entry))) ⌝ }
 {
@@ -99,7 +99,7 @@ pub fn write_entry(out: &mut [u8], cur: &mut Counters, d: usize, e: Entry, kind:
             put_cell(out, cur, d, 1, x)
         }
         Kind::SL => put_byte(out, cur, d, e.label),
-        Kind::SC => put_bit(out, cur, d, e.child),
-        Kind::SB => put_bit(out, cur, d, e.start),
+        Kind::SC => put_bit(out, cur, d, !e.child),
+        Kind::SB => put_bit(out, cur, d, !e.start),
     }
 }

@@ -1,4 +1,4 @@
--- The bytes are cleared, the cursors go to the levels' starts, and the pass leaves the body.
+-- The bytes are cleared, the cursors go to the levels' starts, and the pass leaves the body, or its bits flipped, which are flipped again.
 use Prim.Native.Nat.{ℕ}
 use mathlib.Core.Path.{_≡_, refl, sym, ap, _∙_}
 use mathlib.Core.List.{_++_}
@@ -7,7 +7,7 @@ use Rattle.spec.specs.Bytes.{Bytes}
 use Rattle.theory.specs.Lists.{bytes-drop}
 use Rattle.build_laws.specs.PackedBody.{small-of}
 use Rattle.build_laws.specs.Plan.{list-body}
-use Rattle.build_laws.specs.BodyWritten.{ready-list, empty-body, sums-small, pass-room, pass-leaves}
+use Rattle.build_laws.specs.BodyWritten.{ready-list, empty-body, sums-small, pass-room, pass-leaves, flip-room, body-again, body-whole}
 use borrow.Author.Needs.{needs}
 use native.Mathlib.Omega.{arith}
 use borrow.Author.Needs.{needs}
@@ -56,24 +56,47 @@ write-keys-requires c κs =
           (length (cleared .last .0)) (omega (arith, pre .size, pre .room, cleared .kept .0)),
     )
 
+leaves-flipped-requires : tie.Need-leaves-flipped-requires
+leaves-flipped-requires c κs = search needs
+
+flip-requires : tie.Need-flip-requires
+flip-requires c κs =
+    let a = c .before .before .before .before .before .before .before .before .before .before .before .before .before .before .before .before .before .before .before .before .args in
+    let pre = c .before .before .before .before .before .before .before .before .before .before .before .before .before .before .before .before .before .before .before .before .pre in
+    flip-room (a .list .now) (a .plan) (pre .planned) (a .body) (length (c .before .before .before .before .before .write-keys .last .0)) (sym (c .before .before .leaves-flipped .ensures) ∙ c .before .if2 .taken) (omega (arith, pre .size, pre .room, c .before .before .before .before .before .before .before .before .before .before .before .before .before .before .before .clear .kept .0, c .before .before .before .before .before .write-keys .kept .0))
+
 same-length : tie.Need-same-length
 same-length c = search needs
 
 returns-2 : tie.Need-returns-2
 returns-2 c =
-    let slice-known = c .before .before .before .before .before .before .before .before .before .before .before .before .before .before .before .before .slice-known in
-    let clear = c .before .before .before .before .before .before .before .before .before .before .before .before .clear in
-    let levels-of-known = c .before .before .before .before .before .before .before .before .before .levels-of in
-    let counters-of-known = c .before .before .before .before .before .before .before .before .counters-of in
-    let write-keys = c .before .before .write-keys in
-    let a = c .before .before .before .before .before .before .before .before .before .before .before .before .before .before .before .before .before .args in
-    let pre = c .before .before .before .before .before .before .before .before .before .before .before .before .before .before .before .before .before .pre in
-    let starts = c .before .before .before .before .before .start-levels in
-    let counters-of = counters-of-known in
-    let levels-of = levels-of-known in
-    pass-leaves (a .list .now) (a .plan) (pre .planned) (a .body) (counters-of .result) (counters-of .ensures) (levels-of .result) (levels-of .ensures) (starts .last .0) (starts .ensures .1) (starts .ensures .0)
-    (a .len) (drop (a .len) (a .out .now)) _ _ _ (pre .size) (small-of (write-keys .last .0) (λ i. c .slice-known3 .given i .fits)) (bytes-drop (a .len) (a .out .now) (small-of (a .out .now) (λ i. slice-known .given i .fits)))
-    (clear .ensures) (write-keys .ensures)
+    let a = c .before .before .before .before .before .before .before .before .before .before .before .before .before .before .before .before .before .before .before .before .before .before .before .args in
+    let pre = c .before .before .before .before .before .before .before .before .before .before .before .before .before .before .before .before .before .before .before .before .before .before .before .pre in
+    let levels-of = c .before .before .before .before .before .before .before .before .before .before .before .before .before .before .before .levels-of in
+    let counters-of = c .before .before .before .before .before .before .before .before .before .before .before .before .before .before .counters-of in
+    let starts = c .before .before .before .before .before .before .before .before .before .before .before .start-levels in
+    let written = c .before .before .before .before .before .before .before .before .write-keys in
+    body-again (a .list .now) (a .plan) (pre .planned) (a .body) (drop (a .len) (a .out .now)) (written .last .0) _ (sym (c .before .before .before .before .before .leaves-flipped .ensures) ∙ c .before .before .before .before .if2 .taken)
+    (pass-leaves (a .list .now) (a .plan) (pre .planned) (a .body) (counters-of .result) (counters-of .ensures) (levels-of .result) (levels-of .ensures) (starts .last .0) (starts .ensures .1) (starts .ensures .0)
+    (a .len) (drop (a .len) (a .out .now)) _ _ _ (pre .size) (small-of (written .last .0) (λ i. c .before .before .before .before .before .before .slice-known3 .given i .fits)) (bytes-drop (a .len) (a .out .now) (small-of (a .out .now) (λ i. c .before .before .before .before .before .before .before .before .before .before .before .before .before .before .before .before .before .before .before .before .before .before .slice-known .given i .fits)))
+    (c .before .before .before .before .before .before .before .before .before .before .before .before .before .before .before .before .before .before .clear .ensures) (written .ensures))
+    (c .before .before .flip .ensures)
+
+same-length-2 : tie.Need-same-length-2
+same-length-2 c = search needs
+
+returns-3 : tie.Need-returns-3
+returns-3 c =
+    let a = c .before .before .before .before .before .before .before .before .before .before .before .before .before .before .before .before .before .before .before .args in
+    let pre = c .before .before .before .before .before .before .before .before .before .before .before .before .before .before .before .before .before .before .before .pre in
+    let levels-of = c .before .before .before .before .before .before .before .before .before .before .before .levels-of in
+    let counters-of = c .before .before .before .before .before .before .before .before .before .before .counters-of in
+    let starts = c .before .before .before .before .before .before .before .start-levels in
+    let written = c .before .before .before .before .write-keys in
+    body-whole (a .list .now) (a .plan) (pre .planned) (a .body) (drop (a .len) (a .out .now)) (written .last .0) (sym (c .before .leaves-flipped .ensures) ∙ c .if2 .left)
+    (pass-leaves (a .list .now) (a .plan) (pre .planned) (a .body) (counters-of .result) (counters-of .ensures) (levels-of .result) (levels-of .ensures) (starts .last .0) (starts .ensures .1) (starts .ensures .0)
+    (a .len) (drop (a .len) (a .out .now)) _ _ _ (pre .size) (small-of (written .last .0) (λ i. c .before .before .slice-known3 .given i .fits)) (bytes-drop (a .len) (a .out .now) (small-of (a .out .now) (λ i. c .before .before .before .before .before .before .before .before .before .before .before .before .before .before .before .before .before .before .slice-known .given i .fits)))
+    (c .before .before .before .before .before .before .before .before .before .before .before .before .before .before .clear .ensures) (written .ensures))
 
 pub fill-from-keys-spec : {M : Type 1} → statement M
 fill-from-keys-spec =
@@ -85,5 +108,9 @@ fill-from-keys-spec =
     counters-of-requires
     start-levels-requires
     write-keys-requires
+    leaves-flipped-requires
+    flip-requires
     same-length
-    returns-2)
+    returns-2
+    same-length-2
+    returns-3)

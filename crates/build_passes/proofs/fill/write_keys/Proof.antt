@@ -7,7 +7,7 @@ use Rattle.spec.specs.Bytes.{Bytes}
 use Rattle.spec.specs.Keys.{keys-of}
 use Rattle.build_laws.specs.BytePass.{Byte-state, byte-state}
 use Rattle.build_laws.specs.declared.Pass.{Pass}
-use Rattle.build_laws.specs.declared.Kind.the-variants.{SL}
+use Rattle.build_laws.specs.declared.Kind.the-variants.{SL, SC, SB}
 use Rattle.build_laws.specs.declared.Body.{Body}
 use Rattle.build_laws.specs.declared.Body.the-variants.{Entries, Slots}
 use Rattle.build_laws.specs.Passes.{pass-keys, Pass-room}
@@ -39,20 +39,38 @@ fill-labels-requires c κs =
     let pre = c .before .before .before .before .before .before .before .before .before .before .pre in
     ((pre .0 .0, pre .0 .1), known (a .pass) (Entries SL) (keys-of (a .s .now)) (length (a .out .now)) (a .cur .now) (c .before .before .before .before .before .body .given .1 ∙ ap Entries (c .before .before .enum-told .given .1)) (pre .1))
 
+enum-told-2 : tie.Need-enum-told-2
+enum-told-2 c = search needs
+
+fill-leaves-requires : tie.Need-fill-leaves-requires
+fill-leaves-requires c κs =
+    let a = c .before .before .before .before .before .before .before .before .before .before .args in
+    let pre = c .before .before .before .before .before .before .before .before .before .before .pre in
+    ((pre .0 .0, pre .0 .1), known (a .pass) (Entries SC) (keys-of (a .s .now)) (length (a .out .now)) (a .cur .now) (c .before .before .before .before .before .body .given .1 ∙ ap Entries (c .before .before .enum-told2 .given .1)) (pre .1))
+
+enum-told-3 : tie.Need-enum-told-3
+enum-told-3 c = search needs
+
+fill-later-requires : tie.Need-fill-later-requires
+fill-later-requires c κs =
+    let a = c .before .before .before .before .before .before .before .before .before .before .args in
+    let pre = c .before .before .before .before .before .before .before .before .before .before .pre in
+    ((pre .0 .0, pre .0 .1), known (a .pass) (Entries SB) (keys-of (a .s .now)) (length (a .out .now)) (a .cur .now) (c .before .before .before .before .before .body .given .1 ∙ ap Entries (c .before .before .enum-told3 .given .1)) (pre .1))
+
 fill-entries-requires : tie.Need-fill-entries-requires
 fill-entries-requires c κs =
     let a = c .before .before .before .before .before .before .before .before .before .args in
     let pre = c .before .before .before .before .before .before .before .before .before .pre in
     ((pre .0 .0, pre .0 .1), known (a .pass) (Entries (c .before .before .before .before .body .given .0 .0)) (keys-of (a .s .now)) (length (a .out .now)) (a .cur .now) (c .before .before .before .before .body .given .1) (pre .1))
 
-enum-told-2 : tie.Need-enum-told-2
-enum-told-2 c = search needs
+enum-told-4 : tie.Need-enum-told-4
+enum-told-4 c = search needs
 
 fill-slots-requires : tie.Need-fill-slots-requires
 fill-slots-requires c κs =
     let a = c .before .before .before .before .before .before .before .args in
     let pre = c .before .before .before .before .before .before .before .pre in
-    (pre .0, known (a .pass) Slots (keys-of (a .s .now)) (length (a .out .now)) (a .cur .now) (c .before .before .enum-told2 .given .1) (pre .1))
+    (pre .0, known (a .pass) Slots (keys-of (a .s .now)) (length (a .out .now)) (a .cur .now) (c .before .before .enum-told4 .given .1) (pre .1))
 
 same-length : tie.Need-same-length
 same-length c = search needs
@@ -67,16 +85,32 @@ same-length-2 c = search needs
 
 returns-2 : tie.Need-returns-2
 returns-2 c =
-    let a = c .before .before .before .before .before .before .before .before .before .before .before .before .args in
-    does (a .pass) (Entries (c .before .before .before .before .before .before .before .body .given .0 .0)) (keys-of (a .s .now)) (byte-state (a .out .now) (a .cur .now)) _ (c .before .before .before .before .before .before .before .body .given .1) (c .before .before .fill-entries .ensures)
+    let a = c .before .before .before .before .before .before .before .before .before .before .before .before .before .args in
+    does (a .pass) (Entries SC) (keys-of (a .s .now)) (byte-state (a .out .now) (a .cur .now)) _ (c .before .before .before .before .before .before .before .before .body .given .1 ∙ ap Entries (c .before .before .before .before .before .enum-told2 .given .1)) (c .before .before .fill-leaves .ensures)
 
 same-length-3 : tie.Need-same-length-3
 same-length-3 c = search needs
 
 returns-3 : tie.Need-returns-3
 returns-3 c =
+    let a = c .before .before .before .before .before .before .before .before .before .before .before .before .before .args in
+    does (a .pass) (Entries SB) (keys-of (a .s .now)) (byte-state (a .out .now) (a .cur .now)) _ (c .before .before .before .before .before .before .before .before .body .given .1 ∙ ap Entries (c .before .before .before .before .before .enum-told3 .given .1)) (c .before .before .fill-later .ensures)
+
+same-length-4 : tie.Need-same-length-4
+same-length-4 c = search needs
+
+returns-4 : tie.Need-returns-4
+returns-4 c =
+    let a = c .before .before .before .before .before .before .before .before .before .before .before .before .args in
+    does (a .pass) (Entries (c .before .before .before .before .before .before .before .body .given .0 .0)) (keys-of (a .s .now)) (byte-state (a .out .now) (a .cur .now)) _ (c .before .before .before .before .before .before .before .body .given .1) (c .before .before .fill-entries .ensures)
+
+same-length-5 : tie.Need-same-length-5
+same-length-5 c = search needs
+
+returns-5 : tie.Need-returns-5
+returns-5 c =
     let a = c .before .before .before .before .before .before .before .before .before .before .args in
-    does (a .pass) Slots (keys-of (a .s .now)) (byte-state (a .out .now) (a .cur .now)) _ (c .before .before .before .before .before .enum-told2 .given .1) (c .before .before .fill-slots .ensures)
+    does (a .pass) Slots (keys-of (a .s .now)) (byte-state (a .out .now) (a .cur .now)) _ (c .before .before .before .before .before .enum-told4 .given .1) (c .before .before .fill-slots .ensures)
 
 pub write-keys-spec : {M : Type 1} → statement M
 write-keys-spec =
@@ -85,12 +119,20 @@ write-keys-spec =
     enum-known-body
     enum-told
     fill-labels-requires
-    fill-entries-requires
     enum-told-2
+    fill-leaves-requires
+    enum-told-3
+    fill-later-requires
+    fill-entries-requires
+    enum-told-4
     fill-slots-requires
     same-length
     returns
     same-length-2
     returns-2
     same-length-3
-    returns-3)
+    returns-3
+    same-length-4
+    returns-4
+    same-length-5
+    returns-5)

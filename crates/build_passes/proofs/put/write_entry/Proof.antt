@@ -80,16 +80,16 @@ enum-told-5 c = search needs
 
 put-bit-requires : tie.Need-put-bit-requires
 put-bit-requires c κs =
-    let a = c .before .before .before .before .before .args in
-    known (a .kind) SC (a .e) (a .d) (a .out .now) (a .cur .now) (c .before .before .enum-told5 .given .1) (c .before .before .before .before .before .pre)
+    let a = c .before .before .before .before .before .before .args in
+    known (a .kind) SC (a .e) (a .d) (a .out .now) (a .cur .now) (c .before .before .before .enum-told5 .given .1) (c .before .before .before .before .before .before .pre)
 
 enum-told-6 : tie.Need-enum-told-6
 enum-told-6 c = search needs
 
 put-bit-requires-2 : tie.Need-put-bit-requires-2
 put-bit-requires-2 c κs =
-    let a = c .before .before .before .before .before .args in
-    known (a .kind) SB (a .e) (a .d) (a .out .now) (a .cur .now) (c .before .before .enum-told6 .given .1) (c .before .before .before .before .before .pre)
+    let a = c .before .before .before .before .before .before .args in
+    known (a .kind) SB (a .e) (a .d) (a .out .now) (a .cur .now) (c .before .before .before .enum-told6 .given .1) (c .before .before .before .before .before .before .pre)
 
 same-length : tie.Need-same-length
 same-length c = search needs
@@ -130,16 +130,16 @@ same-length-5 c = search needs
 
 returns-5 : tie.Need-returns-5
 returns-5 c =
-    let a = c .before .before .before .before .before .before .before .before .args in
-    does (a .kind) SC (a .e) (a .d) (byte-state (a .out .now) (a .cur .now)) _ (c .before .before .before .before .before .enum-told5 .given .1) (c .before .before .put-bit .ensures)
+    let a = c .before .before .before .before .before .before .before .before .before .args in
+    does (a .kind) SC (a .e) (a .d) (byte-state (a .out .now) (a .cur .now)) _ (c .before .before .before .before .before .before .enum-told5 .given .1) (c .before .before .put-bit .ensures)
 
 same-length-6 : tie.Need-same-length-6
 same-length-6 c = search needs
 
 returns-6 : tie.Need-returns-6
 returns-6 c =
-    let a = c .before .before .before .before .before .before .before .before .args in
-    does (a .kind) SB (a .e) (a .d) (byte-state (a .out .now) (a .cur .now)) _ (c .before .before .before .before .before .enum-told6 .given .1) (c .before .before .put-bit2 .ensures)
+    let a = c .before .before .before .before .before .before .before .before .before .args in
+    does (a .kind) SB (a .e) (a .d) (byte-state (a .out .now) (a .cur .now)) _ (c .before .before .before .before .before .before .enum-told6 .given .1) (c .before .before .put-bit2 .ensures)
 
 pub write-entry-spec : {M : Type 1} → statement M
 write-entry-spec =
