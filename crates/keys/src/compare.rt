@@ -1,6 +1,6 @@
 // The prefix that two keys share, and their order.
 ghost use mathlib.Core.Path.{_≡_};
-ghost use Prim.Native.Nat.{min, _*_, _≤_, _^_, _%_};
+ghost use Prim.Native.Nat.{min, _*_, _-_, _≤_, _^_, _%_};
 ghost use lib.ListN.{length, take};
 ghost use Rattle.spec.specs.Bytes.{shared};
 ghost use Rattle.keys.specs.Order.{order};
@@ -21,7 +21,16 @@ fn equal_bytes(x: u64, y: u64) -> usize
     (u64::trailing_zeros(x ^ y) / 8) as usize
 }
 
-// How many bytes, at most n, both keys are found to share by whole words: all words before the first that differs, and its bytes before the difference.
+// How many bytes both keys are found to share by the word that ends with their first n bytes. All bytes before that word are known to be shared.
+fn shared_end(p: &[u8], q: &[u8], n: usize) -> usize
+    requires { ⌜ (8 ≤ n) × (n ≤ length (now p)) × (n ≤ length (now q)) × (take (n - 8) (now p) ≡ take (n - 8) (now q)) ⌝ }
+    ensures { λ r. ⌜ (r ≤ n) × (take r (now (p .entry)) ≡ take r (now (q .entry))) ⌝ }
+{
+    let i = n - 8;
+    i + equal_bytes(read64(p, i), read64(q, i))
+}
+
+// How many bytes, at most n, both keys are found to share by words: all words before the first that differs, and its bytes before the difference. The last word may begin among bytes that are known to be shared.
 fn shared_words(p: &[u8], q: &[u8], n: usize) -> usize
     requires { ⌜ (n ≤ length (now p)) × (n ≤ length (now q)) ⌝ }
     ensures { λ r. ⌜ (r ≤ n) × (take r (now (p .entry)) ≡ take r (now (q .entry))) ⌝ }
@@ -34,7 +43,10 @@ fn shared_words(p: &[u8], q: &[u8], n: usize) -> usize
             return i;
         }
     }
-    i
+    if n < 8 {
+        return i;
+    }
+    shared_end(p, q, n)
 }
 
 // The length of the longest prefix that two keys share. The shorter key has n bytes, and the first `from` bytes are known to be shared.

@@ -5,8 +5,14 @@ use Rattle.bits_laws.specs.ValueLaws.{Small}
 use native.Mathlib.Omega.{arith}
 use borrow.Author.Needs.{needs}
 use lib.ListN.{take}
+use lib.Seq.{take-take}
+use Rattle.spec.specs.Bytes.{Bytes}
 use Rattle.keys.proofs.compare.shared_words.Statement.{statement}
 use Rattle.keys.proofs.compare.shared_words.Tie as tie
+
+-- fewer of bytes that are the same are the same
+take-fewer : (j i : ℕ) (p q : Bytes) → j ≤ i → take i p ≡ take i q → take j p ≡ take j q
+take-fewer j i p q h e = sym (take-take j i p h) ∙ ap (take j) e ∙ take-take j i q h
 
 abbrev Inv-loop : tie.InvT-loop
 Inv-loop p q n i₀ i = (i ≤ n) × (take i p ≡ take i q)
@@ -56,7 +62,16 @@ loop-again c =
     (omega arith, same-word (a .p .now) (a .q .now) small₁ small₂ (l .i) (k .result) (k .ensures .0) (omega arith) (omega arith) (l .inv .1) e)
 
 returns-2 : tie.Need-returns-2 Inv-loop μ-loop
-returns-2 c = c .before .loop .inv
+returns-2 c = c .before .before .loop .inv
+
+shared-end-requires : tie.Need-shared-end-requires Inv-loop μ-loop
+shared-end-requires c κs =
+    let a = c .before .before .before .before .before .args in
+    let l = c .before .before .loop in
+    (omega arith, omega arith, omega arith, take-fewer (a .n - 8) (l .i) (a .p .now) (a .q .now) (omega arith) (l .inv .1))
+
+returns-3 : tie.Need-returns-3 Inv-loop μ-loop
+returns-3 c = c .shared-end .ensures
 
 pub shared-words-spec : {M : Type 1} → statement M
 shared-words-spec =
@@ -73,4 +88,6 @@ shared-words-spec =
     returns
     loop-less
     loop-again
-    returns-2)
+    returns-2
+    shared-end-requires
+    returns-3)

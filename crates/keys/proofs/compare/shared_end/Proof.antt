@@ -1,0 +1,45 @@
+-- The word's bytes before its first difference are shared, and so are all before the word.
+use mathlib.Core.Path.{sym, ap, _∙_}
+use Prim.Native.Nat.{ℕ, _*_, _-_, _%_, _^_}
+use Rattle.keys.proofs.PrefixLaws.{same-word}
+use Rattle.bits_laws.specs.ValueLaws.{Small}
+use native.Mathlib.Omega.{arith}
+use borrow.Author.Needs.{needs}
+use Rattle.keys.proofs.compare.shared_end.Statement.{statement}
+use Rattle.keys.proofs.compare.shared_end.Tie as tie
+
+sub-i : tie.Need-sub-i
+sub-i c = search needs
+
+read64-requires : tie.Need-read64-requires
+read64-requires c κs = search needs
+
+read64-requires-2 : tie.Need-read64-requires-2
+read64-requires-2 c κs = search needs
+
+equal-bytes-requires : tie.Need-equal-bytes-requires
+equal-bytes-requires c κs = search needs
+
+add-result : tie.Need-add-result
+add-result c = search needs
+
+returns : tie.Need-returns
+returns c =
+    let a = c .before .before .before .before .before .args in
+    let pre = c .before .before .before .before .before .pre in
+    let k = c .equal-bytes in
+    let small₁ : Small (a .p .now) = λ i. c .before .before .before .before .shared-slice-known .given i .fits in
+    let small₂ : Small (a .q .now) = λ i. c .before .before .before .shared-slice-known2 .given i .fits in
+    let e = ap (λ (x : ℕ). x % 2 ^ (8 * k .result)) (sym (c .before .before .read64 .ensures)) ∙ k .ensures .1 ∙ ap (λ (x : ℕ). x % 2 ^ (8 * k .result)) (c .before .read642 .ensures) in
+    (omega (arith, k .ensures .0), same-word (a .p .now) (a .q .now) small₁ small₂ (a .n - 8) (k .result) (k .ensures .0) (omega (arith, k .ensures .0)) (omega (arith, k .ensures .0)) (pre .3) e)
+
+pub shared-end-spec : {M : Type 1} → statement M
+shared-end-spec =
+    tie.close
+    (tie.spec
+    sub-i
+    read64-requires
+    read64-requires-2
+    equal-bytes-requires
+    add-result
+    returns)
