@@ -1,10 +1,10 @@
-// A key's entries: a branch on each level of its cut key that the keys before have not made, and the exact leaf.
+// A key's entries: a branch on each level of its cut key that the keys before have not made, and the exact leaf; and their labels in S-Labels.
 ghost use mathlib.Core.Path.{_≡_};
-ghost use Prim.Native.Nat.{_+_, _≤_, _<_};
+ghost use Prim.Native.Nat.{_<_};
 ghost use lib.ListN.{length};
 ghost use Rattle.build_laws.specs.LevelEntries.{pred};
 ghost use Rattle.build_laws.specs.NeighbourLeaves.{cut-length};
-ghost use Rattle.build_laws.specs.KeyEntries.{continues-at, entry-at, exact-entry};
+ghost use Rattle.build_laws.specs.KeyEntries.{continues-at};
 ghost use Rattle.build_laws.specs.BytePass.{byte-state};
 ghost use Rattle.build_laws.specs.Passes.{key-bytes, Listed-key, listed-entries, key-exact, Entries-room, write-entries};
 ghost use Rattle.build_laws.specs.declared.Kind.the-variants.{SL};
@@ -12,18 +12,15 @@ ghost use Rattle.build_laws.specs.Limits.{counters};
 use super::numbers::cut_length;
 use super::numbers::one_less;
 use super::put::put_byte;
-use super::put::write_entry;
 use bits::numbers::larger;
 use bits::numbers::smaller;
 use build_laws::Counters;
-use build_laws::Entry;
 use build_laws::Key;
-use build_laws::Kind;
 use build_laws::Levels;
 use image_types::EXTRA_LABEL;
 
 // Whether the branch on level d of a key continues. The cut key has c bytes.
-fn continues(k: Key, c: usize, d: usize) -> bool
+pub fn continues(k: Key, c: usize, d: usize) -> bool
     requires { ⌜ (d < 64) × (c ≡ cut-length (pred (k .first)) (k .next) (k .len)) ⌝ }
     ensures { λ r. ⌜ r ≡ continues-at (k .first) (k .next) (k .len) d ⌝ }
 {
@@ -31,33 +28,6 @@ fn continues(k: Key, c: usize, d: usize) -> bool
         return true;
     }
     d + 1 < c
-}
-
-// The branch of a key on level d. The cut key has c bytes.
-fn branch(s: &[u8], k: Key, c: usize, d: usize) -> Entry
-    requires { ⌜ (k .at + k .len ≤ length (now s)) × (d < c) × (c ≤ k .len) × (k .len ≤ 64) × (c ≡ cut-length (pred (k .first)) (k .next) (k .len)) ⌝ }
-    ensures { λ r. ⌜ r ≡ entry-at (k .first) (k .next) (key-bytes (now (s .entry)) k) d ⌝ }
-{
-    let at = k.at + d;
-    let more = continues(k, c, d);
-    Entry {
-        start: k.first <= d,
-        exact: false,
-        child: more,
-        label: s[at],
-    }
-}
-
-// The exact leaf, the first entry of its node.
-fn exact_leaf() -> Entry
-    ensures { λ r. ⌜ r ≡ exact-entry ⌝ }
-{
-    Entry {
-        start: true,
-        exact: true,
-        child: false,
-        label: EXTRA_LABEL,
-    }
 }
 
 // Whether the key is an exact leaf on one of the levels.
@@ -83,25 +53,5 @@ pub fn write_labels(out: &mut [u8], cur: &mut Counters, s: &[u8], k: Key, l: Lev
     }
     if has_exact(k, l) {
         put_byte(out, cur, k.len, EXTRA_LABEL);
-    }
-}
-
-// What a body holds of a key's entries on the levels is written at the levels' cursors.
-pub fn write_entries(out: &mut [u8], cur: &mut Counters, s: &[u8], k: Key, l: Levels, kind: Kind)
-    requires { ⌜ Listed-key (now s) k × (length (now cur) ≡ counters) × Entries-room kind (listed-entries l k (key-bytes (now s) k)) (length (now out)) (now cur) ⌝ }
-    ensures { λ _. ⌜ byte-state (now (out .exit)) (now (cur .exit)) ≡ write-entries kind (listed-entries l k (key-bytes (now (s .entry)) k)) (byte-state (now (out .entry)) (now (cur .entry))) ⌝ }
-{
-    let b = one_less(k.first);
-    let c = cut_length(b, k.next, k.len);
-    let end = smaller(c, l.hi);
-    let mut d = larger(b, l.lo);
-    while d < end {
-        let e = branch(s, k, c, d);
-        write_entry(out, cur, d, e, kind);
-        d = d + 1;
-    }
-    if has_exact(k, l) {
-        let e = exact_leaf();
-        write_entry(out, cur, k.len, e, kind);
     }
 }

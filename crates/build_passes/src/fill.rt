@@ -1,4 +1,4 @@
-// A body from all keys: one pass over the list, with one cursor a level.
+// A body from all keys: one pass over the list, with one cursor a level, and one loop for each body.
 ghost use mathlib.Core.Path.{_≡_};
 ghost use Prim.Native.Nat.{_≤_};
 ghost use lib.ListN.{length};
@@ -6,9 +6,11 @@ ghost use Rattle.spec.specs.Keys.{keys-of};
 ghost use Rattle.build_laws.specs.BytePass.{byte-state};
 ghost use Rattle.build_laws.specs.KeyRecords.{Accepted-list};
 ghost use Rattle.build_laws.specs.Passes.{entries-pass, slots-pass, pass-keys, Pass-room};
-ghost use Rattle.build_laws.specs.declared.Kind.the-variants.{SL, SC, SB};
+ghost use Rattle.build_laws.specs.declared.Kind.the-variants.{DL, DC, DP, SL, SC, SB};
 ghost use Rattle.build_laws.specs.Limits.{counters};
-use super::entries::write_entries;
+use super::cells::write_child_cells;
+use super::cells::write_exact_cells;
+use super::cells::write_label_cells;
 use super::entries::write_labels;
 use super::marks::write_later;
 use super::marks::write_leaf;
@@ -68,17 +70,49 @@ fn fill_later(out: &mut [u8], cur: &mut Counters, s: &[u8], l: Levels)
     }
 }
 
-// What a body holds of all keys' entries on the levels goes to the body, from cursors at the starts of the levels.
-fn fill_entries(out: &mut [u8], cur: &mut Counters, s: &[u8], l: Levels, kind: Kind)
+// D-Labels of all keys' entries on the levels goes to the body, from cursors at the starts of the levels.
+fn fill_label_cells(out: &mut [u8], cur: &mut Counters, s: &[u8], l: Levels)
     requires { ⌜ Accepted-list (now s) × (length (now cur) ≡ counters) ⌝ }
-    requires { ⌜ Pass-room (entries-pass kind l) 0 (keys-of (now s)) (length (now out)) (now cur) ⌝ }
-    ensures { λ _. ⌜ byte-state (now (out .exit)) (now (cur .exit)) ≡ pass-keys (entries-pass kind l) 0 (keys-of (now (s .entry))) (byte-state (now (out .entry)) (now (cur .entry))) ⌝ }
+    requires { ⌜ Pass-room (entries-pass DL l) 0 (keys-of (now s)) (length (now out)) (now cur) ⌝ }
+    ensures { λ _. ⌜ byte-state (now (out .exit)) (now (cur .exit)) ≡ pass-keys (entries-pass DL l) 0 (keys-of (now (s .entry))) (byte-state (now (out .entry)) (now (cur .entry))) ⌝ }
 {
     let mut at = 0usize;
     let mut first = 0usize;
     while at < s.len() {
         let k = read_key(s, at, first);
-        write_entries(out, cur, s, k, l, kind);
+        write_label_cells(out, cur, s, k, l);
+        first = k.next + 1;
+        at = k.at + k.len;
+    }
+}
+
+// D-HasChild of all keys' entries on the levels goes to the body, from cursors at the starts of the levels.
+fn fill_child_cells(out: &mut [u8], cur: &mut Counters, s: &[u8], l: Levels)
+    requires { ⌜ Accepted-list (now s) × (length (now cur) ≡ counters) ⌝ }
+    requires { ⌜ Pass-room (entries-pass DC l) 0 (keys-of (now s)) (length (now out)) (now cur) ⌝ }
+    ensures { λ _. ⌜ byte-state (now (out .exit)) (now (cur .exit)) ≡ pass-keys (entries-pass DC l) 0 (keys-of (now (s .entry))) (byte-state (now (out .entry)) (now (cur .entry))) ⌝ }
+{
+    let mut at = 0usize;
+    let mut first = 0usize;
+    while at < s.len() {
+        let k = read_key(s, at, first);
+        write_child_cells(out, cur, s, k, l);
+        first = k.next + 1;
+        at = k.at + k.len;
+    }
+}
+
+// D-IsPrefixKey of all keys' entries on the levels goes to the body, from cursors at the starts of the levels.
+fn fill_exact_cells(out: &mut [u8], cur: &mut Counters, s: &[u8], l: Levels)
+    requires { ⌜ Accepted-list (now s) × (length (now cur) ≡ counters) ⌝ }
+    requires { ⌜ Pass-room (entries-pass DP l) 0 (keys-of (now s)) (length (now out)) (now cur) ⌝ }
+    ensures { λ _. ⌜ byte-state (now (out .exit)) (now (cur .exit)) ≡ pass-keys (entries-pass DP l) 0 (keys-of (now (s .entry))) (byte-state (now (out .entry)) (now (cur .entry))) ⌝ }
+{
+    let mut at = 0usize;
+    let mut first = 0usize;
+    while at < s.len() {
+        let k = read_key(s, at, first);
+        write_exact_cells(out, cur, s, k, l);
         first = k.next + 1;
         at = k.at + k.len;
     }
@@ -110,10 +144,12 @@ pub fn write_keys(out: &mut [u8], cur: &mut Counters, s: &[u8], pass: Pass)
     let l = pass.levels;
     match body {
         Body::Entries(kind) => match kind {
+            Kind::DL => fill_label_cells(out, cur, s, l),
+            Kind::DC => fill_child_cells(out, cur, s, l),
+            Kind::DP => fill_exact_cells(out, cur, s, l),
             Kind::SL => fill_labels(out, cur, s, l),
             Kind::SC => fill_leaves(out, cur, s, l),
             Kind::SB => fill_later(out, cur, s, l),
-            _ => fill_entries(out, cur, s, l, kind),
         },
         Body::Slots => fill_slots(out, cur, s, pass.width),
     }

@@ -3,6 +3,7 @@
 pub mod numbers; // numbers.rt: small functions on numbers, and those of a key
 pub mod put; // put.rt: a byte or a bit at a level's cursor
 pub mod entries; // entries.rt: a key's entries
+pub mod cells; // cells.rt: a key's cells in the dense bodies
 pub mod marks; // marks.rt: a key's bits in S-HasChild and S-LOUDS
 pub mod slots; // slots.rt: a key's suffix slot
 pub mod flip; // flip.rt: a body's bits flipped

@@ -8,20 +8,16 @@ ghost use Rattle.build_laws.specs.BitPass.{Room};
 ghost use Rattle.build_laws.specs.BytePass.{byte-state, put-byte, one-step, at-cursor};
 ghost use Rattle.build_laws.specs.DenseRows.{cell-step, cell-ones};
 ghost use Rattle.build_laws.specs.BodyLaws.{bit-at};
-ghost use Rattle.build_laws.specs.Passes.{set-at-cursor, Entries-room, write-entry};
+ghost use Rattle.build_laws.specs.Passes.{set-at-cursor};
 ghost use Rattle.build_laws.specs.Limits.{counter-max};
 use super::numbers::one_less;
 use bits::numbers::one_if;
-use bits::numbers::wide;
 use bits::numbers::wide32;
 use bits::ones::set_bit;
 use build_laws::Cell;
 use build_laws::Counters;
-use build_laws::Entry;
-use build_laws::Kind;
 use image_types::BitPos;
 use image_types::NodeNum;
-use image_types::ROW_BITS;
 
 // The byte x is written at the cursor of level d, which moves on by one.
 pub fn put_byte(out: &mut [u8], cur: &mut Counters, d: usize, x: u8)
@@ -56,7 +52,7 @@ fn row_bit(w: usize, node: NodeNum, column: usize) -> BitPos
 }
 
 // The cursor of level d moves on if the cell starts a node. The cell's bit, if it is set, is set in the row of the node started last, which has w bits.
-fn put_cell(out: &mut [u8], cur: &mut Counters, d: usize, w: usize, x: Cell)
+pub fn put_cell(out: &mut [u8], cur: &mut Counters, d: usize, w: usize, x: Cell)
     requires { ⌜ (w ≤ 256) × (x .column < 256) × Room cell-step (cell-ones w) (8 * length (now out)) counter-max (emission d x ∷ []) (now cur) ⌝ }
     ensures { λ _. ⌜ byte-state (now (out .exit)) (now (cur .exit)) ≡ set-at-cursor cell-step (cell-ones w) (emission d x) (byte-state (now (out .entry)) (now (cur .entry))) ⌝ }
 {
@@ -65,41 +61,5 @@ fn put_cell(out: &mut [u8], cur: &mut Counters, d: usize, w: usize, x: Cell)
     if x.set {
         let at = row_bit(w, NodeNum(one_less(rows)), x.column);
         set_bit(out, at.0);
-    }
-}
-
-// What a body holds of an entry on level d is written at the level's cursor.
-pub fn write_entry(out: &mut [u8], cur: &mut Counters, d: usize, e: Entry, kind: Kind)
-    requires { ⌜ Entries-room kind (emission d e ∷ []) (length (now out)) (now cur) ⌝ }
-    ensures { λ _. ⌜ byte-state (now (out .exit)) (now (cur .exit)) ≡ write-entry kind (emission d e) (byte-state (now (out .entry)) (now (cur .entry))) ⌝ }
-{
-    match kind {
-        Kind::DL => {
-            let x = Cell {
-                start: e.start,
-                set: !e.exact,
-                column: wide(e.label),
-            };
-            put_cell(out, cur, d, ROW_BITS, x)
-        }
-        Kind::DC => {
-            let x = Cell {
-                start: e.start,
-                set: e.child,
-                column: wide(e.label),
-            };
-            put_cell(out, cur, d, ROW_BITS, x)
-        }
-        Kind::DP => {
-            let x = Cell {
-                start: e.start,
-                set: e.exact,
-                column: 0,
-            };
-            put_cell(out, cur, d, 1, x)
-        }
-        Kind::SL => put_byte(out, cur, d, e.label),
-        Kind::SC => put_bit(out, cur, d, !e.child),
-        Kind::SB => put_bit(out, cur, d, !e.start),
     }
 }

@@ -7,7 +7,7 @@ use Rattle.spec.specs.Bytes.{Bytes}
 use Rattle.spec.specs.Keys.{keys-of}
 use Rattle.build_laws.specs.BytePass.{Byte-state, byte-state}
 use Rattle.build_laws.specs.declared.Pass.{Pass}
-use Rattle.build_laws.specs.declared.Kind.the-variants.{SL, SC, SB}
+use Rattle.build_laws.specs.declared.Kind.the-variants.{DL, DC, DP, SL, SC, SB}
 use Rattle.build_laws.specs.declared.Body.{Body}
 use Rattle.build_laws.specs.declared.Body.the-variants.{Entries, Slots}
 use Rattle.build_laws.specs.Passes.{pass-keys, Pass-room}
@@ -33,44 +33,65 @@ enum-known-body c = search needs
 enum-told : tie.Need-enum-told
 enum-told c = search needs
 
+fill-label-cells-requires : tie.Need-fill-label-cells-requires
+fill-label-cells-requires c κs =
+    let a = c .before .before .before .before .before .before .before .before .before .before .args in
+    let pre = c .before .before .before .before .before .before .before .before .before .before .pre in
+    ((pre .0 .0, pre .0 .1), known (a .pass) (Entries DL) (keys-of (a .s .now)) (length (a .out .now)) (a .cur .now) (c .before .before .before .before .before .body .given .1 ∙ ap Entries (c .before .before .enum-told .given .1)) (pre .1))
+
+enum-told-2 : tie.Need-enum-told-2
+enum-told-2 c = search needs
+
+fill-child-cells-requires : tie.Need-fill-child-cells-requires
+fill-child-cells-requires c κs =
+    let a = c .before .before .before .before .before .before .before .before .before .before .args in
+    let pre = c .before .before .before .before .before .before .before .before .before .before .pre in
+    ((pre .0 .0, pre .0 .1), known (a .pass) (Entries DC) (keys-of (a .s .now)) (length (a .out .now)) (a .cur .now) (c .before .before .before .before .before .body .given .1 ∙ ap Entries (c .before .before .enum-told2 .given .1)) (pre .1))
+
+enum-told-3 : tie.Need-enum-told-3
+enum-told-3 c = search needs
+
+fill-exact-cells-requires : tie.Need-fill-exact-cells-requires
+fill-exact-cells-requires c κs =
+    let a = c .before .before .before .before .before .before .before .before .before .before .args in
+    let pre = c .before .before .before .before .before .before .before .before .before .before .pre in
+    ((pre .0 .0, pre .0 .1), known (a .pass) (Entries DP) (keys-of (a .s .now)) (length (a .out .now)) (a .cur .now) (c .before .before .before .before .before .body .given .1 ∙ ap Entries (c .before .before .enum-told3 .given .1)) (pre .1))
+
+enum-told-4 : tie.Need-enum-told-4
+enum-told-4 c = search needs
+
 fill-labels-requires : tie.Need-fill-labels-requires
 fill-labels-requires c κs =
     let a = c .before .before .before .before .before .before .before .before .before .before .args in
     let pre = c .before .before .before .before .before .before .before .before .before .before .pre in
-    ((pre .0 .0, pre .0 .1), known (a .pass) (Entries SL) (keys-of (a .s .now)) (length (a .out .now)) (a .cur .now) (c .before .before .before .before .before .body .given .1 ∙ ap Entries (c .before .before .enum-told .given .1)) (pre .1))
+    ((pre .0 .0, pre .0 .1), known (a .pass) (Entries SL) (keys-of (a .s .now)) (length (a .out .now)) (a .cur .now) (c .before .before .before .before .before .body .given .1 ∙ ap Entries (c .before .before .enum-told4 .given .1)) (pre .1))
 
-enum-told-2 : tie.Need-enum-told-2
-enum-told-2 c = search needs
+enum-told-5 : tie.Need-enum-told-5
+enum-told-5 c = search needs
 
 fill-leaves-requires : tie.Need-fill-leaves-requires
 fill-leaves-requires c κs =
     let a = c .before .before .before .before .before .before .before .before .before .before .args in
     let pre = c .before .before .before .before .before .before .before .before .before .before .pre in
-    ((pre .0 .0, pre .0 .1), known (a .pass) (Entries SC) (keys-of (a .s .now)) (length (a .out .now)) (a .cur .now) (c .before .before .before .before .before .body .given .1 ∙ ap Entries (c .before .before .enum-told2 .given .1)) (pre .1))
+    ((pre .0 .0, pre .0 .1), known (a .pass) (Entries SC) (keys-of (a .s .now)) (length (a .out .now)) (a .cur .now) (c .before .before .before .before .before .body .given .1 ∙ ap Entries (c .before .before .enum-told5 .given .1)) (pre .1))
 
-enum-told-3 : tie.Need-enum-told-3
-enum-told-3 c = search needs
+enum-told-6 : tie.Need-enum-told-6
+enum-told-6 c = search needs
 
 fill-later-requires : tie.Need-fill-later-requires
 fill-later-requires c κs =
     let a = c .before .before .before .before .before .before .before .before .before .before .args in
     let pre = c .before .before .before .before .before .before .before .before .before .before .pre in
-    ((pre .0 .0, pre .0 .1), known (a .pass) (Entries SB) (keys-of (a .s .now)) (length (a .out .now)) (a .cur .now) (c .before .before .before .before .before .body .given .1 ∙ ap Entries (c .before .before .enum-told3 .given .1)) (pre .1))
+    ((pre .0 .0, pre .0 .1), known (a .pass) (Entries SB) (keys-of (a .s .now)) (length (a .out .now)) (a .cur .now) (c .before .before .before .before .before .body .given .1 ∙ ap Entries (c .before .before .enum-told6 .given .1)) (pre .1))
 
-fill-entries-requires : tie.Need-fill-entries-requires
-fill-entries-requires c κs =
-    let a = c .before .before .before .before .before .before .before .before .before .args in
-    let pre = c .before .before .before .before .before .before .before .before .before .pre in
-    ((pre .0 .0, pre .0 .1), known (a .pass) (Entries (c .before .before .before .before .body .given .0 .0)) (keys-of (a .s .now)) (length (a .out .now)) (a .cur .now) (c .before .before .before .before .body .given .1) (pre .1))
-
-enum-told-4 : tie.Need-enum-told-4
-enum-told-4 c = search needs
+enum-told-7 : tie.Need-enum-told-7
+enum-told-7 c = search needs
 
 fill-slots-requires : tie.Need-fill-slots-requires
 fill-slots-requires c κs =
     let a = c .before .before .before .before .before .before .before .args in
     let pre = c .before .before .before .before .before .before .before .pre in
-    (pre .0, known (a .pass) Slots (keys-of (a .s .now)) (length (a .out .now)) (a .cur .now) (c .before .before .enum-told4 .given .1) (pre .1))
+    (pre .0, known (a .pass) Slots (keys-of (a .s .now)) (length (a .out .now)) (a .cur .now) (c .before .before .enum-told7 .given .1) (pre .1))
 
 same-length : tie.Need-same-length
 same-length c = search needs
@@ -78,7 +99,7 @@ same-length c = search needs
 returns : tie.Need-returns
 returns c =
     let a = c .before .before .before .before .before .before .before .before .before .before .before .before .before .args in
-    does (a .pass) (Entries SL) (keys-of (a .s .now)) (byte-state (a .out .now) (a .cur .now)) _ (c .before .before .before .before .before .before .before .before .body .given .1 ∙ ap Entries (c .before .before .before .before .before .enum-told .given .1)) (c .before .before .fill-labels .ensures)
+    does (a .pass) (Entries DL) (keys-of (a .s .now)) (byte-state (a .out .now) (a .cur .now)) _ (c .before .before .before .before .before .before .before .before .body .given .1 ∙ ap Entries (c .before .before .before .before .before .enum-told .given .1)) (c .before .before .fill-label-cells .ensures)
 
 same-length-2 : tie.Need-same-length-2
 same-length-2 c = search needs
@@ -86,7 +107,7 @@ same-length-2 c = search needs
 returns-2 : tie.Need-returns-2
 returns-2 c =
     let a = c .before .before .before .before .before .before .before .before .before .before .before .before .before .args in
-    does (a .pass) (Entries SC) (keys-of (a .s .now)) (byte-state (a .out .now) (a .cur .now)) _ (c .before .before .before .before .before .before .before .before .body .given .1 ∙ ap Entries (c .before .before .before .before .before .enum-told2 .given .1)) (c .before .before .fill-leaves .ensures)
+    does (a .pass) (Entries DC) (keys-of (a .s .now)) (byte-state (a .out .now) (a .cur .now)) _ (c .before .before .before .before .before .before .before .before .body .given .1 ∙ ap Entries (c .before .before .before .before .before .enum-told2 .given .1)) (c .before .before .fill-child-cells .ensures)
 
 same-length-3 : tie.Need-same-length-3
 same-length-3 c = search needs
@@ -94,23 +115,39 @@ same-length-3 c = search needs
 returns-3 : tie.Need-returns-3
 returns-3 c =
     let a = c .before .before .before .before .before .before .before .before .before .before .before .before .before .args in
-    does (a .pass) (Entries SB) (keys-of (a .s .now)) (byte-state (a .out .now) (a .cur .now)) _ (c .before .before .before .before .before .before .before .before .body .given .1 ∙ ap Entries (c .before .before .before .before .before .enum-told3 .given .1)) (c .before .before .fill-later .ensures)
+    does (a .pass) (Entries DP) (keys-of (a .s .now)) (byte-state (a .out .now) (a .cur .now)) _ (c .before .before .before .before .before .before .before .before .body .given .1 ∙ ap Entries (c .before .before .before .before .before .enum-told3 .given .1)) (c .before .before .fill-exact-cells .ensures)
 
 same-length-4 : tie.Need-same-length-4
 same-length-4 c = search needs
 
 returns-4 : tie.Need-returns-4
 returns-4 c =
-    let a = c .before .before .before .before .before .before .before .before .before .before .before .before .args in
-    does (a .pass) (Entries (c .before .before .before .before .before .before .before .body .given .0 .0)) (keys-of (a .s .now)) (byte-state (a .out .now) (a .cur .now)) _ (c .before .before .before .before .before .before .before .body .given .1) (c .before .before .fill-entries .ensures)
+    let a = c .before .before .before .before .before .before .before .before .before .before .before .before .before .args in
+    does (a .pass) (Entries SL) (keys-of (a .s .now)) (byte-state (a .out .now) (a .cur .now)) _ (c .before .before .before .before .before .before .before .before .body .given .1 ∙ ap Entries (c .before .before .before .before .before .enum-told4 .given .1)) (c .before .before .fill-labels .ensures)
 
 same-length-5 : tie.Need-same-length-5
 same-length-5 c = search needs
 
 returns-5 : tie.Need-returns-5
 returns-5 c =
+    let a = c .before .before .before .before .before .before .before .before .before .before .before .before .before .args in
+    does (a .pass) (Entries SC) (keys-of (a .s .now)) (byte-state (a .out .now) (a .cur .now)) _ (c .before .before .before .before .before .before .before .before .body .given .1 ∙ ap Entries (c .before .before .before .before .before .enum-told5 .given .1)) (c .before .before .fill-leaves .ensures)
+
+same-length-6 : tie.Need-same-length-6
+same-length-6 c = search needs
+
+returns-6 : tie.Need-returns-6
+returns-6 c =
+    let a = c .before .before .before .before .before .before .before .before .before .before .before .before .before .args in
+    does (a .pass) (Entries SB) (keys-of (a .s .now)) (byte-state (a .out .now) (a .cur .now)) _ (c .before .before .before .before .before .before .before .before .body .given .1 ∙ ap Entries (c .before .before .before .before .before .enum-told6 .given .1)) (c .before .before .fill-later .ensures)
+
+same-length-7 : tie.Need-same-length-7
+same-length-7 c = search needs
+
+returns-7 : tie.Need-returns-7
+returns-7 c =
     let a = c .before .before .before .before .before .before .before .before .before .before .args in
-    does (a .pass) Slots (keys-of (a .s .now)) (byte-state (a .out .now) (a .cur .now)) _ (c .before .before .before .before .before .enum-told4 .given .1) (c .before .before .fill-slots .ensures)
+    does (a .pass) Slots (keys-of (a .s .now)) (byte-state (a .out .now) (a .cur .now)) _ (c .before .before .before .before .before .enum-told7 .given .1) (c .before .before .fill-slots .ensures)
 
 pub write-keys-spec : {M : Type 1} → statement M
 write-keys-spec =
@@ -118,13 +155,18 @@ write-keys-spec =
     (tie.spec
     enum-known-body
     enum-told
-    fill-labels-requires
+    fill-label-cells-requires
     enum-told-2
-    fill-leaves-requires
+    fill-child-cells-requires
     enum-told-3
-    fill-later-requires
-    fill-entries-requires
+    fill-exact-cells-requires
     enum-told-4
+    fill-labels-requires
+    enum-told-5
+    fill-leaves-requires
+    enum-told-6
+    fill-later-requires
+    enum-told-7
     fill-slots-requires
     same-length
     returns
@@ -135,4 +177,8 @@ write-keys-spec =
     same-length-4
     returns-4
     same-length-5
-    returns-5)
+    returns-5
+    same-length-6
+    returns-6
+    same-length-7
+    returns-7)
