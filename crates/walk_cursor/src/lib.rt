@@ -1,26 +1,28 @@
-// The leaf cursor of a walk: from leaf to leaf of an accepted image in key order. It keeps the path from the root, so that a whole walk goes down and up each branch once.
+// The leaf cursor of a walk: from leaf to leaf of an accepted image in key order. It keeps the path from the root and where it stands on each level, so that a whole walk goes down and up each branch once, and takes neither rank nor select where a level was visited before.
 ghost use mathlib.Core.Path.{_≡_};
 ghost use Prim.Native.Nat.{_+_, _<_};
 ghost use Rattle.spec.specs.Bytes.{low-bits};
 ghost use Rattle.nav_laws.specs.Slots.{slot-of};
 ghost use Rattle.nav_laws.specs.Accepted.{Accepted, nodes};
-ghost use Rattle.walk_cursor.specs.Stands.{At-leaf, Stands-at, No-leaf, Is-leaf};
+ghost use Rattle.walk_cursor.specs.Stands.{At-leaf, Stands-at, No-leaf, Can-advance, Advances, Has-end, Slot-inside, Resumes-from, Reads-leaf, Is-leaf};
 use bits::numbers::wide;
 use image_types::Frame;
 use image_types::Leaf;
 use image_types::ValuePos;
 use nav::branches::is_there;
 use nav_laws::LeafStop;
-use nav_paths::higher::next_higher;
-use nav_paths::leaf::PathEnd;
-use nav_paths::leaf::first_behind;
-use nav_paths::leaf::first_leaf;
-use nav_paths::root_path;
 use query_point::suffix::slot_bits;
+use walk_levels::moves::LeafEnd;
+use walk_levels::moves::Resume;
+use walk_levels::moves::climb;
+use walk_levels::moves::descend;
 
-// A place of a walk: the path to the leaf, whose labels are the cut key, and the leaf's number in key order. Behind the last leaf the path ends nowhere.
+// A place of a walk: the path to the leaf, whose labels are the cut key, what is kept of its levels, and the leaf's number in key order. Behind the last leaf the path ends nowhere.
 pub struct Cursor {
-    pub end: PathEnd,
+    pub path: [usize; 64],
+    pub entries: [usize; 128],
+    pub labels: [u8; 64],
+    pub end: LeafEnd,
     pub place: usize,
 }
 
@@ -28,51 +30,79 @@ pub struct Cursor {
 pub fn at_no_leaf(place: usize) -> Cursor
     ensures { λ r. ⌜ No-leaf place r ⌝ }
 {
-    let path = root_path();
-    let end = PathEnd {
-        path,
-        stop: LeafStop::Nowhere,
-        depth: 0,
-    };
-    Cursor { end, place }
-}
-
-// The first leaf of an image.
-pub fn first(image: &[u8], f: Frame) -> Cursor
-    requires { ⌜ Accepted (now image) f ⌝ }
-    ensures { λ r. ⌜ Stands-at (now (image .entry)) f 0 r ⌝ }
-{
-    if f.leaves == 0 {
-        return at_no_leaf(0);
+    Cursor {
+        path: [0usize; 64],
+        entries: [0usize; 128],
+        labels: [0u8; 64],
+        end: LeafEnd {
+            depth: 0,
+            stop: LeafStop::Nowhere,
+        },
+        place,
     }
-    let path = root_path();
-    let end = first_leaf(image, f, path, 0);
-    Cursor { end, place: 0 }
 }
 
-// The leaf behind the one where the cursor stands: up to the next higher branch, and down to the first leaf behind it.
+// Where the search for the leaf behind one starts: at the first branch of an exact leaf, or behind the label of an open one.
+fn resume(labels: &[u8; 64], end: LeafEnd) -> Resume
+    requires { ⌜ Has-end end ⌝ }
+    ensures { λ r. ⌜ Resumes-from (now (labels .entry)) end r ⌝ }
+{
+    let stop = end.stop;
+    let LeafStop::Open(_) = stop else {
+        return Resume {
+            depth: end.depth,
+            from: 0,
+        };
+    };
+    let depth = end.depth - 1;
+    Resume {
+        depth,
+        from: wide(labels[depth]) + 1,
+    }
+}
+
+// The leaf behind the one where the path ends: up to the next higher branch, and down to the first leaf behind it.
+pub fn advance(
+    image: &[u8],
+    f: Frame,
+    path: &mut [usize; 64],
+    entries: &mut [usize; 128],
+    labels: &mut [u8; 64],
+    end: LeafEnd,
+) -> LeafEnd
+    requires { ⌜ Can-advance (now image) f (now path) (now entries) (now labels) end ⌝ }
+    ensures { λ r. ⌜ Advances (now (image .entry)) f (now (path .entry)) (now (entries .entry)) (now (labels .entry)) end (now (path .exit)) (now (entries .exit)) (now (labels .exit)) r ⌝ }
+{
+    let from = resume(labels, end);
+    let higher = climb(image, f, path, entries, labels, from);
+    let branch = higher.branch;
+    let kind = branch.kind;
+    if is_there(kind) {
+        return descend(image, f, path, entries, labels, higher);
+    }
+    LeafEnd {
+        depth: 0,
+        stop: LeafStop::Nowhere,
+    }
+}
+
+// The cursor at the leaf behind the one where it stands.
 pub fn step(image: &[u8], f: Frame, c: Cursor) -> Cursor
     requires { ⌜ At-leaf (now image) f c ⌝ }
     ensures { λ r. ⌜ Stands-at (now (image .entry)) f (c .place + 1) r ⌝ }
 {
-    let place = c.place + 1;
+    let mut path = c.path;
+    let mut entries = c.entries;
+    let mut labels = c.labels;
     let at = c.end;
-    let path = at.path;
-    let stop = at.stop;
-    let mut depth = at.depth;
-    let mut from = 0usize;
-    if let LeafStop::Open(_) = stop {
-        depth = depth - 1;
-        from = wide(path.labels[depth]) + 1;
+    let end = advance(image, f, &mut path, &mut entries, &mut labels, at);
+    Cursor {
+        path,
+        entries,
+        labels,
+        end,
+        place: c.place + 1,
     }
-    let higher = next_higher(image, f, path, depth, from);
-    let branch = higher.branch;
-    let kind = branch.kind;
-    if is_there(kind) {
-        let end = first_behind(image, f, path, higher.depth, branch);
-        return Cursor { end, place };
-    }
-    at_no_leaf(place)
 }
 
 // The bits of a slot as a number, the first bit lowest; what stands above the width's bits is not said.
@@ -86,29 +116,36 @@ fn suffix(image: &[u8], f: Frame, slot: ValuePos) -> usize
     slot_bits(image, f, slot, 0) as usize
 }
 
-// The leaf where the cursor stands. The suffix of an exact leaf is all zeros.
-pub fn leaf_at(image: &[u8], f: Frame, c: Cursor) -> Leaf
-    requires { ⌜ At-leaf (now image) f c ⌝ }
-    ensures { λ r. ⌜ Is-leaf (now (image .entry)) (c .place) r ⌝ }
+// The leaf where a path with these labels ends. The suffix of an exact leaf is all zeros.
+pub fn leaf_of(image: &[u8], f: Frame, labels: [u8; 64], end: LeafEnd) -> Leaf
+    requires { ⌜ Accepted (now image) f × Slot-inside f end ⌝ }
+    ensures { λ r. ⌜ Reads-leaf (now (image .entry)) f labels end r ⌝ }
 {
-    let at = c.end;
-    let path = at.path;
-    let cut = path.labels;
-    let stop = at.stop;
+    let stop = end.stop;
     let LeafStop::Open(slot) = stop else {
         return Leaf {
-            cut,
-            len: at.depth,
+            cut: labels,
+            len: end.depth,
             exact: true,
             suffix: 0,
             width: f.width,
         };
     };
     Leaf {
-        cut,
-        len: at.depth,
+        cut: labels,
+        len: end.depth,
         exact: false,
         suffix: suffix(image, f, slot),
         width: f.width,
     }
+}
+
+// The leaf where the cursor stands.
+pub fn leaf_at(image: &[u8], f: Frame, c: Cursor) -> Leaf
+    requires { ⌜ At-leaf (now image) f c ⌝ }
+    ensures { λ r. ⌜ Is-leaf (now (image .entry)) (c .place) r ⌝ }
+{
+    let labels = c.labels;
+    let end = c.end;
+    leaf_of(image, f, labels, end)
 }

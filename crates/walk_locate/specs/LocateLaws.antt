@@ -224,6 +224,8 @@ module _ (s : Bytes) (f : Frame) (a : Accepted s f) (place : ℕ) (p : Path) (d 
         let one = ap length (from-leaf (nodes s f) (63 - d) (node-on (p .nodes) d) (t .ranges .from) (r .low .kind) (n .kind-is) (r .low .label) rising (n .there (t .ranges .there) .label-is) (f .width) (a .writable .wide) ends) in
         let z : left ≡ 0 = omega (arith, one, t .ranges .counted, behind-label) in
         record {
+          nodes-room = g .nodes-room;
+          labels-room = length-set (p .labels) d (r .low .label) ∙ g .labels-room;
           ends = ends-open s f (p .nodes) d (g .deep) (g .on) v (leaf-slot s f a (p .nodes) (p .labels) d (r .low) taken v is ends);
           leaves-are = leaves-behind ∙ ap (λ (n : ℕ). drop n (onward (nodes s f) (p .nodes) (p .labels) d (r .low .label))) z ∙ leaf-onward s f a (p .nodes) (p .labels) d (r .low) taken v is ends (g .labels-room);
         }
@@ -284,6 +286,8 @@ module _ (s : Bytes) (f : Frame) (a : Accepted s f) (place : ℕ) (p : Path) (d 
         -- no leaf is left to pass: the path ends there
         pub leads-exact : left ≡ 0 → Leads s f place (record { path = record { nodes = set (p .nodes) (d + 1) c; labels = set (p .labels) d (r .low .label) }; stop = Stop.Exact; depth = d + 1 })
         leads-exact z = record {
+          nodes-room = length-set (p .nodes) (d + 1) c ∙ g .nodes-room;
+          labels-room = length-set (p .labels) d (r .low .label) ∙ g .labels-room;
           ends = ends-exact s f (set (p .nodes) (d + 1) c) (d + 1) next-deep next-levels;
           leaves-are = next-leaves ∙ ap (λ (n : ℕ). drop n (downward (nodes s f) (set (p .nodes) (d + 1) c) (set (p .labels) d (r .low .label)) (d + 1))) z ∙ own-first;
         }

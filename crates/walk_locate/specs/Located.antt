@@ -1,7 +1,7 @@
 -- What the functions that go straight to a place ask and give.
 use Prim.Native.Nat.{ℕ, _+_, _-_, _<_, _≤_}
 use mathlib.Core.Path.{_≡_}
-use lib.ListN.{drop}
+use lib.ListN.{length, drop}
 use Rattle.spec.specs.Bytes.{Bytes}
 use Rattle.spec.specs.Nodes.{read-leaves}
 use Rattle.image_types.specs.declared.Frame.{Frame}
@@ -68,4 +68,7 @@ pub record Takes (s : Bytes) (f : Frame) (m d skip : ℕ) (r : Range) : Type 0 w
 -- The path ends at the leaf at the place: that leaf and those behind the path are the leaves from the place on.
 pub record Leads (s : Bytes) (f : Frame) (place : ℕ) (e : PathEnd) : Type 0 where
   pub ends : Ends s f (e .path .nodes) (e .depth) (e .stop)
+  -- the path has room for 64 nodes and labels
+  pub nodes-room : length (e .path .nodes) ≡ 64
+  pub labels-room : length (e .path .labels) ≡ 64
   pub leaves-are : drop place (read-leaves s) ≡ standing (f .width) (nodes s f) (e .path .nodes) (e .path .labels) (e .depth) (e .stop)

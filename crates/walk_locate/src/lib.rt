@@ -1,17 +1,37 @@
 // The cursor at a place of a walk, straight from the root: on each level the branch is taken behind which the leaf at the place stands.
 // How many leaves stand before a branch is told by sums of slot numbers, as the place of a seek is, so that a level costs a few operations and no leaf before the place is visited.
+ghost use mathlib.Core.Path.{_≡_};
 ghost use Prim.Native.Nat.{_≤_};
+ghost use lib.ListN.{length};
 ghost use Rattle.nav_laws.specs.Accepted.{Accepted};
+ghost use Rattle.walk_levels.specs.Levels.{numbered};
 ghost use Rattle.walk_cursor.specs.Stands.{Stands-at};
 use descent::descend_to;
 use image_types::Frame;
+use nav_laws::Path;
 use walk_cursor::Cursor;
 use walk_cursor::at_no_leaf;
+use walk_levels::moves::LeafEnd;
 
 pub mod branch; // branch.rt: the branch of a node before which so many of its leaves stand
 pub mod descent; // descent.rt: the path from the root to the leaf at a place
 
-// The cursor at a place of an accepted image.
+// The numbers of a path's nodes.
+fn node_numbers(path: Path) -> [usize; 64]
+    requires { ⌜ length (path .nodes) ≡ 64 ⌝ }
+    ensures { λ r. ⌜ numbered r ≡ path .nodes ⌝ }
+{
+    let mut numbers = [0usize; 64];
+    let mut i = 0usize;
+    while i < 64 {
+        let node = path.nodes[i];
+        numbers[i] = node.0;
+        i = i + 1;
+    }
+    numbers
+}
+
+// The cursor at a place of an accepted image. Nothing is known yet of the entries of its levels.
 pub fn cursor_at(image: &[u8], f: Frame, place: usize) -> Cursor
     requires { ⌜ Accepted (now image) f × (place ≤ f .leaves) ⌝ }
     ensures { λ r. ⌜ Stands-at (now (image .entry)) f place r ⌝ }
@@ -19,6 +39,19 @@ pub fn cursor_at(image: &[u8], f: Frame, place: usize) -> Cursor
     if place == f.leaves {
         return at_no_leaf(place);
     }
-    let end = descend_to(image, f, place);
-    Cursor { end, place }
+    let found = descend_to(image, f, place);
+    let path = found.path;
+    let labels = path.labels;
+    let stop = found.stop;
+    let end = LeafEnd {
+        depth: found.depth,
+        stop,
+    };
+    Cursor {
+        path: node_numbers(path),
+        entries: [0usize; 128],
+        labels,
+        end,
+        place,
+    }
 }

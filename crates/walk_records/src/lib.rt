@@ -12,12 +12,12 @@ ghost use Rattle.walk_states.specs.Records.{Room};
 use bits::copy::write_bytes;
 use image_types::Leaf;
 use image_types::Written;
-use walk_states::states::Stand;
+use walk_cursor::advance;
+use walk_cursor::leaf_of;
 use walk_states::states::State;
 use walk_states::states::Status;
-use walk_walker::walker::move_from;
-use walk_walker::walker::open_from;
-use walk_walker::walker::stand_from;
+use walk_states::states::open_state;
+use walk_states::value::padded;
 
 // The bytes of a record: kind, length, cut key and suffix.
 pub const RECORD_SIZE: usize = 68;
@@ -52,22 +52,26 @@ fn write_record(out: &mut [u8], at: usize, l: Leaf)
 }
 
 // The records of the leaves from the state's place on go to the front of out, of as many as it holds whole, and all else stays; their length.
+// What the cursor keeps is lent to each move, so that no leaf copies it.
 fn write_leaves(image: &[u8], from: State, out: &mut [u8]) -> usize
     requires { ⌜ Walks (now image) from × (from .status ≡ Status.Opened) ⌝ }
     ensures { λ r. ⌜ Fills (read-leaves (now (image .entry))) (from .place) (now (out .entry)) (now (out .exit)) r ⌝ }
 {
+    let f = from.frame;
+    let c = from.cursor;
+    let mut path = c.path;
+    let mut entries = c.entries;
+    let mut labels = c.labels;
+    let mut end = c.end;
     let room = out.len() / RECORD_SIZE;
-    let mut at = from;
     let mut count = 0usize;
     while count < room {
-        let s = stand_from(image, at);
-        let stand = s.stand;
-        let Stand::Leaf = stand else {
+        if from.place + count == f.leaves {
             return RECORD_SIZE * count;
-        };
-        let l = s.leaf;
+        }
+        let l = padded(leaf_of(image, f, labels, end));
         write_record(out, RECORD_SIZE * count, l);
-        at = move_from(image, at);
+        end = advance(image, f, &mut path, &mut entries, &mut labels, end);
         count = count + 1;
     }
     RECORD_SIZE * count
@@ -77,7 +81,7 @@ fn write_leaves(image: &[u8], from: State, out: &mut [u8]) -> usize
 pub fn write_records(image: &[u8], place: usize, out: &mut [u8]) -> Written
     ensures { λ r. ⌜ outcome r (now (out .exit)) ≡ walk-records (now (image .entry)) place (now (out .entry)) ⌝ }
 {
-    let at = open_from(image, place);
+    let at = open_state(image, place);
     let status = at.status;
     match status {
         Status::Refused(number) => Written::Refused(number),

@@ -39,6 +39,25 @@ use Rattle.walk_states.specs.declared.states.State.{State}
 use Rattle.walk_states.specs.Records.{Room}
 use Rattle.walk_states.specs.Walks.{no-leaf, standing-of, Gives, At-place, Walks, Opens, Moved}
 
+-- ---- a leaf of an accepted image
+
+module _ (s : Bytes) (f : Frame) (a : Accepted s f) (place : ℕ) (l : Leaves.Leaf) (there : getElem? (read-leaves s) place ≡ some l) (v : Value) (is : v ≡ value-of l) where
+  -- its key and suffix are in range
+  pub leaf-sized : Sized v
+  leaf-sized =
+      let z = all-at (Well-sized (f .width)) (read-leaves s) place l (a .well-sized) there in
+      rw is (z .key .fits, omega (arith, z .slot, a .writable .width-range))
+
+  -- its record fits where there is room for a record
+  pub record-room : (out : Bytes) (at : ℕ) → at + record-size ≤ length out → Room out at v
+  record-room out at h =
+      let small : length (l .suffix) ≤ 16 = omega (arith, leaf-sized .1, ap (λ (x : Value). x .width) is) in
+      record { within = h; key = leaf-sized .0; suffix = omega (arith, ap (λ (x : Value). x .suffix) is, suffix-small l small) }
+
+  -- and is the one of document 01
+  pub record-is : value-record v ≡ leaf-record l
+  record-is = ap value-record is ∙ value-record-is l
+
 module _ (s : Bytes) where
   -- a state that is refused
   refused-walks : (w : State) (n : ℕ) → w .status ≡ Status.Refused n → open-walk s (w .place) ≡ refused n → Walks s w
@@ -122,18 +141,12 @@ module _ (s : Bytes) where
               place-is = λ _. sym n;
             }
 
-        -- a leaf's key and suffix are in range
-        leaf-sized : (l : Leaves.Leaf) → getElem? (read-leaves s) (w .cursor .place) ≡ some l → Sized (value-of l)
-        leaf-sized l e =
-            let z = all-at (Well-sized (w .frame .width)) (read-leaves s) (w .cursor .place) l (at .accepted .well-sized) e in
-            (z .key .fits, omega (arith, z .slot, at .accepted .writable .width-range))
-
         pub says-leaf : (l : Leaves.Leaf) → getElem? (read-leaves s) (w .cursor .place) ≡ some l → (v : Value) → v ≡ value-of l → Gives (open-walk s (w .place)) (record { stand = Stand.Leaf; leaf = v })
         says-leaf l e v f =
             subst (λ (t : Value). Gives (open-walk s (w .place)) (record { stand = Stand.Leaf; leaf = t })) (sym f)
             (record {
               says = sym (ap standing-of (ap (open-walk s) (sym (at .place-is)) ∙ at-leaf s (at .checked) (w .cursor .place) l (omega (arith, before-end, total)) e));
-              sized = leaf-sized l e;
+              sized = leaf-sized s (w .frame) (at .accepted) (w .cursor .place) l e (value-of l) refl;
             })
 
 -- ---- what a walk says
@@ -186,17 +199,6 @@ module _ (s : Bytes) (w : State) (walks : Walks s w) (opened : w .status ≡ Sta
     -- ---- it says a leaf
 
     module _ (e : r .stand ≡ Stand.Leaf) where
-      -- the leaf's record fits where there is room for a record
-      pub record-room : (out : Bytes) (at : ℕ) → at + record-size ≤ length out → Room out at (r .leaf)
-      record-room out at h =
-          let f = found-leaf e in
-          let small : length (f .0 .suffix) ≤ 16 = omega (arith, g .sized, ap (λ (v : Value). v .width) (f .2)) in
-          record { within = h; key = g .sized .0; suffix = omega (arith, ap (λ (v : Value). v .suffix) (f .2), suffix-small (f .0) small) }
-
-      -- it is the one at the place, with its record
-      pub record-found : (l : Leaves.Leaf) × (getElem? (read-leaves s) (w .place) ≡ some l) × (value-record (r .leaf) ≡ leaf-record l)
-      record-found = let f = found-leaf e in (f .0, f .1, ap value-record (f .2) ∙ value-record-is (f .0))
-
       -- the next place is the one behind it
       pub moved-on : (n : State) → Moved s w n → n .place ≡ w .place + 1
       moved-on n m = let f = found-leaf e in m .place-is opened ∙ next-leaf s (w .place) (leaf-within (read-leaves s) (w .place) (f .0) (f .1))

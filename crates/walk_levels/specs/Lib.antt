@@ -1,0 +1,5 @@
+pub mod Entries
+pub mod EntryLaws
+pub mod Levels
+pub mod LevelLaws
+pub mod DownLaws

@@ -1,0 +1,176 @@
+// From leaf to leaf in key order: up the path to the next higher branch, and down to the first leaf behind it. For each level the node last visited there is kept,
+// and, for sparse levels, the entry behind the last one visited (the first 64 of `entries`) with the child from it on (the others).
+ghost use mathlib.Core.Path.{_≡_};
+ghost use Prim.Native.Nat.{_<_};
+ghost use Rattle.nav_laws.specs.Accepted.{Accepted};
+ghost use Rattle.walk_levels.specs.Entries.{Behind-node};
+ghost use Rattle.walk_levels.specs.Levels.{Can-climb, Climbs, Can-descend, Descended, On-node, Enters, Behind-taken, entry-on, with-entry};
+use super::entries::Entry;
+use super::entries::child_at;
+use super::entries::first_at;
+use super::entries::next_at;
+use super::entries::slot_at;
+use super::entries::start_at;
+use bits::numbers::wide;
+use image_types::Frame;
+use nav::branches::is_there;
+use nav_laws::BranchKind;
+use nav_laws::FirstBranch;
+use nav_laws::LeafStop;
+use nav_laws::NextBranch;
+use nav_paths::higher::Higher;
+
+// Where the search for the next leaf starts: the depth of a node of the path, and the first of its labels that is not behind.
+pub struct Resume {
+    pub depth: usize,
+    pub from: usize,
+}
+
+// The first branch of a node that is entered, and its entry with the child from it on.
+pub struct Entered {
+    pub first: FirstBranch,
+    pub entry: Entry,
+}
+
+// The leaf where a path ends, and how many labels lead to it.
+pub struct LeafEnd {
+    pub depth: usize,
+    pub stop: LeafStop,
+}
+
+// The next higher branch of the path. Its levels stay as they are: a node without a branch left is left behind its last entry.
+pub fn climb(
+    image: &[u8],
+    f: Frame,
+    path: &[usize; 64],
+    entries: &[usize; 128],
+    labels: &[u8; 64],
+    r: Resume,
+) -> Higher
+    requires { ⌜ Can-climb (now image) f (now path) (now entries) (now labels) r ⌝ }
+    ensures { λ h. ⌜ Climbs (now (image .entry)) f (now (path .entry)) (now (entries .entry)) (now (labels .entry)) r h ⌝ }
+{
+    let mut d = r.depth;
+    let mut y = r.from;
+    loop {
+        let branch = next_at(image, f, path[d], y, entries[d]);
+        let kind = branch.kind;
+        if is_there(kind) || d == 0 {
+            return Higher { depth: d, branch };
+        }
+        d = d - 1;
+        y = wide(labels[d]) + 1;
+    }
+}
+
+// The first branch of node m of a level, where `last` is the node last visited there and `known` the entry behind it.
+fn enter(image: &[u8], f: Frame, m: usize, last: usize, known: Entry) -> Entered
+    requires { ⌜ Accepted (now image) f × (0 < m) × On-node (now image) f m × Behind-node (now image) f last known ⌝ }
+    ensures { λ r. ⌜ Enters (now (image .entry)) f m r ⌝ }
+{
+    let start = start_at(image, f, m, last, known);
+    let first = first_at(image, f, m, start.at);
+    let branch = first.branch;
+    let at = branch.at;
+    if m < f.dense.nodes {
+        let none = Entry { at: 0, child: 0 };
+        let child = child_at(image, f, m, at, none);
+        let entry = Entry { at: 0, child };
+        return Entered { first, entry };
+    }
+    let entry = Entry {
+        at: at.0,
+        child: start.child,
+    };
+    Entered { first, entry }
+}
+
+// The entry that is kept for a level.
+fn entry_on(entries: &[usize; 128], level: usize) -> Entry
+    requires { ⌜ level < 64 ⌝ }
+    ensures { λ r. ⌜ r ≡ entry-on (now (entries .entry)) level ⌝ }
+{
+    Entry {
+        at: entries[level],
+        child: entries[64 + level],
+    }
+}
+
+// Another entry is kept for a level.
+fn keep_entry(entries: &mut [usize; 128], level: usize, e: Entry)
+    requires { ⌜ level < 64 ⌝ }
+    ensures { λ _. ⌜ now (entries .exit) ≡ with-entry (now (entries .entry)) level e ⌝ }
+{
+    entries[level] = e.at;
+    entries[64 + level] = e.child;
+}
+
+// The entry behind a branch of node m, with the child from it on; a dense node has none.
+fn entry_behind(f: Frame, m: usize, b: NextBranch, child: usize) -> Entry
+    requires { ⌜ (b .at .0 < 4294967296) × (child < 4294967296) ⌝ }
+    ensures { λ r. ⌜ Behind-taken f m b child r ⌝ }
+{
+    if m < f.dense.nodes {
+        return Entry { at: 0, child: 0 };
+    }
+    let at = b.at;
+    let kind = b.kind;
+    match kind {
+        BranchKind::Absent => Entry {
+            at: at.0 + 1,
+            child,
+        },
+        BranchKind::Leaf => Entry {
+            at: at.0 + 1,
+            child,
+        },
+        BranchKind::Child => Entry {
+            at: at.0 + 1,
+            child: child + 1,
+        },
+    }
+}
+
+// The first leaf behind a branch of the path. On each level that is entered the node is the next one, and its first entry the one behind the last.
+pub fn descend(
+    image: &[u8],
+    f: Frame,
+    path: &mut [usize; 64],
+    entries: &mut [usize; 128],
+    labels: &mut [u8; 64],
+    from: Higher,
+) -> LeafEnd
+    requires { ⌜ Can-descend (now image) f (now path) (now entries) (now labels) from ⌝ }
+    ensures { λ e. ⌜ Descended (now (image .entry)) f (now (path .entry)) (now (labels .entry)) (from .depth) (from .branch .label) (now (path .exit)) (now (entries .exit)) (now (labels .exit)) e ⌝ }
+{
+    let mut d = from.depth;
+    let mut b = from.branch;
+    let mut c = child_at(image, f, path[d], b.at, entry_on(entries, d));
+    loop {
+        let m = path[d];
+        let at = b.at;
+        let kind = b.kind;
+        labels[d] = b.label as u8;
+        keep_entry(entries, d, entry_behind(f, m, b, c));
+        d = d + 1;
+        let BranchKind::Child = kind else {
+            return LeafEnd {
+                depth: d,
+                stop: LeafStop::Open(slot_at(image, f, m, at, c)),
+            };
+        };
+        let next = enter(image, f, c, path[d], entry_on(entries, d));
+        let first = next.first;
+        let entry = next.entry;
+        path[d] = c;
+        keep_entry(entries, d, entry);
+        if first.exact {
+            return LeafEnd {
+                depth: d,
+                stop: LeafStop::Exact,
+            };
+        }
+        b = first.branch;
+        c = entry.child;
+    }
+}
