@@ -1,4 +1,4 @@
--- A key's emissions from a level on, one at a time: what is left to be written, and that there is room for it. Used by the functions that go over a key's levels.
+-- A key's emissions from a level on, one at a time: what is left to be written or counted, and that there is room for it. Used by the functions that go over a key's levels.
 use Prim.Native.Nat.{ℕ, suc, _+_, _-_, _≤_, _<_, max, min}
 use mathlib.Core.Path.{_≡_, refl, sym, ap, ap₂, subst, _∙_}
 use mathlib.Core.Bool.{true, false, cond}
@@ -10,6 +10,7 @@ use Rattle.spec.specs.Bytes.{Bytes}
 use Rattle.build_laws.specs.LevelEntries.{pred}
 use Rattle.build_laws.specs.NeighbourLeaves.{cut-length}
 use Rattle.build_laws.specs.Emissions.{Emission, emission, consecutive, key-emissions}
+use Rattle.build_laws.specs.Cursors.{counts}
 use Rattle.build_laws.specs.BitPass.{Room}
 use Rattle.build_laws.specs.BytePass.{Byte-state}
 use Rattle.build_laws.specs.declared.Entry.{Entry}
@@ -20,6 +21,7 @@ use Rattle.build_laws.specs.declared.Levels.{Levels}
 use Rattle.build_laws.specs.KeyEntries.{entry-at, exact-entry}
 use Rattle.build_laws.specs.KeyLaws.{key-length}
 use Rattle.build_laws.specs.Passes.{key-bytes, listed-entries, key-exact, kind-step, kind-ones, capacity, write-entry, write-entries}
+use Rattle.build_laws.specs.CountPass.{Counter-room}
 use Rattle.build_laws.specs.Limits.{counter-max}
 
 -- what a key emits from level d to below `end`, and for its exact leaf
@@ -134,3 +136,20 @@ left-room kind cap n d x e es s final q k l =
 -- nothing is left
 pub left-done : (kind : Kind) (cap : ℕ) (s final : Byte-state) → Left kind cap [] s final → s ≡ final
 left-done kind cap s final l = sym (write-none kind s) ∙ l .run
+
+-- ---- counted
+
+-- what holds between the levels of a counter
+pub record To-count {A : Type 0} (inc : A → ℕ) (rest : List (Emission A)) (c final : List ℕ) : Type 0 where
+  pub run : counts inc rest c ≡ final
+  pub room : Counter-room inc rest c
+
+-- one emission is counted
+pub count-next : {A : Type 0} (inc : A → ℕ) (d : ℕ) (x : A) (es : List (Emission A)) (c c′ final : List ℕ) → c′ ≡ set c d (getD c d 0 + inc x) → To-count inc (emission d x ∷ es) c final → To-count inc es c′ final
+unfolding counts
+count-next inc d x es c c′ final e l = record { run = ap (counts inc es) e ∙ l .run; room = subst (λ (y : List ℕ). Counter-room inc es y) (sym e) (l .room .3) }
+
+-- all is counted
+pub count-done : {A : Type 0} (inc : A → ℕ) (c final : List ℕ) → To-count inc [] c final → c ≡ final
+unfolding counts
+count-done inc c final l = l .run
