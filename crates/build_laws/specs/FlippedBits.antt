@@ -20,13 +20,6 @@ flipped zero n s = s
 flipped (suc k) n [] = []
 flipped (suc k) n (x ∷ s) = flip-byte (min 8 n) x ∷ flipped k (n - 8) s
 
--- flipping bits keeps the number of bytes
-pub length-flipped : (k n : ℕ) (s : Bytes) → length (flipped k n s) ≡ length s
-unfolding flipped
-length-flipped zero n s = refl
-length-flipped (suc k) n [] = refl
-length-flipped (suc k) n (x ∷ s) = ap suc (length-flipped k (n - 8) s)
-
 -- a byte behind them is as it was
 flip-kept : (i n : ℕ) (s : Bytes) → getD (flipped i n s) i 0 ≡ getD s i 0
 unfolding flipped
