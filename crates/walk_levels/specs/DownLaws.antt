@@ -1,5 +1,5 @@
 -- The way down behind a branch of the path, with the levels kept: a branch is taken, and the node behind it entered.
-use Prim.Native.Nat.{ℕ, _+_, _-_, _<_, _≤_}
+use Prim.Native.Nat.{ℕ, _+_, _-_, _<_}
 use mathlib.Core.Path.{_≡_, refl, sym, ap, _∙_}
 use mathlib.Core.Bool.{Bool, true, false}
 use mathlib.Core.List.{List}
@@ -10,7 +10,6 @@ use lib.Dec.{ltb}
 use borrow.Author.Tests.{ltb-true, ltb-false}
 use Rattle.spec.specs.Bytes.{Bytes}
 use Rattle.image_types.specs.declared.Frame.{Frame}
-use Rattle.image_types.specs.declared.NodeNum.{NodeNum}
 use Rattle.image_types.specs.declared.ValuePos.{ValuePos}
 use Rattle.nav_laws.specs.declared.BranchKind.the-variants as Kind
 use Rattle.nav_laws.specs.declared.LeafStop.the-variants as Stop
@@ -20,16 +19,15 @@ use Rattle.nav_laws.specs.Positions.{place, child-at, slot-at}
 use Rattle.nav_laws.specs.NextBranch.{Named-branch, Next-branch}
 use Rattle.nav_laws.specs.NumberBounds.{child-range}
 use Rattle.nav_laws.specs.Below.{On-level, level-branch}
-use Rattle.nav_laws.specs.Paths.{node-on, onward}
+use Rattle.nav_laws.specs.Paths.{node-on}
 use Rattle.nav_laws.specs.PathSteps.{node-in}
 use Rattle.nav_laws.specs.FoundBranch.{node-count, Is-position}
 use Rattle.nav_paths.specs.declared.higher.Higher.{Higher}
-use Rattle.nav_paths.specs.PathContracts.{Reaches}
 use Rattle.nav_paths.specs.PathLaws.{Descends, descends-first, leaf-reached, next-deep, next-on, exact-reached, descends-next}
 use Rattle.walk_levels.specs.declared.entries.Entry.{Entry}
 use Rattle.walk_levels.specs.declared.moves.Entered.{Entered}
-use Rattle.walk_levels.specs.Entries.{child-from, Next-entry, Behind-node}
-use Rattle.walk_levels.specs.Levels.{numbered, path-of, entry-on, with-entry, Behind-taken, Taken, Rows, Levels, On-node, Enters, Can-descend, Kept, Descended}
+use Rattle.walk_levels.specs.Entries.{child-from, Behind-node}
+use Rattle.walk_levels.specs.Levels.{numbered, path-of, entry-on, with-entry, Behind-taken, Taken, Rows, Levels, On-node, Enters, Can-descend, Descended}
 use Rattle.walk_levels.specs.LevelLaws.{numbered-at, numbered-set, kept-at, kept-child, kept-room, other-at, other-child, next-behind, child-behind}
 
 -- On the way down behind a branch, node d of the path has the branch b and the child c from it on, and the other levels are kept.
@@ -152,9 +150,6 @@ module _ (s : Bytes) (f : Frame) (a : Accepted s f) (ns₀ : List ℕ) (cut₀ :
       down-last = levels .rows .below (d + 1) (omega arith) down-deep
 
       module _ (r : Entered) (t : Enters s f c r) where
-        es′ : List ℕ
-        es′ = with-entry es d e
-
         room′ : length (with-entry es d e) ≡ 128
         room′ = kept-room es (g .room) d e goes-deep
 

@@ -1,20 +1,19 @@
 -- Where a sparse node goes on and where it ends, by the bits of S-LOUDS; and its branches by their entries.
 use Prim.Native.Nat.{ℕ, _+_, _-_, _<_, _≤_}
-use mathlib.Core.Path.{_≡_, refl, sym, ap, _∙_}
+use mathlib.Core.Path.{_≡_, refl, sym, ap}
 use mathlib.Core.Bool.{Bool, true, false}
 use native.Mathlib.Omega.{arith}
-use lib.ListN.{length, getD, drop}
+use lib.ListN.{getD, drop}
 use lib.Dec.{ltb}
 use borrow.Author.Tests.{ltb-true, ltb-false}
 use Rattle.spec.specs.Bytes.{Bytes, bit}
-use Rattle.spec.specs.Nodes.{is-exact, total, children-of}
+use Rattle.spec.specs.Nodes.{is-exact}
 use Rattle.bits_laws.specs.Bits.{bit-at, rank, select}
 use Rattle.bits_laws.specs.RankLaws.{rank-next, rank-up}
 use Rattle.bits_laws.specs.SelectLaws.{select-is, select-behind}
 use Rattle.image_types.specs.declared.Frame.{Frame}
 use Rattle.nav_laws.specs.declared.BranchKind.the-variants.{Absent}
 use Rattle.nav_laws.specs.declared.NextBranch.{NextBranch}
-use Rattle.nav_laws.specs.declared.FirstBranch.{FirstBranch}
 use Rattle.nav_laws.specs.Counting.{none-below-zero, labels-below-le}
 use Rattle.nav_laws.specs.Slots.{node-at}
 use Rattle.nav_laws.specs.Accepted.{Accepted, nodes}

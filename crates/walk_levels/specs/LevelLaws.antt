@@ -7,9 +7,9 @@ use native.Mathlib.Omega.{arith}
 use lib.ListN.{length, getD, drop, take, set, replicate, length-set, List·getD-map}
 use lib.Seq.{getD-set-same, getD-set-other}
 use lib.Dec.{eqb, ltb}
-use borrow.Author.Tests.{ltb-true, ltb-false, eq-eqb, le-ltb, lt-ltb}
+use borrow.Author.Tests.{ltb-true, ltb-false, eq-eqb, le-ltb}
 use Rattle.spec.specs.Bytes.{Bytes, bit}
-use Rattle.spec.specs.Nodes.{is-exact, has-child, label-of, total, children, children-of}
+use Rattle.spec.specs.Nodes.{is-exact, has-child, label-of, children}
 use Rattle.bits_laws.specs.Bits.{bit-at, rank}
 use Rattle.bits_laws.specs.RankLaws.{rank-next, rank-le}
 use Rattle.image_types.specs.declared.Frame.{Frame}
@@ -19,8 +19,8 @@ use Rattle.nav_laws.specs.declared.BranchKind.the-variants as Kind
 use Rattle.nav_laws.specs.declared.FirstBranch.{FirstBranch}
 use Rattle.nav_laws.specs.declared.NextBranch.{NextBranch}
 use Rattle.nav_laws.specs.Counting.{labels-below-le, none-below-zero}
-use Rattle.nav_laws.specs.Slots.{node-at, leaves-before, slot-number}
-use Rattle.nav_laws.specs.Descent.{children-before, child-number}
+use Rattle.nav_laws.specs.Slots.{node-at}
+use Rattle.nav_laws.specs.Descent.{child-number}
 use Rattle.nav_laws.specs.NextLabel.{is-there, kind-there, kind-at, there-before, labels-next, label-first}
 use Rattle.nav_laws.specs.SparsePositions.{matches-at}
 use Rattle.nav_laws.specs.Accepted.{Accepted, nodes}
@@ -31,8 +31,7 @@ use Rattle.nav_laws.specs.Paths.{node-on}
 use Rattle.walk_levels.specs.declared.entries.Entry.{Entry}
 use Rattle.walk_levels.specs.declared.moves.LeafEnd.{LeafEnd}
 use Rattle.walk_levels.specs.Entries.{start-of, child-from, Next-entry, Behind-node, Starts-at}
-use Rattle.walk_levels.specs.EntryLaws.{start-below, entry-reached}
-use Rattle.walk_levels.specs.Levels.{numbered, entry-on, with-entry, continues, Taken, Rows, Levels, On-node, Enters, Kept}
+use Rattle.walk_levels.specs.Levels.{numbered, entry-on, with-entry, continues, Taken, Levels, On-node, Enters, Kept}
 use Rattle.bits_laws.specs.SelectLaws.{select-le}
 
 -- ---- paths by numbers
@@ -68,12 +67,9 @@ module _ (es : List ℕ) (room : length es ≡ 128) (d : ℕ) (e : Entry) (deep 
     pub other-child : getD (with-entry es d e) (64 + i) 0 ≡ getD es (64 + i) 0
     other-child = getD-set-other (set es d (e .at)) (64 + d) (64 + i) (e .child) 0 (λ q. other (omega arith)) ∙ getD-set-other es d (64 + i) (e .at) 0 (λ q. omega arith)
 
--- ---- down
+-- ---- branches of a sparse node
 
 module _ (s : Bytes) (f : Frame) (a : Accepted s f) (m : ℕ) (h : f .dense .nodes ≤ m) (l : m < node-count f) where
-  first : ℕ
-  first = start-of s f m + bit (is-exact (node-at (nodes s f) m))
-
   -- the position of a branch of a sparse node is its entry
   pub position-is : (i p : ℕ) → i ≤ length (branches s f m) → Branch-at s f m i p → p ≡ start-of s f m + bit (is-exact (node-at (nodes s f) m)) + i
   unfolding child-at slot-at

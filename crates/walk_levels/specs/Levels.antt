@@ -4,8 +4,7 @@ use mathlib.Core.Path.{_≡_}
 use mathlib.Core.Bool.{true}
 use mathlib.Core.List.{List, map}
 use lib.ListN.{length, getD, drop, set}
-use Rattle.spec.specs.Bytes.{Bytes, bit}
-use Rattle.spec.specs.Nodes.{is-exact}
+use Rattle.spec.specs.Bytes.{Bytes}
 use Rattle.image_types.specs.declared.Frame.{Frame}
 use Rattle.image_types.specs.declared.NodeNum.{NodeNum}
 use Rattle.image_types.specs.declared.ValuePos.{ValuePos}
@@ -14,12 +13,10 @@ use Rattle.nav_laws.specs.declared.BranchKind.the-variants as Kind
 use Rattle.nav_laws.specs.declared.NextBranch.{NextBranch}
 use Rattle.nav_laws.specs.declared.LeafStop.the-variants as Stop
 use Rattle.nav_laws.specs.declared.Path.{Path}
-use Rattle.nav_laws.specs.Slots.{node-at}
 use Rattle.nav_laws.specs.Accepted.{Accepted, nodes}
 use Rattle.nav_laws.specs.NextLabel.{first-kind}
 use Rattle.nav_laws.specs.Positions.{branches, place, child-at}
 use Rattle.nav_laws.specs.FoundBranch.{node-count, First-branch}
-use Rattle.nav_laws.specs.Below.{On-level}
 use Rattle.nav_laws.specs.Paths.{onward}
 use Rattle.nav_laws.specs.PathSteps.{Has-branch}
 use Rattle.nav_paths.specs.declared.higher.Higher.{Higher}
@@ -28,7 +25,7 @@ use Rattle.walk_levels.specs.declared.entries.Entry.{Entry}
 use Rattle.walk_levels.specs.declared.moves.Entered.{Entered}
 use Rattle.walk_levels.specs.declared.moves.LeafEnd.{LeafEnd}
 use Rattle.walk_levels.specs.declared.moves.Resume.{Resume}
-use Rattle.walk_levels.specs.Entries.{start-of, child-from, Next-entry, Behind-node}
+use Rattle.walk_levels.specs.Entries.{child-from, Next-entry, Behind-node}
 
 -- the path of nodes by their numbers
 abbrev pub numbered : List ℕ → List NodeNum

@@ -1,6 +1,5 @@
 -- The arrays of the cursor at the next place.
-use Prim.Native.Nat.{_+_}
-use mathlib.Core.Path.{_≡_, refl}
+use mathlib.Core.Path.{refl}
 use borrow.Author.Needs.{needs}
 use Rattle.walk_cursor.proofs.step.Statement.{statement}
 use Rattle.walk_cursor.proofs.step.Tie as tie

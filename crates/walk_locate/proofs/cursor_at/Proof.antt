@@ -1,7 +1,6 @@
 -- Done, or the path that leads to the leaf, with nothing known of the entries.
 use Prim.Native.Nat.{ℕ}
-use mathlib.Core.Path.{_≡_, refl, sym, ap, _∙_}
-use native.Mathlib.Omega.{arith}
+use mathlib.Core.Path.{refl, sym, ap, _∙_}
 use lib.ListN.{length, length-map, length-replicate}
 use Rattle.walk_levels.specs.LevelLaws.{kept-unknown}
 use Rattle.walk_cursor.specs.Places.{stands-done}

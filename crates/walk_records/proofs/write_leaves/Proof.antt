@@ -1,13 +1,12 @@
 -- The records of the leaves passed stand at the front of the buffer.
-use Prim.Native.Nat.{ℕ, _+_, _*_, _-_, _<_, _≤_}
-use mathlib.Core.Path.{_≡_, refl, sym, ap, _∙_}
+use Prim.Native.Nat.{_+_, _*_, _-_, _≤_}
+use mathlib.Core.Path.{_≡_, ap, _∙_}
 use native.Mathlib.Omega.{arith}
-use lib.ListN.{length, getElem?}
+use lib.ListN.{length}
 use Rattle.spec.specs.Nodes.{read-leaves}
 use Rattle.spec.specs.WalkRecords.{record-size}
 use Rattle.bits_laws.specs.Bits.{placed}
 use Rattle.image_types.specs.Value.{leaf-of}
-use Rattle.nav_laws.specs.Accepted.{Accepted}
 use Rattle.walk_laws.specs.Filling.{Filled, filled-none, filled-length, filled-more, filled-full, filled-done}
 use Rattle.walk_cursor.specs.Stands.{Stands, At-leaf, Is-leaf, cursor-of}
 use Rattle.walk_cursor.specs.Places.{leaf-total, leaf-read}

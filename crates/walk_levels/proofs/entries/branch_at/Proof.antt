@@ -1,13 +1,11 @@
 -- The label and the continuing bit at the entry.
-use mathlib.Core.Path.{_≡_, refl, ap, _∙_}
+use mathlib.Core.Path.{refl, ap, _∙_}
 use Prim.Native.Nat.{ℕ}
-use mathlib.Core.Path.{_≡_, ap, _∙_}
 use mathlib.Core.List.{List}
 use native.Mathlib.Omega.{arith}
 use lib.Dec.{eqb}
 use Rattle.bits_laws.specs.Bits.{bit-at}
 use Rattle.image_types.specs.Records.{tail-part}
-use Rattle.nav_laws.specs.declared.BranchKind.{BranchKind}
 use Rattle.nav_laws.specs.NextLabel.{kind-there}
 use Rattle.nav_laws.specs.Positions.{labels-room}
 use Rattle.nav_laws.specs.Tables.{entries-ranked}

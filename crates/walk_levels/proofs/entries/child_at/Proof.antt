@@ -1,5 +1,5 @@
 -- The child from the known entry on, or by rank.
-use mathlib.Core.Path.{_≡_, sym, ap, _∙_}
+use mathlib.Core.Path.{ap, _∙_}
 use native.Mathlib.Omega.{arith}
 use borrow.Author.Tests.{le-ltb}
 use Rattle.nav_laws.specs.Positions.{child-at}

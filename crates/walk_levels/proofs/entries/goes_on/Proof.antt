@@ -1,7 +1,7 @@
 -- An entry starts a node exactly if its bit in S-LOUDS is set.
 use Prim.Native.Nat.{ℕ, _+_, _-_}
 use lib.ListN.{drop}
-use mathlib.Core.Path.{_≡_, sym, ap, _∙_}
+use mathlib.Core.Path.{sym, ap, _∙_}
 use mathlib.Core.Bool.{true, false, true≢false}
 use mathlib.Core.List.{List}
 use native.Mathlib.Omega.{arith}

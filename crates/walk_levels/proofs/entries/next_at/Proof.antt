@@ -1,6 +1,5 @@
 -- The entry behind the last one is the next branch, or the next node's.
-use Prim.Native.Nat.{_+_, _-_, _≤_, _<_}
-use mathlib.Core.Path.{_≡_}
+use Prim.Native.Nat.{_+_, _-_, _<_}
 use native.Mathlib.Omega.{arith}
 use lib.ListN.{drop}
 use Rattle.bits_laws.specs.SelectLaws.{select-le}

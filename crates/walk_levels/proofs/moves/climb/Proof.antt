@@ -8,7 +8,6 @@ use borrow.Author.Tests.{eqb-true, eqb-false}
 use lib.ListN.{getD}
 use Rattle.nav_laws.specs.declared.BranchKind.the-variants.{Absent}
 use Rattle.nav_laws.specs.Accepted.{nodes}
-use Rattle.nav_laws.specs.Below.{On-level}
 use Rattle.nav_laws.specs.FoundBranch.{node-count}
 use Rattle.nav_laws.specs.NextLabel.{there-not, not-there}
 use Rattle.nav_laws.specs.Paths.{node-on, onward}

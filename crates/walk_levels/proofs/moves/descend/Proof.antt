@@ -1,13 +1,11 @@
 -- On the way down no leaf is passed; the measure is what is left of the 64 levels.
-use Prim.Native.Nat.{ℕ, _+_, _-_, _<_, _≤_}
-use mathlib.Core.Path.{_≡_, refl, sym, ap, _∙_}
+use Prim.Native.Nat.{_-_}
 use native.Mathlib.Omega.{arith}
 use borrow.Author.Needs.{needs}
-use lib.ListN.{length, length-map}
 use Rattle.nav_paths.proofs.BranchTests.{ends-leaf}
-use Rattle.walk_levels.specs.Levels.{numbered, Behind-taken}
+use Rattle.walk_levels.specs.Levels.{numbered}
 use Rattle.walk_levels.specs.LevelLaws.{numbered-at}
-use Rattle.walk_levels.specs.DownLaws.{Goes-down, goes-first, goes-deep, goes-named, goes-position, goes-small, down-leaf, down-deep, down-node, down-behind, down-last, down-exact, down-next}
+use Rattle.walk_levels.specs.DownLaws.{Goes-down, goes-first, goes-named, goes-position, goes-small, down-leaf, down-deep, down-node, down-behind, down-last, down-exact, down-next}
 use Rattle.walk_levels.proofs.moves.descend.Statement.{statement}
 use Rattle.walk_levels.proofs.moves.descend.Tie as tie
 

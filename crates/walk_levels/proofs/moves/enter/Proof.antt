@@ -1,6 +1,5 @@
 -- The node starts behind the last one of its level, and its first branch stands at its start or behind the mark of an exact leaf.
-use Prim.Native.Nat.{_+_}
-use mathlib.Core.Path.{_≡_, refl, sym, ap, _∙_}
+use mathlib.Core.Path.{sym, _∙_}
 use native.Mathlib.Omega.{arith}
 use Rattle.walk_levels.specs.LevelLaws.{enters-sparse}
 use borrow.Author.Needs.{needs}

@@ -1,5 +1,5 @@
 -- One entry on, and one child more behind a branch that continues.
-use mathlib.Core.Path.{_≡_, refl, sym, ap, _∙_}
+use mathlib.Core.Path.{refl, ap}
 use native.Mathlib.Omega.{arith}
 use Rattle.walk_levels.specs.Levels.{continues}
 use borrow.Author.Needs.{needs}
