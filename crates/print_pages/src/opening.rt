@@ -8,7 +8,7 @@ use print_text::lines::write_refused;
 use print_text::lines::write_too_long;
 use walk_states::states::State;
 use walk_states::states::Status;
-use walk_states::states::open_state;
+use walk_walker::walker::open_from;
 
 // The bytes of the longest input that is taken for an image.
 const LONGEST_INPUT: usize = 65536;
@@ -31,7 +31,7 @@ pub fn open(input: &[u8], page: &mut [u8]) -> Opening
     requires { ⌜ longest-line ≤ length (now page) ⌝ }
     ensures { λ r. ⌜ Opened (now (input .entry)) (now (page .exit)) r ⌝ }
 {
-    let at = open_state(input, 0);
+    let at = open_from(input, 0);
     if input.len() > LONGEST_INPUT {
         return Opening {
             len: write_too_long(page, 0),

@@ -10,8 +10,8 @@ use print_text::lines::write_line;
 use walk_states::states::Stand;
 use walk_states::states::State;
 use walk_states::states::Status;
-use walk_states::states::next_state;
-use walk_states::states::stand_state;
+use walk_walker::walker::move_from;
+use walk_walker::walker::stand_from;
 
 // The bytes of a page, and the state at the leaf that the next page starts with.
 pub struct Page {
@@ -27,14 +27,14 @@ pub fn write_page(image: &[u8], from: State, page: &mut [u8]) -> Page
     let mut at = from;
     let mut len = 0usize;
     while LONGEST_LINE <= page.len() - len {
-        let s = stand_state(image, at);
+        let s = stand_from(image, at);
         let stand = s.stand;
         let Stand::Leaf = stand else {
             return Page { len, next: at };
         };
         let l = s.leaf;
         len = write_line(page, len, at.place, l);
-        at = next_state(image, at);
+        at = move_from(image, at);
     }
     Page { len, next: at }
 }

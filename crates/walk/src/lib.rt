@@ -1,24 +1,24 @@
-// The public walk over the leaves of an accepted image, in key order: what it says at a place, and at the next.
+// The public walk over the leaves of an accepted image, in key order, through a walker: what it says at a place, and at the next.
 ghost use Rattle.spec.specs.Walk.{open-walk, next};
 ghost use Rattle.walk_states.specs.Walks.{Gives};
 use walk_states::states::Standing;
-use walk_states::states::next_state;
-use walk_states::states::open_state;
-use walk_states::states::stand_state;
+use walk_walker::walker::move_from;
+use walk_walker::walker::open_from;
+use walk_walker::walker::stand_from;
 
 // What a walk that is opened at a place says there: a refusal's number, done, or the leaf whose number in key order is the place.
 pub fn walk(image: &[u8], place: usize) -> Standing
     ensures { λ r. ⌜ Gives (open-walk (now (image .entry)) place) r ⌝ }
 {
-    let at = open_state(image, place);
-    stand_state(image, at)
+    let at = open_from(image, place);
+    stand_from(image, at)
 }
 
 // What a walk that is opened at a place says after its next move; done and a refusal stay.
 pub fn next(image: &[u8], place: usize) -> Standing
     ensures { λ r. ⌜ Gives (next (now (image .entry)) place) r ⌝ }
 {
-    let opened = open_state(image, place);
-    let moved = next_state(image, opened);
-    stand_state(image, moved)
+    let opened = open_from(image, place);
+    let moved = move_from(image, opened);
+    stand_from(image, moved)
 }

@@ -16,8 +16,8 @@ use walk_cursor::advance;
 use walk_cursor::leaf_of;
 use walk_states::states::State;
 use walk_states::states::Status;
-use walk_states::states::open_state;
 use walk_states::value::padded;
+use walk_walker::walker::open_from;
 
 // The bytes of a record: kind, length, cut key and suffix.
 pub const RECORD_SIZE: usize = 68;
@@ -81,7 +81,7 @@ fn write_leaves(image: &[u8], from: State, out: &mut [u8]) -> usize
 pub fn write_records(image: &[u8], place: usize, out: &mut [u8]) -> Written
     ensures { λ r. ⌜ outcome r (now (out .exit)) ≡ walk-records (now (image .entry)) place (now (out .entry)) ⌝ }
 {
-    let at = open_state(image, place);
+    let at = open_from(image, place);
     let status = at.status;
     match status {
         Status::Refused(number) => Written::Refused(number),

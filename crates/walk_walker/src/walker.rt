@@ -44,3 +44,26 @@ impl<'a> Walker<'a> {
         }
     }
 }
+
+// The state of a walker that is opened at a place. It, `stand_from` and `move_from` serve functions that hold the slice and the state apart, whose loops then need no proof by hand.
+pub fn open_from(image: &[u8], place: usize) -> State
+    ensures { λ r. ⌜ Opens (now (image .entry)) place r ⌝ }
+{
+    open(image, place).at
+}
+
+// What a walker over the image says in a state.
+pub fn stand_from(image: &[u8], at: State) -> Standing
+    requires { ⌜ Walks (now image) at ⌝ }
+    ensures { λ r. ⌜ Gives (open-walk (now (image .entry)) (at .place)) r ⌝ }
+{
+    Walker { image, at }.stand()
+}
+
+// The state of a walker over the image that has moved on from a state.
+pub fn move_from(image: &[u8], at: State) -> State
+    requires { ⌜ Walks (now image) at ⌝ }
+    ensures { λ r. ⌜ Moved (now (image .entry)) at r ⌝ }
+{
+    Walker { image, at }.next().at
+}

@@ -2,14 +2,14 @@ use borrow.Author.Needs.{needs}
 use Rattle.walk.proofs.walk.Statement.{statement}
 use Rattle.walk.proofs.walk.Tie as tie
 
-open-state-requires : tie.Need-open-state-requires
-open-state-requires c κs = search needs
+open-from-requires : tie.Need-open-from-requires
+open-from-requires c κs = search needs
 
-stand-state-requires : tie.Need-stand-state-requires
-stand-state-requires c κs = search needs
+stand-from-requires : tie.Need-stand-from-requires
+stand-from-requires c κs = search needs
 
 returns : tie.Need-returns
-returns c = rw (c .before .open-state .ensures .place-is) at (c .stand-state .ensures)
+returns c = rw (c .before .open-from .ensures .place-is) at (c .stand-from .ensures)
 
 pub walk-spec : {M : Type 1} → statement M
-walk-spec = tie.close (tie.spec open-state-requires stand-state-requires returns)
+walk-spec = tie.close (tie.spec open-from-requires stand-from-requires returns)

@@ -28,8 +28,8 @@ loop-holds c =
 sub-loop : tie.Need-sub-loop Inv-loop μ-loop
 sub-loop c = c .loop .inv .text .within
 
-stand-state-requires : tie.Need-stand-state-requires Inv-loop μ-loop
-stand-state-requires c κs = c .before .loop .inv .walks
+stand-from-requires : tie.Need-stand-from-requires Inv-loop μ-loop
+stand-from-requires c κs = c .before .loop .inv .walks
 
 enum-told : tie.Need-enum-told Inv-loop μ-loop
 enum-told c = search needs
@@ -42,7 +42,7 @@ returns c =
     let l = c .before .before .before in
     let b = l .before .before .before in
     let a = b .args in
-    finished-done (a .image .now) (a .from) (a .page .now) (l .loop .at) (l .loop .page) (l .loop .len) (l .loop .inv) (c .before .stand-state .result) (c .before .stand-state .ensures) (λ e. ⊎-elim (λ q. omega (arith, ap (tagOf R.the-type) e, q)) (λ q. omega (arith, ap (tagOf R.the-type) e, q)) (c .match .keys2))
+    finished-done (a .image .now) (a .from) (a .page .now) (l .loop .at) (l .loop .page) (l .loop .len) (l .loop .inv) (c .before .stand-from .result) (c .before .stand-from .ensures) (λ e. ⊎-elim (λ q. omega (arith, ap (tagOf R.the-type) e, q)) (λ q. omega (arith, ap (tagOf R.the-type) e, q)) (c .match .keys2))
 
 write-line-requires : tie.Need-write-line-requires Inv-loop μ-loop
 write-line-requires c κs =
@@ -50,10 +50,10 @@ write-line-requires c κs =
     let b = l .before .before .before in
     let a = b .args in
     let i = l .loop .inv in
-    (c .before .before .before .before .stand-state .ensures .sized, omega (arith, place-small (a .image .now) (l .loop .at) (i .walks) (i .opened)), omega (arith, i .text .within, c .before .before .before .before .before .loop-test .taken))
+    (c .before .before .before .before .stand-from .ensures .sized, omega (arith, place-small (a .image .now) (l .loop .at) (i .walks) (i .opened)), omega (arith, i .text .within, c .before .before .before .before .before .loop-test .taken))
 
-next-state-requires : tie.Need-next-state-requires Inv-loop μ-loop
-next-state-requires c κs = c .before .before .before .before .before .before .before .before .before .loop .inv .walks
+move-from-requires : tie.Need-move-from-requires Inv-loop μ-loop
+move-from-requires c κs = c .before .before .before .before .before .before .before .before .before .loop .inv .walks
 
 loop-less : tie.Need-loop-less Inv-loop μ-loop
 loop-less c =
@@ -61,18 +61,18 @@ loop-less c =
     let b = l .before .before .before in
     let a = b .args in
     let i = l .loop .inv in
-    let s = c .before .before .before .before .before .before .before .before .stand-state in
+    let s = c .before .before .before .before .before .before .before .before .stand-from in
     let e = c .before .before .before .before .before .before .enum-told .given .1 in
     let f = found-leaf (a .image .now) (l .loop .at) (i .walks) (i .opened) (s .result) (s .ensures) e in
-    omega (arith, leaf-found (read-leaves (a .image .now)) (l .loop .at .place) (f .0) (f .1), moved-on (a .image .now) (l .loop .at) (i .walks) (i .opened) (s .result) (s .ensures) e (c .next-state .result) (c .next-state .ensures))
+    omega (arith, leaf-found (read-leaves (a .image .now)) (l .loop .at .place) (f .0) (f .1), moved-on (a .image .now) (l .loop .at) (i .walks) (i .opened) (s .result) (s .ensures) e (c .move-from .result) (c .move-from .ensures))
 
 loop-again : tie.Need-loop-again Inv-loop μ-loop
 loop-again c =
     let l = c .before .before .before .before .before .before .before .before .before .before in
     let b = l .before .before .before in
     let a = b .args in
-    let s = c .before .before .before .before .before .before .before .before .stand-state in
-    filled-more (a .image .now) (a .from) (a .page .now) (l .loop .at) (l .loop .page) (l .loop .len) (l .loop .inv) (s .result) (s .ensures) (c .before .before .before .before .before .before .enum-told .given .1) (c .next-state .result) (c .next-state .ensures) _ _ (c .before .before .before .write-line .kept .0) (omega (arith, l .loop .inv .text .within, c .before .before .before .before .before .before .before .before .before .loop-test .taken)) (c .before .before .before .write-line .ensures)
+    let s = c .before .before .before .before .before .before .before .before .stand-from in
+    filled-more (a .image .now) (a .from) (a .page .now) (l .loop .at) (l .loop .page) (l .loop .len) (l .loop .inv) (s .result) (s .ensures) (c .before .before .before .before .before .before .enum-told .given .1) (c .move-from .result) (c .move-from .ensures) _ _ (c .before .before .before .write-line .kept .0) (omega (arith, l .loop .inv .text .within, c .before .before .before .before .before .before .before .before .before .loop-test .taken)) (c .before .before .before .write-line .ensures)
 
 same-length-2 : tie.Need-same-length-2 Inv-loop μ-loop
 same-length-2 c = c .before .loop .inv .same-size
@@ -92,12 +92,12 @@ write-page-spec =
     μ-loop
     loop-holds
     sub-loop
-    stand-state-requires
+    stand-from-requires
     enum-told
     same-length
     returns
     write-line-requires
-    next-state-requires
+    move-from-requires
     loop-less
     loop-again
     same-length-2
