@@ -71,9 +71,16 @@ impl List {
     fn image(&self, setting: Setting) -> Vec<u8> {
         let mut image = self.room();
         let Setting { dense_levels, n } = setting;
-        let answer = fast::build::build(&self.bytes, dense_levels, n, &mut image);
+        let stated = self.stated(setting);
+        let answer = fast::build::build(&self.bytes, dense_levels, n, stated, &mut image);
         image.truncate(answer.length());
         image
+    }
+
+    /// Gives the length of the image, as the library tells it.
+    fn stated(&self, Setting { dense_levels, n }: Setting) -> u64 {
+        let length = library::image_length(&self.bytes, dense_levels, n);
+        length.expect("the keys make a list") as u64
     }
 }
 
@@ -82,14 +89,15 @@ pub fn image_bytes(list: &List, setting: Setting) -> f64 {
     list.image(setting).len() as f64 / list.keys.len() as f64
 }
 
-/// Measures build by key.
-pub fn build(list: &List, Setting { dense_levels, n }: Setting) -> Figures {
+/// Measures build by key, with the image's length known before.
+pub fn build(list: &List, setting: Setting) -> Figures {
     let [mut image, mut library_image] = [list.room(), list.room()];
-    let bytes = list.bytes.as_slice();
+    let Setting { dense_levels, n } = setting;
+    let (bytes, stated) = (list.bytes.as_slice(), list.stated(setting));
     let figures = compare(
         list.effort(1),
-        || library::build(bytes, dense_levels, n, &mut library_image).length(),
-        || fast::build::build(bytes, dense_levels, n, &mut image).length(),
+        || library::build(bytes, dense_levels, n, stated, &mut library_image).length(),
+        || fast::build::build(bytes, dense_levels, n, stated, &mut image).length(),
     );
     assert_eq!(library_image, image);
     figures

@@ -4,7 +4,7 @@
 use range_filter_bench::fast;
 use range_filter_bench::keys::KEY_SETS;
 use range_filter_tests::answer::Answer;
-use range_filter_tests::compare;
+use range_filter_tests::compare::{self, Case};
 use range_filter_tests::generate::images::{any_image, built, large_images, small_frame, CHANGES};
 use range_filter_tests::generate::keys::{any_keys, many_keys, many_mixed_keys};
 use range_filter_tests::generate::questions::questions_near;
@@ -81,6 +81,9 @@ fn lists_build_alike() {
         compare_build(&list, settings, length).length();
         let short = compare_build(&list, settings, length - 1);
         assert_eq!(short, Answer::Refused(7));
+        let case = Case::new(&list, settings);
+        let wrong = case.build(fast::build::build, length as u64 + 1, length);
+        assert_eq!(wrong, Answer::Refused(8));
     }
 }
 

@@ -3,6 +3,7 @@
 
 use crate::answer::Answer;
 use crate::reference;
+use crate::reference::build;
 use std::fmt::Debug;
 
 /// The bytes before and behind a buffer that no call may touch.
@@ -11,16 +12,63 @@ const GUARD: usize = 32;
 /// The byte that buffers hold before a call.
 const UNTOUCHED: u8 = 0xA5;
 
-/// Compares a build into an output of some length, and gives the answer.
+/// A key list with settings, and the image that the reference gives for them, or the
+/// number of their fault.
+pub struct Case<'a> {
+    list: &'a [u8],
+    settings: (u64, u64),
+    image: Result<Vec<u8>, u32>,
+}
+
+impl<'a> Case<'a> {
+    /// Takes a list and settings to the reference.
+    pub fn new(list: &'a [u8], settings: (u64, u64)) -> Self {
+        let (dense_levels, n) = settings;
+        Case {
+            list,
+            settings,
+            image: build::image(list, dense_levels, n),
+        }
+    }
+
+    /// Compares the length of the image, and gives it.
+    pub fn length(
+        &self,
+        other: impl Fn(&[u8], u64, u64) -> Result<usize, u32>,
+    ) -> Result<usize, u32> {
+        let (dense_levels, n) = self.settings;
+        let length = build::length(&self.image);
+        let found = other(self.list, dense_levels, n);
+        assert_eq!(found, length, "{:?}", (self.settings, self.list));
+        length
+    }
+
+    /// Compares a build with a stated length into an output of some length, and gives the
+    /// answer.
+    pub fn build(
+        &self,
+        other: impl Fn(&[u8], u64, u64, u64, &mut [u8]) -> Answer,
+        stated: u64,
+        room: usize,
+    ) -> Answer {
+        let (dense_levels, n) = self.settings;
+        let expected = |out: &mut [u8]| build::write(self.image.clone(), stated, out);
+        let found = |out: &mut [u8]| other(self.list, dense_levels, n, stated, out);
+        same(room, expected, found, &(self.settings, stated, self.list))
+    }
+}
+
+/// Compares a build with the length of its image, 0 where there is none, into an output of
+/// some length, and gives the answer.
 pub fn build(
-    other: impl Fn(&[u8], u64, u64, &mut [u8]) -> Answer,
+    other: impl Fn(&[u8], u64, u64, u64, &mut [u8]) -> Answer,
     list: &[u8],
-    (dense_levels, n): (u64, u64),
+    settings: (u64, u64),
     room: usize,
 ) -> Answer {
-    let expected = |out: &mut [u8]| reference::build::build(list, dense_levels, n, out);
-    let found = |out: &mut [u8]| other(list, dense_levels, n, out);
-    same(room, expected, found, &(dense_levels, n, list))
+    let case = Case::new(list, settings);
+    let stated = build::length(&case.image).unwrap_or(0);
+    case.build(other, stated as u64, room)
 }
 
 /// Compares a check, and gives the number.

@@ -5,11 +5,19 @@ use crate::answer::Answer;
 
 // The exports: a slice is a pointer and a length.
 extern "C" {
+    fn range_filter_image_length(
+        list: *const u8,
+        list_len: usize,
+        dense_levels: u64,
+        n: u64,
+    ) -> u64;
+
     fn range_filter_build(
         list: *const u8,
         list_len: usize,
         dense_levels: u64,
         n: u64,
+        stated: u64,
         out: *mut u8,
         out_len: usize,
     ) -> u64;
@@ -34,8 +42,14 @@ extern "C" {
     ) -> u64;
 }
 
-/// Builds the image of a key list at the start of the output.
-pub fn build(list: &[u8], dense_levels: u64, n: u64, out: &mut [u8]) -> Answer {
+/// Gives the exact length of the image of a key list, or the number of a refusal.
+pub fn image_length(list: &[u8], dense_levels: u64, n: u64) -> Result<usize, u32> {
+    // SAFETY: pointer and length are those of a slice that lives through the call.
+    decode(unsafe { range_filter_image_length(list.as_ptr(), list.len(), dense_levels, n) })
+}
+
+/// Builds the image of a key list, whose length is stated, at the start of the output.
+pub fn build(list: &[u8], dense_levels: u64, n: u64, stated: u64, out: &mut [u8]) -> Answer {
     // SAFETY: pointers and lengths are those of slices that live through the call,
     // and the output is lent to it alone.
     answer(unsafe {
@@ -44,6 +58,7 @@ pub fn build(list: &[u8], dense_levels: u64, n: u64, out: &mut [u8]) -> Answer {
             list.len(),
             dense_levels,
             n,
+            stated,
             out.as_mut_ptr(),
             out.len(),
         )
@@ -88,12 +103,17 @@ pub fn walk(image: &[u8], place: u64, records: &mut [u8]) -> Answer {
     })
 }
 
-/// Reads what a call returns: the refusal number times 2^32, plus the bytes written, of
-/// which a refusal has none.
+/// Reads what a call that writes returns.
 fn answer(returned: u64) -> Answer {
+    decode(returned).map_or_else(Answer::Refused, Answer::Written)
+}
+
+/// Reads what a call returns: the refusal number times 2^32, plus a number of bytes, which
+/// is 0 for a refusal.
+fn decode(returned: u64) -> Result<usize, u32> {
     match ((returned >> 32) as u32, returned as u32) {
-        (0, written) => Answer::Written(written as usize),
-        (number, 0) => Answer::Refused(number),
-        (number, written) => panic!("refusal {number} with {written} bytes written"),
+        (0, bytes) => Ok(bytes as usize),
+        (number, 0) => Err(number),
+        (number, bytes) => panic!("refusal {number} with {bytes} bytes"),
     }
 }

@@ -48,17 +48,17 @@ struct Batch {
     counts: [u8; LEVELS],
 }
 
-/// Builds the image of a key list at the start of the output; a refusal leaves the
-/// output as it was.
-pub fn build(list: &[u8], dense_levels: u64, n: u64, out: &mut [u8]) -> Answer {
-    match fill(list, dense_levels, n, out) {
+/// Builds the image of a key list, whose length is stated, at the start of the output; a
+/// refusal leaves the output as it was.
+pub fn build(list: &[u8], dense_levels: u64, n: u64, stated: u64, out: &mut [u8]) -> Answer {
+    match fill(list, dense_levels, n, stated, out) {
         Ok(length) => Answer::Written(length),
         Err(number) => Answer::Refused(number),
     }
 }
 
 /// Judges everything and then fills the bodies.
-fn fill(list: &[u8], dense_levels: u64, n: u64, out: &mut [u8]) -> Result<usize, u32> {
+fn fill(list: &[u8], dense_levels: u64, n: u64, stated: u64, out: &mut [u8]) -> Result<usize, u32> {
     if dense_levels > u64::from(MAX_DENSE_LEVELS) || n > u64::from(MAX_WIDTH) {
         return Err(5);
     }
@@ -70,6 +70,9 @@ fn fill(list: &[u8], dense_levels: u64, n: u64, out: &mut [u8]) -> Result<usize,
     let (header, cursors) = plan.lay_out(settings);
     let lengths = header.body_bits().map(|bits| bits.div_ceil(8) as usize);
     let length = HEADER_LENGTH + RECORDS * RECORD_HEAD + lengths.iter().sum::<usize>();
+    if stated != length as u64 {
+        return Err(8);
+    }
     let image = out.get_mut(..length).ok_or(7_u32)?;
     let [dl, dc, dp, sl, sc, sb, sv, rl, rc, rp, rs, ts] = write_frame(image, &header, &lengths);
     fill_dense(list, &plan.records, &header, &cursors, [dl, dc, dp]);

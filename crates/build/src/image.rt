@@ -1,16 +1,15 @@
-// The plan of an image, its header, and its records by the table, one behind the other.
+// The plan of an image, its length, its header, and its records by the table, one behind the other.
 ghost use mathlib.Core.Path.{_≡_};
 ghost use Prim.Native.Nat.{_≤_};
 ghost use lib.ListN.{length};
 ghost use Rattle.spec.specs.Keys.{keys-of};
-ghost use Rattle.spec.specs.Leaves.{leaves};
-ghost use Rattle.spec.specs.Image.{image, rows, write-records};
-ghost use Rattle.spec.specs.Answer.{write};
+ghost use Rattle.spec.specs.Image.{rows, write-records};
+ghost use Rattle.spec.specs.Build.{write-stated};
 ghost use Rattle.bits_laws.specs.Bits.{placed};
 ghost use Rattle.image_types.specs.Outcomes.{outcome};
 ghost use Rattle.build_laws.specs.RecordsWritten.{record-bytes};
 ghost use Rattle.build_laws.specs.Plan.{Ready, Planned, plan-settings, plan-bodies, body-at, start-at, Writing};
-ghost use Rattle.build.specs.Build.{settings-of};
+ghost use Rattle.build.specs.Build.{settings-of, image-of};
 use super::Settings;
 use super::bodies::fill_body;
 use build_laws::COUNTERS;
@@ -28,6 +27,9 @@ use image_types::Header;
 use image_types::MAX_LEVELS;
 use image_types::Sparse;
 use image_types::Written;
+
+// The number of a stated length that is not the image's.
+const LENGTH_NOT_STATED: u32 = 8;
 
 // The number of an output that is too short for the image.
 const IMAGE_TOO_LONG: u32 = 7;
@@ -86,14 +88,27 @@ fn write_records(out: &mut [u8], list: &[u8], plan: Plan)
     }
 }
 
-// The image of an accepted list of so many keys goes to the front of out; or the answer is 7, the image is longer than the output.
-pub fn build_image(list: &[u8], st: Settings, count: usize, out: &mut [u8]) -> Written
+// The length of the image of an accepted list of so many keys: the end of its last record.
+pub fn measure_image(list: &[u8], st: Settings, count: usize) -> usize
     requires { ⌜ Ready (now list) (settings-of st) × (count ≡ length (keys-of (now list))) ⌝ }
-    ensures { λ r. ⌜ outcome r (now (out .exit)) ≡ write 7 (image (settings-of st) (leaves (st .width) (keys-of (now (list .entry))))) (now (out .entry)) ⌝ }
+    ensures { λ r. ⌜ r ≡ length (image-of (now (list .entry)) (settings-of st)) ⌝ }
+{
+    let plan = lay_out(list, st, count);
+    let starts = plan.starts;
+    starts[RECORDS]
+}
+
+// The image of an accepted list of so many keys goes to the front of out; or the answer is 8, the stated length is not the image's, or 7, the image is longer than the output.
+pub fn build_image(list: &[u8], st: Settings, count: usize, stated: u64, out: &mut [u8]) -> Written
+    requires { ⌜ Ready (now list) (settings-of st) × (count ≡ length (keys-of (now list))) ⌝ }
+    ensures { λ r. ⌜ outcome r (now (out .exit)) ≡ write-stated stated (image-of (now (list .entry)) (settings-of st)) (now (out .entry)) ⌝ }
 {
     let plan = lay_out(list, st, count);
     let starts = plan.starts;
     let end = starts[RECORDS];
+    if stated != (end as u64) {
+        return Written::Refused(LENGTH_NOT_STATED);
+    }
     if out.len() < end {
         return Written::Refused(IMAGE_TOO_LONG);
     }

@@ -1,17 +1,19 @@
-// The public call build: a key list, settings and an output give the answer, and the image in the output.
+// Building in two public calls: a key list and settings give the image's length; with that length and an output they give the answer, and the image in the output.
 ghost use mathlib.Core.Path.{_≡_};
-ghost use Rattle.spec.specs.Build.{build};
+ghost use Rattle.spec.specs.Build.{image-length, build};
 ghost use Rattle.image_types.specs.Header.{settings};
 ghost use Rattle.image_types.specs.Outcomes.{outcome};
+ghost use Rattle.build.specs.Build.{Judges, length-of};
 use build_laws::KeyList;
 use build_list::judge::judge_list;
 use image::build_image;
+use image::measure_image;
 use image_records::header::MAX_DENSE_LEVELS;
 use image_records::header::MAX_SUFFIX_BITS;
 use image_types::Written;
 
 pub mod bodies; // bodies.rt: a record's body, filled from the keys or counted in an earlier body
-pub mod image; // image.rt: the plan of an image, its header and its records
+pub mod image; // image.rt: the plan of an image, its length, its header and its records
 
 // The number of a setting out of range.
 const SETTING_OUT_OF_RANGE: u32 = 5;
@@ -22,27 +24,59 @@ pub struct Settings {
     pub width: usize,
 }
 
-// Builds the image of a key list into the output: 5, a setting out of range; then record by record 4, 1, 2, 1, 3; then 7, the image is longer than the output.
-pub fn build(list: &[u8], dense: u64, n: u64, out: &mut [u8]) -> Written
-    ensures { λ r. ⌜ outcome r (now (out .exit)) ≡ build (now (list .entry)) (settings dense n) (now (out .entry)) ⌝ }
+// The length of an image: so many bytes, or a refusal's number.
+pub enum Length {
+    Bytes(usize),
+    Refused(u32),
+}
+
+// What judging says of list and settings: the settings, in range, and the number of keys of an accepted list; or a refusal's number.
+pub enum Judged {
+    Accepted(Settings, usize),
+    Refused(u32),
+}
+
+// Judges settings and list, for both calls: 5, a setting out of range; then record by record 4, 1, 2, 1, 3.
+fn judge(list: &[u8], dense: u64, n: u64) -> Judged
+    ensures { λ r. ⌜ Judges (now (list .entry)) (settings dense n) r ⌝ }
 {
     if (MAX_DENSE_LEVELS as u64) < dense {
-        return Written::Refused(SETTING_OUT_OF_RANGE);
+        return Judged::Refused(SETTING_OUT_OF_RANGE);
     }
     if (MAX_SUFFIX_BITS as u64) < n {
-        return Written::Refused(SETTING_OUT_OF_RANGE);
+        return Judged::Refused(SETTING_OUT_OF_RANGE);
     }
     let keys = judge_list(list);
     match keys {
-        KeyList::Refused(r) => Written::Refused(r),
-        KeyList::Keys(count) => build_image(
-            list,
+        KeyList::Refused(r) => Judged::Refused(r),
+        KeyList::Keys(count) => Judged::Accepted(
             Settings {
                 levels: dense as usize,
                 width: n as usize,
             },
             count,
-            out,
         ),
+    }
+}
+
+// Gives the exact length of the image of a key list, and writes nothing; or the number with which list or settings are refused, 1 to 5.
+pub fn image_length(list: &[u8], dense: u64, n: u64) -> Length
+    ensures { λ r. ⌜ length-of r ≡ image-length (now (list .entry)) (settings dense n) ⌝ }
+{
+    let judged = judge(list, dense, n);
+    match judged {
+        Judged::Refused(r) => Length::Refused(r),
+        Judged::Accepted(st, count) => Length::Bytes(measure_image(list, st, count)),
+    }
+}
+
+// Builds the image of a key list into the output, or refuses: list and settings are judged again, 1 to 5; then 8, the stated length is not the image's; then 7, the image is longer than the output.
+pub fn build(list: &[u8], dense: u64, n: u64, stated: u64, out: &mut [u8]) -> Written
+    ensures { λ r. ⌜ outcome r (now (out .exit)) ≡ build (now (list .entry)) (settings dense n) stated (now (out .entry)) ⌝ }
+{
+    let again = judge(list, dense, n);
+    match again {
+        Judged::Refused(r) => Written::Refused(r),
+        Judged::Accepted(st, count) => build_image(list, st, count, stated, out),
     }
 }

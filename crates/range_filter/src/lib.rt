@@ -2,14 +2,17 @@
 ghost use mathlib.Core.Path.{_≡_};
 ghost use Rattle.spec.specs.Answer.{answer-code};
 ghost use Rattle.spec.specs.Ask.{ask};
-ghost use Rattle.spec.specs.Build.{build};
+ghost use Rattle.spec.specs.Build.{length-code, image-length, build};
 ghost use Rattle.spec.specs.Check.{check};
 ghost use Rattle.spec.specs.WalkRecords.{walk-records};
 ghost use Rattle.image_types.specs.Header.{settings};
 ghost use Rattle.image_types.specs.Outcomes.{answer-of};
-ghost use Rattle.range_filter.specs.Filter.{Coded, number-of};
+ghost use Rattle.build.specs.Build.{length-of};
+ghost use Rattle.range_filter.specs.Filter.{Coded, Coded-length, number-of};
 use ask::ask;
+use build::Length;
 use build::build;
+use build::image_length;
 use check_image::Checked;
 use check_image::check;
 use image_types::Written;
@@ -28,12 +31,36 @@ fn code(answer: Written) -> u64
     }
 }
 
-// Builds the image of a key list into the output. The answer is one number: its quotient by 2^32 is the number of a refusal, 0 for success, and its rest the bytes written, 0 for a refusal.
-#[no_mangle]
-pub extern "C" fn range_filter_build(list: &[u8], dense: u64, n: u64, out: &mut [u8]) -> u64
-    ensures { λ r. ⌜ Coded r (now (out .exit)) (build (now (list .entry)) (settings dense n) (now (out .entry))) ⌝ }
+// A length as one number: the number of a refusal, 0 for a length, times 2^32, plus the bytes, 0 for a refusal.
+fn code_length(length: Length) -> u64
+    ensures { λ r. ⌜ r ≡ length-code (length-of length) ⌝ }
 {
-    code(build(list, dense, n, out))
+    match length {
+        Length::Bytes(bytes) => bytes as u64,
+        Length::Refused(number) => (number as u64) * REFUSAL_WEIGHT,
+    }
+}
+
+// Gives the exact length of the image of a key list, and writes nothing. The answer is one number: its quotient by 2^32 is the number of a refusal, 0 for a length, and its rest the bytes, 0 for a refusal.
+#[no_mangle]
+pub extern "C" fn range_filter_image_length(list: &[u8], dense: u64, n: u64) -> u64
+    ensures { λ r. ⌜ Coded-length r (image-length (now (list .entry)) (settings dense n)) ⌝ }
+{
+    code_length(image_length(list, dense, n))
+}
+
+// Builds the image of a key list, whose length is stated, into the output. The answer is one number: its quotient by 2^32 is the number of a refusal, 0 for success, and its rest the bytes written, 0 for a refusal.
+#[no_mangle]
+pub extern "C" fn range_filter_build(
+    list: &[u8],
+    dense: u64,
+    n: u64,
+    stated: u64,
+    out: &mut [u8],
+) -> u64
+    ensures { λ r. ⌜ Coded r (now (out .exit)) (build (now (list .entry)) (settings dense n) stated (now (out .entry))) ⌝ }
+{
+    code(build(list, dense, n, stated, out))
 }
 
 // Judges an image. The answer is 0 for an accepted one, else the number of the refusal.

@@ -16,13 +16,14 @@ use Rattle.spec.specs.Nodes.{nodes-of, levels-of, read-leaves}
 use Rattle.spec.specs.Trie.{builders-trie}
 use Rattle.spec.specs.Questions.{stem-end, Question, QP, QS, QB, QR, QC, Reply, reply, replies, reply-at, taken, parse-questions, questions-of, question-at}
 use Rattle.spec.specs.Answer.{written, refused, refusal-weight, Outcome, success}
-use Rattle.spec.specs.Build.{in-range, trie-entries, build}
+use Rattle.spec.specs.Build.{in-range, trie-entries, image-length, build}
 use Rattle.spec.specs.Check.{header-valid, spare-clear, ranks-valid, slots-valid, accepted, check}
 use Rattle.spec.specs.Ask.{ask}
 use Rattle.spec.specs.Walk.{open-walk, next}
 use Rattle.spec.specs.WalkRecords.{record-size, records-from, walk-records}
 use Rattle.spec.specs.Print.{longest-input, listing, print}
 use Rattle.theory.specs.Terms.{In, Is-bytes, Key-list, most-entries, Question-file, Taken, Walk-correct, From, Judged-alike}
+use Rattle.spec.specs.Build as Build
 use Rattle.spec.specs.Check as Check
 use Rattle.spec.specs.Keys as Keys
 use Rattle.spec.specs.Questions as Questions
@@ -30,13 +31,13 @@ use Rattle.spec.specs.Walk as Walk
 
 -- ---- the words
 
--- "A key list builds an image if building from it, with settings in range and an output that holds the image, writes just those bytes."
+-- "A key list builds an image if building from it, with settings in range and an output that holds the image, writes just those bytes." By order 5 building takes the image's length too.
 pub record Builds-with (st : Settings) (list b : Bytes) : Type 0 where
   pub bytes : Is-bytes list
   pub range : in-range st ≡ true
   pub output : Bytes
   pub room : length b ≤ length output
-  pub writes : build list st output ≡ success b output
+  pub writes : build list st (length b) output ≡ success b output
 
 -- with some settings
 abbrev pub Builds : Bytes → Bytes → Type 0
@@ -92,11 +93,17 @@ Agree (l ∷ ls) (m ∷ ms) = ((l .cut ≡ m .cut) × (l .exact ≡ m .exact) ×
 
 -- ---- demand 1
 
--- The number that the order of checks names for build: 5, a setting out of range; then the records' 1 to 4; then 7, the image is longer than the output.
-pub data Build-refusal (list : Bytes) (st : Settings) (out : Bytes) : ℕ → Type 0 where
-  setting-refused : in-range st ≡ false → Build-refusal list st out 5
-  record-refused : {r : ℕ} → in-range st ≡ true → parse-keys list ≡ Keys.refused r → From 1 4 r → Build-refusal list st out r
-  image-too-long : in-range st ≡ true → (ks : List Bytes) → parse-keys list ≡ keys ks → length out < length (image st (leaves (st .width) ks)) → Build-refusal list st out 7
+-- The number that the order of checks names for the first call of build: 5, a setting out of range; then the records' 1 to 4.
+pub data Length-refusal (list : Bytes) (st : Settings) : ℕ → Type 0 where
+  setting-refused : in-range st ≡ false → Length-refusal list st 5
+  record-refused : {r : ℕ} → in-range st ≡ true → parse-keys list ≡ Keys.refused r → From 1 4 r → Length-refusal list st r
+
+-- for the second: those; then 8, the stated length is not the image's; then 7, the image is longer than the output
+pub data Build-refusal (list : Bytes) (st : Settings) (stated : ℕ) (out : Bytes) : ℕ → Type 0 where
+  judged-again : {r : ℕ} → Length-refusal list st r → Build-refusal list st stated out r
+  length-wrong : in-range st ≡ true → (ks : List Bytes) → parse-keys list ≡ keys ks → (stated ≡ length (image st (leaves (st .width) ks)) → ⊥) → Build-refusal list st stated out 8
+  image-too-long : in-range st ≡ true → (ks : List Bytes) → parse-keys list ≡ keys ks → stated ≡ length (image st (leaves (st .width) ks))
+      → length out < length (image st (leaves (st .width) ks)) → Build-refusal list st stated out 7
 
 -- The stages of the check: the bodies of the image's records are bs, and none of the numbers from 11 up to the stage's own applies. What a number asks is its test in crate `spec`.
 module _ (b : Bytes) (bs : List Bytes) where
@@ -162,8 +169,14 @@ pub record Kept (out : Bytes) (o : Outcome) : Type 0 where
 -- That every call ends is in its contract: each call gives what its definition gives, for every input.
 pub record Demand-1 : Type 0 where
   -- "A key list, an image or a question file, of any bytes and any length, handed to a public call gets its work done or the one refusal number that the order of checks names."
-  -- Build: 1 to 5 and 7.
-  pub build-refuses : (list : Bytes) (st : Settings) (out : Bytes) (r : ℕ) → (build list st out .answer ≡ refused r) ↔ Build-refusal list st out r
+  -- The first call of build, which gives a length: 1 to 5.
+  pub length-refuses : (list : Bytes) (st : Settings) (r : ℕ) → (image-length list st ≡ Build.refused r) ↔ Length-refusal list st r
+  -- The second, which writes: those, 8 and 7.
+  pub build-refuses : (list : Bytes) (st : Settings) (stated : ℕ) (out : Bytes) (r : ℕ) → (build list st stated out .answer ≡ refused r) ↔ Build-refusal list st stated out r
+  -- Order 5: "Any list and settings accepted by the first are accepted by the second, if the length is the one given and the output holds it.": it writes just that many bytes.
+  pub length-builds : (list : Bytes) (st : Settings) (n : ℕ) → image-length list st ≡ Build.bytes n → (out : Bytes) → n ≤ length out → build list st n out .answer ≡ written n
+  -- And back: where the second succeeds, the first gives the number of bytes that it writes, and that number is the stated length.
+  pub built-length : (list : Bytes) (st : Settings) (stated : ℕ) (out : Bytes) (n : ℕ) → build list st stated out .answer ≡ written n → (image-length list st ≡ Build.bytes n) × (stated ≡ n)
   -- Order 9: "65,535 keys of up to 64 bytes give at most 4,259,775 trie entries", branches and exact leaves together. It holds of every key list that build takes, at every suffix width.
   pub entries-bound : (list : Bytes) → Is-bytes list → (ks : List Bytes) → parse-keys list ≡ keys ks → (n : ℕ) → trie-entries (leaves n ks) ≤ most-entries
   -- Check: 11 to 16.
@@ -176,15 +189,16 @@ pub record Demand-1 : Type 0 where
   -- The walk that writes records: the same.
   pub walk-records-refuses : (b : Bytes) (place : ℕ) (out : Bytes) (r : ℕ) → (walk-records b place out .answer ≡ refused r) ↔ Walk-refusal b place r
   -- "The call always ends and stays inside its buffers; after a refusal no lent byte has changed."
-  pub build-kept : (list : Bytes) (st : Settings) (out : Bytes) → Kept out (build list st out)
+  pub build-kept : (list : Bytes) (st : Settings) (stated : ℕ) (out : Bytes) → Kept out (build list st stated out)
   pub ask-kept : (b file out : Bytes) → Kept out (ask b file out)
   pub walk-records-kept : (b : Bytes) (place : ℕ) (out : Bytes) → Kept out (walk-records b place out)
   -- What is written are bytes: of a list of bytes, of an image and a question file of bytes, and of an image of bytes.
-  pub build-bytes : (list : Bytes) → Is-bytes list → (st : Settings) (out : Bytes) (n : ℕ) → build list st out .answer ≡ written n → Is-bytes (take n (build list st out .final))
+  pub build-bytes : (list : Bytes) → Is-bytes list → (st : Settings) (stated : ℕ) (out : Bytes) (n : ℕ) → build list st stated out .answer ≡ written n → Is-bytes (take n (build list st stated out .final))
   pub ask-bytes : (b file : Bytes) → Is-bytes b → Is-bytes file → (out : Bytes) (n : ℕ) → ask b file out .answer ≡ written n → Is-bytes (take n (ask b file out .final))
   pub walk-records-bytes : (b : Bytes) → Is-bytes b → (place : ℕ) (out : Bytes) (n : ℕ) → walk-records b place out .answer ≡ written n → Is-bytes (take n (walk-records b place out .final))
-  -- They are fewer than 2^32, so that an answer that is given as one number decodes.
-  pub build-short : (list : Bytes) → Is-bytes list → (st : Settings) (out : Bytes) (n : ℕ) → build list st out .answer ≡ written n → n < refusal-weight
+  -- They are fewer than 2^32, so that an answer that is given as one number decodes; so is a length.
+  pub length-short : (list : Bytes) → Is-bytes list → (st : Settings) (n : ℕ) → image-length list st ≡ Build.bytes n → n < refusal-weight
+  pub build-short : (list : Bytes) → Is-bytes list → (st : Settings) (stated : ℕ) (out : Bytes) (n : ℕ) → build list st stated out .answer ≡ written n → n < refusal-weight
   pub ask-short : (b file : Bytes) → Is-bytes b → Is-bytes file → (out : Bytes) (n : ℕ) → ask b file out .answer ≡ written n → n < refusal-weight
   pub walk-records-short : (b : Bytes) → Is-bytes b → (place : ℕ) (out : Bytes) (n : ℕ) → walk-records b place out .answer ≡ written n → n < refusal-weight
 
@@ -194,9 +208,9 @@ pub record Demand-1 : Type 0 where
 pub record Demand-2 : Type 0 where
   -- "An image built from a key list is, byte for byte, the dense and sparse layout of that list's shortest distinguishing prefixes, their kinds and suffix bits."
   pub layout : (st : Settings) (list b : Bytes) → Builds-with st list b → b ≡ image st (leaves (st .width) (keys-of list))
-  -- It is written from every key list, with settings in range, into every output that holds it.
+  -- It is written from every key list, with settings in range and its length, into every output that holds it.
   pub built : (st : Settings) (list : Bytes) (ks : List Bytes) → Is-bytes list → in-range st ≡ true → Key-list list ks
-      → (out : Bytes) → length (image st (leaves (st .width) ks)) ≤ length out → build list st out ≡ success (image st (leaves (st .width) ks)) out
+      → (out : Bytes) → length (image st (leaves (st .width) ks)) ≤ length out → build list st (length (image st (leaves (st .width) ks))) out ≡ success (image st (leaves (st .width) ks)) out
   -- "An image read back gives the same three," and the settings,
   pub read-back : (st : Settings) (list b : Bytes) → Builds-with st list b → (read-leaves b ≡ leaves (st .width) (keys-of list)) × (read-settings b ≡ st)
   -- "and every reply is the one worked out from them alone": all that ask writes, and what is read at the place of the i-th question;

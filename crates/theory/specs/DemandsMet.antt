@@ -29,15 +29,15 @@ use Rattle.theory.specs.KeyFiles.{keys-exactly, bytes-write-keys}
 use Rattle.theory.specs.QuestionFiles.{questions-exactly}
 use Rattle.theory.specs.Demands.{Builds-with, Builds, Count, Next-key, None, Agree, Demand-1, Demand-2, Replies-correct, Demand-3, Demands}
 use Rattle.theory.specs.OutcomeLaws.{final-is, write-fits, success-written, success-answer}
-use Rattle.theory.specs.BuildLaws.{built-from, built-fits, keys-of-list, in-range-exactly, build-writes, build-writes-image}
+use Rattle.theory.specs.BuildLaws.{built-from, built-fits, keys-of-list, in-range-exactly, build-writes, length-builds, built-length, build-writes-image}
 use Rattle.theory.specs.AskLaws.{bytes-replies, reply-written, Answered, ask-answers, ask-takes, walk-correct, print-correct}
 use Rattle.theory.specs.ImageBytes.{image-bytes}
 use Rattle.theory.specs.RefusalNumbers.{check-accepts, check-refuses}
 use Rattle.spec.specs.WalkRecords.{record-size, records-from, walk-records}
 use Rattle.theory.specs.WalkRecordLaws.{bytes-records-from, records-written, records-answered, walk-records-refuses, walk-records-kept}
-use Rattle.theory.specs.LengthBounds.{leaves-are, build-short, ask-short, walk-records-short}
+use Rattle.theory.specs.LengthBounds.{leaves-are, length-short, build-short, ask-short, walk-records-short}
 use Rattle.theory.specs.EntryBound.{entries-bound}
-use Rattle.theory.specs.RefusalLaws.{build-refuses, ask-refuses, ask-writes-replies, walk-refuses, next-refuses, judged-alike, build-kept, ask-kept}
+use Rattle.theory.specs.RefusalLaws.{length-refuses, build-refuses, ask-refuses, ask-writes-replies, walk-refuses, next-refuses, judged-alike, build-kept, ask-kept}
 use Rattle.theory.specs.LiteralImage.{Buildable}
 use Rattle.theory.specs.AcceptImage.{image-accepted}
 use Rattle.spec.specs.Answer as Answer
@@ -62,16 +62,16 @@ agree-self (l ∷ ls) = ((refl, refl, refl), agree-self ls)
 
 -- a list that builds b, with settings st
 module _ (st : Settings) (list b : Bytes) (w : Builds-with st list b) where
-  list-answer : build list st (w .output) .answer ≡ Answer.written (length b)
+  list-answer : build list st (length b) (w .output) .answer ≡ Answer.written (length b)
   list-answer = ap (λ (o : Outcome). o .answer) (w .writes) ∙ success-answer b (w .output)
 
   list-keys : Key-list list (keys-of list)
-  list-keys = build-writes-image list (w .bytes) st (w .output) (length b) list-answer .1
+  list-keys = build-writes-image list (w .bytes) st (length b) (w .output) (length b) list-answer .1
 
   list-image : b ≡ image st (leaves (st .width) (keys-of list))
   list-image =
-      sym (success-written b (w .output) (length b) (build list st (w .output)) (w .writes) list-answer)
-      ∙ build-writes-image list (w .bytes) st (w .output) (length b) list-answer .2
+      sym (success-written b (w .output) (length b) (build list st (length b) (w .output)) (w .writes) list-answer)
+      ∙ build-writes-image list (w .bytes) st (length b) (w .output) (length b) list-answer .2
 
   list-fits : Buildable st (leaves (st .width) (keys-of list))
   list-fits = built-fits st (keys-of list) (built-from st list (keys-of list) (w .range) list-keys)
@@ -88,7 +88,7 @@ module _ (st : Settings) (list b : Bytes) (w : Builds-with st list b) where
 
 -- a key list builds its image
 key-list-builds : (st : Settings) (list : Bytes) (ks : List Bytes) → Is-bytes list → in-range st ≡ true → Key-list list ks → (out : Bytes) → length (image st (leaves (st .width) ks)) ≤ length out
-    → build list st out ≡ success (image st (leaves (st .width) ks)) out
+    → build list st (length (image st (leaves (st .width) ks))) out ≡ success (image st (leaves (st .width) ks)) out
 key-list-builds st list ks w r k out h = build-writes list st ks out r (keys-exactly list ks w .1 k) ∙ write-fits 7 (image st (leaves (st .width) ks)) out h
 
 -- the reply written for the i-th question
@@ -136,9 +136,9 @@ sought-found j r = refl
 
 -- ---- demand 1
 
-build-bytes : (list : Bytes) → Is-bytes list → (st : Settings) (out : Bytes) (n : ℕ) → build list st out .answer ≡ Answer.written n → Is-bytes (take n (build list st out .final))
-build-bytes list w st out n h =
-    let i = build-writes-image list w st out n h in
+build-bytes : (list : Bytes) → Is-bytes list → (st : Settings) (stated : ℕ) (out : Bytes) (n : ℕ) → build list st stated out .answer ≡ Answer.written n → Is-bytes (take n (build list st stated out .final))
+build-bytes list w st stated out n h =
+    let i = build-writes-image list w st stated out n h in
     rw (i .2) (image-bytes st (leaves (st .width) (keys-of list)) (built-fits st (keys-of list) (built-from st list (keys-of list) (i .0) (i .1))))
 
 ask-bytes : (b file : Bytes) → Is-bytes b → Is-bytes file → (out : Bytes) (n : ℕ) → ask b file out .answer ≡ Answer.written n → Is-bytes (take n (ask b file out .final))
@@ -157,7 +157,10 @@ walk-records-bytes b s place out n h =
 -- Demand 1.
 pub demand-1 : Demand-1
 demand-1 = record {
+  length-refuses = length-refuses;
   build-refuses = build-refuses;
+  length-builds = length-builds;
+  built-length = built-length;
   entries-bound = entries-bound;
   check-refuses = check-refuses;
   ask-refuses = ask-refuses;
@@ -170,6 +173,7 @@ demand-1 = record {
   build-bytes = build-bytes;
   ask-bytes = ask-bytes;
   walk-records-bytes = walk-records-bytes;
+  length-short = length-short;
   build-short = build-short;
   ask-short = ask-short;
   walk-records-short = walk-records-short;
@@ -214,7 +218,7 @@ module _ (b : Bytes) (o : Accept.Image-of-leaves b) where
       let small : Is-bytes (write-keys ks) = bytes-write-keys ks (w .keys) in
       let r : in-range st ≡ true = in-range-exactly st .1 (o .fits .dense-range, o .fits .width-range) in
       let i : image st (leaves (st .width) ks) ≡ b = ap (image st) (w .same-leaves) ∙ sym (o .image-is) in
-      let x : build (write-keys ks) st b ≡ success b b = key-list-builds st (write-keys ks) ks small r k b (omega (arith, ap length i)) ∙ ap (λ (z : Bytes). success z b) i in
+      let x : build (write-keys ks) st (length b) b ≡ success b b = subst (λ (z : Bytes). build (write-keys ks) st (length z) b ≡ success z b) i (key-list-builds st (write-keys ks) ks small r k b (omega (arith, ap length i))) in
       ((st, record { bytes = small; range = r; output = b; room = omega arith; writes = x }), keys-of-list (write-keys ks) ks (keys-exactly (write-keys ks) ks small .1 k))
 
   -- what holds of every list, or of some, as keys and as bytes

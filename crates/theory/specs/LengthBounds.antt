@@ -13,7 +13,7 @@ use Rattle.spec.specs.Image.{Settings, Counts, Row, rows, in-order, marked, wri
 use Rattle.spec.specs.Nodes.{read-leaves}
 use Rattle.spec.specs.Questions.{Question, QP, QS, QB, QR, QC, Reply, found, keyless, sought, greater, seek-from, seek, reply, reply-bytes, replies, taken, parse-questions, questions-of}
 use Rattle.spec.specs.Answer.{written, refusal-weight}
-use Rattle.spec.specs.Build.{build}
+use Rattle.spec.specs.Build.{bytes, image-length, build}
 use Rattle.spec.specs.Ask.{ask}
 use Rattle.spec.specs.WalkRecords.{record-size, walk-records}
 use Rattle.theory.specs.Terms.{All, Is-bytes, Proper}
@@ -22,9 +22,9 @@ use Rattle.theory.specs.Intervals.{lowest-key}
 use Rattle.theory.specs.QuestionFiles.{questions-exactly}
 use Rattle.theory.specs.NodeBits.{bodies, node-counts}
 use Rattle.theory.specs.ImageParts.{image-holds, bodies-small}
-use Rattle.theory.specs.BuildLaws.{Built-from, built-from, built-fits, build-writes-image}
+use Rattle.theory.specs.BuildLaws.{Built-from, length-given, built-length, built-from, built-fits, judged-image}
 use Rattle.theory.specs.RefusalNumbers.{check-accepts}
-use Rattle.theory.specs.RefusalLaws.{ask-writes-replies, build-kept, ask-kept}
+use Rattle.theory.specs.RefusalLaws.{ask-writes-replies, ask-kept}
 use Rattle.theory.specs.WalkRecordLaws.{records-few, records-answered}
 use Rattle.theory.specs.Accept as Accept
 use Rattle.theory.specs.ReadBack.{read-back}
@@ -110,12 +110,16 @@ replies-bound w ls file qs o small h = replies-small w ls qs o (questions-exactl
 pub leaves-are : (b : Bytes) (o : Accept.Image-of-leaves b) → read-leaves b ≡ o .leaves
 leaves-are b o = ap read-leaves (o .image-is) ∙ read-back (o .settings) (o .leaves) (o .fits)
 
--- Build writes fewer than 2^32 bytes.
-pub build-short : (list : Bytes) → Is-bytes list → (st : Settings) (out : Bytes) (n : ℕ) → build list st out .answer ≡ written n → n < refusal-weight
-build-short list w st out n h =
-    let i = build-writes-image list w st out n h in
-    let k = build-kept list st out .success n h in
-    omega (arith, image-short st (keys-of list) (built-from st list (keys-of list) (i .0) (i .1)), sym (length-take-le n (build list st out .final) (omega arith)) ∙ ap length (i .2))
+-- The length that the first call of build gives is less than 2^32.
+pub length-short : (list : Bytes) → Is-bytes list → (st : Settings) (n : ℕ) → image-length list st ≡ bytes n → n < refusal-weight
+length-short list w st n h =
+    let g = length-given list st n h in
+    let i = judged-image list w st (g .0) (g .1) in
+    omega (arith, image-short st (keys-of list) (built-from st list (keys-of list) (i .0) (i .1)), g .2, ap length (i .2))
+
+-- The second writes as many bytes.
+pub build-short : (list : Bytes) → Is-bytes list → (st : Settings) (stated : ℕ) (out : Bytes) (n : ℕ) → build list st stated out .answer ≡ written n → n < refusal-weight
+build-short list w st stated out n h = length-short list w st n (built-length list st stated out n h .0)
 
 -- Ask writes fewer.
 pub ask-short : (b file : Bytes) → Is-bytes b → Is-bytes file → (out : Bytes) (n : ℕ) → ask b file out .answer ≡ written n → n < refusal-weight

@@ -79,14 +79,6 @@ success-length b out n o e h =
     let f : o .answer ≡ written (length b) = ap (λ (o : Outcome). o .answer) e in
     cc
 
--- and those of a call that writes what fits
-pub write-written : (q : ℕ) (b out : Bytes) (n : ℕ) (o : Outcome) → o ≡ write q b out → o .answer ≡ written n → take n (o .final) ≡ b
-write-written q b out n o e h = go (ltb (length out) (length b)) refl
-  where
-    go : (t : Bool) → ltb (length out) (length b) ≡ t → take n (o .final) ≡ b
-    go true f = no-written q n out o (e ∙ write-short q b out (ltb-true (length out) (length b) f)) h
-    go false f = success-written b out n o (e ∙ write-fits q b out (ltb-false (length out) (length b) f)) h
-
 -- what a success leaves
 pub final-is : (a out : Bytes) (o : Outcome) → o ≡ success a out → o .final ≡ a ++ drop (length a) out
 unfolding success

@@ -8,7 +8,7 @@ use mathlib.Core.Logic.{_↔_}
 use native.Mathlib.Omega.{arith}
 use lib.ListN.{length, getElem?, take}
 use lib.Dec.{ltb, eqb}
-use borrow.Author.Tests.{ltb-true, lt-ltb, ne-eqb}
+use borrow.Author.Tests.{ltb-true, lt-ltb, eqb-true, eqb-false, ne-eqb}
 use Rattle.spec.specs.Bytes.{Bytes}
 use Rattle.spec.specs.Keys.{Parsed-keys, refused, keys, parse-keys}
 use Rattle.spec.specs.Leaves.{Leaf, leaves}
@@ -16,39 +16,84 @@ use Rattle.spec.specs.Image.{Settings, image}
 use Rattle.spec.specs.Nodes.{read-leaves}
 use Rattle.spec.specs.Questions.{Parsed-questions, taken, parse-questions, replies, questions-of}
 use Rattle.spec.specs.Answer.{written, Outcome, refuse, write}
-use Rattle.spec.specs.Build.{in-range, build}
+use Rattle.spec.specs.Build.{in-range, Judged, turned-down, to-build, judge, bytes, image-length, build}
 use Rattle.spec.specs.Check.{verdict, accepted, check}
 use Rattle.spec.specs.Ask.{ask}
 use Rattle.spec.specs.Walk.{stand-at, open-walk, next}
 use Rattle.theory.specs.Terms.{From, Judged-alike}
-use Rattle.theory.specs.Demands.{Build-refusal, Ask-refusal, Walk-refusal, setting-refused, record-refused, image-too-long, image-refused, question-refused, replies-too-long, refused-image, place-refused, Kept}
+use Rattle.theory.specs.Demands.{Length-refusal, Build-refusal, Ask-refusal, Walk-refusal, setting-refused, record-refused, judged-again, length-wrong, image-too-long, image-refused, question-refused, replies-too-long, refused-image, place-refused, Kept}
 use Rattle.theory.specs.OutcomeLaws.{no-written, refuse-answer, write-answer, success-written, refuse-kept, write-kept}
-use Rattle.theory.specs.BuildLaws.{build-is, build-writes}
+use Rattle.theory.specs.BuildLaws.{judge-is, judge-keys, judged-keys, length-is, build-is, stated-wrong, stated-right}
 use Rattle.theory.specs.AskLaws.{ask-is, ask-answers, walk-is, step-is}
 use Rattle.theory.specs.RefusalNumbers.{keys-number, questions-number, check-accepts, check-refused, check-number, check-cases}
 use Rattle.spec.specs.Answer as Answer
+use Rattle.spec.specs.Build as Build
 use Rattle.spec.specs.Check as Check
 use Rattle.spec.specs.Questions as Questions
 use Rattle.spec.specs.Walk as Walk
 
 -- ---- build
 
-module _ (list : Bytes) (st : Settings) (out : Bytes) (r : ℕ) where
-  -- Build refuses with the number that the order of checks names, and with no other.
-  pub build-refuses : (build list st out .answer ≡ Answer.refused r) ↔ Build-refusal list st out r
-  build-refuses = (λ h. one h (in-range st) refl (parse-keys list) refl, from r)
-    where
-      one : build list st out .answer ≡ Answer.refused r → (t : Bool) → in-range st ≡ t → (p : Parsed-keys) → parse-keys list ≡ p → Build-refusal list st out r
-      one h false e p f = subst (Build-refusal list st out) (refuse-answer 5 r out _ (build-is list st out false p e f) .0 h) (setting-refused e)
-      one h true e (refused q) f = subst (Build-refusal list st out) (refuse-answer q r out _ (build-is list st out true (refused q) e f) .0 h) (record-refused e f (keys-number list q f))
-      one h true e (keys ks) f =
-          let a = write-answer 7 r (image st (leaves (st .width) ks)) out _ (build-writes list st ks out e f) .0 h in
-          subst (Build-refusal list st out) (a .0) (image-too-long e ks f (a .1))
+-- a key list and settings are turned down with the number that the order of checks names
+turned-down-refusal : (list : Bytes) (st : Settings) (r : ℕ) → judge list st ≡ turned-down r → Length-refusal list st r
+turned-down-refusal list st r h = one (in-range st) refl (parse-keys list) refl
+  where
+    named : (q : ℕ) → judge list st ≡ turned-down q → Length-refusal list st q → Length-refusal list st r
+    named q e l = let s : q ≡ r = cc in subst (Length-refusal list st) s l
 
-      from : (q : ℕ) → Build-refusal list st out q → build list st out .answer ≡ Answer.refused q
-      from q (setting-refused e) = refuse-answer 5 5 out _ (build-is list st out false (parse-keys list) e refl) .1 refl
-      from q (record-refused e f n) = refuse-answer q q out _ (build-is list st out true (refused q) e f) .1 refl
-      from q (image-too-long e ks f l) = write-answer 7 7 (image st (leaves (st .width) ks)) out _ (build-writes list st ks out e f) .1 (refl, l)
+    one : (t : Bool) → in-range st ≡ t → (p : Parsed-keys) → parse-keys list ≡ p → Length-refusal list st r
+    one false e p f = named 5 (judge-is list st false p e f) (setting-refused e)
+    one true e (refused q) f = named q (judge-is list st true (refused q) e f) (record-refused e f (keys-number list q f))
+    one true e (keys ks) f = let j = judge-keys list st ks e f in let z : _≡_ {A = ℕ} 0 1 = cc in absurd (omega arith)
+
+-- and with no other
+refusal-turned-down : (list : Bytes) (st : Settings) (r : ℕ) → Length-refusal list st r → judge list st ≡ turned-down r
+refusal-turned-down list st r (setting-refused e) = judge-is list st false (parse-keys list) e refl
+refusal-turned-down list st r (record-refused e f n) = judge-is list st true (refused r) e f
+
+-- The first call refuses with the number that the order of checks names, and with no other.
+pub length-refuses : (list : Bytes) (st : Settings) (r : ℕ) → (image-length list st ≡ Build.refused r) ↔ Length-refusal list st r
+length-refuses list st r = (λ h. to (judge list st) refl h, λ l. length-is list st (turned-down r) (refusal-turned-down list st r l))
+  where
+    to : (j : Judged) → judge list st ≡ j → image-length list st ≡ Build.refused r → Length-refusal list st r
+    to (turned-down q) e h =
+        let l : image-length list st ≡ Build.refused q = length-is list st (turned-down q) e in
+        let s : q ≡ r = cc in
+        subst (Length-refusal list st) s (turned-down-refusal list st q e)
+    to (to-build b) e h =
+        let l : image-length list st ≡ bytes (length b) = length-is list st (to-build b) e in
+        let z : _≡_ {A = ℕ} 0 1 = cc in
+        absurd (omega arith)
+
+module _ (list : Bytes) (st : Settings) (stated : ℕ) (out : Bytes) (r : ℕ) where
+  -- The second refuses with the number that the order of checks names, and with no other.
+  pub build-refuses : (build list st stated out .answer ≡ Answer.refused r) ↔ Build-refusal list st stated out r
+  build-refuses = (λ h. to h (judge list st) refl, from r)
+    where
+      over-image : build list st stated out .answer ≡ Answer.refused r → (ks : List Bytes) → in-range st ≡ true → parse-keys list ≡ keys ks
+          → (t : Bool) → eqb stated (length (image st (leaves (st .width) ks))) ≡ t → Build-refusal list st stated out r
+      over-image h ks e f false g =
+          let b : Bytes = image st (leaves (st .width) ks) in
+          let w = eqb-false stated (length b) g in
+          subst (Build-refusal list st stated out) (refuse-answer 8 r out _ (build-is list st stated out (to-build b) (judge-keys list st ks e f) ∙ stated-wrong stated b out w) .0 h) (length-wrong e ks f w)
+      over-image h ks e f true g =
+          let b : Bytes = image st (leaves (st .width) ks) in
+          let w = eqb-true stated (length b) g in
+          let a = write-answer 7 r b out _ (build-is list st stated out (to-build b) (judge-keys list st ks e f) ∙ stated-right stated b out w) .0 h in
+          subst (Build-refusal list st stated out) (a .0) (image-too-long e ks f w (a .1))
+
+      to : build list st stated out .answer ≡ Answer.refused r → (j : Judged) → judge list st ≡ j → Build-refusal list st stated out r
+      to h (turned-down q) j = subst (Build-refusal list st stated out) (refuse-answer q r out _ (build-is list st stated out (turned-down q) j) .0 h) (judged-again (turned-down-refusal list st q j))
+      to h (to-build b) j = let k = judged-keys list st b j in over-image h (k .1) (k .0) (k .2) (eqb stated (length (image st (leaves (st .width) (k .1))))) refl
+
+      from : (q : ℕ) → Build-refusal list st stated out q → build list st stated out .answer ≡ Answer.refused q
+      from q (judged-again l) = refuse-answer q q out _ (build-is list st stated out (turned-down q) (refusal-turned-down list st q l)) .1 refl
+      from q (length-wrong e ks f w) =
+          let b : Bytes = image st (leaves (st .width) ks) in
+          refuse-answer 8 8 out _ (build-is list st stated out (to-build b) (judge-keys list st ks e f) ∙ stated-wrong stated b out w) .1 refl
+      from q (image-too-long e ks f w l) =
+          let b : Bytes = image st (leaves (st .width) ks) in
+          write-answer 7 7 b out _ (build-is list st stated out (to-build b) (judge-keys list st ks e f) ∙ stated-right stated b out w) .1 (refl, l)
 
 -- ---- ask
 
@@ -179,14 +224,17 @@ judged-alike b = record {
 
 -- ---- buffers
 
--- build, of any list, settings and output
-pub build-kept : (list : Bytes) (st : Settings) (out : Bytes) → Kept out (build list st out)
-build-kept list st out = one (in-range st) refl (parse-keys list) refl
+-- build, of any list, settings, stated length and output
+pub build-kept : (list : Bytes) (st : Settings) (stated : ℕ) (out : Bytes) → Kept out (build list st stated out)
+build-kept list st stated out = one (judge list st) refl
   where
-    one : (t : Bool) → in-range st ≡ t → (p : Parsed-keys) → parse-keys list ≡ p → Kept out (build list st out)
-    one false e p f = subst (Kept out) (sym (build-is list st out false p e f)) (refuse-kept 5 out)
-    one true e (refused r) f = subst (Kept out) (sym (build-is list st out true (refused r) e f)) (refuse-kept r out)
-    one true e (keys ks) f = subst (Kept out) (sym (build-writes list st ks out e f)) (write-kept 7 (image st (leaves (st .width) ks)) out)
+    two : (b : Bytes) → judge list st ≡ to-build b → (t : Bool) → eqb stated (length b) ≡ t → Kept out (build list st stated out)
+    two b e false f = subst (Kept out) (sym (build-is list st stated out (to-build b) e ∙ stated-wrong stated b out (eqb-false stated (length b) f))) (refuse-kept 8 out)
+    two b e true f = subst (Kept out) (sym (build-is list st stated out (to-build b) e ∙ stated-right stated b out (eqb-true stated (length b) f))) (write-kept 7 b out)
+
+    one : (j : Judged) → judge list st ≡ j → Kept out (build list st stated out)
+    one (turned-down r) e = subst (Kept out) (sym (build-is list st stated out (turned-down r) e)) (refuse-kept r out)
+    one (to-build b) e = two b e (eqb stated (length b)) refl
 
 -- ask, of any image, question file and reply buffer
 pub ask-kept : (b file out : Bytes) → Kept out (ask b file out)

@@ -19,14 +19,24 @@ struct Entry {
     first: bool,
 }
 
-/// Builds the image of a key list at the start of the output; a refusal leaves the output
-/// as it was.
-pub fn build(list: &[u8], dense_levels: u64, n: u64, out: &mut [u8]) -> Answer {
-    put(image(list, dense_levels, n), 7, out)
+/// Gives what the first call of build gives: the exact length of what `image` gives, or its
+/// number.
+pub fn length(image: &Result<Vec<u8>, u32>) -> Result<usize, u32> {
+    image.as_ref().map(Vec::len).map_err(|number| *number)
 }
 
-/// Gives the image of a key list, or the number of the first fault: 5, then record by
-/// record 4, 1, 2, 1, 3.
+/// Does what the second call does: writes what `image` gives at the start of the output, or
+/// refuses with its number; then with 8, the stated length is not the image's; then with 7,
+/// the image is longer than the output. A refusal leaves the output as it was.
+pub fn write(image: Result<Vec<u8>, u32>, stated: u64, out: &mut [u8]) -> Answer {
+    match image {
+        Ok(image) if image.len() as u64 != stated => Answer::Refused(8),
+        image => put(image, 7, out),
+    }
+}
+
+/// Gives the image of a key list, or the number of the first fault, as both calls judge it:
+/// 5, then record by record 4, 1, 2, 1, 3.
 pub fn image(list: &[u8], dense_levels: u64, n: u64) -> Result<Vec<u8>, u32> {
     let settings = settings(dense_levels, n)?;
     let keys = keys::parse(list)?;

@@ -1,4 +1,5 @@
-//! An implementation of document 01, written from its text alone. It follows the
+//! An implementation of document 01 and of the orders of document 02 that have landed,
+//! written from their text alone. It follows the
 //! definitions word by word: clarity comes before speed, and no code is taken from the
 //! library or from the benchmark.
 

@@ -1,71 +1,58 @@
--- The settings, the records and the image's length decide, in this order.
+-- What is judged decides, and an accepted list is built.
 use borrow.Author.Needs.{needs}
-use Rattle.build_laws.specs.PackedBody.{small-of}
-use Rattle.build.proofs.AnswerLaws.{wide-dense, wide-suffix, list-refused, list-ready, list-built}
-use mathlib.Core.Path.{sym, _∙_}
+use mathlib.Core.Path.{sym, subst, _∙_}
+use Rattle.spec.specs.Answer.{refuse}
+use Rattle.spec.specs.Build.{turned-down, to-build}
+use Rattle.theory.specs.BuildLaws.{build-is}
+use Rattle.image_types.specs.Header.{settings}
+use Rattle.build.specs.Build.{Judges}
 use Rattle.build.proofs.build.Statement.{statement}
 use Rattle.build.proofs.build.Tie as tie
 
-returns : tie.Need-returns
-returns c =
-    let args = c .before .before .before .args in
-    wide-dense (args .list .now) (args .out .now) (args .dense) (args .n) (c .if1 .taken)
+judge-requires : tie.Need-judge-requires
+judge-requires c κs = search needs
 
-returns-2 : tie.Need-returns-2
-returns-2 c =
-    let args = c .before .before .before .before .args in
-    wide-suffix (args .list .now) (args .out .now) (args .dense) (args .n) (c .if2 .taken)
+enum-known-again : tie.Need-enum-known-again
+enum-known-again c = search needs
 
-judge-list-requires : tie.Need-judge-list-requires
-judge-list-requires c κs = search needs
-
-enum-known-keys : tie.Need-enum-known-keys
-enum-known-keys c = search needs
-
-enum-known-keys-2 : tie.Need-enum-known-keys-2
-enum-known-keys-2 c = search needs
+enum-known-again-2 : tie.Need-enum-known-again-2
+enum-known-again-2 c = search needs
 
 build-image-requires : tie.Need-build-image-requires
 build-image-requires c κs =
-    let shared-slice-known = c .before .before .before .before .before .before .before .before .shared-slice-known in
-    let if1 = c .before .before .before .before .before .before .if1 in
-    let if2 = c .before .before .before .before .before .if2 in
-    let judge-list = c .before .before .before .before .judge-list in
-    let keys2 = c .before .before .keys2 in
-    let a = c .before .before .before .before .before .before .before .before .before .args in
-    list-ready (a .list .now) (a .dense) (a .n) _ (small-of (a .list .now) (λ i. shared-slice-known .given i .fits)) (if1 .left) (if2 .left) (sym (keys2 .given .1) ∙ judge-list .ensures)
+    let judge = c .before .before .before .before .judge in
+    let a = c .before .before .before .before .before .before .before .args in
+    let j = subst (Judges (a .list .now) (settings (a .dense) (a .n))) (c .before .before .again2 .given .1) (judge .ensures) in
+    (j .0, j .1)
 
-returns-3 : tie.Need-returns-3
-returns-3 c =
-    let if1 = c .before .before .before .before .before .if1 in
-    let if2 = c .before .before .before .before .if2 in
-    let judge-list = c .before .before .before .judge-list in
-    let a = c .before .before .before .before .before .before .before .before .args in
-    list-refused (a .list .now) (a .out .now) (a .dense) (a .n) _ (if1 .left) (if2 .left) (sym (c .before .keys .given .1) ∙ judge-list .ensures)
+returns : tie.Need-returns
+unfolding refuse
+returns c =
+    let judge = c .before .before .before .judge in
+    let a = c .before .before .before .before .before .before .args in
+    let j = subst (Judges (a .list .now) (settings (a .dense) (a .n))) (c .before .again .given .1) (judge .ensures) in
+    sym (build-is (a .list .now) (settings (a .dense) (a .n)) (a .stated) (a .out .now) (turned-down _) j)
 
 same-length : tie.Need-same-length
 same-length c = search needs
 
-returns-4 : tie.Need-returns-4
-returns-4 c =
-    let if1 = c .before .before .before .before .before .before .before .before .before .if1 in
-    let if2 = c .before .before .before .before .before .before .before .before .if2 in
-    let judge-list = c .before .before .before .before .before .before .before .judge-list in
-    let keys2 = c .before .before .before .before .before .keys2 in
+returns-2 : tie.Need-returns-2
+returns-2 c =
+    let judge = c .before .before .before .before .before .before .before .judge in
+    let again2 = c .before .before .before .before .before .again2 in
     let build-image = c .before .before .build-image in
-    let a = c .before .before .before .before .before .before .before .before .before .before .before .before .args in
-    list-built (a .list .now) (a .out .now) (a .dense) (a .n) _ _ (if1 .left) (if2 .left) (sym (keys2 .given .1) ∙ judge-list .ensures) (build-image .ensures)
+    let a = c .before .before .before .before .before .before .before .before .before .before .args in
+    let j = subst (Judges (a .list .now) (settings (a .dense) (a .n))) (again2 .given .1) (judge .ensures) in
+    build-image .ensures ∙ sym (build-is (a .list .now) (settings (a .dense) (a .n)) (a .stated) (a .out .now) (to-build _) (j .2))
 
 pub build-spec : {M : Type 1} → statement M
 build-spec =
     tie.close
     (tie.spec
-    returns
-    returns-2
-    judge-list-requires
-    enum-known-keys
-    enum-known-keys-2
+    judge-requires
+    enum-known-again
+    enum-known-again-2
     build-image-requires
-    returns-3
+    returns
     same-length
-    returns-4)
+    returns-2)

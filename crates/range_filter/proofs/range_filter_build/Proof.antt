@@ -20,7 +20,7 @@ returns c =
     let d = c .before .before .before in
     let b = d .before .before .before in
     let a = b .before .args in
-    coded (d .build .result) _ _ _ (d .build .ensures) (c .code .ensures) (build-short (a .list .now) (all-small (a .list .now) (λ i. b .shared-slice-known .given i .fits)) _ (a .out .now))
+    coded (d .build .result) _ _ _ (d .build .ensures) (c .code .ensures) (build-short (a .list .now) (all-small (a .list .now) (λ i. b .shared-slice-known .given i .fits)) _ (a .stated) (a .out .now))
 
 pub range-filter-build-spec : {M : Type 1} → statement M
 range-filter-build-spec = tie.close (tie.spec build-requires code-requires same-length returns)

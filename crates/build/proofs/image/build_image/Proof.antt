@@ -1,7 +1,7 @@
--- The plan decides 7, and the header and the records make the image.
+-- The plan decides 8 and 7, and the header and the records make the image.
 use Rattle.build_laws.specs.Plan.{plan-short, header-room}
 use Rattle.build.specs.Build.{settings-of}
-use Rattle.build.proofs.AnswerLaws.{too-long, image-built}
+use Rattle.build.proofs.AnswerLaws.{length-not-stated, too-long, image-built}
 use borrow.Author.Needs.{needs}
 use native.Mathlib.Omega.{arith}
 use borrow.Author.Needs.{needs}
@@ -18,14 +18,20 @@ returns : tie.Need-returns
 returns c =
     let a = c .before .before .before .before .before .args in
     let laid = c .before .before .lay-out in
-    too-long (a .list .now) (laid .result) (laid .ensures .0) (settings-of (a .st)) (laid .ensures .1) (a .out .now) (c .if1 .taken)
+    length-not-stated (a .list .now) (laid .result) (laid .ensures .0) (settings-of (a .st)) (laid .ensures .1) (a .stated) (a .out .now) (c .if1 .taken)
+
+returns-2 : tie.Need-returns-2
+returns-2 c =
+    let a = c .before .before .before .before .before .before .args in
+    let laid = c .before .before .before .lay-out in
+    too-long (a .list .now) (laid .result) (laid .ensures .0) (settings-of (a .st)) (laid .ensures .1) (a .stated) (a .out .now) (c .before .if1 .left) (c .if2 .taken)
 
 write-header-requires : tie.Need-write-header-requires
 write-header-requires c κs =
-    let if1 = c .before .before .if1 in
-    let a = c .before .before .before .before .before .before .before .args in
-    let laid = c .before .before .before .before .lay-out in
-    (plan-short (a .list .now) (laid .result) (laid .ensures .0), omega (arith, header-room (a .list .now) (laid .result) (laid .ensures .0), if1 .left))
+    let if2 = c .before .before .if2 in
+    let a = c .before .before .before .before .before .before .before .before .args in
+    let laid = c .before .before .before .before .before .lay-out in
+    (plan-short (a .list .now) (laid .result) (laid .ensures .0), omega (arith, header-room (a .list .now) (laid .result) (laid .ensures .0), if2 .left))
 
 write-records-requires : tie.Need-write-records-requires
 write-records-requires c κs = search needs
@@ -33,14 +39,15 @@ write-records-requires c κs = search needs
 same-length : tie.Need-same-length
 same-length c = search needs
 
-returns-2 : tie.Need-returns-2
-returns-2 c =
-    let if1 = c .before .before .before .before .before .before .before .before .before .if1 in
+returns-3 : tie.Need-returns-3
+returns-3 c =
+    let if1 = c .before .before .before .before .before .before .before .before .before .before .if1 in
+    let if2 = c .before .before .before .before .before .before .before .before .before .if2 in
     let write-header = c .before .before .before .before .before .before .write-header in
     let write-records = c .before .before .write-records in
-    let a = c .before .before .before .before .before .before .before .before .before .before .before .before .before .before .args in
-    let laid = c .before .before .before .before .before .before .before .before .before .before .before .lay-out in
-    image-built (a .list .now) (laid .result) (laid .ensures .0) (settings-of (a .st)) (laid .ensures .1) (a .out .now) _ _ (if1 .left) (write-header .ensures) (write-records .ensures)
+    let a = c .before .before .before .before .before .before .before .before .before .before .before .before .before .before .before .args in
+    let laid = c .before .before .before .before .before .before .before .before .before .before .before .before .lay-out in
+    image-built (a .list .now) (laid .result) (laid .ensures .0) (settings-of (a .st)) (laid .ensures .1) (a .stated) (a .out .now) _ _ (if1 .left) (if2 .left) (write-header .ensures) (write-records .ensures)
 
 pub build-image-spec : {M : Type 1} → statement M
 build-image-spec =
@@ -49,7 +56,8 @@ build-image-spec =
     lay-out-requires
     array-read-end
     returns
+    returns-2
     write-header-requires
     write-records-requires
     same-length
-    returns-2)
+    returns-3)

@@ -1,0 +1,21 @@
+-- The plan's end is the image's length.
+use borrow.Author.Needs.{needs}
+use Rattle.build.specs.Build.{settings-of}
+use Rattle.build.proofs.AnswerLaws.{image-end}
+use Rattle.build.proofs.image.measure_image.Statement.{statement}
+use Rattle.build.proofs.image.measure_image.Tie as tie
+
+lay-out-requires : tie.Need-lay-out-requires
+lay-out-requires c κs = search needs
+
+array-read-result : tie.Need-array-read-result
+array-read-result c = search needs
+
+returns : tie.Need-returns
+returns c =
+    let a = c .before .before .before .args in
+    let laid = c .before .lay-out in
+    image-end (a .list .now) (laid .result) (laid .ensures .0) (settings-of (a .st)) (laid .ensures .1)
+
+pub measure-image-spec : {M : Type 1} → statement M
+measure-image-spec = tie.close (tie.spec lay-out-requires array-read-result returns)
