@@ -1,4 +1,4 @@
-// A level of sparse nodes by the tables, where these are known to be right.
+// Ranks and levels of sparse nodes by the tables, where these are known to be right.
 ghost use mathlib.Core.Path.{_≡_};
 ghost use Prim.Native.Nat.{_≤_, _<_};
 ghost use Rattle.bits_laws.specs.Bits.{rank, select};
@@ -20,29 +20,29 @@ use image_types::SPARSE_BLOCK_BITS;
 use image_types::SPARSE_BLOCK_WORDS;
 
 // Where sparse node m, counted from 0 among the sparse ones, begins: the search starts at the sample before it.
-fn first_entry(image: &[u8], f: Frame, m: usize) -> usize
+fn first_entry(image: &[u8], f: Frame, m: usize) -> BitPos
     requires { ⌜ Indexed (now image) f × (m < f .sparse .nodes) ⌝ }
-    ensures { λ r. ⌜ r ≡ select (sb-body (now (image .entry)) f) (f .sparse .entries) m ⌝ }
+    ensures { λ r. ⌜ r .0 ≡ select (sb-body (now (image .entry)) f) (f .sparse .entries) m ⌝ }
 {
     let entries = f.sparse.entries;
     let sb = part(image, f.sb, bytes_for(entries));
     let samples = part(image, f.ts, 4 * blocks_for(SAMPLE_RATE, f.sparse.nodes));
     let t = m / SAMPLE_RATE;
     let sample = read32(samples, 4 * t);
-    select_from(sb, entries, sample, SAMPLE_RATE * t, m)
+    BitPos(select_from(sb, entries, sample, SAMPLE_RATE * t, m))
 }
 
-// The sparse entries that continue before one, counted on from the rank of its block.
-fn children_before(image: &[u8], f: Frame, entry: usize) -> usize
-    requires { ⌜ Indexed (now image) f × (entry < f .sparse .entries) ⌝ }
-    ensures { λ r. ⌜ r ≡ rank (sc-body (now (image .entry)) f) entry ⌝ }
+// The sparse entries that continue before the one at a position, counted on from the rank of its block.
+pub fn children_before(image: &[u8], f: Frame, at: BitPos) -> usize
+    requires { ⌜ Indexed (now image) f × (at .0 < f .sparse .entries) ⌝ }
+    ensures { λ r. ⌜ r ≡ rank (sc-body (now (image .entry)) f) (at .0) ⌝ }
 {
     let entries = f.sparse.entries;
     let sc = part(image, f.sc, bytes_for(entries));
     let ranks = part(image, f.rs, 4 * blocks_for(SPARSE_BLOCK_BITS, entries));
-    let block = entry / SPARSE_BLOCK_BITS;
+    let block = at.0 / SPARSE_BLOCK_BITS;
     let before = read32(ranks, 4 * block);
-    rank_from(sc, SPARSE_BLOCK_WORDS * block, before, entry)
+    rank_from(sc, SPARSE_BLOCK_WORDS * block, before, at.0)
 }
 
 // The level that starts at a sparse node.
@@ -54,7 +54,7 @@ pub fn level_by_tables(image: &[u8], f: Frame, node: NodeNum) -> Level
     let branches = f.totals.children + children_before(image, f, entry);
     Level {
         node,
-        entry: BitPos(entry),
+        entry,
         branches,
     }
 }

@@ -1,55 +1,38 @@
-// The levels 62 and 63, the only ones with suffix bits past a key's 64th byte. Each level is found from the one above by the samples of S-LOUDS and the ranks of S-HasChild.
+// The levels 62 and 63, the only ones with suffix bits past a key's 64th byte. Each level is found from the one above, by the tables.
 ghost use mathlib.Core.Path.{_≡_};
 ghost use Prim.Native.Nat.{_+_, _≤_, _<_};
 ghost use Rattle.check_trie_laws.specs.Levels.{LevelOf, Behind};
 ghost use Rattle.check_slots_laws.specs.Passed.{Passed-to-15};
-ghost use Rattle.check_slots_laws.specs.LastLevels.{Sparse-node, Level-at, slot-of, Slot-room};
+ghost use Rattle.check_slots_laws.specs.LastLevels.{Level-at, slot-of, Slot-room};
 ghost use Rattle.check_slots_laws.specs.SlotTests.{last-levels-clear};
 use super::clear::bits_clear;
 use super::clear::past_clear;
-use super::ranks::children_before;
 use bits::numbers::bytes_for;
-use bits::numbers::read32;
-use bits::numbers::smaller;
 use bits::parts::part;
-use check_levels::step::level_at;
+use check_levels::tables::level_by_tables;
 use check_trie_laws::Level;
 use image_types::BitPos;
 use image_types::Frame;
 use image_types::NodeNum;
-use image_types::SAMPLE_RATE;
 use image_types::ValuePos;
 
 // The level whose slots may have bits past the 64th byte behind their first byte; all bits of the slots on the level below it are past that byte.
 const LEVEL_BEFORE_LAST: usize = 62;
 
-// From where the level that starts at a node is found: the last sampled node at or before it, as a level, or one before it where that comes later. A sample gives the first entry of every 64th sparse node.
-fn level_near(image: &[u8], f: Frame, from: Level, node: NodeNum) -> Level
-    requires { ⌜ Passed-to-15 (now image) f × LevelOf (now image) f from × Behind f from (node .0) × Sparse-node f (from .node .0) ⌝ }
-    ensures { λ r. ⌜ LevelOf (now (image .entry)) f r × Behind f r (node .0) ⌝ }
-{
-    let last = f.dense.nodes + f.sparse.nodes - 1;
-    let sample = (smaller(node.0, last) - f.dense.nodes) / SAMPLE_RATE;
-    let first = f.dense.nodes + SAMPLE_RATE * sample;
-    if first <= from.node.0 {
-        return from;
-    }
-    let entry = BitPos(read32(image, f.ts + 4 * sample));
-    let branches = f.totals.children + children_before(image, f, entry);
-    Level {
-        node: NodeNum(first),
-        entry,
-        branches,
-    }
-}
-
-// The level below a sparse level that has a node, or the node count where there is none.
+// The level below a sparse level that has a node, by the tables, or the node count where there is none: all entries and all branches that continue stand before it.
 fn level_below(image: &[u8], f: Frame, level: Level) -> Level
-    requires { ⌜ Passed-to-15 (now image) f × LevelOf (now image) f level × Behind f level (level .branches + 1) × Sparse-node f (level .node .0) ⌝ }
+    requires { ⌜ Passed-to-15 (now image) f × (0 < f .leaves) × Behind f level (level .branches + 1) × (f .dense .nodes ≤ level .node .0) ⌝ }
     ensures { λ r. ⌜ LevelOf (now (image .entry)) f r × (r .node .0 ≡ level .branches + 1) ⌝ }
 {
     let node = NodeNum(level.branches + 1);
-    level_at(image, f, level_near(image, f, level, node), node)
+    if node.0 < f.dense.nodes + f.sparse.nodes {
+        return level_by_tables(image, f, node);
+    }
+    Level {
+        node,
+        entry: BitPos(f.sparse.entries),
+        branches: level.branches,
+    }
 }
 
 // A sparse level by its number, found from the first sparse one on.

@@ -3,7 +3,6 @@
 
 pub mod clear; // clear.rt: bits and suffix slots that are clear
 pub mod dense; // dense.rt: the exact leaves among the dense nodes
-pub mod ranks; // ranks.rt: the sparse entries that continue before one
 pub mod starts; // starts.rt: the starts of nodes with several entries in a word of S-LOUDS
 pub mod sparse; // sparse.rt: those among the sparse nodes
 pub mod levels; // levels.rt: the levels 62 and 63

@@ -6,22 +6,17 @@ use native.Mathlib.Omega.{arith}
 use native.Mathlib.Nat.{mul-le-mul-right}
 use borrow.Author.Tests.{lt-ltb, le-ltb, eq-eqb}
 use Rattle.spec.specs.Bytes.{Bytes}
-use Rattle.bits_laws.specs.Bits.{rank, select}
+use Rattle.bits_laws.specs.Bits.{rank}
 use Rattle.bits_laws.specs.RankLaws.{rank-le}
 use Rattle.image_types.specs.declared.Frame.{Frame}
 use Rattle.check_trie_laws.specs.declared.Level.{Level}
-use Rattle.check_trie_laws.specs.Bodies.{sc-body, sb-body, sv-body}
-use Rattle.check_trie_laws.specs.Levels.{node-count, branches-before, Louds-valid, LevelOf, Behind, level-sparse, sparse-level, entry-within, branches-from}
+use Rattle.check_trie_laws.specs.Bodies.{sc-body, sv-body}
+use Rattle.check_trie_laws.specs.Levels.{node-count, branches-before, first-entry, Louds-valid, LevelOf, Behind, level-sparse, sparse-level, entry-within, branches-from}
 use Rattle.check_trie_laws.specs.BodyTests.{counts-few}
 use Rattle.check_trie_laws.specs.Ranges.{all-from, from-none}
 use Rattle.check_slots_laws.specs.Passed.{Passed-to-15, bits-pass}
-use Rattle.check_slots_laws.specs.LevelStarts.{level-start, dense-leaf-count, leaves-to, dense-room, start-first, start-low, start-next, start-up, start-last, leaves-last}
+use Rattle.check_slots_laws.specs.LevelStarts.{level-start, dense-leaf-count, leaves-to, counts, dense-room, start-first, start-low, start-next, start-up, start-last, entries-last, leaves-last}
 use Rattle.check_slots_laws.specs.SlotTests.{clear-at, level-slot, last-levels-clear, slots-within}
-
--- a sparse node, counted among all nodes
-pub record Sparse-node (f : Frame) (i : ℕ) : Type 0 where
-  pub from : f .dense .nodes ≤ i
-  pub to : i < node-count f
 
 -- a level by its number: what is known of it, and that its first node is the level's
 pub record Level-at (s : Bytes) (f : Frame) (t : ℕ) (l : Level) : Type 0 where
@@ -37,14 +32,6 @@ pub record Slot-room (f : Frame) (l : Level) : Type 0 where
   pub branches : l .branches ≤ f .totals .entries + l .entry .0
   pub few : f .totals .entries + l .entry .0 < 1108101562368
 
-module _ (s : Bytes) (f : Frame) (j : Passed-to-15 s f) where
-  -- a sampled sparse node as a level, by its first entry
-  pub sampled-level : (t : ℕ) → 64 * t < f .sparse .nodes → (l : Level) → l .node .0 ≡ f .dense .nodes + 64 * t → l .entry .0 ≡ select (sb-body s f) (f .sparse .entries) (64 * t)
-      → l .branches ≡ f .totals .children + rank (sc-body s f) (l .entry .0) → LevelOf s f l
-  sampled-level t h l n e b =
-      let d : 64 * t ≡ l .node .0 - f .dense .nodes = omega arith in
-      sparse-level s f (bits-pass s f j .louds) l (omega arith) (omega arith) (e ∙ ap (select (sb-body s f) (f .sparse .entries)) d) b
-
 module _ (s : Bytes) (f : Frame) (j : Passed-to-15 s f) (some : 0 < f .leaves) where
   louds : Louds-valid s f
   louds = bits-pass s f j .louds
@@ -52,6 +39,11 @@ module _ (s : Bytes) (f : Frame) (j : Passed-to-15 s f) (some : 0 < f .leaves) w
   -- the first sparse level
   pub first-level : (l : Level) → l .node .0 ≡ f .dense .nodes → l .entry .0 ≡ 0 → l .branches ≡ f .totals .children → Level-at s f (f .dense .levels) l
   first-level l a b c = record { level = level-sparse s f louds l a b c; start = a ∙ sym (start-first s f j some) }
+
+  -- the node count as a level: all entries and all branches that continue stand before it
+  pub level-end : (l : Level) → l .node .0 ≡ node-count f → l .entry .0 ≡ f .sparse .entries → l .branches + 1 ≡ node-count f → LevelOf s f l
+  level-end l a b c =
+      sparse-level s f louds l (omega arith) (omega arith) (b ∙ sym (entries-last s f j some) ∙ ap (first-entry s f) (sym a)) (omega (arith, counts s f j some .node-total, ap (rank (sc-body s f)) b))
 
   -- behind the last node there is no further level
   pub no-level : (k t : ℕ) → node-count f ≤ level-start s f t → level-start s f (t + k) ≡ level-start s f t
@@ -63,7 +55,7 @@ module _ (s : Bytes) (f : Frame) (j : Passed-to-15 s f) (some : 0 < f .leaves) w
       ∙ ap (λ (b : Bool). cond b (branches-before s f (level-start s f (t + k)) + 1) (level-start s f (t + k))) (le-ltb (level-start s f (t + k)) (node-count f) (omega arith)) ∙ i
 
   -- a level that has a node
-  module _ (t : ℕ) (low : f .dense .levels ≤ t) (high : t < 64) (l : Level) (a : Level-at s f t l) (m : l .node .0 < node-count f) where
+  module _ (t : ℕ) (high : t < 64) (l : Level) (a : Level-at s f t l) (m : l .node .0 < node-count f) where
     -- the level below it
     pub next-start : l .branches + 1 ≡ level-start s f (suc t)
     next-start =
@@ -84,18 +76,19 @@ module _ (s : Bytes) (f : Frame) (j : Passed-to-15 s f) (some : 0 < f .leaves) w
         start-within : (t : ℕ) → t ≤ 64 → level-start s f t ≤ node-count f
         start-within t h = let e : t + (64 - t) ≡ 64 = omega arith in omega (arith, up (64 - t) t (omega arith), ap (level-start s f) e, start-last s f j some)
 
-    -- its first node is sparse
-    pub level-first : Sparse-node f (l .node .0)
-    level-first = record { from = rw (a .start) (start-low s f j some t low (omega arith)); to = m }
-
     pub level-below : (next : Level) → LevelOf s f next → next .node .0 ≡ l .branches + 1 → Level-at s f (suc t) next
     level-below next o e = record { level = o; start = e ∙ next-start }
 
-  -- the slots of a sparse level
+  -- a sparse level
   module _ (t : ℕ) (low : f .dense .levels ≤ t) (high : t ≤ 64) (l : Level) (a : Level-at s f t l) where
+    -- its first node is sparse, or the node count
+    pub level-first : f .dense .nodes ≤ l .node .0
+    level-first = rw (a .start) (start-low s f j some t low high)
+
+    -- its slots
     by-entry : l .branches ≡ f .totals .children + rank (sc-body s f) (l .entry .0)
     by-entry =
-        a .level .branches ∙ branches-from s f louds (l .node .0) (rw (a .start) (start-low s f j some t low high))
+        a .level .branches ∙ branches-from s f louds (l .node .0) level-first
         ∙ ap (λ (k : ℕ). f .totals .children + rank (sc-body s f) k) (sym (a .level .entry))
 
     pub slot-room : Slot-room f l

@@ -245,10 +245,14 @@ module _ (s : Bytes) (f : Frame) (j : Passed-to-15 s f) (some : 0 < f .leaves) w
       few : {r : ℕ} → f .totals .entries + f .sparse .entries ≡ f .leaves + (f .totals .children + r) → r ≤ f .sparse .entries → f .leaves ≤ 65535 → dense-leaf-count f ≤ 65535
       few e h l = omega arith
 
+  -- all sparse entries
+  pub entries-last : first-entry s f (node-count f) ≡ f .sparse .entries
+  entries-last =
+      let e : node-count f - f .dense .nodes ≡ f .sparse .nodes = omega arith in
+      ap (select (sb-body s f) (f .sparse .entries)) e ∙ select-all (sb-body s f) (f .sparse .entries) (f .sparse .nodes) (omega (arith, pass .louds .count))
+
   -- all leaves
   pub leaves-last : leaves-to s f (node-count f) ≡ f .leaves
   leaves-last =
-      let e : node-count f - f .dense .nodes ≡ f .sparse .nodes = omega arith in
-      let k : first-entry s f (node-count f) ≡ f .sparse .entries = ap (select (sb-body s f) (f .sparse .entries)) e ∙ select-all (sb-body s f) (f .sparse .entries) (f .sparse .nodes) (omega (arith, pass .louds .count)) in
-      let r : rank (sc-body s f) (first-entry s f (node-count f)) ≡ rank (sc-body s f) (f .sparse .entries) = ap (rank (sc-body s f)) k in
-      omega (arith, rank-le (sc-body s f) (f .sparse .entries), counts .leaf-total, dense-room)
+      let r : rank (sc-body s f) (first-entry s f (node-count f)) ≡ rank (sc-body s f) (f .sparse .entries) = ap (rank (sc-body s f)) entries-last in
+      omega (arith, entries-last, rank-le (sc-body s f) (f .sparse .entries), counts .leaf-total, dense-room)

@@ -1,28 +1,22 @@
--- Table entries of the rank tables of an image that passed the numbers 11 to 15: entry b is the ones before bit w b of its body.
-use Prim.Native.Nat.{ℕ, zero, suc, _+_, _-_, _*_, _/_, _%_, _^_, _<_, _≤_}
+-- Table entries of the rank tables of the dense nodes of an image that passed the numbers 11 to 15: entry b is the ones before bit 64 b of its body.
+use Prim.Native.Nat.{ℕ, zero, suc, _+_, _*_, _/_, _%_, _^_, _<_, _≤_}
 use mathlib.Core.Path.{_≡_, sym, ap, ap₂, _∙_}
-use mathlib.Core.Bool.{true, false}
+use mathlib.Core.Bool.{true}
 use mathlib.Core.List.{[], _∷_, _++_, map}
 use native.Mathlib.Omega.{arith}
-use native.Mathlib.Nat.{mod-eq-of-lt}
 use lib.ListN.{length, getD, take, drop}
 use lib.Seq.{getD-drop, getD-take}
 use lib.Pow.{field, mod-mod-pow}
 use Rattle.spec.specs.Bytes.{Bytes, Bits, concat, iota, blocks, equal, ones, le32, from32}
-use Rattle.spec.specs.Image.{Bodies, ranks, positions, samples}
+use Rattle.spec.specs.Image.{Bodies, ranks, samples}
 use Rattle.spec.specs.Frame.{Parts, named}
 use Rattle.spec.specs.Check.{ranks-valid}
-use Rattle.bits_laws.specs.Bits.{part, rank, select}
-use Rattle.bits_laws.specs.PartLaws.{bits-room}
-use Rattle.bits_laws.specs.RankLaws.{rank-le}
-use Rattle.bits_laws.specs.SelectLaws.{select-le, select-found}
+use Rattle.bits_laws.specs.Bits.{part, rank}
 use Rattle.image_types.specs.FrameOf.{frame-named, frame-parts}
 use Rattle.image_types.specs.declared.Frame.{Frame}
-use Rattle.check_trie_laws.specs.SparseNodes.{position-of}
-use Rattle.check_trie_laws.specs.Positions.{bits, length-bits, ones-bits, ones-all, position-select}
-use Rattle.check_trie_laws.specs.Bodies.{dl-body, dc-body, sc-body, sb-body, bodies-sized}
-use Rattle.check_slots_laws.specs.Passed.{Passed-to-15, bits-pass}
-use Rattle.theory.specs.Bits.{length-positions}
+use Rattle.check_trie_laws.specs.Positions.{bits, length-bits, ones-bits}
+use Rattle.check_trie_laws.specs.Bodies.{dl-body, dc-body, bodies-sized}
+use Rattle.check_slots_laws.specs.Passed.{Passed-to-15}
 use Rattle.theory.specs.Order.{equal-true}
 use Rattle.theory.specs.Frame.{from32-le32}
 use Rattle.theory.specs.Lists.{every-true}
@@ -70,30 +64,11 @@ rank-entry w bs b h =
     let e : 0 + b ≡ b = omega arith in
     row (λ b. ones (take (w * b) bs)) (blocks w (length bs)) 0 b h ∙ ap (λ (k : ℕ). ones (take (w * k) bs) % 4294967296) e
 
--- a one by its number is where it stands
-position-at : (i : ℕ) (bs : Bits) (m : ℕ) → m < ones bs → getD (positions i bs) m 0 ≡ i + position-of m bs
-unfolding positions position-of ones
-position-at i [] m h = absurd (omega arith)
-position-at i (true ∷ bs) zero h = omega arith
-position-at i (true ∷ bs) (suc m) h = omega (arith, position-at (suc i) bs m (omega arith))
-position-at i (false ∷ bs) m h = omega (arith, position-at (suc i) bs m (omega arith))
-
--- sample t
-sample-entry : (bs : Bits) (t : ℕ) → 64 * t < ones bs → from32 (drop (4 * t) (samples bs)) ≡ position-of (64 * t) bs % 4294967296
-unfolding samples
-sample-entry bs t h =
-    let e : 0 + t ≡ t = omega arith in
-    let p : getD (positions 0 bs) (64 * t) 0 ≡ position-of (64 * t) bs = omega (arith, position-at 0 bs (64 * t) h) in
-    row (λ t. getD (positions 0 bs) (64 * t) 0) (blocks 64 (length (positions 0 bs))) 0 t (omega (arith, length-positions 0 bs))
-    ∙ ap (λ (k : ℕ). getD (positions 0 bs) (64 * k) 0 % 4294967296) e ∙ ap (λ (k : ℕ). k % 4294967296) p
-
 module _ (s : Bytes) (f : Frame) (j : Passed-to-15 s f) where
   -- the tables that entry numbers are read from
   record Tables : Type 0 where
     rl : part s (f .rl) (4 * blocks 64 (256 * f .dense .nodes)) ≡ ranks 64 (bits (dl-body s f) (256 * f .dense .nodes))
     rc : part s (f .rc) (4 * blocks 64 (256 * f .dense .nodes)) ≡ ranks 64 (bits (dc-body s f) (256 * f .dense .nodes))
-    rs : part s (f .rs) (4 * blocks 512 (f .sparse .entries)) ≡ ranks 512 (bits (sc-body s f) (f .sparse .entries))
-    ts : part s (f .ts) (4 * blocks 64 (f .sparse .nodes)) ≡ samples (bits (sb-body s f) (f .sparse .entries))
 
   tables : Tables
   unfolding ranks-valid named
@@ -105,8 +80,6 @@ module _ (s : Bytes) (f : Frame) (j : Passed-to-15 s f) where
       record {
         rl = equal-true (b .RL) (ranks 64 (p .dl)) (q .0);
         rc = equal-true (b .RC) (ranks 64 (p .dc)) (q .1 .0);
-        rs = equal-true (b .RS) (ranks 512 (p .sc)) (q .1 .1 .1 .0);
-        ts = equal-true (b .TS) (samples (p .sb)) (q .1 .1 .1 .1 .0);
       }
 
   -- the entry for dense node m, which has four blocks of 64 bits
@@ -126,27 +99,3 @@ module _ (s : Bytes) (f : Frame) (j : Passed-to-15 s f) where
 
   pub child-entry : (m : ℕ) → m < f .dense .nodes → from32 (drop (f .rc + 16 * m) s) ≡ rank (dc-body s f) (256 * m) % 4294967296
   child-entry = node-entry (f .rc) (dc-body s f) (bodies-sized s f (j .frame) .dc) (tables .rc)
-
-  -- the sparse entries that continue before block b of 512
-  pub block-entry : (b : ℕ) → 512 * b < f .sparse .entries → from32 (drop (f .rs + 4 * b) s) ≡ rank (sc-body s f) (512 * b)
-  block-entry b h =
-      let l = bits-room (f .sparse .entries) (sc-body s f) (bodies-sized s f (j .frame) .sc) in
-      sym (from-part s (f .rs) (4 * blocks 512 (f .sparse .entries)) (4 * b) (omega arith)) ∙ ap (λ (t : Bytes). from32 (drop (4 * b) t)) (tables .rs)
-      ∙ rank-entry 512 (bits (sc-body s f) (f .sparse .entries)) b (omega (arith, length-bits (sc-body s f) (f .sparse .entries) l))
-      ∙ ap (λ (k : ℕ). k % 4294967296) (ones-bits (sc-body s f) (f .sparse .entries) (512 * b) (omega arith))
-      ∙ mod-eq-of-lt (omega (arith, rank-le (sc-body s f) (512 * b), j .frame .entries))
-
-  -- the first entry of sparse node 64 t, counted among the sparse nodes
-  pub start-entry : (t : ℕ) → 64 * t < f .sparse .nodes → (from32 (drop (f .ts + 4 * t) s) ≡ select (sb-body s f) (f .sparse .entries) (64 * t)) × (select (sb-body s f) (f .sparse .entries) (64 * t) < f .sparse .entries)
-  start-entry t h = (read, select-found (sb-body s f) (f .sparse .entries) (64 * t) (omega (arith, count)) .0)
-    where
-      count : rank (sb-body s f) (f .sparse .entries) ≡ f .sparse .nodes
-      count = bits-pass s f j .louds .count
-
-      read : from32 (drop (f .ts + 4 * t) s) ≡ select (sb-body s f) (f .sparse .entries) (64 * t)
-      read =
-          let l = bits-room (f .sparse .entries) (sb-body s f) (bodies-sized s f (j .frame) .sb) in
-          sym (from-part s (f .ts) (4 * blocks 64 (f .sparse .nodes)) (4 * t) (omega arith)) ∙ ap (λ (b : Bytes). from32 (drop (4 * t) b)) (tables .ts)
-          ∙ sample-entry (bits (sb-body s f) (f .sparse .entries)) t (omega (arith, ones-all (sb-body s f) (f .sparse .entries), count))
-          ∙ ap (λ (k : ℕ). k % 4294967296) (position-select (sb-body s f) (f .sparse .entries) (64 * t) l)
-          ∙ mod-eq-of-lt (omega (arith, select-le (sb-body s f) (f .sparse .entries) (64 * t), j .frame .entries))

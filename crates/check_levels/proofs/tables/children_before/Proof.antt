@@ -51,35 +51,35 @@ mul-read32 c = search needs
 
 read32-requires : tie.Need-read32-requires
 read32-requires c κs =
-    let b = c .before .before .before .before .before in
+    let b = c .before .before .before .before .before .before in
     let a = b .args in
     let w = within (a .image .now) (a .f) (b .pre .0 .louds .frame) in
-    rw (c .part2 .ensures, c .before .blocks-for .ensures) (room (b .pre .1) (length-part (a .image .now) (a .f .rs) (4 * blocks 512 (a .f .sparse .entries)) (w .rs)))
+    rw (c .before .part2 .ensures, c .before .before .blocks-for .ensures) (room (b .pre .1) (length-part (a .image .now) (a .f .rs) (4 * blocks 512 (a .f .sparse .entries)) (w .rs)))
 
 mul-rank-from : tie.Need-mul-rank-from
 mul-rank-from c = search needs
 
 rank-from-requires : tie.Need-rank-from-requires
 rank-from-requires c κs =
-    let b = c .before .before .before .before .before .before in
+    let b = c .before .before .before .before .before .before .before in
     let a = b .args in
     let s : Bytes = a .image .now in
     let h = b .pre .0 in
-    let small : Small s = λ i. c .before .before .before .before .before .shared-slice-known .given i .fits in
-    let sc : c .before .before .before .part .result .now ≡ sc-body s (a .f) = lent-part s (a .f .sc) (c .before .before .before .part .ensures) (c .before .before .before .before .bytes-for .ensures) in
-    let e = (rw (c .before .part2 .ensures, c .before .before .blocks-for .ensures) at (c .read32 .ensures .0)) ∙ rank-read s (a .f) h small (a .entry) (b .pre .1) in
+    let small : Small s = λ i. c .before .before .before .before .before .before .shared-slice-known .given i .fits in
+    let sc : c .before .before .before .before .part .result .now ≡ sc-body s (a .f) = lent-part s (a .f .sc) (c .before .before .before .before .part .ensures) (c .before .before .before .before .before .bytes-for .ensures) in
+    let e = (rw (c .before .before .part2 .ensures, c .before .before .before .blocks-for .ensures) at (c .read32 .ensures .0)) ∙ rank-read s (a .f) h small (a .at .0) (b .pre .1) in
     rw sc (
       omega (arith, b .pre .1, bits-room (a .f .sparse .entries) (sc-body s (a .f)) (bodies-sized s (a .f) (h .louds .frame) .sc)),
       omega arith,
-      e ∙ ap (rank (sc-body s (a .f))) (bits (a .entry)),
+      e ∙ ap (rank (sc-body s (a .f))) (bits (a .at .0)),
     )
 
 returns : tie.Need-returns
 returns c =
-    let b = c .before .before .before .before .before .before .before in
+    let b = c .before .before .before .before .before .before .before .before in
     let a = b .args in
     let s : Bytes = a .image .now in
-    let sc : c .before .before .before .before .part .result .now ≡ sc-body s (a .f) = lent-part s (a .f .sc) (c .before .before .before .before .part .ensures) (c .before .before .before .before .before .bytes-for .ensures) in
+    let sc : c .before .before .before .before .before .part .result .now ≡ sc-body s (a .f) = lent-part s (a .f .sc) (c .before .before .before .before .before .part .ensures) (c .before .before .before .before .before .before .bytes-for .ensures) in
     rw sc at (c .rank-from .ensures)
 
 pub children-before-spec : {M : Type 1} → statement M

@@ -45,8 +45,8 @@ add-branches c =
     let s = a .image .now in
     let v = b .pre .0 .louds in
     let m = a .node .0 - a .f .dense .nodes in
-    let e : c .before .before .first-entry .result < a .f .sparse .entries = rw (c .before .before .first-entry .ensures) (select-found (sb-body s (a .f)) (a .f .sparse .entries) m (before-end (v .count) (b .pre .1) (b .pre .2)) .0) in
-    sum-fits (dense-children s (a .f) (v .frame)) (rank-le (dc-body s (a .f)) (256 * a .f .dense .nodes)) (v .frame .dense) (rw (c .before .children-before .ensures) (rank-le (sc-body s (a .f)) (c .before .before .first-entry .result))) e (v .frame .entries)
+    let e : c .before .before .first-entry .result .0 < a .f .sparse .entries = rw (c .before .before .first-entry .ensures) (select-found (sb-body s (a .f)) (a .f .sparse .entries) m (before-end (v .count) (b .pre .1) (b .pre .2)) .0) in
+    sum-fits (dense-children s (a .f) (v .frame)) (rank-le (dc-body s (a .f)) (256 * a .f .dense .nodes)) (v .frame .dense) (rw (c .before .children-before .ensures) (rank-le (sc-body s (a .f)) (c .before .before .first-entry .result .0))) e (v .frame .entries)
 
 returns : tie.Need-returns
 returns c =

@@ -21,6 +21,9 @@ nodes-fit h l = record { fits = omega arith }
 inside : {d n : ℕ} → d < n → n < 64 → d < 64
 inside h l = omega arith
 
+weaken : {d n : ℕ} → d < n → d ≤ n
+weaken h = omega arith
+
 rejoin : {d n : ℕ} → d ≤ n → d + (n - d) ≡ n
 rejoin h = omega arith
 
@@ -55,9 +58,9 @@ level-below-requires c κs =
     let l = c .before .before .before .loop in
     let t = inside (c .before .before .loop-test .taken) (p .3) in (
       p .0,
-      l .inv .2 .level,
-      next-behind (a .image .now) (a .f) (p .0) (p .1) (l .depth) (l .inv .0) t (l .level) (l .inv .2) (c .if1 .left),
-      level-first (a .image .now) (a .f) (p .0) (p .1) (l .depth) (l .inv .0) t (l .level) (l .inv .2) (c .if1 .left),
+      p .1,
+      next-behind (a .image .now) (a .f) (p .0) (p .1) (l .depth) t (l .level) (l .inv .2) (c .if1 .left),
+      level-first (a .image .now) (a .f) (p .0) (p .1) (l .depth) (l .inv .0) (weaken t) (l .level) (l .inv .2),
     )
 
 add-depth : tie.Need-add-depth Inv-loop μ-loop
@@ -80,7 +83,7 @@ loop-again c =
     let t = c .before .before .before .loop-test .taken in
     let r = c .level-below in
     let e : suc (l .depth) ≡ l .depth + 1 = omega arith in
-    (more (l .inv .0), next t, rw e at (level-below (a .image .now) (a .f) (p .0) (p .1) (l .depth) (l .inv .0) (inside t (p .3)) (l .level) (l .inv .2) (c .before .if1 .left) (r .result) (r .ensures .0) (r .ensures .1)))
+    (more (l .inv .0), next t, rw e at (level-below (a .image .now) (a .f) (p .0) (p .1) (l .depth) (inside t (p .3)) (l .level) (l .inv .2) (c .before .if1 .left) (r .result) (r .ensures .0) (r .ensures .1)))
 
 returns-2 : tie.Need-returns-2 Inv-loop μ-loop
 returns-2 c =

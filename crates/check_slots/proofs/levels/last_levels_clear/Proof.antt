@@ -37,7 +37,7 @@ module _ (s : Bytes) (f : Frame) (j : Passed-to-15 s f) (some : 0 < f .leaves) (
   low = shallow (j .frame .levels)
 
   under : Level-at s f 63 n
-  under = level-below s f j some 62 (low .0) (omega arith) l a m n o e
+  under = level-below s f j some 62 (omega arith) l a m n o e
 
   rooms : Slot-room f l × Slot-room f n
   rooms = (slot-room s f j some 62 (low .0) (omega arith) l a, slot-room s f j some 63 (low .1) (omega arith) n under)
@@ -66,9 +66,9 @@ level-below-requires c κs =
     let r = c .before .before .before .find-level in
     let low = shallow (p .0 .frame .levels) .0 in (
       p .0,
-      r .ensures .level,
-      next-behind (a .image .now) (a .f) (p .0) (p .1) 62 low (omega arith) (r .result) (r .ensures) (c .if1 .left),
-      level-first (a .image .now) (a .f) (p .0) (p .1) 62 low (omega arith) (r .result) (r .ensures) (c .if1 .left),
+      p .1,
+      next-behind (a .image .now) (a .f) (p .0) (p .1) 62 (omega arith) (r .result) (r .ensures) (c .if1 .left),
+      level-first (a .image .now) (a .f) (p .0) (p .1) 62 low (omega arith) (r .result) (r .ensures),
     )
 
 first-slot-requires : tie.Need-first-slot-requires

@@ -10,6 +10,7 @@ use Rattle.image_types.specs.FrameOf.{within}
 use Rattle.check_trie_laws.specs.Bodies.{sc-body, sb-body, sv-body, bodies-sized}
 use Rattle.check_slots_laws.specs.LevelStarts.{dense-room, dense-few}
 use Rattle.check_slots_laws.specs.SlotTests.{slots-sized}
+use Rattle.check_slots.specs.Tables.{indexed}
 use borrow.Author.Needs.{needs}
 use Rattle.check_slots.proofs.sparse.word_clear.Statement.{statement}
 use Rattle.check_slots.proofs.sparse.word_clear.Tie as tie
@@ -51,7 +52,10 @@ mul-t12 : tie.Need-mul-t12
 mul-t12 c = search needs
 
 children-before-requires : tie.Need-children-before-requires
-children-before-requires c κs = search needs
+children-before-requires c κs =
+    let a = c .before .before .before .before .before .before .before .before .args in
+    let p = c .before .before .before .before .before .before .before .before .pre in
+    (indexed (a .image .now) (a .f) (p .0), p .2)
 
 starts-clear-requires : tie.Need-starts-clear-requires
 starts-clear-requires c κs =
