@@ -16,10 +16,14 @@ struct Part {
 }
 
 /// The parts of the report.
-const PARTS: [Part; 5] = [
+const PARTS: [Part; 6] = [
     Part {
         name: "build",
         print: tables::print_build,
+    },
+    Part {
+        name: "length",
+        print: tables::print_length,
     },
     Part {
         name: "check",

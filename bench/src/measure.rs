@@ -1,5 +1,5 @@
-//! The measurements: one call of the library and of the fast implementation on one list
-//! with one setting.
+//! The measurements: two calls that are compared on one list with one setting, of the
+//! library and of the fast implementation, or two of the library.
 
 use crate::questions::{questions, Kind};
 use crate::timing::{compare, Effort, Figures};
@@ -101,6 +101,18 @@ pub fn build(list: &List, setting: Setting) -> Figures {
     );
     assert_eq!(library_image, image);
     figures
+}
+
+/// Measures the call that gives the image's length against the one that builds, by key.
+pub fn length(list: &List, setting: Setting) -> Figures {
+    let mut image = list.room();
+    let Setting { dense_levels, n } = setting;
+    let (bytes, stated) = (list.bytes.as_slice(), list.stated(setting));
+    compare(
+        list.effort(),
+        || library::image_length(bytes, dense_levels, n).expect("the keys make a list"),
+        || library::build(bytes, dense_levels, n, stated, &mut image).length(),
+    )
 }
 
 /// Measures check by key.

@@ -59,6 +59,15 @@ pub fn print_build() {
     print_by_setting(measure::build);
 }
 
+/// Prints the table of the call that gives the image's length.
+pub fn print_length() {
+    print_heading(
+        "Image length",
+        "The first call of build against the second, both of the library; nanoseconds a key: length, build, ratio.",
+    );
+    print_by_setting(measure::length);
+}
+
 /// Prints the table of check.
 pub fn print_check() {
     print_heading("Check", "Nanoseconds a key: library, fast, ratio.");

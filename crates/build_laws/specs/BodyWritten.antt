@@ -10,7 +10,7 @@ use Rattle.spec.specs.Bytes.{Bytes, blocks}
 use Rattle.spec.specs.Keys.{keys-of}
 use Rattle.spec.specs.Image.{Counts}
 use Rattle.theory.specs.Terms.{Is-bytes}
-use Rattle.bits_laws.specs.Bits.{part, placed, rank}
+use Rattle.bits_laws.specs.Bits.{placed, rank}
 use Rattle.bits_laws.specs.Placing.{lent-front}
 use Rattle.bits_laws.specs.Parts.{mid-is}
 use Rattle.rank_tables_laws.specs.Entries.{rank-entries, sample-entries}
@@ -26,7 +26,7 @@ use Rattle.build_laws.specs.BodyChoice.{counters-of, levels-of}
 use Rattle.build_laws.specs.BodyRoom.{counters-few, body-room}
 use Rattle.build_laws.specs.BodyFilled.{left-body, body-filled, left-flipped, flipped-fits, flipped-again, left-whole}
 use Rattle.build_laws.specs.FlippedBits.{flipped}
-use Rattle.build_laws.specs.Plan.{Ready, Planned, plan-settings, plan-counters, plan-counted, list-body, body-at, size-at, start-at, span-at, body-size, ends-before, plan-short, entries-few, Laid-out, Body-room, Ranks-of, Samples-of, Gives, Writing, record-room}
+use Rattle.build_laws.specs.Plan.{Planned, plan-settings, plan-counters, plan-counted, list-body, body-at, size-at, start-at, span-at, body-size, ends-before, plan-short, entries-few, Laid-out, Body-room, Ranks-of, Samples-of, Gives, Writing, record-room}
 use Rattle.build_laws.specs.declared.Body.{Body}
 use Rattle.build_laws.specs.declared.Levels.{Levels}
 use Rattle.build_laws.specs.declared.Pass.{Pass}

@@ -20,7 +20,6 @@ use Rattle.build_laws.specs.declared.Kind.the-variants.{DL, DC, DP, SL, 
 use Rattle.build_laws.specs.declared.Body.{Body}
 use Rattle.build_laws.specs.declared.Body.the-variants.{Entries, Slots}
 use Rattle.build_laws.specs.Limits.{counter-max}
-use Rattle.build_laws.specs.declared.Cell.{Cell}
 use Rattle.build_laws.specs.declared.Key.{Key}
 use Rattle.build_laws.specs.declared.Pass.{Pass}
 use Rattle.build_laws.specs.declared.Levels.{Levels}

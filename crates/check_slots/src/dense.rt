@@ -1,7 +1,6 @@
 // The exact leaves among the dense nodes: the set bits of D-IsPrefixKey, their slots by the rank tables.
 ghost use mathlib.Core.Path.{_≡_};
 ghost use Prim.Native.Nat.{_≤_, _<_};
-ghost use Rattle.bits_laws.specs.Bits.{rank};
 ghost use Rattle.check_trie_laws.specs.Bodies.{dp-body};
 ghost use Rattle.check_slots_laws.specs.Passed.{Passed-to-15};
 ghost use Rattle.check_slots_laws.specs.DenseSlots.{Dense-node, Exact-from, exact-slot-of};

@@ -1,5 +1,5 @@
 -- Labels that are not below the next one, marked one a byte, against the S-LOUDS bits of the entries behind them. Eight labels are compared at once, the label of byte j by bit j of that byte.
-use Prim.Native.Nat.{ℕ, zero, suc, _+_, _-_, _*_, _/_, _%_, _^_, _≤_, _<_}
+use Prim.Native.Nat.{ℕ, zero, suc, _+_, _-_, _*_, _/_, _%_, _^_, _<_}
 use mathlib.Core.Path.{_≡_, refl, sym, ap, ap₂, _∙_}
 use mathlib.Core.Bool.{Bool, true, false, cond, _&&_, _||_, not, or-true, true≢false}
 use native.Mathlib.Omega.{arith}

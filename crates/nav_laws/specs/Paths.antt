@@ -193,8 +193,3 @@ behind-nothing (l ∷ g) = ap (λ (h : Group). l ∷ h) (behind-nothing g)
 pub onward-root : (ns : List Node) (path : List NodeNum) (cut : Bytes) (y : ℕ) → onward ns path cut 0 y ≡ from-label ns 63 (node-on path 0) y
 unfolding onward rest
 onward-root ns path cut y = append-nil (map (behind []) (from-label ns 63 (node-on path 0) y)) ∙ behind-nothing (from-label ns 63 (node-on path 0) y)
-
--- at and below the root
-pub downward-root : (ns : List Node) (path : List NodeNum) (cut : Bytes) → downward ns path cut 0 ≡ below ns 64 (node-on path 0)
-unfolding downward rest
-downward-root ns path cut = append-nil (map (behind []) (below ns 64 (node-on path 0))) ∙ behind-nothing (below ns 64 (node-on path 0))

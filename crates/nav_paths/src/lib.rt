@@ -1,4 +1,4 @@
-// Paths from the root of an accepted image: the next higher branch of a path, and the first leaf below it. A seek and a walk go by these functions.
+// Paths from the root of an accepted image: the next higher branch of a path, and the first leaf below it. A seek goes by these functions; a walk by the same steps and laws, with what it keeps of each level (`walk_levels`).
 ghost use Rattle.nav_paths.specs.PathContracts.{Root-only};
 use image_types::NodeNum;
 use nav_laws::Path;

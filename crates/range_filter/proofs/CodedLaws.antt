@@ -1,10 +1,10 @@
 -- An answer or a length as one number decodes, because no call writes 2^32 bytes and no image has as many.
 use Prim.Native.Nat.{ℕ, _<_}
-use mathlib.Core.Path.{_≡_, refl, ap, subst, _∙_}
+use mathlib.Core.Path.{_≡_, refl, ap, _∙_}
 use native.Mathlib.Omega.{arith}
 use Rattle.spec.specs.Bytes.{Bytes}
-use Rattle.spec.specs.Answer.{Answer, Outcome, written, refused, number, bytes-written, refusal-weight, answer-code}
-use Rattle.spec.specs.Build.{length-number, length-bytes, length-code}
+use Rattle.spec.specs.Answer.{Answer, Outcome, written, refused, bytes-written, refusal-weight, answer-code}
+use Rattle.spec.specs.Build.{length-bytes, length-code}
 use Rattle.image_types.specs.declared.Written.{Written}
 use Rattle.image_types.specs.Outcomes.{answer-of, outcome}
 use Rattle.build.specs.declared.Length.{Length}

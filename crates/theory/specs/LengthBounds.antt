@@ -1,10 +1,10 @@
 -- How long what a call writes can get: an image, replies, records. Each is shorter than 2^32 bytes, so that one number can give a refusal's number and the bytes written.
-use Prim.Native.Nat.{ℕ, suc, _+_, _*_, _/_, _<_, _≤_}
+use Prim.Native.Nat.{ℕ, suc, _*_, _/_, _<_, _≤_}
 use mathlib.Core.Path.{_≡_, sym, ap, _∙_}
 use mathlib.Core.Bool.{Bool, true, false, cond}
-use mathlib.Core.List.{List, [], _∷_, _++_, map}
+use mathlib.Core.List.{List, [], _∷_}
 use native.Mathlib.Omega.{arith}
-use lib.ListN.{length, take, length-append}
+use lib.ListN.{length, length-append}
 use lib.Seq.{length-take-le}
 use Rattle.spec.specs.Bytes.{Bytes, concat, le32}
 use Rattle.spec.specs.Keys.{below, keys-of}

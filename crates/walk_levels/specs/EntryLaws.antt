@@ -8,7 +8,7 @@ use lib.Dec.{ltb}
 use borrow.Author.Tests.{ltb-true, ltb-false}
 use Rattle.spec.specs.Bytes.{Bytes, bit}
 use Rattle.spec.specs.Nodes.{is-exact}
-use Rattle.bits_laws.specs.Bits.{bit-at, rank, select}
+use Rattle.bits_laws.specs.Bits.{bit-at}
 use Rattle.bits_laws.specs.RankLaws.{rank-next, rank-up}
 use Rattle.bits_laws.specs.SelectLaws.{select-is, select-behind}
 use Rattle.image_types.specs.declared.Frame.{Frame}

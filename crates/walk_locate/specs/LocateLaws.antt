@@ -1,5 +1,5 @@
 -- Laws of the descent to a place: how a range of labels is halved, and how the path goes on behind the branch that is taken.
-use Prim.Native.Nat.{ℕ, zero, suc, _+_, _-_, _*_, _/_, _<_, _≤_}
+use Prim.Native.Nat.{ℕ, zero, suc, _+_, _-_, _/_, _<_, _≤_}
 use mathlib.Core.Path.{_≡_, refl, sym, ap, ap₂, _∙_}
 use mathlib.Core.Bool.{Bool, true, false}
 use mathlib.Core.List.{List, [], _∷_, _++_, map}
@@ -7,7 +7,7 @@ use native.Mathlib.Omega.{arith}
 use lib.ListN.{length, drop, set, length-append, length-set, length-map}
 use borrow.Author.Tests.{lt-leb}
 use Rattle.spec.specs.Bytes.{Bytes, bit}
-use Rattle.spec.specs.Nodes.{Group, Branch, label-of, is-exact, prefix, exact-leaf, read-leaves}
+use Rattle.spec.specs.Nodes.{Branch, label-of, is-exact, prefix, exact-leaf, read-leaves}
 use Rattle.image_types.specs.declared.Frame.{Frame}
 use Rattle.image_types.specs.declared.NodeNum.{NodeNum}
 use Rattle.image_types.specs.declared.ValuePos.{ValuePos}

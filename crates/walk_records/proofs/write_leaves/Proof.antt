@@ -2,7 +2,6 @@
 use Prim.Native.Nat.{_+_, _*_, _-_, _≤_}
 use mathlib.Core.Path.{_≡_, ap, _∙_}
 use native.Mathlib.Omega.{arith}
-use lib.ListN.{length}
 use Rattle.spec.specs.Nodes.{read-leaves}
 use Rattle.spec.specs.WalkRecords.{record-size}
 use Rattle.bits_laws.specs.Bits.{placed}

@@ -1,13 +1,12 @@
 -- What is left of the key's entries stands from level d on; an exact leaf comes last.
-use Prim.Native.Nat.{max, ℕ, _+_, _-_, _≤_}
+use Prim.Native.Nat.{max, ℕ, _-_, _≤_}
 use mathlib.Core.Path.{subst, _≡_, refl, sym, ap, _∙_}
 use mathlib.Core.List.{List, []}
 use native.Mathlib.Omega.{arith}
 use borrow.Author.Needs.{needs}
 use lib.ListN.{length}
 use Rattle.build_laws.specs.Emissions.{Emission, emission}
-use Rattle.build_laws.specs.BitPass.{Room}
-use Rattle.build_laws.specs.BytePass.{byte-state, put-byte, one-step, at-cursor}
+use Rattle.build_laws.specs.BytePass.{byte-state, put-byte}
 use Rattle.build_laws.specs.PassEmissions.{Key-numbers}
 use Rattle.build_laws.specs.declared.Entry.{Entry}
 use Rattle.build_laws.specs.declared.Kind.the-variants.{SL}
@@ -15,7 +14,6 @@ use Rattle.build_laws.specs.KeyEntries.{entry-at, exact-entry}
 use Rattle.build_laws.specs.Passes.{key-bytes, listed-entries, Entries-room, write-entries}
 use Rattle.build_laws.specs.KeyLaws.{key-byte}
 use Rattle.build_laws.specs.EntryLaws.{entry-rest, entries-all, entries-more, entries-exact, entries-none, Left, left-next, left-room, left-done}
-use Rattle.build_laws.specs.Limits.{counter-max}
 use Rattle.build_passes.proofs.entries.write_labels.Statement.{statement}
 use Rattle.build_passes.proofs.entries.write_labels.Tie as tie
 

@@ -1,6 +1,6 @@
 -- The bit where the key leaves the key before it is set, and the cursors behind move on.
 use Prim.Native.Nat.{ℕ, _-_, _<_}
-use mathlib.Core.Path.{_≡_, subst, sym, ap, ap₂, _∙_}
+use mathlib.Core.Path.{subst, sym, ap, ap₂, _∙_}
 use mathlib.Core.List.{List}
 use mathlib.Core.Logic.{⊎-elim}
 use native.Mathlib.Omega.{arith}

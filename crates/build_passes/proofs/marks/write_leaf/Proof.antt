@@ -1,10 +1,9 @@
 -- The cursors up to the leaf's level move on, and the bit there is set.
-use Prim.Native.Nat.{ℕ, _<_}
-use mathlib.Core.Path.{_≡_, subst, sym, _∙_}
+use Prim.Native.Nat.{ℕ}
+use mathlib.Core.Path.{subst, sym, _∙_}
 use native.Mathlib.Omega.{arith}
 use borrow.Author.Needs.{needs}
 use lib.ListN.{length}
-use Rattle.build_laws.specs.BytePass.{byte-state}
 use Rattle.build_laws.specs.PassEmissions.{Key-numbers}
 use Rattle.build_laws.specs.KeyMarks.{leaf-cursors, leaf-room, leaf-does, leaf-none}
 use Rattle.build_passes.proofs.marks.write_leaf.Statement.{statement}

@@ -1,6 +1,6 @@
 -- The loop: the labels passed are marked.
 use mathlib.Core.Path.{_≡_, _∙_}
-use Prim.Native.Nat.{ℕ, _+_, _-_, _≤_}
+use Prim.Native.Nat.{_-_, _≤_}
 use native.Mathlib.Omega.{arith}
 use lib.ListN.{length, length-set}
 use Rattle.check_trie_laws.specs.MarkLaws.{Marked-to, marked-more}

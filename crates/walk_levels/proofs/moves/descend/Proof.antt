@@ -3,7 +3,6 @@ use Prim.Native.Nat.{_-_}
 use native.Mathlib.Omega.{arith}
 use borrow.Author.Needs.{needs}
 use Rattle.nav_paths.proofs.BranchTests.{ends-leaf}
-use Rattle.walk_levels.specs.Levels.{numbered}
 use Rattle.walk_levels.specs.LevelLaws.{numbered-at}
 use Rattle.walk_levels.specs.DownLaws.{Goes-down, goes-first, goes-named, goes-position, goes-small, down-leaf, down-deep, down-node, down-behind, down-last, down-exact, down-next}
 use Rattle.walk_levels.proofs.moves.descend.Statement.{statement}
