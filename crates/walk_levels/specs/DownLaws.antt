@@ -184,7 +184,7 @@ module _ (s : Bytes) (f : Frame) (a : Accepted s f) (ns₀ : List ℕ) (cut₀ :
 
         -- it is none, and has a first branch
         pub down-next : r .first .exact ≡ false
-            → Goes-down s f ns₀ cut₀ depth y (set ns (d + 1) c) (with-entry (with-entry es d e) (d + 1) (r .entry)) (set cut d (b .label)) (d + 1) (r .first .branch) (r .entry .child)
+            → Goes-down s f ns₀ cut₀ depth y (set ns (d + 1) c) (with-entry (with-entry es d e) (d + 1) (r .entry)) (set cut d (b .label)) (d + 1) (r .first .branch) (r .entry .child .0)
         down-next x = record {
           descends = rw (numbered-set ns (d + 1) c) at (descends-next s f a (path-of ns₀ cut₀) depth y (path-of ns cut) d b (g .descends) (record { 0 = c }) is continues (r .first) (t .first-is) x);
           room = kept-room (with-entry es d e) room′ (d + 1) (r .entry) down-deep;

@@ -44,11 +44,11 @@ pub record Next-entry (s : Bytes) (f : Frame) (m y p : ℕ) : Type 0 where
 
 -- The known entry, where it is known, is the one behind sparse node m, with the child from it on.
 pub record Behind-node (s : Bytes) (f : Frame) (m : ℕ) (e : Entry) : Type 0 where
-  pub sparse : 0 < e .at → f .dense .nodes ≤ m
-  pub entry-is : 0 < e .at → e .at ≡ start-of s f (m + 1)
-  pub child-is : 0 < e .at → e .child ≡ child-from s f (e .at)
+  pub sparse : 0 < e .at .0 → f .dense .nodes ≤ m
+  pub entry-is : 0 < e .at .0 → e .at .0 ≡ start-of s f (m + 1)
+  pub child-is : 0 < e .at .0 → e .child .0 ≡ child-from s f (e .at .0)
 
 -- Sparse node m starts at the entry, with the child from it on.
 pub record Starts-at (s : Bytes) (f : Frame) (m : ℕ) (e : Entry) : Type 0 where
-  pub entry-is : e .at ≡ start-of s f m
-  pub child-is : e .child ≡ child-from s f (e .at)
+  pub entry-is : e .at .0 ≡ start-of s f m
+  pub child-is : e .child .0 ≡ child-from s f (e .at .0)

@@ -50,22 +50,22 @@ numbered-set (n ∷ ns) (suc i) c = ap (λ (xs : List NodeNum). record { 0 = n }
 
 module _ (es : List ℕ) (room : length es ≡ 128) (d : ℕ) (e : Entry) (deep : d < 64) where
   -- the entry that was stored
-  pub kept-at : getD (with-entry es d e) d 0 ≡ e .at
-  kept-at = getD-set-other (set es d (e .at)) (64 + d) d (e .child) 0 (λ q. omega arith) ∙ getD-set-same es d (e .at) 0 (omega arith)
+  pub kept-at : getD (with-entry es d e) d 0 ≡ e .at .0
+  kept-at = getD-set-other (set es d (e .at .0)) (64 + d) d (e .child .0) 0 (λ q. omega arith) ∙ getD-set-same es d (e .at .0) 0 (omega arith)
 
-  pub kept-child : getD (with-entry es d e) (64 + d) 0 ≡ e .child
-  kept-child = getD-set-same (set es d (e .at)) (64 + d) (e .child) 0 (omega (arith, length-set es d (e .at)))
+  pub kept-child : getD (with-entry es d e) (64 + d) 0 ≡ e .child .0
+  kept-child = getD-set-same (set es d (e .at .0)) (64 + d) (e .child .0) 0 (omega (arith, length-set es d (e .at .0)))
 
   pub kept-room : length (with-entry es d e) ≡ 128
-  kept-room = length-set (set es d (e .at)) (64 + d) (e .child) ∙ length-set es d (e .at) ∙ room
+  kept-room = length-set (set es d (e .at .0)) (64 + d) (e .child .0) ∙ length-set es d (e .at .0) ∙ room
 
   -- and those of other levels
   module _ (i : ℕ) (small : i < 64) (other : i ≡ d → ⊥) where
     pub other-at : getD (with-entry es d e) i 0 ≡ getD es i 0
-    other-at = getD-set-other (set es d (e .at)) (64 + d) i (e .child) 0 (λ q. omega arith) ∙ getD-set-other es d i (e .at) 0 other
+    other-at = getD-set-other (set es d (e .at .0)) (64 + d) i (e .child .0) 0 (λ q. omega arith) ∙ getD-set-other es d i (e .at .0) 0 other
 
     pub other-child : getD (with-entry es d e) (64 + i) 0 ≡ getD es (64 + i) 0
-    other-child = getD-set-other (set es d (e .at)) (64 + d) (64 + i) (e .child) 0 (λ q. other (omega arith)) ∙ getD-set-other es d (64 + i) (e .at) 0 (λ q. omega arith)
+    other-child = getD-set-other (set es d (e .at .0)) (64 + d) (64 + i) (e .child .0) 0 (λ q. other (omega arith)) ∙ getD-set-other es d (64 + i) (e .at .0) 0 (λ q. omega arith)
 
 -- ---- branches of a sparse node
 
@@ -96,13 +96,13 @@ module _ (s : Bytes) (f : Frame) (a : Accepted s f) (m : ℕ) (h : f .dense .nod
       omega (arith, c, before-sparse s f a m h (omega arith) .0, dense-kids s f a)
 
   -- the node is entered at its start
-  pub enters-sparse : On-node s f m → (b : FirstBranch) → First-branch s f m b → (e : Entry) → Starts-at s f m e → Enters s f m (record { first = b; entry = record { at = b .branch .at .0; child = e .child } })
+  pub enters-sparse : On-node s f m → (b : FirstBranch) → First-branch s f m b → (e : Entry) → Starts-at s f m e → Enters s f m (record { first = b; entry = record { at = b .branch .at; child = e .child } })
   enters-sparse on b n e t =
       let none = none-below-zero (branches s f m) in
       let p = n .branch-is .there (λ q. on .there (sym (n .branch-is .kind-is) ∙ q)) in
       let is : b .branch .at .0 ≡ start-of s f m + bit (is-exact (node-at (nodes s f) m)) + place s f m 0 = position-is (place s f m 0) (b .branch .at .0) (omega arith) (p .at-is) in
       let z : b .branch .at .0 ≡ start-of s f m + bit (is-exact (node-at (nodes s f) m)) = omega arith in
-      let c : e .child ≡ child-from s f (b .branch .at .0) = t .child-is ∙ ap (child-from s f) (t .entry-is) ∙ sym child-first ∙ ap (child-from s f) (sym z) in
+      let c : e .child .0 ≡ child-from s f (b .branch .at .0) = t .child-is ∙ ap (child-from s f) (t .entry-is) ∙ sym child-first ∙ ap (child-from s f) (sym z) in
       record {
         first-is = n;
         child-is = c ∙ sym (child-sparse-at (b .branch .at .0));

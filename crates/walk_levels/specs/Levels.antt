@@ -37,11 +37,11 @@ path-of ns cut = record { nodes = numbered ns; labels = cut }
 
 -- the entry that is kept for level i
 abbrev pub entry-on : List ℕ → ℕ → Entry
-entry-on es i = record { at = getD es i 0; child = getD es (64 + i) 0 }
+entry-on es i = record { at = record { 0 = getD es i 0 }; child = record { 0 = getD es (64 + i) 0 } }
 
 -- the entries with another one kept for level i
 abbrev pub with-entry : List ℕ → ℕ → Entry → List ℕ
-with-entry es i e = set (set es i (e .at)) (64 + i) (e .child)
+with-entry es i e = set (set es i (e .at .0)) (64 + i) (e .child .0)
 
 -- one for a branch that continues
 abbrev pub continues : BranchKind → ℕ
@@ -51,8 +51,8 @@ continues Kind.Child = 1
 
 -- The branches of node m with labels below y are behind, and the entry behind them is kept, if it is known.
 pub record Taken (s : Bytes) (f : Frame) (m : ℕ) (e : Entry) (y : ℕ) : Type 0 where
-  pub next : Next-entry s f m y (e .at)
-  pub child-is : 0 < e .at → e .child ≡ child-from s f (e .at)
+  pub next : Next-entry s f m y (e .at .0)
+  pub child-is : 0 < e .at .0 → e .child .0 ≡ child-from s f (e .at .0)
 
 -- Above level d the labels of the path are taken, and below it the nodes that were visited last are left.
 pub record Rows (s : Bytes) (f : Frame) (ns es : List ℕ) (cut : Bytes) (d : ℕ) : Type 0 where
@@ -81,8 +81,8 @@ pub record Can-climb (s : Bytes) (f : Frame) (ns es : List ℕ) (cut : Bytes) (r
 pub record Climbs (s : Bytes) (f : Frame) (ns es : List ℕ) (cut : Bytes) (r : Resume) (h : Higher) : Type 0 where
   pub higher : Next-higher s f (path-of ns cut) (r .depth) (r .from) h
   pub rows : Rows s f ns es cut (h .depth)
-  pub sparse : 0 < entry-on es (h .depth) .at → f .dense .nodes ≤ getD ns (h .depth) 0
-  pub child-is : 0 < entry-on es (h .depth) .at → entry-on es (h .depth) .child ≡ child-from s f (entry-on es (h .depth) .at)
+  pub sparse : 0 < entry-on es (h .depth) .at .0 → f .dense .nodes ≤ getD ns (h .depth) 0
+  pub child-is : 0 < entry-on es (h .depth) .at .0 → entry-on es (h .depth) .child .0 ≡ child-from s f (entry-on es (h .depth) .at .0)
 
 -- ---- down
 
@@ -92,13 +92,13 @@ pub record Can-descend (s : Bytes) (f : Frame) (ns es : List ℕ) (cut : Bytes) 
   pub room : Room ns es cut
   pub branch : Has-branch s f (numbered ns) (h .depth) (h .branch)
   pub rows : Rows s f ns es cut (h .depth)
-  pub sparse : 0 < entry-on es (h .depth) .at → f .dense .nodes ≤ getD ns (h .depth) 0
-  pub child-is : 0 < entry-on es (h .depth) .at → entry-on es (h .depth) .child ≡ child-from s f (entry-on es (h .depth) .at)
+  pub sparse : 0 < entry-on es (h .depth) .at .0 → f .dense .nodes ≤ getD ns (h .depth) 0
+  pub child-is : 0 < entry-on es (h .depth) .at .0 → entry-on es (h .depth) .child .0 ≡ child-from s f (entry-on es (h .depth) .at .0)
 
 -- The entry behind the branch b of node m with the child c: none for a dense node, else the next one, with the next child if the branch continues.
 pub record Behind-taken (f : Frame) (m : ℕ) (b : NextBranch) (c : ℕ) (e : Entry) : Type 0 where
-  pub dense : m < f .dense .nodes → e .at ≡ 0
-  pub sparse : f .dense .nodes ≤ m → (e .at ≡ b .at .0 + 1) × (e .child ≡ c + continues (b .kind))
+  pub dense : m < f .dense .nodes → e .at .0 ≡ 0
+  pub sparse : f .dense .nodes ≤ m → (e .at .0 ≡ b .at .0 + 1) × (e .child .0 ≡ c + continues (b .kind))
 
 -- Node m is one of the image's, and has a branch.
 pub record On-node (s : Bytes) (f : Frame) (m : ℕ) : Type 0 where
@@ -108,10 +108,10 @@ pub record On-node (s : Bytes) (f : Frame) (m : ℕ) : Type 0 where
 -- Node m is entered: its first branch, the entry and the child there.
 pub record Enters (s : Bytes) (f : Frame) (m : ℕ) (r : Entered) : Type 0 where
   pub first-is : First-branch s f m (r .first)
-  pub child-is : r .entry .child ≡ child-at s f m (r .first .branch .at .0)
+  pub child-is : r .entry .child .0 ≡ child-at s f m (r .first .branch .at .0)
   -- where the entry is known, the node is sparse and has no branch before it
-  pub next : r .first .exact ≡ true → Next-entry s f m 0 (r .entry .at)
-  pub from : 0 < r .entry .at → r .entry .child ≡ child-from s f (r .entry .at)
+  pub next : r .first .exact ≡ true → Next-entry s f m 0 (r .entry .at .0)
+  pub from : 0 < r .entry .at .0 → r .entry .child .0 ≡ child-from s f (r .entry .at .0)
 
 -- The levels are kept where the path ends.
 pub record Kept (s : Bytes) (f : Frame) (ns es : List ℕ) (cut : Bytes) (e : LeafEnd) : Type 0 where

@@ -31,45 +31,45 @@ const MARK: usize = EXTRA_LABEL as usize;
 
 // A sparse entry, and the node to which the first continuing entry from it on leads.
 pub struct Entry {
-    pub at: usize,
-    pub child: usize,
+    pub at: BitPos,
+    pub child: NodeNum,
 }
 
 // The branch of a sparse node at an entry.
-fn branch_at(image: &[u8], f: Frame, at: usize) -> NextBranch
-    requires { ⌜ Accepted (now image) f × (at < f .sparse .entries) ⌝ }
-    ensures { λ r. ⌜ Entry-read (now (image .entry)) f at r ⌝ }
+fn branch_at(image: &[u8], f: Frame, at: BitPos) -> NextBranch
+    requires { ⌜ Accepted (now image) f × (at .0 < f .sparse .entries) ⌝ }
+    ensures { λ r. ⌜ Entry-read (now (image .entry)) f (at .0) r ⌝ }
 {
     let sc = f.sc;
-    let i = f.sl + at;
+    let i = f.sl + at.0;
     let label = wide(image[i]);
-    let continues = bit_at(&image[sc..], at);
+    let continues = bit_at(&image[sc..], at.0);
     NextBranch {
         kind: kind_there(continues),
         label,
-        at: BitPos(at),
+        at,
     }
 }
 
 // Whether an entry that is behind the first one of a sparse node belongs to the node: it does if it starts no node.
-fn goes_on(image: &[u8], f: Frame, at: usize) -> bool
+fn goes_on(image: &[u8], f: Frame, at: BitPos) -> bool
     requires { ⌜ Accepted (now image) f ⌝ }
-    ensures { λ r. ⌜ Tells-end (now (image .entry)) f at r ⌝ }
+    ensures { λ r. ⌜ Tells-end (now (image .entry)) f (at .0) r ⌝ }
 {
     let sb = f.sb;
-    if at >= f.sparse.entries {
+    if at.0 >= f.sparse.entries {
         return false;
     }
-    bit_at(&image[sb..], at) == 0
+    bit_at(&image[sb..], at.0) == 0
 }
 
 // The first branch of a node whose label is not below y; `at` is the entry where it stands, if it is there, and is behind the first entry of the node.
-pub fn next_at(image: &[u8], f: Frame, m: usize, y: usize, at: usize) -> NextBranch
-    requires { ⌜ Is-node (now image) f m × (y ≤ 256) × Next-entry (now image) f m y at ⌝ }
-    ensures { λ r. ⌜ Next-branch (now (image .entry)) f m y (r .kind) (r .label) (r .at .0) ⌝ }
+pub fn next_at(image: &[u8], f: Frame, m: NodeNum, y: usize, at: BitPos) -> NextBranch
+    requires { ⌜ Is-node (now image) f (m .0) × (y ≤ 256) × Next-entry (now image) f (m .0) y (at .0) ⌝ }
+    ensures { λ r. ⌜ Next-branch (now (image .entry)) f (m .0) y (r .kind) (r .label) (r .at .0) ⌝ }
 {
-    if at == 0 {
-        return next_branch(image, f, NodeNum(m), y);
+    if at.0 == 0 {
+        return next_branch(image, f, m, y);
     }
     if goes_on(image, f, at) {
         return branch_at(image, f, at);
@@ -77,24 +77,24 @@ pub fn next_at(image: &[u8], f: Frame, m: usize, y: usize, at: usize) -> NextBra
     NextBranch {
         kind: BranchKind::Absent,
         label: 0,
-        at: BitPos(at),
+        at,
     }
 }
 
 // The first branch of a node, and whether it is an exact leaf; a sparse node starts at the entry `at`.
-pub fn first_at(image: &[u8], f: Frame, m: usize, at: usize) -> FirstBranch
-    requires { ⌜ Is-node (now image) f m × (f .dense .nodes ≤ m → at ≡ start-of (now image) f m) ⌝ }
-    ensures { λ r. ⌜ First-branch (now (image .entry)) f m r ⌝ }
+pub fn first_at(image: &[u8], f: Frame, m: NodeNum, at: BitPos) -> FirstBranch
+    requires { ⌜ Is-node (now image) f (m .0) × (f .dense .nodes ≤ m .0 → at .0 ≡ start-of (now image) f (m .0)) ⌝ }
+    ensures { λ r. ⌜ First-branch (now (image .entry)) f (m .0) r ⌝ }
 {
-    if m < f.dense.nodes {
-        return first_branch(image, f, NodeNum(m));
+    if m.0 < f.dense.nodes {
+        return first_branch(image, f, m);
     }
     let first = branch_at(image, f, at);
     if first.label == MARK {
-        if goes_on(image, f, at + 1) {
+        if goes_on(image, f, BitPos(at.0 + 1)) {
             return FirstBranch {
                 exact: true,
-                branch: branch_at(image, f, at + 1),
+                branch: branch_at(image, f, BitPos(at.0 + 1)),
             };
         }
     }
@@ -105,46 +105,49 @@ pub fn first_at(image: &[u8], f: Frame, m: usize, at: usize) -> FirstBranch
 }
 
 // Where a node starts among the entries, and the node behind its first continuing branch. `last` is the last node that was visited on its level, and `known` the entry behind that node, if it is known.
-pub fn start_at(image: &[u8], f: Frame, m: usize, last: usize, known: Entry) -> Entry
-    requires { ⌜ Is-node (now image) f m × (0 < m) × Behind-node (now image) f last known ⌝ }
-    ensures { λ r. ⌜ (f .dense .nodes ≤ m → Starts-at (now (image .entry)) f m r) ⌝ }
+pub fn start_at(image: &[u8], f: Frame, m: NodeNum, last: NodeNum, known: Entry) -> Entry
+    requires { ⌜ Is-node (now image) f (m .0) × (0 < m .0) × Behind-node (now image) f (last .0) known ⌝ }
+    ensures { λ r. ⌜ (f .dense .nodes ≤ m .0 → Starts-at (now (image .entry)) f (m .0) r) ⌝ }
 {
-    if m < f.dense.nodes {
-        return Entry { at: 0, child: 0 };
+    if m.0 < f.dense.nodes {
+        return Entry {
+            at: BitPos(0),
+            child: NodeNum(0),
+        };
     }
-    if known.at != 0 {
-        if m - 1 == last {
+    if known.at.0 != 0 {
+        if m.0 - 1 == last.0 {
             return known;
         }
     }
-    let start = node_start(image, f, NodeNum(m));
+    let start = node_start(image, f, m);
     Entry {
-        at: start.0,
-        child: f.totals.children + entry_rank(image, f, start) + 1,
+        at: start,
+        child: NodeNum(f.totals.children + entry_rank(image, f, start) + 1),
     }
 }
 
 // The node behind a branch that continues, by its position; `known` is an entry of the node, if one is known.
-pub fn child_at(image: &[u8], f: Frame, m: usize, at: BitPos, known: Entry) -> usize
-    requires { ⌜ Is-position (now image) f m (at .0) × (0 < known .at → (f .dense .nodes ≤ m) × (known .child ≡ child-from (now image) f (known .at))) ⌝ }
-    ensures { λ r. ⌜ r ≡ child-at (now (image .entry)) f m (at .0) ⌝ }
+pub fn child_at(image: &[u8], f: Frame, m: NodeNum, at: BitPos, known: Entry) -> NodeNum
+    requires { ⌜ Is-position (now image) f (m .0) (at .0) × (0 < known .at .0 → (f .dense .nodes ≤ m .0) × (known .child .0 ≡ child-from (now image) f (known .at .0))) ⌝ }
+    ensures { λ r. ⌜ r .0 ≡ child-at (now (image .entry)) f (m .0) (at .0) ⌝ }
 {
-    if known.at != 0 {
-        if known.at == at.0 {
+    if known.at.0 != 0 {
+        if known.at.0 == at.0 {
             return known.child;
         }
     }
-    child(image, f, NodeNum(m), at).0
+    child(image, f, m, at)
 }
 
 // The slot of the leaf behind a branch that ends, by the node behind the first continuing branch from it on.
-pub fn slot_at(image: &[u8], f: Frame, m: usize, at: BitPos, child: usize) -> ValuePos
-    requires { ⌜ Is-position (now image) f m (at .0) × (child ≡ child-at (now image) f m (at .0)) ⌝ }
-    ensures { λ r. ⌜ r .0 ≡ slot-at (now (image .entry)) f m (at .0) ⌝ }
+pub fn slot_at(image: &[u8], f: Frame, m: NodeNum, at: BitPos, child: NodeNum) -> ValuePos
+    requires { ⌜ Is-position (now image) f (m .0) (at .0) × (child .0 ≡ child-at (now image) f (m .0) (at .0)) ⌝ }
+    ensures { λ r. ⌜ r .0 ≡ slot-at (now (image .entry)) f (m .0) (at .0) ⌝ }
 {
-    if m < f.dense.nodes {
+    if m.0 < f.dense.nodes {
         let labels = label_rank(image, f, at);
-        return ValuePos(labels + 1 - child + exact_rank(image, f, NodeNum(m + 1)));
+        return ValuePos(labels + 1 - child.0 + exact_rank(image, f, NodeNum(m.0 + 1)));
     }
-    ValuePos(f.totals.entries + at.0 + 1 - child)
+    ValuePos(f.totals.entries + at.0 + 1 - child.0)
 }

@@ -12,7 +12,9 @@ use super::entries::next_at;
 use super::entries::slot_at;
 use super::entries::start_at;
 use bits::numbers::wide;
+use image_types::BitPos;
 use image_types::Frame;
+use image_types::NodeNum;
 use nav::branches::is_there;
 use nav_laws::BranchKind;
 use nav_laws::FirstBranch;
@@ -53,7 +55,7 @@ pub fn climb(
     let mut d = r.depth;
     let mut y = r.from;
     loop {
-        let branch = next_at(image, f, path[d], y, entries[d]);
+        let branch = next_at(image, f, NodeNum(path[d]), y, BitPos(entries[d]));
         let kind = branch.kind;
         if is_there(kind) || d == 0 {
             return Higher { depth: d, branch };
@@ -64,24 +66,28 @@ pub fn climb(
 }
 
 // The first branch of node m of a level, where `last` is the node last visited there and `known` the entry behind it.
-fn enter(image: &[u8], f: Frame, m: usize, last: usize, known: Entry) -> Entered
-    requires { ⌜ Accepted (now image) f × (0 < m) × On-node (now image) f m × Behind-node (now image) f last known ⌝ }
-    ensures { λ r. ⌜ Enters (now (image .entry)) f m r ⌝ }
+fn enter(image: &[u8], f: Frame, m: NodeNum, last: NodeNum, known: Entry) -> Entered
+    requires { ⌜ Accepted (now image) f × (0 < m .0) × On-node (now image) f (m .0) × Behind-node (now image) f (last .0) known ⌝ }
+    ensures { λ r. ⌜ Enters (now (image .entry)) f (m .0) r ⌝ }
 {
     let start = start_at(image, f, m, last, known);
     let first = first_at(image, f, m, start.at);
     let branch = first.branch;
     let at = branch.at;
-    if m < f.dense.nodes {
-        let none = Entry { at: 0, child: 0 };
+    if m.0 < f.dense.nodes {
+        let none = Entry {
+            at: BitPos(0),
+            child: NodeNum(0),
+        };
         let child = child_at(image, f, m, at, none);
-        let entry = Entry { at: 0, child };
+        let entry = Entry {
+            at: BitPos(0),
+            child,
+        };
         return Entered { first, entry };
     }
-    let entry = Entry {
-        at: at.0,
-        child: start.child,
-    };
+    let child = start.child;
+    let entry = Entry { at, child };
     Entered { first, entry }
 }
 
@@ -91,8 +97,8 @@ fn entry_on(entries: &[usize; 128], level: usize) -> Entry
     ensures { λ r. ⌜ r ≡ entry-on (now (entries .entry)) level ⌝ }
 {
     Entry {
-        at: entries[level],
-        child: entries[64 + level],
+        at: BitPos(entries[level]),
+        child: NodeNum(entries[64 + level]),
     }
 }
 
@@ -101,32 +107,35 @@ fn keep_entry(entries: &mut [usize; 128], level: usize, e: Entry)
     requires { ⌜ level < 64 ⌝ }
     ensures { λ _. ⌜ now (entries .exit) ≡ with-entry (now (entries .entry)) level e ⌝ }
 {
-    entries[level] = e.at;
-    entries[64 + level] = e.child;
+    entries[level] = e.at.0;
+    entries[64 + level] = e.child.0;
 }
 
 // The entry behind a branch of node m, with the child from it on; a dense node has none.
-fn entry_behind(f: Frame, m: usize, b: NextBranch, child: usize) -> Entry
-    requires { ⌜ (b .at .0 < 4294967296) × (child < 4294967296) ⌝ }
-    ensures { λ r. ⌜ Behind-taken f m b child r ⌝ }
+fn entry_behind(f: Frame, m: NodeNum, b: NextBranch, child: NodeNum) -> Entry
+    requires { ⌜ (b .at .0 < 4294967296) × (child .0 < 4294967296) ⌝ }
+    ensures { λ r. ⌜ Behind-taken f (m .0) b (child .0) r ⌝ }
 {
-    if m < f.dense.nodes {
-        return Entry { at: 0, child: 0 };
+    if m.0 < f.dense.nodes {
+        return Entry {
+            at: BitPos(0),
+            child: NodeNum(0),
+        };
     }
     let at = b.at;
     let kind = b.kind;
     match kind {
         BranchKind::Absent => Entry {
-            at: at.0 + 1,
+            at: BitPos(at.0 + 1),
             child,
         },
         BranchKind::Leaf => Entry {
-            at: at.0 + 1,
+            at: BitPos(at.0 + 1),
             child,
         },
         BranchKind::Child => Entry {
-            at: at.0 + 1,
-            child: child + 1,
+            at: BitPos(at.0 + 1),
+            child: NodeNum(child.0 + 1),
         },
     }
 }
@@ -145,9 +154,9 @@ pub fn descend(
 {
     let mut d = from.depth;
     let mut b = from.branch;
-    let mut c = child_at(image, f, path[d], b.at, entry_on(entries, d));
+    let mut c = child_at(image, f, NodeNum(path[d]), b.at, entry_on(entries, d));
     loop {
-        let m = path[d];
+        let m = NodeNum(path[d]);
         let at = b.at;
         let kind = b.kind;
         labels[d] = b.label as u8;
@@ -159,10 +168,10 @@ pub fn descend(
                 stop: LeafStop::Open(slot_at(image, f, m, at, c)),
             };
         };
-        let next = enter(image, f, c, path[d], entry_on(entries, d));
+        let next = enter(image, f, c, NodeNum(path[d]), entry_on(entries, d));
         let first = next.first;
         let entry = next.entry;
-        path[d] = c;
+        path[d] = c.0;
         keep_entry(entries, d, entry);
         if first.exact {
             return LeafEnd {

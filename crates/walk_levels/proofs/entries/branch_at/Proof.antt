@@ -17,7 +17,7 @@ add-i : tie.Need-add-i
 add-i c = search needs
 
 shared-slice-read-wide : tie.Need-shared-slice-read-wide
-shared-slice-read-wide c = let b = c .before .before .before in omega (arith, b .pre .1, labels-room (b .args .image .now) (b .args .f) (b .pre .0))
+shared-slice-read-wide c = let b = c .before .before .before .before in omega (arith, b .pre .1, labels-room (b .args .image .now) (b .args .f) (b .pre .0))
 
 wide-requires : tie.Need-wide-requires
 wide-requires c κs = search needs
@@ -32,16 +32,16 @@ part-bit-at-end : tie.Need-part-bit-at-end
 part-bit-at-end c = search needs
 
 bit-at-requires : tie.Need-bit-at-requires
-bit-at-requires c κs = let b = c .before .before .before .before .before in rw (tail-part (b .args .image .now) (b .args .f .sc)) (omega (arith, entries-ranked (b .args .image .now) (b .args .f) (b .pre .0) .0, b .pre .1))
+bit-at-requires c κs = let b = c .before .before .before .before .before .before in rw (tail-part (b .args .image .now) (b .args .f .sc)) (omega (arith, entries-ranked (b .args .image .now) (b .args .f) (b .pre .0) .0, b .pre .1))
 
 kind-there-requires : tie.Need-kind-there-requires
 kind-there-requires c κs = search needs
 
 returns : tie.Need-returns
 returns c =
-    let a = c .before .before .before .before .before .before .before .args in
+    let a = c .before .before .before .before .before .before .before .before .args in
     record {
-      kind-is = c .kind-there .ensures ∙ ap (λ (z : ℕ). kind-there (eqb z 1)) (c .before .bit-at .ensures ∙ ap (λ (z : List ℕ). bit-at z (a .at)) (tail-part (a .image .now) (a .f .sc)));
+      kind-is = c .kind-there .ensures ∙ ap (λ (z : ℕ). kind-there (eqb z 1)) (c .before .bit-at .ensures ∙ ap (λ (z : List ℕ). bit-at z (a .at .0)) (tail-part (a .image .now) (a .f .sc)));
       label-is = c .before .before .before .wide .ensures .0;
       label-byte = c .before .before .before .wide .ensures .1;
       at-is = refl;

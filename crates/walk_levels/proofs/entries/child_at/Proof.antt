@@ -11,11 +11,11 @@ use Rattle.walk_levels.proofs.entries.child_at.Tie as tie
 returns : tie.Need-returns
 unfolding child-at
 returns c =
-    let b = c .before .before .before .before .before .before in
+    let b = c .before .before .before .before .before .before .before in
     let a = b .args in
-    let z = c .before .before .before .if1 .taken in
+    let z = c .before .before .before .before .if1 .taken in
     let k = b .pre .1 (omega arith) in
-    rw (le-ltb (a .m) (a .f .dense .nodes) (k .0)) (k .1 ∙ ap (child-from (a .image .now) (a .f)) (c .if2 .taken))
+    rw (le-ltb (a .m .0) (a .f .dense .nodes) (k .0)) (k .1 ∙ ap (child-from (a .image .now) (a .f)) (c .before .if2 .taken))
 
 child-requires : tie.Need-child-requires
 child-requires c κs = search needs

@@ -17,7 +17,7 @@ use Rattle.walk_levels.proofs.entries.goes_on.Tie as tie
 
 returns : tie.Need-returns
 returns c =
-    let a = c .before .before .before .args in
+    let a = c .before .before .before .before .args in
     record {
       inside = λ m n h e. absurd (true≢false (sym e));
       outside = λ m n h e. omega (arith, select-le (drop (a .f .sb) (a .image .now)) (a .f .sparse .entries) (m + 1 - a .f .dense .nodes));
@@ -33,15 +33,15 @@ part-bit-at-end : tie.Need-part-bit-at-end
 part-bit-at-end c = search needs
 
 bit-at-requires : tie.Need-bit-at-requires
-bit-at-requires c κs = let b = c .before .before .before .before in rw (tail-part (b .args .image .now) (b .args .f .sb)) (omega (arith, starts-sampled (b .args .image .now) (b .args .f) (b .pre) .0))
+bit-at-requires c κs = let b = c .before .before .before .before .before in rw (tail-part (b .args .image .now) (b .args .f .sb)) (omega (arith, starts-sampled (b .args .image .now) (b .args .f) (b .pre) .0))
 
 returns-2 : tie.Need-returns-2
 returns-2 c =
-    let a = c .before .before .before .before .before .args in
-    let is = c .bit-at .ensures ∙ ap (λ (z : List ℕ). bit-at z (a .at)) (tail-part (a .image .now) (a .f .sb)) in
+    let a = c .before .before .before .before .before .before .args in
+    let is = c .bit-at .ensures ∙ ap (λ (z : List ℕ). bit-at z (a .at .0)) (tail-part (a .image .now) (a .f .sb)) in
     record {
-      inside = λ m n h e. louds-inside (a .image .now) (a .f) (n .accepted) m (n .behind-dense) (n .inside) (a .at) h (omega arith) (sym is ∙ eqb-true (c .bit-at .result) 0 e);
-      outside = λ m n h e. louds-outside (a .image .now) (a .f) (n .accepted) m (n .behind-dense) (n .inside) (a .at) h (λ z. eqb-false (c .bit-at .result) 0 e (is ∙ z));
+      inside = λ m n h e. louds-inside (a .image .now) (a .f) (n .accepted) m (n .behind-dense) (n .inside) (a .at .0) h (omega arith) (sym is ∙ eqb-true (c .bit-at .result) 0 e);
+      outside = λ m n h e. louds-outside (a .image .now) (a .f) (n .accepted) m (n .behind-dense) (n .inside) (a .at .0) h (λ z. eqb-false (c .bit-at .result) 0 e (is ∙ z));
     }
 
 pub goes-on-spec : {M : Type 1} → statement M

@@ -18,10 +18,10 @@ sub-if3 c = search needs
 
 returns-2 : tie.Need-returns-2
 returns-2 c =
-    let b = c .before .before .before .before .before .before in
+    let b = c .before .before .before .before .before .before .before .before .before in
     let a = b .args in
-    let z = c .before .if2 .taken in
-    let next : a .last + 1 ≡ a .m = omega (arith, c .if3 .taken) in
+    let z = c .before .before .before .if2 .taken in
+    let next : a .last .0 + 1 ≡ a .m .0 = omega (arith, c .if3 .taken) in
     λ d. record { entry-is = b .pre .2 .entry-is (omega arith) ∙ ap (start-of (a .image .now) (a .f)) next; child-is = b .pre .2 .child-is (omega arith) }
 
 node-start-requires : tie.Need-node-start-requires
@@ -30,23 +30,23 @@ node-start-requires c κs = search needs
 entry-rank-requires : tie.Need-entry-rank-requires
 entry-rank-requires c κs = search needs
 
-add-t12 : tie.Need-add-t12
-add-t12 c =
-    let b = c .before .before .before .before .before .before .before .before in
+add-t13 : tie.Need-add-t13
+add-t13 c =
+    let b = c .before .before .before .before .before .before .before .before .before in
     let a = b .args in
     let p = b .pre .0 .accepted in
     omega (arith, dense-totals (a .image .now) (a .f) p .0, few-children (a .image .now) (a .f) p (a .f .dense .nodes) (omega arith), c .before .entry-rank .ensures, rank-le (drop (a .f .sc) (a .image .now)) (c .before .before .node-start .result .0), c .before .before .node-start .ensures .1, p .writable .few-entries, p .entry-size)
 
-add-t13 : tie.Need-add-t13
-add-t13 c =
-    let b = c .before .before .before .before .before .before .before .before in
+add-t14 : tie.Need-add-t14
+add-t14 c =
+    let b = c .before .before .before .before .before .before .before .before .before in
     let a = b .args in
     let p = b .pre .0 .accepted in
     omega (arith, dense-totals (a .image .now) (a .f) p .0, few-children (a .image .now) (a .f) p (a .f .dense .nodes) (omega arith), c .before .entry-rank .ensures, rank-le (drop (a .f .sc) (a .image .now)) (c .before .before .node-start .result .0), c .before .before .node-start .ensures .1, p .writable .few-entries, p .entry-size)
 
 returns-3 : tie.Need-returns-3
 returns-3 c =
-    let b = c .before .before .before .before .before .before .before .before in
+    let b = c .before .before .before .before .before .before .before .before .before in
     let a = b .args in
     let p = b .pre .0 .accepted in
     λ d. record { entry-is = c .before .before .node-start .ensures .0; child-is = omega (arith, dense-totals (a .image .now) (a .f) p .0, dense-kids (a .image .now) (a .f) p, c .before .entry-rank .ensures) }
@@ -60,6 +60,6 @@ start-at-spec =
     returns-2
     node-start-requires
     entry-rank-requires
-    add-t12
     add-t13
+    add-t14
     returns-3)

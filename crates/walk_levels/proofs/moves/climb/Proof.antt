@@ -38,17 +38,17 @@ found c = rw (numbered-at (c .before .before .before .before .before .args .path
 loop-holds : tie.Need-loop-holds Inv-loop μ-loop
 loop-holds c = let b = c .before in (omega arith, b .pre .searchable .label-range, refl, b .pre .levels)
 
-mul-next-at : tie.Need-mul-next-at Inv-loop μ-loop
-mul-next-at c = omega (arith, c .loop .inv .0, c .before .before .pre .searchable .deep)
+mul-t11 : tie.Need-mul-t11 Inv-loop μ-loop
+mul-t11 c = omega (arith, c .loop .inv .0, c .before .before .pre .searchable .deep)
 
-element-copy-out-next-at : tie.Need-element-copy-out-next-at Inv-loop μ-loop
-element-copy-out-next-at c = omega (arith, c .loop .inv .0, c .before .before .pre .searchable .deep)
+element-copy-out-t14 : tie.Need-element-copy-out-t14 Inv-loop μ-loop
+element-copy-out-t14 c = omega (arith, c .loop .inv .0, c .before .before .pre .searchable .deep)
 
-mul-next-at-2 : tie.Need-mul-next-at-2 Inv-loop μ-loop
-mul-next-at-2 c = omega (arith, c .before .loop .inv .0, c .before .before .before .pre .searchable .deep)
+mul-t16 : tie.Need-mul-t16 Inv-loop μ-loop
+mul-t16 c = omega (arith, c .before .loop .inv .0, c .before .before .before .pre .searchable .deep)
 
-element-copy-out-next-at-2 : tie.Need-element-copy-out-next-at-2 Inv-loop μ-loop
-element-copy-out-next-at-2 c = omega (arith, c .before .loop .inv .0, c .before .before .before .pre .searchable .deep)
+element-copy-out-t19 : tie.Need-element-copy-out-t19 Inv-loop μ-loop
+element-copy-out-t19 c = omega (arith, c .before .loop .inv .0, c .before .before .before .pre .searchable .deep)
 
 next-at-requires : tie.Need-next-at-requires Inv-loop μ-loop
 next-at-requires c κs =
@@ -120,10 +120,10 @@ climb-spec =
     Inv-loop
     μ-loop
     loop-holds
-    mul-next-at
-    element-copy-out-next-at
-    mul-next-at-2
-    element-copy-out-next-at-2
+    mul-t11
+    element-copy-out-t14
+    mul-t16
+    element-copy-out-t19
     next-at-requires
     is-there-requires
     returns

@@ -9,16 +9,16 @@ use Rattle.walk_levels.proofs.moves.descend.Statement.{statement}
 use Rattle.walk_levels.proofs.moves.descend.Tie as tie
 
 abbrev Inv-loop : tie.InvT-loop
-Inv-loop image f path₀ entries₀ labels₀ d₀ b₀ c₀ path entries labels d b c = Goes-down image f path₀ labels₀ d₀ (b₀ .label) path entries labels d b c
+Inv-loop image f path₀ entries₀ labels₀ d₀ b₀ c₀ path entries labels d b c = Goes-down image f path₀ labels₀ d₀ (b₀ .label) path entries labels d b (c .0)
 
 abbrev μ-loop : tie.MeasureT-loop
 μ-loop image f path₀ entries₀ labels₀ d₀ b₀ c₀ path entries labels d b c = 64 - d
 
-mul-child-at : tie.Need-mul-child-at Inv-loop μ-loop
-mul-child-at c = omega (arith, c .before .before .pre .branch .deep)
+mul-t16 : tie.Need-mul-t16 Inv-loop μ-loop
+mul-t16 c = omega (arith, c .before .before .pre .branch .deep)
 
-element-copy-out-child-at : tie.Need-element-copy-out-child-at Inv-loop μ-loop
-element-copy-out-child-at c = omega (arith, c .before .before .pre .branch .deep)
+element-copy-out-t19 : tie.Need-element-copy-out-t19 Inv-loop μ-loop
+element-copy-out-t19 c = omega (arith, c .before .before .pre .branch .deep)
 
 entry-on-requires : tie.Need-entry-on-requires Inv-loop μ-loop
 entry-on-requires c κs = omega (arith, c .before .before .before .before .pre .branch .deep)
@@ -34,20 +34,20 @@ loop-holds : tie.Need-loop-holds Inv-loop μ-loop
 loop-holds c =
     let b = c .before .before .before .before .before .before in
     let a = b .args in
-    goes-first (a .image .now) (a .f) (a .path .now) (a .entries .now) (a .labels .now) (a .from) (b .pre) (c .child-at .result) (c .child-at .ensures)
+    goes-first (a .image .now) (a .f) (a .path .now) (a .entries .now) (a .labels .now) (a .from) (b .pre) (c .child-at .result .0) (c .child-at .ensures)
 
-mul-m : tie.Need-mul-m Inv-loop μ-loop
-mul-m c = omega (arith, c .loop .inv .descends .branch .deep)
+mul-t23 : tie.Need-mul-t23 Inv-loop μ-loop
+mul-t23 c = omega (arith, c .loop .inv .descends .branch .deep)
 
-element-copy-out-m : tie.Need-element-copy-out-m Inv-loop μ-loop
-element-copy-out-m c = omega (arith, c .loop .inv .descends .branch .deep)
+element-copy-out-t26 : tie.Need-element-copy-out-t26 Inv-loop μ-loop
+element-copy-out-t26 c = omega (arith, c .loop .inv .descends .branch .deep)
 
 cast-labels : tie.Need-cast-labels Inv-loop μ-loop
 cast-labels c =
     let l = c .before .before .before .loop in
     let b = c .before .before .before .before .before .before .before .before .before .before in
     let a = b .args in
-    omega (arith, goes-named (a .image .now) (a .f) (b .pre .accepted) (a .path .now) (a .labels .now) (a .from .depth) (a .from .branch .label) (l .path) (l .entries) (l .labels) (l .d) (l .b) (l .c) (l .inv) .label-byte)
+    omega (arith, goes-named (a .image .now) (a .f) (b .pre .accepted) (a .path .now) (a .labels .now) (a .from .depth) (a .from .branch .label) (l .path) (l .entries) (l .labels) (l .d) (l .b) (l .c .0) (l .inv) .label-byte)
 
 element-write-labels : tie.Need-element-write-labels Inv-loop μ-loop
 element-write-labels c = omega (arith, c .before .before .before .loop .inv .descends .branch .deep)
@@ -57,7 +57,7 @@ entry-behind-requires c κs =
     let l = c .before .before .before .before .loop in
     let b = c .before .before .before .before .before .before .before .before .before .before .before in
     let a = b .args in
-    goes-small (a .image .now) (a .f) (b .pre .accepted) (a .path .now) (a .labels .now) (a .from .depth) (a .from .branch .label) (l .path) (l .entries) (l .labels) (l .d) (l .b) (l .c) (l .inv)
+    goes-small (a .image .now) (a .f) (b .pre .accepted) (a .path .now) (a .labels .now) (a .from .depth) (a .from .branch .label) (l .path) (l .entries) (l .labels) (l .d) (l .b) (l .c .0) (l .inv)
 
 keep-entry-requires : tie.Need-keep-entry-requires Inv-loop μ-loop
 keep-entry-requires c κs = omega (arith, c .before .before .before .before .before .loop .inv .descends .branch .deep)
@@ -73,7 +73,7 @@ slot-at-requires c κs =
     let l = c .before .before .before .before .before .before .before .loop in
     let b = c .before .before .before .before .before .before .before .before .before .before .before .before .before .before in
     let a = b .args in
-    (goes-position (a .image .now) (a .f) (b .pre .accepted) (a .path .now) (a .labels .now) (a .from .depth) (a .from .branch .label) (l .path) (l .entries) (l .labels) (l .d) (l .b) (l .c) (l .inv), l .inv .child-is)
+    (goes-position (a .image .now) (a .f) (b .pre .accepted) (a .path .now) (a .labels .now) (a .from .depth) (a .from .branch .label) (l .path) (l .entries) (l .labels) (l .d) (l .b) (l .c .0) (l .inv), l .inv .child-is)
 
 returns : tie.Need-returns Inv-loop μ-loop
 returns c =
@@ -81,29 +81,29 @@ returns c =
     let b = c .before .before .before .before .before .before .before .before .before .before .before .before .before .before .before in
     let a = b .args in
     rw (c .before .before .keep-entry .ensures)
-    (down-leaf (a .image .now) (a .f) (b .pre .accepted) (a .path .now) (a .labels .now) (a .from .depth) (a .from .branch .label) (l .path) (l .entries) (l .labels) (l .d) (l .b) (l .c) (l .inv) (c .before .before .before .entry-behind .result) (c .before .before .before .entry-behind .ensures)
+    (down-leaf (a .image .now) (a .f) (b .pre .accepted) (a .path .now) (a .labels .now) (a .from .depth) (a .from .branch .label) (l .path) (l .entries) (l .labels) (l .d) (l .b) (l .c .0) (l .inv) (c .before .before .before .entry-behind .result) (c .before .before .before .entry-behind .ensures)
     (c .slot-at .result) (c .slot-at .ensures) (ends-leaf (l .b .kind) (c .before .match .keys2) (l .inv .descends .branch .there)))
 
-mul-enter : tie.Need-mul-enter Inv-loop μ-loop
-mul-enter c =
+mul-t23-2 : tie.Need-mul-t23-2 Inv-loop μ-loop
+mul-t23-2 c =
     let l = c .before .before .before .before .before .before .before .before .loop in
     let b = c .before .before .before .before .before .before .before .before .before .before .before .before .before .before .before in
     let a = b .args in
-    omega (arith, down-deep (a .image .now) (a .f) (b .pre .accepted) (a .path .now) (a .labels .now) (a .from .depth) (a .from .branch .label) (l .path) (l .entries) (l .labels) (l .d) (l .b) (l .c) (l .inv) (c .before .before .before .entry-behind .result) (c .before .before .before .entry-behind .ensures) (c .enum-told .given .1))
+    omega (arith, down-deep (a .image .now) (a .f) (b .pre .accepted) (a .path .now) (a .labels .now) (a .from .depth) (a .from .branch .label) (l .path) (l .entries) (l .labels) (l .d) (l .b) (l .c .0) (l .inv) (c .before .before .before .entry-behind .result) (c .before .before .before .entry-behind .ensures) (c .enum-told .given .1))
 
-element-copy-out-enter : tie.Need-element-copy-out-enter Inv-loop μ-loop
-element-copy-out-enter c =
+element-copy-out-t26-2 : tie.Need-element-copy-out-t26-2 Inv-loop μ-loop
+element-copy-out-t26-2 c =
     let l = c .before .before .before .before .before .before .before .before .loop in
     let b = c .before .before .before .before .before .before .before .before .before .before .before .before .before .before .before in
     let a = b .args in
-    omega (arith, down-deep (a .image .now) (a .f) (b .pre .accepted) (a .path .now) (a .labels .now) (a .from .depth) (a .from .branch .label) (l .path) (l .entries) (l .labels) (l .d) (l .b) (l .c) (l .inv) (c .before .before .before .entry-behind .result) (c .before .before .before .entry-behind .ensures) (c .enum-told .given .1))
+    omega (arith, down-deep (a .image .now) (a .f) (b .pre .accepted) (a .path .now) (a .labels .now) (a .from .depth) (a .from .branch .label) (l .path) (l .entries) (l .labels) (l .d) (l .b) (l .c .0) (l .inv) (c .before .before .before .entry-behind .result) (c .before .before .before .entry-behind .ensures) (c .enum-told .given .1))
 
 entry-on-requires-2 : tie.Need-entry-on-requires-2 Inv-loop μ-loop
 entry-on-requires-2 c κs =
     let l = c .before .before .before .before .before .before .before .before .before .before .loop in
     let b = c .before .before .before .before .before .before .before .before .before .before .before .before .before .before .before .before .before in
     let a = b .args in
-    omega (arith, down-deep (a .image .now) (a .f) (b .pre .accepted) (a .path .now) (a .labels .now) (a .from .depth) (a .from .branch .label) (l .path) (l .entries) (l .labels) (l .d) (l .b) (l .c) (l .inv) (c .before .before .before .before .before .entry-behind .result) (c .before .before .before .before .before .entry-behind .ensures) (c .before .before .enum-told .given .1))
+    omega (arith, down-deep (a .image .now) (a .f) (b .pre .accepted) (a .path .now) (a .labels .now) (a .from .depth) (a .from .branch .label) (l .path) (l .entries) (l .labels) (l .d) (l .b) (l .c .0) (l .inv) (c .before .before .before .before .before .entry-behind .result) (c .before .before .before .before .before .entry-behind .ensures) (c .before .before .enum-told .given .1))
 
 enter-requires : tie.Need-enter-requires Inv-loop μ-loop
 enter-requires c κs =
@@ -114,9 +114,9 @@ enter-requires c κs =
     let w = c .before .before .before .before .before .before .entry-behind .ensures in
     let k = c .before .before .before .enum-told .given .1 in (
       b .pre .accepted,
-      down-behind (a .image .now) (a .f) (b .pre .accepted) (a .path .now) (a .labels .now) (a .from .depth) (a .from .branch .label) (l .path) (l .entries) (l .labels) (l .d) (l .b) (l .c) (l .inv) e w k,
-      down-node (a .image .now) (a .f) (b .pre .accepted) (a .path .now) (a .labels .now) (a .from .depth) (a .from .branch .label) (l .path) (l .entries) (l .labels) (l .d) (l .b) (l .c) (l .inv) e w k,
-      rw (c .entry-on2 .ensures, c .before .before .before .before .before .keep-entry .ensures) (down-last (a .image .now) (a .f) (b .pre .accepted) (a .path .now) (a .labels .now) (a .from .depth) (a .from .branch .label) (l .path) (l .entries) (l .labels) (l .d) (l .b) (l .c) (l .inv) e w k),
+      down-behind (a .image .now) (a .f) (b .pre .accepted) (a .path .now) (a .labels .now) (a .from .depth) (a .from .branch .label) (l .path) (l .entries) (l .labels) (l .d) (l .b) (l .c .0) (l .inv) e w k,
+      down-node (a .image .now) (a .f) (b .pre .accepted) (a .path .now) (a .labels .now) (a .from .depth) (a .from .branch .label) (l .path) (l .entries) (l .labels) (l .d) (l .b) (l .c .0) (l .inv) e w k,
+      rw (c .entry-on2 .ensures, c .before .before .before .before .before .keep-entry .ensures) (down-last (a .image .now) (a .f) (b .pre .accepted) (a .path .now) (a .labels .now) (a .from .depth) (a .from .branch .label) (l .path) (l .entries) (l .labels) (l .d) (l .b) (l .c .0) (l .inv) e w k),
     )
 
 mul-path : tie.Need-mul-path Inv-loop μ-loop
@@ -124,21 +124,21 @@ mul-path c =
     let l = c .before .before .before .before .before .before .before .before .before .before .before .before .before .before .loop in
     let b = c .before .before .before .before .before .before .before .before .before .before .before .before .before .before .before .before .before .before .before .before .before in
     let a = b .args in
-    omega (arith, down-deep (a .image .now) (a .f) (b .pre .accepted) (a .path .now) (a .labels .now) (a .from .depth) (a .from .branch .label) (l .path) (l .entries) (l .labels) (l .d) (l .b) (l .c) (l .inv) (c .before .before .before .before .before .before .before .before .before .entry-behind .result) (c .before .before .before .before .before .before .before .before .before .entry-behind .ensures) (c .before .before .before .before .before .before .enum-told .given .1))
+    omega (arith, down-deep (a .image .now) (a .f) (b .pre .accepted) (a .path .now) (a .labels .now) (a .from .depth) (a .from .branch .label) (l .path) (l .entries) (l .labels) (l .d) (l .b) (l .c .0) (l .inv) (c .before .before .before .before .before .before .before .before .before .entry-behind .result) (c .before .before .before .before .before .before .before .before .before .entry-behind .ensures) (c .before .before .before .before .before .before .enum-told .given .1))
 
 element-write-path : tie.Need-element-write-path Inv-loop μ-loop
 element-write-path c =
     let l = c .before .before .before .before .before .before .before .before .before .before .before .before .before .before .loop in
     let b = c .before .before .before .before .before .before .before .before .before .before .before .before .before .before .before .before .before .before .before .before .before in
     let a = b .args in
-    omega (arith, down-deep (a .image .now) (a .f) (b .pre .accepted) (a .path .now) (a .labels .now) (a .from .depth) (a .from .branch .label) (l .path) (l .entries) (l .labels) (l .d) (l .b) (l .c) (l .inv) (c .before .before .before .before .before .before .before .before .before .entry-behind .result) (c .before .before .before .before .before .before .before .before .before .entry-behind .ensures) (c .before .before .before .before .before .before .enum-told .given .1))
+    omega (arith, down-deep (a .image .now) (a .f) (b .pre .accepted) (a .path .now) (a .labels .now) (a .from .depth) (a .from .branch .label) (l .path) (l .entries) (l .labels) (l .d) (l .b) (l .c .0) (l .inv) (c .before .before .before .before .before .before .before .before .before .entry-behind .result) (c .before .before .before .before .before .before .before .before .before .entry-behind .ensures) (c .before .before .before .before .before .before .enum-told .given .1))
 
 keep-entry-requires-2 : tie.Need-keep-entry-requires-2 Inv-loop μ-loop
 keep-entry-requires-2 c κs =
     let l = c .before .before .before .before .before .before .before .before .before .before .before .before .before .before .before .loop in
     let b = c .before .before .before .before .before .before .before .before .before .before .before .before .before .before .before .before .before .before .before .before .before .before in
     let a = b .args in
-    omega (arith, down-deep (a .image .now) (a .f) (b .pre .accepted) (a .path .now) (a .labels .now) (a .from .depth) (a .from .branch .label) (l .path) (l .entries) (l .labels) (l .d) (l .b) (l .c) (l .inv) (c .before .before .before .before .before .before .before .before .before .before .entry-behind .result) (c .before .before .before .before .before .before .before .before .before .before .entry-behind .ensures) (c .before .before .before .before .before .before .before .enum-told .given .1))
+    omega (arith, down-deep (a .image .now) (a .f) (b .pre .accepted) (a .path .now) (a .labels .now) (a .from .depth) (a .from .branch .label) (l .path) (l .entries) (l .labels) (l .d) (l .b) (l .c .0) (l .inv) (c .before .before .before .before .before .before .before .before .before .before .entry-behind .result) (c .before .before .before .before .before .before .before .before .before .before .entry-behind .ensures) (c .before .before .before .before .before .before .before .enum-told .given .1))
 
 returns-2 : tie.Need-returns-2 Inv-loop μ-loop
 returns-2 c =
@@ -146,20 +146,20 @@ returns-2 c =
     let b = c .before .before .before .before .before .before .before .before .before .before .before .before .before .before .before .before .before .before .before .before .before .before .before .before in
     let a = b .args in
     rw (c .before .keep-entry2 .ensures, c .before .before .before .before .before .before .before .before .before .before .before .keep-entry .ensures)
-    (down-exact (a .image .now) (a .f) (b .pre .accepted) (a .path .now) (a .labels .now) (a .from .depth) (a .from .branch .label) (l .path) (l .entries) (l .labels) (l .d) (l .b) (l .c) (l .inv) (c .before .before .before .before .before .before .before .before .before .before .before .before .entry-behind .result) (c .before .before .before .before .before .before .before .before .before .before .before .before .entry-behind .ensures)
+    (down-exact (a .image .now) (a .f) (b .pre .accepted) (a .path .now) (a .labels .now) (a .from .depth) (a .from .branch .label) (l .path) (l .entries) (l .labels) (l .d) (l .b) (l .c .0) (l .inv) (c .before .before .before .before .before .before .before .before .before .before .before .before .entry-behind .result) (c .before .before .before .before .before .before .before .before .before .before .before .before .entry-behind .ensures)
     (c .before .before .before .before .before .before .before .before .before .enum-told .given .1) (c .before .before .before .before .before .enter .result) (c .before .before .before .before .before .enter .ensures) (c .if1 .taken))
 
 loop-less : tie.Need-loop-less Inv-loop μ-loop
-loop-less c = omega (arith, c .before .before .before .before .before .before .before .before .before .before .before .before .before .before .before .before .before .before .loop .inv .descends .branch .deep)
+loop-less c = omega (arith, c .before .before .before .before .before .before .before .before .before .before .before .before .before .before .before .before .before .before .before .loop .inv .descends .branch .deep)
 
 loop-again : tie.Need-loop-again Inv-loop μ-loop
 loop-again c =
-    let l = c .before .before .before .before .before .before .before .before .before .before .before .before .before .before .before .before .before .before .loop in
-    let b = c .before .before .before .before .before .before .before .before .before .before .before .before .before .before .before .before .before .before .before .before .before .before .before .before .before in
+    let l = c .before .before .before .before .before .before .before .before .before .before .before .before .before .before .before .before .before .before .before .loop in
+    let b = c .before .before .before .before .before .before .before .before .before .before .before .before .before .before .before .before .before .before .before .before .before .before .before .before .before .before in
     let a = b .args in
-    rw (c .before .before .keep-entry2 .ensures, c .before .before .before .before .before .before .before .before .before .before .before .before .keep-entry .ensures)
-    (down-next (a .image .now) (a .f) (b .pre .accepted) (a .path .now) (a .labels .now) (a .from .depth) (a .from .branch .label) (l .path) (l .entries) (l .labels) (l .d) (l .b) (l .c) (l .inv) (c .before .before .before .before .before .before .before .before .before .before .before .before .before .entry-behind .result) (c .before .before .before .before .before .before .before .before .before .before .before .before .before .entry-behind .ensures)
-    (c .before .before .before .before .before .before .before .before .before .before .enum-told .given .1) (c .before .before .before .before .before .before .enter .result) (c .before .before .before .before .before .before .enter .ensures) (c .before .if1 .left))
+    rw (c .before .before .before .keep-entry2 .ensures, c .before .before .before .before .before .before .before .before .before .before .before .before .before .keep-entry .ensures)
+    (down-next (a .image .now) (a .f) (b .pre .accepted) (a .path .now) (a .labels .now) (a .from .depth) (a .from .branch .label) (l .path) (l .entries) (l .labels) (l .d) (l .b) (l .c .0) (l .inv) (c .before .before .before .before .before .before .before .before .before .before .before .before .before .before .entry-behind .result) (c .before .before .before .before .before .before .before .before .before .before .before .before .before .before .entry-behind .ensures)
+    (c .before .before .before .before .before .before .before .before .before .before .before .enum-told .given .1) (c .before .before .before .before .before .before .before .enter .result) (c .before .before .before .before .before .before .before .enter .ensures) (c .before .before .if1 .left))
 
 pub descend-spec : {M : Type 1} → statement M
 descend-spec =
@@ -167,13 +167,13 @@ descend-spec =
     (tie.spec
     Inv-loop
     μ-loop
-    mul-child-at
-    element-copy-out-child-at
+    mul-t16
+    element-copy-out-t19
     entry-on-requires
     child-at-requires
     loop-holds
-    mul-m
-    element-copy-out-m
+    mul-t23
+    element-copy-out-t26
     cast-labels
     element-write-labels
     entry-behind-requires
@@ -182,8 +182,8 @@ descend-spec =
     enum-told
     slot-at-requires
     returns
-    mul-enter
-    element-copy-out-enter
+    mul-t23-2
+    element-copy-out-t26-2
     entry-on-requires-2
     enter-requires
     mul-path

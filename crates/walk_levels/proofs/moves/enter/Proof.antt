@@ -14,21 +14,21 @@ first-at-requires c κs = let b = c .before .before in (record { accepted = b .p
 
 child-at-requires : tie.Need-child-at-requires
 child-at-requires c κs =
-    let b = c .before .before .before .before .before .before .before in
-    let n = c .before .before .before .before .first-at .ensures in
+    let b = c .before .before .before .before .before .before .before .before in
+    let n = c .before .before .before .before .before .first-at .ensures in
     (record { accepted = b .pre .0; within = n .branch-is .there (λ e. b .pre .2 .there (sym (n .branch-is .kind-is) ∙ e)) .at-is .within }, λ z. absurd (omega arith))
 
 returns : tie.Need-returns
 returns c =
-    let b = c .before .before .before .before .before .before .before .before in
-    record { first-is = c .before .before .before .before .before .first-at .ensures; child-is = c .child-at .ensures; next = λ e. record { sparse = λ z. absurd (omega arith); entry-is = λ z. absurd (omega arith); behind = λ z. absurd (omega arith) }; from = λ z. absurd (omega arith) }
+    let b = c .before .before .before .before .before .before .before .before .before in
+    record { first-is = c .before .before .before .before .before .before .first-at .ensures; child-is = c .child-at .ensures; next = λ e. record { sparse = λ z. absurd (omega arith); entry-is = λ z. absurd (omega arith); behind = λ z. absurd (omega arith) }; from = λ z. absurd (omega arith) }
 
 returns-2 : tie.Need-returns-2
 returns-2 c =
-    let b = c .before .before .before .before .before .before .before in
+    let b = c .before .before .before .before .before .before .before .before .before in
     let a = b .args in
-    let d = c .if1 .left in
-    enters-sparse (a .image .now) (a .f) (b .pre .0) (a .m) (omega arith) (b .pre .2 .inside) (b .pre .2) (c .before .before .before .before .first-at .result) (c .before .before .before .before .first-at .ensures) (c .before .before .before .before .before .start-at .result) (c .before .before .before .before .before .start-at .ensures (omega arith))
+    let d = c .before .if1 .left in
+    enters-sparse (a .image .now) (a .f) (b .pre .0) (a .m .0) (omega arith) (b .pre .2 .inside) (b .pre .2) (c .before .before .before .before .before .before .first-at .result) (c .before .before .before .before .before .before .first-at .ensures) (c .before .before .before .before .before .before .before .start-at .result) (c .before .before .before .before .before .before .before .start-at .ensures (omega arith))
 
 pub enter-spec : {M : Type 1} → statement M
 enter-spec =

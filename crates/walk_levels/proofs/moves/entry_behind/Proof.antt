@@ -12,23 +12,23 @@ returns c = search needs
 enum-told : tie.Need-enum-told
 enum-told c = search needs
 
-add-t9 : tie.Need-add-t9
-add-t9 c = search needs
+add-t11 : tie.Need-add-t11
+add-t11 c = search needs
 
 enum-told-2 : tie.Need-enum-told-2
 enum-told-2 c = search needs
 
-add-t10 : tie.Need-add-t10
-add-t10 c = search needs
+add-t13 : tie.Need-add-t13
+add-t13 c = search needs
 
 enum-told-3 : tie.Need-enum-told-3
 enum-told-3 c = search needs
 
-add-t11 : tie.Need-add-t11
-add-t11 c = search needs
+add-t15 : tie.Need-add-t15
+add-t15 c = search needs
 
-add-t12 : tie.Need-add-t12
-add-t12 c = search needs
+add-t17 : tie.Need-add-t17
+add-t17 c = search needs
 
 returns-2 : tie.Need-returns-2
 returns-2 c = let n = c .before .before .before .before .if1 .left in record { dense = λ h. absurd (omega arith); sparse = λ h. (refl, omega (arith, ap continues (c .before .enum-told .given .1))) }
@@ -37,7 +37,7 @@ returns-3 : tie.Need-returns-3
 returns-3 c = let n = c .before .before .before .before .if1 .left in record { dense = λ h. absurd (omega arith); sparse = λ h. (refl, omega (arith, ap continues (c .before .enum-told2 .given .1))) }
 
 returns-4 : tie.Need-returns-4
-returns-4 c = let n = c .before .before .before .before .if1 .left in record { dense = λ h. absurd (omega arith); sparse = λ h. (refl, omega (arith, ap continues (c .before .enum-told3 .given .1))) }
+returns-4 c = let n = c .before .before .before .before .before .if1 .left in record { dense = λ h. absurd (omega arith); sparse = λ h. (refl, omega (arith, ap continues (c .before .before .enum-told3 .given .1))) }
 
 pub entry-behind-spec : {M : Type 1} → statement M
 entry-behind-spec =
@@ -45,12 +45,12 @@ entry-behind-spec =
     (tie.spec
     returns
     enum-told
-    add-t9
-    enum-told-2
-    add-t10
-    enum-told-3
     add-t11
-    add-t12
+    enum-told-2
+    add-t13
+    enum-told-3
+    add-t15
+    add-t17
     returns-2
     returns-3
     returns-4)
