@@ -109,7 +109,7 @@ pub fn length(list: &List, setting: Setting) -> Figures {
     let Setting { dense_levels, n } = setting;
     let (bytes, stated) = (list.bytes.as_slice(), list.stated(setting));
     compare(
-        list.effort(),
+        list.effort(1),
         || library::image_length(bytes, dense_levels, n).expect("the keys make a list"),
         || library::build(bytes, dense_levels, n, stated, &mut image).length(),
     )
