@@ -3,18 +3,18 @@ use mathlib.Core.Path.{_≡_, refl, sym, ap, ap₂, _∙_}
 use mathlib.Core.Bool.{Bool, true, false, cond}
 use mathlib.Core.List.{[], _∷_, _++_}
 use Prim.Native.Nat.{ℕ, zero, suc, _+_, _*_, _-_, _/_, _%_, _^_, _≤_, _<_, min}
-use native.Mathlib.Nat.{mod-one, add-zero}
+use native.Mathlib.Nat.{mod-one, add-zero, mod-eq-of-lt}
 use native.Mathlib.Omega.{arith}
-use borrow.Author.Tests.{eq-eqb, ne-eqb, eqb-true}
+use borrow.Author.Tests.{eq-eqb, ne-eqb, eqb-true, ltb-true, ltb-false}
 use lib.ListN.{length, getD, take, drop, length-drop}
-use lib.Seq.{drop-cons, take-suc, take-add}
-use lib.Dec.{eqb}
-use lib.Pow.{high, low, field, mod-mod-pow, mod-pow-add}
-use lib.Bits.{bitXor, xor-mod, xor-add-and, and-le-l, and-le-r}
+use lib.Seq.{drop-cons, take-suc, take-add, getD-drop}
+use lib.Dec.{eqb, ltb}
+use lib.Pow.{pow-pos, high, low, field, mod-mod-pow, mod-pow-add}
+use lib.Bits.{bitXor, xor-mod, xor-self, xor-add-and, and-le-l, and-le-r}
 use lib.Count.{trailingZeros, under}
 use Rattle.spec.specs.Bytes.{Bytes, shared}
 use Rattle.bits_laws.specs.Bits.{value, word}
-use Rattle.bits_laws.specs.ValueLaws.{Small, small-drop}
+use Rattle.bits_laws.specs.ValueLaws.{Small, small-drop, value-drop, value-byte}
 
 -- ---- bytes
 
@@ -90,6 +90,53 @@ xor-same x y t h =
     let e : x % 2 ^ z ≡ y % 2 ^ z = xor-none (x % 2 ^ z) (y % 2 ^ z) (sym (xor-mod x y z) ∙ trailing-mod 64 (bitXor x y)) in
     sym (mod-mod-pow x (z - t) t) ∙ ap (λ (k : ℕ). x % 2 ^ k % 2 ^ t) w ∙ ap (λ (k : ℕ). k % 2 ^ t) e ∙ ap (λ (k : ℕ). y % 2 ^ k % 2 ^ t) (sym w) ∙ mod-mod-pow y (z - t) t
 
+-- the digit behind them is set
+trailing-one : (k n : ℕ) → trailingZeros k n < k → n % 2 ^ suc (trailingZeros k n) ≡ 0 → ⊥
+unfolding trailingZeros
+trailing-one zero n l e = omega arith
+trailing-one (suc k) n l e = go (n % 2) refl l e (trailing-one k (n / 2))
+  where
+    go : (d : ℕ) → n % 2 ≡ d → under d (trailingZeros k (n / 2)) < suc k → n % 2 ^ suc (under d (trailingZeros k (n / 2))) ≡ 0
+        → (trailingZeros k (n / 2) < k → n / 2 % 2 ^ suc (trailingZeros k (n / 2)) ≡ 0 → ⊥) → ⊥
+    go zero f l e rest =
+        let t : ℕ = trailingZeros k (n / 2) in
+        let w : suc t + 1 ≡ suc (suc t) = omega arith in
+        rest (omega arith) (omega (arith, sym (mod-pow-add n (suc t) 1) ∙ ap (λ (m : ℕ). n % 2 ^ m) w ∙ e))
+    go (suc d) f l e rest = omega (arith, e, f)
+
+-- two numbers that differ in one of their low 64 digits differ up to the end of the byte that has the lowest such digit
+pub xor-differ : (x y : ℕ) → trailingZeros 64 (bitXor x y) / 8 < 8 → x % 2 ^ (8 + 8 * (trailingZeros 64 (bitXor x y) / 8)) ≡ y % 2 ^ (8 + 8 * (trailingZeros 64 (bitXor x y) / 8)) → ⊥
+xor-differ x y l e = trailing-one 64 (bitXor x y) (omega arith) low-digits
+  where
+    z : ℕ
+    z = trailingZeros 64 (bitXor x y)
+
+    t : ℕ
+    t = 8 + 8 * (z / 8)
+
+    low-digits : bitXor x y % 2 ^ suc z ≡ 0
+    low-digits =
+        let w : (t - suc z) + suc z ≡ t = omega arith in
+        sym (mod-mod-pow (bitXor x y) (t - suc z) (suc z)) ∙ ap (λ (k : ℕ). bitXor x y % 2 ^ k % 2 ^ suc z) w
+        ∙ ap (λ (k : ℕ). k % 2 ^ suc z) (xor-mod x y t ∙ ap (λ (k : ℕ). bitXor k (y % 2 ^ t)) e ∙ xor-self (y % 2 ^ t)) ∙ mod-eq-of-lt (pow-pos (suc z))
+
+-- byte k of a word
+word-byte : (s : Bytes) → Small s → (i k : ℕ) → k < 8 → word s i / 2 ^ (8 * k) % 2 ^ 8 ≡ getD s (i + k) 0
+unfolding word
+word-byte s h i k l =
+    let n : ℕ = value (drop i s) in
+    let w : 64 ≡ (56 - 8 * k) + 8 + 8 * k = omega arith in
+    ap (λ (m : ℕ). n % 2 ^ m / 2 ^ (8 * k) % 2 ^ 8) w ∙ ap (λ (m : ℕ). m % 2 ^ 8) (field n ((56 - 8 * k) + 8) (8 * k)) ∙ mod-mod-pow (n / 2 ^ (8 * k)) (56 - 8 * k) 8
+    ∙ ap (λ (m : ℕ). m % 2 ^ 8) (value-drop k (drop i s) (small-drop i s h)) ∙ value-byte k (drop i s) (small-drop i s h) ∙ getD-drop i s k 0
+
+-- words that agree below byte k and differ up to it are of byte strings that differ there
+byte-differs : (p q : Bytes) → Small p → Small q → (i k : ℕ) → k < 8 → word p i % 2 ^ (8 * k) ≡ word q i % 2 ^ (8 * k)
+    → (word p i % 2 ^ (8 + 8 * k) ≡ word q i % 2 ^ (8 + 8 * k) → ⊥) → getD p (i + k) 0 ≡ getD q (i + k) 0 → ⊥
+byte-differs p q f g i k l d h e =
+    h
+    (mod-pow-add (word p i) 8 (8 * k) ∙ ap₂ (λ (m n : ℕ). m * 2 ^ (8 * k) + n) (word-byte p f i k l ∙ e ∙ sym (word-byte q g i k l)) d
+    ∙ sym (mod-pow-add (word q i) 8 (8 * k)))
+
 -- numbers that agree in their k low bytes are of byte strings that agree in their first k
 value-same : (k : ℕ) (p q : Bytes) → Small p → Small q → k ≤ length p → k ≤ length q → value p % 2 ^ (8 * k) ≡ value q % 2 ^ (8 * k) → take k p ≡ take k q
 unfolding value
@@ -107,7 +154,7 @@ value-same (suc k) (x ∷ p) (y ∷ q) f g a b e =
     ap₂ _∷_ h (value-same k p q (small-drop 1 (x ∷ p) f) (small-drop 1 (y ∷ q) g) (omega arith) (omega arith) t)
 
 -- words that agree in their k low bytes carry a shared prefix on by k bytes
-pub same-word : (p q : Bytes) → Small p → Small q → (i k : ℕ) → k ≤ 8 → i + k ≤ length p → i + k ≤ length q → take i p ≡ take i q
+same-word : (p q : Bytes) → Small p → Small q → (i k : ℕ) → k ≤ 8 → i + k ≤ length p → i + k ≤ length q → take i p ≡ take i q
     → word p i % 2 ^ (8 * k) ≡ word q i % 2 ^ (8 * k) → take (i + k) p ≡ take (i + k) q
 unfolding word
 same-word p q f g i k h a b e d =
@@ -117,3 +164,29 @@ same-word p q f g i k h a b e d =
     value-same k (drop i p) (drop i q) (small-drop i p f) (small-drop i q g) (omega (arith, length-drop i p)) (omega (arith, length-drop i q))
     (sym (cut (value (drop i p))) ∙ d ∙ cut (value (drop i q))) in
     take-add i k p ∙ ap₂ (λ (u v : Bytes). u ++ v) e t ∙ sym (take-add i k q)
+
+-- Both keys share their first i bytes; x and y are their words from there on, which agree in k bytes.
+module _ (p q : Bytes) (f : Small p) (g : Small q) (i k x y : ℕ) (e : take i p ≡ take i q) (ex : x ≡ word p i) (ey : y ≡ word q i) (d : x % 2 ^ (8 * k) ≡ y % 2 ^ (8 * k)) where
+  agrees : word p i % 2 ^ (8 * k) ≡ word q i % 2 ^ (8 * k)
+  agrees = ap (λ (n : ℕ). n % 2 ^ (8 * k)) (sym ex) ∙ d ∙ ap (λ (n : ℕ). n % 2 ^ (8 * k)) ey
+
+  -- these are shared too
+  pub word-shared : k ≤ 8 → i + k ≤ length p → i + k ≤ length q → take (i + k) p ≡ take (i + k) q
+  word-shared h a b = same-word p q f g i k h a b e agrees
+
+  -- and no more, if the words differ
+  pub word-differs : i + 8 ≤ length p → i + 8 ≤ length q → k < 8 → (x % 2 ^ (8 + 8 * k) ≡ y % 2 ^ (8 + 8 * k) → ⊥) → shared p q ≡ i + k
+  word-differs a b l h =
+      shared-differ p q (i + k) (omega arith) (omega arith) (word-shared (omega arith) (omega arith) (omega arith)) (omega arith) (omega arith)
+      (byte-differs p q f g i k l agrees (λ z. h (ap (λ (n : ℕ). n % 2 ^ (8 + 8 * k)) ex ∙ z ∙ ap (λ (n : ℕ). n % 2 ^ (8 + 8 * k)) (sym ey))))
+
+-- The shorter key has n bytes; all before the word that ends with its last byte are shared.
+pub last-word : (p q : Bytes) → Small p → Small q → (n : ℕ) → 8 ≤ n → n ≡ min (length p) (length q) → take (n - 8) p ≡ take (n - 8) q → (k : ℕ) {x y : ℕ} → x ≡ word p (n - 8) → y ≡ word q (n - 8)
+    → k ≤ 8 → x % 2 ^ (8 * k) ≡ y % 2 ^ (8 * k) → (k < 8 → x % 2 ^ (8 + 8 * k) ≡ y % 2 ^ (8 + 8 * k) → ⊥) → shared p q ≡ n - 8 + k
+last-word p q f g n a m e k {x} {y} ex ey l d h = go (ltb k 8) refl
+  where
+    go : (b : Bool) → ltb k 8 ≡ b → shared p q ≡ n - 8 + k
+    go true r = let s = ltb-true k 8 r in word-differs p q f g (n - 8) k x y e ex ey d (omega arith) (omega arith) s (h s)
+    go false r =
+        let s = ltb-false k 8 r in
+        shared-end p q (n - 8 + k) (omega arith) (omega arith) (word-shared p q f g (n - 8) k x y e ex ey d l (omega arith) (omega arith)) (omega arith)

@@ -1,6 +1,6 @@
 // The prefix that two keys share, and their order.
 ghost use mathlib.Core.Path.{_≡_};
-ghost use Prim.Native.Nat.{min, _*_, _-_, _≤_, _^_, _%_};
+ghost use Prim.Native.Nat.{min, _+_, _*_, _-_, _≤_, _<_, _^_, _%_};
 ghost use lib.ListN.{length, take};
 ghost use Rattle.spec.specs.Bytes.{shared};
 ghost use Rattle.keys.specs.Order.{order};
@@ -16,24 +16,24 @@ pub enum Order {
 
 // How many low bytes, up to eight, two words have in common before their first difference.
 fn equal_bytes(x: u64, y: u64) -> usize
-    ensures { λ r. ⌜ (r ≤ 8) × (x % 2 ^ (8 * r) ≡ y % 2 ^ (8 * r)) ⌝ }
+    ensures { λ r. ⌜ (r ≤ 8) × (x % 2 ^ (8 * r) ≡ y % 2 ^ (8 * r)) × (r < 8 → x % 2 ^ (8 + 8 * r) ≡ y % 2 ^ (8 + 8 * r) → ⊥) ⌝ }
 {
     (u64::trailing_zeros(x ^ y) / 8) as usize
 }
 
-// How many bytes both keys are found to share by the word that ends with their first n bytes. All bytes before that word are known to be shared.
+// The length of the longest prefix that two keys share, of which the shorter has n bytes, by the word that ends with its last byte. All bytes before that word are known to be shared.
 fn shared_end(p: &[u8], q: &[u8], n: usize) -> usize
-    requires { ⌜ (8 ≤ n) × (n ≤ length (now p)) × (n ≤ length (now q)) × (take (n - 8) (now p) ≡ take (n - 8) (now q)) ⌝ }
-    ensures { λ r. ⌜ (r ≤ n) × (take r (now (p .entry)) ≡ take r (now (q .entry))) ⌝ }
+    requires { ⌜ (8 ≤ n) × (n ≡ min (length (now p)) (length (now q))) × (take (n - 8) (now p) ≡ take (n - 8) (now q)) ⌝ }
+    ensures { λ r. ⌜ r ≡ shared (now (p .entry)) (now (q .entry)) ⌝ }
 {
     let i = n - 8;
     i + equal_bytes(read64(p, i), read64(q, i))
 }
 
-// How many bytes, at most n, both keys are found to share by words: all words before the first that differs, and its bytes before the difference. The last word may begin among bytes that are known to be shared.
+// The length of the longest prefix that two keys share, of which the shorter has n bytes, by words up to the first that differs. The last word may begin among bytes that are known to be shared.
 fn shared_words(p: &[u8], q: &[u8], n: usize) -> usize
-    requires { ⌜ (n ≤ length (now p)) × (n ≤ length (now q)) ⌝ }
-    ensures { λ r. ⌜ (r ≤ n) × (take r (now (p .entry)) ≡ take r (now (q .entry))) ⌝ }
+    requires { ⌜ (8 ≤ n) × (n ≡ min (length (now p)) (length (now q))) ⌝ }
+    ensures { λ r. ⌜ r ≡ shared (now (p .entry)) (now (q .entry)) ⌝ }
 {
     let mut i = 0usize;
     while 8 <= n - i {
@@ -43,18 +43,15 @@ fn shared_words(p: &[u8], q: &[u8], n: usize) -> usize
             return i;
         }
     }
-    if n < 8 {
-        return i;
-    }
     shared_end(p, q, n)
 }
 
-// The length of the longest prefix that two keys share. The shorter key has n bytes, and the first `from` bytes are known to be shared.
-fn shared_from(p: &[u8], q: &[u8], n: usize, from: usize) -> usize
-    requires { ⌜ (n ≡ min (length (now p)) (length (now q))) × (from ≤ n) × (take from (now p) ≡ take from (now q)) ⌝ }
+// The length of the longest prefix that two keys share, of which the shorter has n bytes, byte by byte.
+fn shared_bytes(p: &[u8], q: &[u8], n: usize) -> usize
+    requires { ⌜ n ≡ min (length (now p)) (length (now q)) ⌝ }
     ensures { λ r. ⌜ r ≡ shared (now (p .entry)) (now (q .entry)) ⌝ }
 {
-    let mut i = from;
+    let mut i = 0usize;
     while i < n {
         if p[i] != q[i] {
             return i;
@@ -64,13 +61,15 @@ fn shared_from(p: &[u8], q: &[u8], n: usize, from: usize) -> usize
     i
 }
 
-// The length of the longest prefix that two keys share: by words, then by bytes.
+// The length of the longest prefix that two keys share: by words where both have one, else by bytes.
 pub fn shared(p: &[u8], q: &[u8]) -> usize
     ensures { λ r. ⌜ r ≡ shared (now (p .entry)) (now (q .entry)) ⌝ }
 {
     let n = smaller(p.len(), q.len());
-    let i = shared_words(p, q, n);
-    shared_from(p, q, n, i)
+    if n < 8 {
+        return shared_bytes(p, q, n);
+    }
+    shared_words(p, q, n)
 }
 
 // The order of two keys by unsigned bytes, a proper prefix first: the byte behind the shared prefix decides.

@@ -1,9 +1,7 @@
--- The word's bytes before its first difference are shared, and so are all before the word.
-use mathlib.Core.Path.{sym, ap, _∙_}
-use Prim.Native.Nat.{ℕ, _*_, _-_, _%_, _^_}
-use Rattle.keys.proofs.PrefixLaws.{same-word}
+-- The word's bytes before its first difference are shared with all before the word, and no more.
+use mathlib.Core.Path.{sym}
+use Rattle.keys.proofs.PrefixLaws.{last-word}
 use Rattle.bits_laws.specs.ValueLaws.{Small}
-use native.Mathlib.Omega.{arith}
 use borrow.Author.Needs.{needs}
 use Rattle.keys.proofs.compare.shared_end.Statement.{statement}
 use Rattle.keys.proofs.compare.shared_end.Tie as tie
@@ -30,8 +28,7 @@ returns c =
     let k = c .equal-bytes in
     let small₁ : Small (a .p .now) = λ i. c .before .before .before .before .shared-slice-known .given i .fits in
     let small₂ : Small (a .q .now) = λ i. c .before .before .before .shared-slice-known2 .given i .fits in
-    let e = ap (λ (x : ℕ). x % 2 ^ (8 * k .result)) (sym (c .before .before .read64 .ensures)) ∙ k .ensures .1 ∙ ap (λ (x : ℕ). x % 2 ^ (8 * k .result)) (c .before .read642 .ensures) in
-    (omega (arith, k .ensures .0), same-word (a .p .now) (a .q .now) small₁ small₂ (a .n - 8) (k .result) (k .ensures .0) (omega (arith, k .ensures .0)) (omega (arith, k .ensures .0)) (pre .3) e)
+    sym (last-word (a .p .now) (a .q .now) small₁ small₂ (a .n) (pre .0) (pre .1) (pre .2) (k .result) (c .before .before .read64 .ensures) (c .before .read642 .ensures) (k .ensures .0) (k .ensures .1) (k .ensures .2))
 
 pub shared-end-spec : {M : Type 1} → statement M
 shared-end-spec =

@@ -1,6 +1,6 @@
 use mathlib.Core.Path.{_≡_, refl, sym, ap, _∙_}
-use Prim.Native.Nat.{ℕ, _*_, _-_, _%_, _^_, _≤_}
-use Rattle.keys.proofs.PrefixLaws.{same-word}
+use Prim.Native.Nat.{ℕ, _-_, _≤_}
+use Rattle.keys.proofs.PrefixLaws.{word-shared, word-differs}
 use Rattle.bits_laws.specs.ValueLaws.{Small}
 use native.Mathlib.Omega.{arith}
 use borrow.Author.Needs.{needs}
@@ -45,8 +45,8 @@ returns c =
     let k = c .before .equal-bytes in
     let small₁ : Small (a .p .now) = λ i. c .before .before .before .before .before .before .before .shared-slice-known .given i .fits in
     let small₂ : Small (a .q .now) = λ i. c .before .before .before .before .before .before .shared-slice-known2 .given i .fits in
-    let e = ap (λ (x : ℕ). x % 2 ^ (8 * k .result)) (sym (c .before .before .before .read64 .ensures)) ∙ k .ensures .1 ∙ ap (λ (x : ℕ). x % 2 ^ (8 * k .result)) (c .before .before .read642 .ensures) in
-    (omega arith, same-word (a .p .now) (a .q .now) small₁ small₂ (l .i) (k .result) (k .ensures .0) (omega arith) (omega arith) (l .inv .1) e)
+    let h = c .if1 .taken in
+    sym (word-differs (a .p .now) (a .q .now) small₁ small₂ (l .i) (k .result) _ _ (l .inv .1) (c .before .before .before .read64 .ensures) (c .before .before .read642 .ensures) (k .ensures .1) (omega arith) (omega arith) h (k .ensures .2 h))
 
 loop-less : tie.Need-loop-less Inv-loop μ-loop
 loop-less c = search needs
@@ -58,20 +58,16 @@ loop-again c =
     let k = c .before .equal-bytes in
     let small₁ : Small (a .p .now) = λ i. c .before .before .before .before .before .before .before .shared-slice-known .given i .fits in
     let small₂ : Small (a .q .now) = λ i. c .before .before .before .before .before .before .shared-slice-known2 .given i .fits in
-    let e = ap (λ (x : ℕ). x % 2 ^ (8 * k .result)) (sym (c .before .before .before .read64 .ensures)) ∙ k .ensures .1 ∙ ap (λ (x : ℕ). x % 2 ^ (8 * k .result)) (c .before .before .read642 .ensures) in
-    (omega arith, same-word (a .p .now) (a .q .now) small₁ small₂ (l .i) (k .result) (k .ensures .0) (omega arith) (omega arith) (l .inv .1) e)
-
-returns-2 : tie.Need-returns-2 Inv-loop μ-loop
-returns-2 c = c .before .before .loop .inv
+    (omega arith, word-shared (a .p .now) (a .q .now) small₁ small₂ (l .i) (k .result) _ _ (l .inv .1) (c .before .before .before .read64 .ensures) (c .before .before .read642 .ensures) (k .ensures .1) (k .ensures .0) (omega arith) (omega arith))
 
 shared-end-requires : tie.Need-shared-end-requires Inv-loop μ-loop
 shared-end-requires c κs =
-    let a = c .before .before .before .before .before .args in
-    let l = c .before .before .loop in
-    (omega arith, omega arith, omega arith, take-fewer (a .n - 8) (l .i) (a .p .now) (a .q .now) (omega arith) (l .inv .1))
+    let a = c .before .before .before .before .args in
+    let l = c .before .loop in
+    (omega arith, omega arith, take-fewer (a .n - 8) (l .i) (a .p .now) (a .q .now) (omega arith) (l .inv .1))
 
-returns-3 : tie.Need-returns-3 Inv-loop μ-loop
-returns-3 c = c .shared-end .ensures
+returns-2 : tie.Need-returns-2 Inv-loop μ-loop
+returns-2 c = c .shared-end .ensures
 
 pub shared-words-spec : {M : Type 1} → statement M
 shared-words-spec =
@@ -88,6 +84,5 @@ shared-words-spec =
     returns
     loop-less
     loop-again
-    returns-2
     shared-end-requires
-    returns-3)
+    returns-2)

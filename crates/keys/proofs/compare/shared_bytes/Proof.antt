@@ -1,20 +1,21 @@
-use mathlib.Core.Path.{_≡_, sym}
+-- The bytes before the place are shared.
+use mathlib.Core.Path.{_≡_, refl, sym}
 use Prim.Native.Nat.{_-_, _≤_}
 use native.Mathlib.Omega.{arith}
 use borrow.Author.Needs.{needs}
 use Rattle.keys.proofs.PrefixLaws.{shared-end, shared-differ, same-next}
 use lib.ListN.{take}
-use Rattle.keys.proofs.compare.shared_from.Statement.{statement}
-use Rattle.keys.proofs.compare.shared_from.Tie as tie
+use Rattle.keys.proofs.compare.shared_bytes.Statement.{statement}
+use Rattle.keys.proofs.compare.shared_bytes.Tie as tie
 
 abbrev Inv-loop : tie.InvT-loop
-Inv-loop p q n from i₀ i = (i ≤ n) × (take i p ≡ take i q)
+Inv-loop p q n i₀ i = (i ≤ n) × (take i p ≡ take i q)
 
 abbrev μ-loop : tie.MeasureT-loop
-μ-loop p q n from i₀ i = n - i
+μ-loop p q n i₀ i = n - i
 
 loop-holds : tie.Need-loop-holds Inv-loop μ-loop
-loop-holds c = search needs
+loop-holds c = (omega arith, refl)
 
 shared-slice-read-if1 : tie.Need-shared-slice-read-if1 Inv-loop μ-loop
 shared-slice-read-if1 c = search needs
@@ -46,8 +47,8 @@ returns-2 c =
     let l = c .before .loop in
     sym (shared-end (a .p .now) (a .q .now) (l .i) (omega arith) (omega arith) (l .inv .1) (omega arith))
 
-pub shared-from-spec : {M : Type 1} → statement M
-shared-from-spec =
+pub shared-bytes-spec : {M : Type 1} → statement M
+shared-bytes-spec =
     tie.close
     (tie.spec
     Inv-loop
