@@ -1,9 +1,9 @@
-// Paths from the root of an accepted image: the next higher branch of a path, and the first leaf below it. A seek goes by these functions; a walk by the same steps and laws, with what it keeps of each level (`walk_levels`).
+// Paths from the root of an accepted image: the first leaf below a node of one, by which a seek goes; and what the next higher branch of one is, which a walk finds (`walk_levels`).
 ghost use Rattle.nav_paths.specs.PathContracts.{Root-only};
 use image_types::NodeNum;
 use nav_laws::Path;
 
-pub mod higher; // higher.rt: up to the next higher branch
+pub mod higher; // higher.rt: the next higher branch
 pub mod leaf; // leaf.rt: down to the first leaf
 
 // The path that has its root only.
