@@ -2,8 +2,8 @@
 ghost use mathlib.Core.Path.{_≡_};
 ghost use Rattle.check_slots_laws.specs.Passed.{Passed-to-15, slots-pass};
 use super::dense::dense_clear;
-use super::levels::last_levels_clear;
 use super::sparse::sparse_clear;
+use check_slots_levels::levels::last_levels_clear;
 use image_types::Frame;
 
 // Whether number 16 does not apply: an exact leaf's slot is zero, and no suffix bit is set past a key's 64th byte.

@@ -1,9 +1,6 @@
 // The part of the check that judges number 16 over an image and its frame: an exact leaf's slot is zero, and no suffix bit is set past a key's 64th byte.
 // Used by the public call check.
 
-pub mod clear; // clear.rt: bits and suffix slots that are clear
 pub mod dense; // dense.rt: the exact leaves among the dense nodes
-pub mod starts; // starts.rt: the starts of nodes with several entries in a word of S-LOUDS
 pub mod sparse; // sparse.rt: those among the sparse nodes
-pub mod levels; // levels.rt: the levels 62 and 63
 pub mod judge; // judge.rt: number 16

@@ -13,13 +13,13 @@ ghost use Rattle.check_trie_laws.specs.Bodies.{sb-body};
 ghost use Rattle.check_trie_laws.specs.BitTests.{counts-valid};
 ghost use Rattle.check_trie_laws.specs.Levels.{Louds-valid};
 ghost use Rattle.check_trie_laws.specs.BodyTests.{louds-test, dense-test, sparse-test, sums-test, Counts-few};
-use super::dense::dense_valid;
-use super::sparse::sparse_valid;
 use bits::numbers::bytes_for;
 use bits::ones::bit_at;
 use bits::parts::part;
 use check_levels::judge::levels_valid;
 use check_tables_laws::SparseCounts;
+use check_trie_dense::dense::dense_valid;
+use check_trie_sparse::sparse::sparse_valid;
 use image_types::Frame;
 use image_types::ROW_BYTES;
 

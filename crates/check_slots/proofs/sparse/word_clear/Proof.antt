@@ -10,7 +10,7 @@ use Rattle.image_types.specs.FrameOf.{within}
 use Rattle.check_trie_laws.specs.Bodies.{sc-body, sb-body, sv-body, bodies-sized}
 use Rattle.check_slots_laws.specs.LevelStarts.{dense-room, dense-few}
 use Rattle.check_slots_laws.specs.SlotTests.{slots-sized}
-use Rattle.check_slots.specs.Tables.{indexed}
+use Rattle.check_slots_levels.specs.Tables.{indexed}
 use borrow.Author.Needs.{needs}
 use Rattle.check_slots.proofs.sparse.word_clear.Statement.{statement}
 use Rattle.check_slots.proofs.sparse.word_clear.Tie as tie

@@ -1,0 +1,170 @@
+-- Both levels are found, and their slots are consecutive; a trie with fewer levels has none there.
+use mathlib.Core.Path.{_≡_, sym, ap₂, _∙_}
+use mathlib.Core.Bool.{_&&_}
+use Prim.Native.Nat.{ℕ, _+_, _-_, _*_, _≤_, _<_}
+use native.Mathlib.Omega.{arith}
+use mir.Val.{Fits}
+use mir.Syntax.{w64}
+use Rattle.spec.specs.Bytes.{Bytes}
+use Rattle.bits_laws.specs.PartLaws.{lent-part}
+use Rattle.image_types.specs.declared.Frame.{Frame}
+use Rattle.image_types.specs.FrameOf.{within}
+use Rattle.check_trie_laws.specs.declared.Level.{Level}
+use Rattle.check_trie_laws.specs.Bodies.{sv-body}
+use Rattle.check_trie_laws.specs.Levels.{node-count, LevelOf}
+use Rattle.check_trie_laws.specs.Ranges.{all-from}
+use Rattle.check_slots_laws.specs.Passed.{Passed-to-15}
+use Rattle.check_slots_laws.specs.SlotBits.{bits-clear}
+use Rattle.check_slots_laws.specs.SlotTests.{clear-at, level-slot, slots-within, slots-sized}
+use Rattle.check_slots_laws.specs.LastLevels.{Level-at, Slot-room, slot-of, next-behind, level-first, level-below, slot-room, slot-is, last-levels-none, last-slots-within}
+use borrow.Author.Needs.{needs}
+use Rattle.check_slots_levels.proofs.levels.last_levels_clear.Statement.{statement}
+use Rattle.check_slots_levels.proofs.levels.last_levels_clear.Tie as tie
+
+nodes-fit : {d n : ℕ} → d < 4294967296 → n < 4294967296 → Fits w64 (d + n)
+nodes-fit h l = record { fits = omega arith }
+
+bits-fit : {x n : ℕ} → x ≤ n → n ≤ 1048560 → Fits w64 x
+bits-fit h l = record { fits = omega arith }
+
+-- the dense levels are above level 62
+shallow : {l : ℕ} → l ≤ 4 → (l ≤ 62) × (l ≤ 63)
+shallow h = (omega arith, omega arith)
+
+-- level 62 and the one below it
+module _ (s : Bytes) (f : Frame) (j : Passed-to-15 s f) (some : 0 < f .leaves) (l : Level) (a : Level-at s f 62 l) (m : l .node .0 < node-count f) (n : Level) (o : LevelOf s f n) (e : n .node .0 ≡ l .branches + 1) where
+  low : (f .dense .levels ≤ 62) × (f .dense .levels ≤ 63)
+  low = shallow (j .frame .levels)
+
+  under : Level-at s f 63 n
+  under = level-below s f j some 62 (omega arith) l a m n o e
+
+  rooms : Slot-room f l × Slot-room f n
+  rooms = (slot-room s f j some 62 (low .0) (omega arith) l a, slot-room s f j some 63 (low .1) (omega arith) n under)
+
+  starts : (slot-of f l ≡ level-slot s f 62) × (slot-of f n ≡ level-slot s f 63)
+  starts = (slot-is s f j some 62 (low .0) (omega arith) l a, slot-is s f j some 63 (low .1) (omega arith) n under)
+
+find-level-requires : tie.Need-find-level-requires
+find-level-requires c κs =
+    let p = c .before .pre in
+    (p .0, p .1, shallow (p .0 .frame .levels) .0, omega arith)
+
+add-if1 : tie.Need-add-if1
+add-if1 c = let o = c .before .before .before .pre .0 .frame in nodes-fit (o .dense) (o .sparse)
+
+returns : tie.Need-returns
+returns c =
+    let a = c .before .before .before .before .before .args in
+    let p = c .before .before .before .before .before .pre in
+    sym (last-levels-none (a .image .now) (a .f) (p .0) (p .1) (rw (c .before .before .before .find-level .ensures .start) at (c .if1 .taken)))
+
+level-below-requires : tie.Need-level-below-requires
+level-below-requires c κs =
+    let a = c .before .before .before .before .before .args in
+    let p = c .before .before .before .before .before .pre in
+    let r = c .before .before .before .find-level in
+    let low = shallow (p .0 .frame .levels) .0 in (
+      p .0,
+      p .1,
+      next-behind (a .image .now) (a .f) (p .0) (p .1) 62 (omega arith) (r .result) (r .ensures) (c .if1 .left),
+      level-first (a .image .now) (a .f) (p .0) (p .1) 62 low (omega arith) (r .result) (r .ensures),
+    )
+
+first-slot-requires : tie.Need-first-slot-requires
+first-slot-requires c κs =
+    let a = c .before .before .before .before .before .before .args in
+    let p = c .before .before .before .before .before .before .pre in
+    let r = c .before .before .before .before .find-level in
+    let n = c .level-below in
+    rooms (a .image .now) (a .f) (p .0) (p .1) (r .result) (r .ensures) (c .before .if1 .left) (n .result) (n .ensures .0) (n .ensures .1) .0
+
+first-slot-requires-2 : tie.Need-first-slot-requires-2
+first-slot-requires-2 c κs =
+    let a = c .before .before .before .before .before .before .before .args in
+    let p = c .before .before .before .before .before .before .before .pre in
+    let r = c .before .before .before .before .before .find-level in
+    let n = c .before .level-below in
+    rooms (a .image .now) (a .f) (p .0) (p .1) (r .result) (r .ensures) (c .before .before .if1 .left) (n .result) (n .ensures .0) (n .ensures .1) .1
+
+mul-bits : tie.Need-mul-bits
+mul-bits c =
+    let a = c .before .before .before .before .before .before .before .before .before .args in
+    bits-fit (omega arith) (within (a .image .now) (a .f) (c .before .before .before .before .before .before .before .before .before .pre .0 .frame) .slots)
+
+bytes-for-requires : tie.Need-bytes-for-requires
+bytes-for-requires c κs = search needs
+
+part-requires : tie.Need-part-requires
+part-requires c κs =
+    let a = c .before .before .before .before .before .before .before .before .before .before .args in
+    rw (c .bytes-for .ensures) (within (a .image .now) (a .f) (c .before .before .before .before .before .before .before .before .before .before .pre .0 .frame) .sv)
+
+past-clear-requires : tie.Need-past-clear-requires
+past-clear-requires c κs =
+    let a = c .before .before .before .before .before .before .before .before .before .before .before .args in
+    let p = c .before .before .before .before .before .before .before .before .before .before .before .pre in
+    let s : Bytes = a .image .now in
+    let sv : c .part .result .now ≡ sv-body s (a .f) = lent-part s (a .f .sv) (c .part .ensures) (c .before .bytes-for .ensures) in
+    let r = c .before .before .before .before .before .before .before .before .before .find-level in
+    let n = c .before .before .before .before .before .level-below in
+    let t = starts s (a .f) (p .0) (p .1) (r .result) (r .ensures) (c .before .before .before .before .before .before .if1 .left) (n .result) (n .ensures .0) (n .ensures .1) in
+    let e = c .before .before .before .first-slot2 .ensures ∙ t .1 in
+    rw (sv, e) (slots-sized s (a .f) (p .0 .frame), slots-within s (a .f) (p .0) (p .1))
+
+mul-t9 : tie.Need-mul-t9
+mul-t9 c =
+    let a = c .before .before .before .before .before .before .before .before .before .before .before .before .before .before .args in
+    let p = c .before .before .before .before .before .before .before .before .before .before .before .before .before .before .pre in
+    let s : Bytes = a .image .now in
+    let r = c .before .before .before .before .before .before .before .before .before .before .before .before .find-level in
+    let n = c .before .before .before .before .before .before .before .before .level-below in
+    let t = starts s (a .f) (p .0) (p .1) (r .result) (r .ensures) (c .before .before .before .before .before .before .before .before .before .if1 .left) (n .result) (n .ensures .0) (n .ensures .1) in
+    let e = c .before .before .before .before .before .before .first-slot2 .ensures ∙ t .1 in
+    rw e (bits-fit (last-slots-within s (a .f) (p .0) (p .1)) (within s (a .f) (p .0 .frame) .slots))
+
+bits-clear-requires : tie.Need-bits-clear-requires
+bits-clear-requires c κs =
+    let part = c .before .before .before .part in
+    let a = c .before .before .before .before .before .before .before .before .before .before .before .before .before .before .args in
+    let p = c .before .before .before .before .before .before .before .before .before .before .before .before .before .before .pre in
+    let s : Bytes = a .image .now in
+    let sv : part .result .now ≡ sv-body s (a .f) = lent-part s (a .f .sv) (part .ensures) (c .before .before .before .before .bytes-for .ensures) in
+    let r = c .before .before .before .before .before .before .before .before .before .before .before .before .find-level in
+    let n = c .before .before .before .before .before .before .before .before .level-below in
+    let t = starts s (a .f) (p .0) (p .1) (r .result) (r .ensures) (c .before .before .before .before .before .before .before .before .before .if1 .left) (n .result) (n .ensures .0) (n .ensures .1) in
+    let e = c .before .before .before .before .before .before .first-slot2 .ensures ∙ t .1 in
+    rw (sv, e) (last-slots-within s (a .f) (p .0) (p .1), slots-sized s (a .f) (p .0 .frame) .room)
+
+returns-2 : tie.Need-returns-2
+returns-2 c =
+    let part = c .before .before .before .before .part in
+    let a = c .before .before .before .before .before .before .before .before .before .before .before .before .before .before .before .args in
+    let p = c .before .before .before .before .before .before .before .before .before .before .before .before .before .before .before .pre in
+    let s : Bytes = a .image .now in
+    let sv : part .result .now ≡ sv-body s (a .f) = lent-part s (a .f .sv) (part .ensures) (c .before .before .before .before .before .bytes-for .ensures) in
+    let r = c .before .before .before .before .before .before .before .before .before .before .before .before .before .find-level in
+    let n = c .before .before .before .before .before .before .before .before .before .level-below in
+    let t = starts s (a .f) (p .0) (p .1) (r .result) (r .ensures) (c .before .before .before .before .before .before .before .before .before .before .if1 .left) (n .result) (n .ensures .0) (n .ensures .1) in
+    let d = c .before .before .before .before .before .before .before .before .first-slot .ensures ∙ t .0 in
+    let e = c .before .before .before .before .before .before .before .first-slot2 .ensures ∙ t .1 in
+    ap₂ _&&_ (rw sv at (c .before .before .before .past-clear .ensures)) (rw sv at (c .bits-clear .ensures))
+    ∙ ap₂ (λ (v w : ℕ). all-from (clear-at s (a .f) 1) v (w - v) && bits-clear (sv-body s (a .f)) (w * a .f .width) (a .f .leaves * a .f .width)) d e
+
+pub last-levels-clear-spec : {M : Type 1} → statement M
+last-levels-clear-spec =
+    tie.close
+    (tie.spec
+    find-level-requires
+    add-if1
+    returns
+    level-below-requires
+    first-slot-requires
+    first-slot-requires-2
+    mul-bits
+    bytes-for-requires
+    part-requires
+    past-clear-requires
+    mul-t9
+    bits-clear-requires
+    returns-2)
