@@ -1,9 +1,9 @@
 -- What the recursion on the levels left asks and gives, and the laws of its cases.
 use Prim.Native.Nat.{ℕ, _+_, _-_, _*_, _<_, _≤_}
-use mathlib.Core.Path.{_≡_, sym, ap, _∙_}
+use mathlib.Core.Path.{_≡_, refl, sym, ap, _∙_}
 use mathlib.Core.Bool.{true, false, true≢false}
 use mathlib.Core.List.{[]}
-use native.Mathlib.Nat.{mul-le-mul-left}
+use native.Mathlib.Nat.{mul-le-mul-left, add-mul}
 use native.Mathlib.Omega.{arith}
 use lib.ListN.{length, getD, drop, length-drop, drop-of-length-le}
 use Rattle.spec.specs.Bytes.{Bytes}
@@ -22,6 +22,7 @@ use Rattle.query_laws.specs.Summed.{rest-full, rest-node, rest-leaves, rest-slo
 use Rattle.query_laws.specs.Followed.{Stopped, On-way, way-ends, way-child, way-none, way-leaf, sum-on, sum-off}
 use Rattle.query_count.specs.declared.levels.LevelStep.{LevelStep}
 use Rattle.query_count.specs.declared.levels.Bound.{Bound}
+use Rattle.query_count.specs.declared.levels.LevelSum.{LevelSum}
 
 -- One level of the bound of a key, at a node, with so many bytes of the key passed.
 pub record Level-step (s : Bytes) (f : Frame) (key : Bytes) (depth node : ℕ) (r : LevelStep) : Type 0 where
@@ -66,6 +67,66 @@ pub record Followed (s : Bytes) (f : Frame) (key : Bytes) (r : Bound) : Type 0 w
   pub sum-small : r .sum ≤ 4194240
   -- where the key leads
   pub stop-is : Stopped s f key (r .stop .leaf) (r .stop .depth)
+
+-- What a bound that goes down to a level asks: its key has ended.
+pub record Down-to (s : Bytes) (f : Frame) (from : LevelSum) (depth : ℕ) : Type 0 where
+  -- the image is accepted
+  pub accepted : Accepted s f
+  -- the first node that does not lie before the bound, or the number behind the last node
+  pub node-in : from .node .0 ≤ node-count f
+  -- the level is not above the bound's own
+  pub from-in : from .depth ≤ depth
+  -- and is one of the levels, or behind the last
+  pub depth-in : depth ≤ 64
+  -- the sum so far is small
+  pub small : from .sum ≤ from .depth * 65535 + 1
+
+-- The bound of a key that has ended, on a level further down.
+pub record Gone-down (s : Bytes) (f : Frame) (from : LevelSum) (depth : ℕ) (to : LevelSum) : Type 0 where
+  -- the first node of that level that does not lie before the bound, or the number behind the last node
+  pub node-in : to .node .0 ≤ node-count f
+  -- the level
+  pub depth-is : to .depth ≡ depth
+  -- with the levels left, the sum is the same
+  pub sums : from .sum + slots-below (nodes s f) (64 - from .depth) (from .node .0) [] ≡ to .sum + slots-below (nodes s f) (64 - depth) (to .node .0) []
+  -- the sum is small
+  pub small : to .sum ≤ from .sum + (depth - from .depth) * 65535
+
+-- ---- one level further down
+
+module _ (s : Bytes) (f : Frame) (a : Accepted s f) (from : LevelSum) where
+  -- no level further
+  pub down-none : from .node .0 ≤ node-count f → Gone-down s f from (from .depth) from
+  down-none h = record { node-in = h; depth-is = refl; sums = refl; small = omega arith }
+
+  module _ (b : LevelSum) (r : Gone-down s f from (b .depth) b) (depth : ℕ) (above : from .depth ≤ b .depth) (more : b .depth < depth) (fits : depth ≤ 64) where
+    -- past the leaves before the bound's node
+    pub down-next : (to : LevelSum) → to .node .0 ≡ children-before (nodes s f) (b .node .0) + 1 → to .depth ≡ b .depth + 1 → to .sum ≡ b .sum + leaves-before (nodes s f) (b .node .0) → b .node .0 < node-count f
+        → Gone-down s f from (to .depth) to
+    down-next to n d t h = record {
+      node-in = omega (arith, rest-node s f a (b .node .0) (omega arith));
+      depth-is = refl;
+      sums = omega (arith, r .sums, slots-ended (nodes s f) (64 - b .depth) (b .node .0) (omega arith), level, ap (λ (m : ℕ). slots-below (nodes s f) (64 - to .depth) m []) node);
+      small = omega (arith, r .small, rest-leaves s f a (b .node .0));
+    }
+      where
+        node : to .node .0 ≡ 1 + children-before (nodes s f) (b .node .0)
+        node = omega arith
+
+        level : slots-below (nodes s f) (64 - b .depth - 1) (1 + children-before (nodes s f) (b .node .0)) [] ≡ slots-below (nodes s f) (64 - to .depth) (1 + children-before (nodes s f) (b .node .0)) []
+        level = let e : 64 - b .depth - 1 ≡ 64 - to .depth = omega arith in ap (λ (l : ℕ). slots-below (nodes s f) l (1 + children-before (nodes s f) (b .node .0)) []) e
+
+    -- past all leaves, on each level left
+    pub down-full : (to : LevelSum) → to .node .0 ≡ b .node .0 → to .depth ≡ depth → to .sum ≡ b .sum + (depth - b .depth) * f .leaves → b .node .0 ≡ node-count f → Gone-down s f from depth to
+    down-full to n d t h = record {
+      node-in = omega arith;
+      depth-is = d;
+      sums = omega (arith, r .sums, rest-full s f a (b .node .0) (64 - b .depth) [] h (omega arith), rest-full s f a (to .node .0) (64 - depth) [] (n ∙ h) (omega arith), split);
+      small = omega (arith, r .small, mul-le-mul-left (depth - b .depth) (a .writable .few));
+    }
+      where
+        split : (64 - b .depth) * f .leaves ≡ (depth - b .depth) * f .leaves + (64 - depth) * f .leaves
+        split = let e : 64 - b .depth ≡ (depth - b .depth) + (64 - depth) = omega arith in ap (λ (l : ℕ). l * f .leaves) e ∙ add-mul (depth - b .depth) (64 - depth) (f .leaves)
 
 -- ---- one level
 

@@ -7,7 +7,7 @@ ghost use Rattle.nav_laws.specs.Accepted.{Accepted, nodes};
 ghost use Rattle.nav_laws.specs.FoundBranch.{node-count, Is-node};
 ghost use Rattle.query_laws.specs.LevelSums.{slots-below};
 ghost use Rattle.query_laws.specs.Summed.{level-starts};
-ghost use Rattle.query_count.specs.Levels.{Level-step, Levels-left, Bounded};
+ghost use Rattle.query_count.specs.Levels.{Level-step, Levels-left, Bounded, Down-to, Gone-down};
 use bits::numbers::smaller;
 use bits::numbers::wide;
 use image_types::Frame;
@@ -153,14 +153,35 @@ pub fn sum_levels(image: &[u8], f: Frame, key: &[u8], levels: usize, node: NodeN
     }
 }
 
+// The bound of a key that has ended, on a level further down: each level on the way there adds the leaves before its node. Once all nodes lie before the bound, each level has all leaves.
+pub fn go_down(image: &[u8], f: Frame, from: LevelSum, depth: usize) -> LevelSum
+    requires { ⌜ Down-to (now image) f from depth ⌝ }
+    ensures { λ r. ⌜ Gone-down (now (image .entry)) f from depth r ⌝ }
+{
+    let mut bound = from;
+    while bound.depth < depth {
+        let node = bound.node;
+        if node.0 == f.dense.nodes + f.sparse.nodes {
+            let sum = bound.sum + (depth - bound.depth) * f.leaves;
+            return LevelSum { node, depth, sum };
+        }
+        let before = counts_before(image, f, node);
+        bound = LevelSum {
+            node: NodeNum(before.children + 1),
+            depth: bound.depth + 1,
+            sum: bound.sum + before.leaves,
+        };
+    }
+    bound
+}
+
 // The sum over all levels for a bound whose key has ended.
 pub fn sum_below(image: &[u8], f: Frame, from: LevelSum) -> usize
     requires { ⌜ Accepted (now image) f × (from .node .0 ≤ node-count f) × (from .depth ≤ 64) × (from .sum ≤ from .depth * 65535 + 1) ⌝ }
     ensures { λ r. ⌜ (r ≡ from .sum + slots-below (nodes (now (image .entry)) f) (64 - from .depth) (from .node .0) []) × (r ≤ from .sum + (64 - from .depth) * 65535) ⌝ }
 {
-    let node = from.node;
-    let below = sum_levels(image, f, b"", MAX_LEVELS - from.depth, node);
-    from.sum + below.sum
+    let last = go_down(image, f, from, MAX_LEVELS);
+    last.sum
 }
 
 // The sum for the empty key, whose bound is the first node of every level. The sum for another key less this one is the number of leaves before that key.
