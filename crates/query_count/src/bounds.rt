@@ -1,62 +1,135 @@
-// The bound of a key: the sum of its slot numbers level by level, and what counts where the key leads. The leaves between two bounds are the difference of their sums.
+// The bound of a key from where its way parts from another's: the sum of its slot numbers level by level, and what counts where the key leads.
 ghost use mathlib.Core.Path.{_≡_};
-ghost use Prim.Native.Nat.{_≤_};
+ghost use Prim.Native.Nat.{ℕ, _+_, _≤_};
 ghost use lib.ListN.{length};
 ghost use Rattle.nav_laws.specs.Accepted.{Accepted};
-ghost use Rattle.query_laws.specs.Followed.{Stopped};
-ghost use Rattle.query_laws.specs.Summed.{passed-there, reached-there};
-ghost use Rattle.query_count.specs.Levels.{Followed};
-use super::levels::Bound;
-use super::levels::sum_levels;
+ghost use Rattle.query_laws.specs.Summed.{Leading, passed-there, reached-there};
+ghost use Rattle.query_count.specs.Bounds.{Parts, Leads-on, Bound-ended, Key-ended};
+use super::levels::LevelSum;
 use bits::numbers::one_if;
+use bits::numbers::wide;
 use image_types::Frame;
-use image_types::MAX_LEVELS;
 use image_types::NodeNum;
-use nav_laws::LeafStop;
-use query_point::descent::NOWHERE;
-use query_point::descent::Stop;
+use image_types::ValuePos;
+use keys::compare::shared;
+use nav::behind::child;
+use nav::behind::child_and_slot;
+use nav::behind::slot;
+use nav::branches::find;
+use nav::nodes::is_exact;
+use nav_laws::BranchKind;
 use query_point::suffix::high_below;
 use query_point::suffix::low_above;
 
-// The bound of a key in an image without nodes.
-const NO_BOUND: Bound = Bound {
-    sum: 0,
-    stop: NOWHERE,
-};
+// Where the bytes of a key lead: to no branch, to a node, with no byte left, or to an open leaf.
+pub enum KeyEnd {
+    Nowhere,
+    Node(NodeNum),
+    Leaf(ValuePos),
+}
 
-// The bound of a key, from the root through all levels.
-pub fn follow(image: &[u8], f: Frame, key: &[u8]) -> Bound
-    requires { ⌜ Accepted (now image) f × (length (now key) ≤ 64) ⌝ }
-    ensures { λ r. ⌜ Followed (now (image .entry)) f (now (key .entry)) r ⌝ }
+// Where the bytes that two keys share lead, and how many of them are passed.
+pub struct Fork {
+    pub end: KeyEnd,
+    pub depth: usize,
+}
+
+// The bound of a key that has ended, behind its last branch, and where the key leads.
+pub struct Bound {
+    pub level: LevelSum,
+    pub end: KeyEnd,
+}
+
+// From the root as far as the bytes of both keys are the same, one label search a level: no leaf there lies between the two bounds, so none is counted.
+pub fn shared_way(image: &[u8], f: Frame, lo: &[u8], hi: &[u8]) -> Fork
+    requires { ⌜ Accepted (now image) f × (length (now lo) ≤ 64) × (length (now hi) ≤ 64) ⌝ }
+    ensures { λ r. ⌜ Parts (now (image .entry)) f (now (lo .entry)) (now (hi .entry)) (r .depth) (r .end) ⌝ }
 {
+    let mut node = NodeNum(0);
+    let mut depth = 0usize;
     if f.dense.nodes + f.sparse.nodes == 0 {
-        return NO_BOUND;
+        let end = KeyEnd::Nowhere;
+        return Fork { end, depth };
     }
-    sum_levels(image, f, key, MAX_LEVELS, NodeNum(0))
+    let n = shared(lo, hi);
+    while depth < n {
+        let found = find(image, f, node, wide(lo[depth]));
+        depth = depth + 1;
+        let kind = found.kind;
+        match kind {
+            BranchKind::Absent => {
+                let end = KeyEnd::Nowhere;
+                return Fork { end, depth };
+            }
+            BranchKind::Leaf => {
+                let end = KeyEnd::Leaf(slot(image, f, node, found.at));
+                return Fork { end, depth };
+            }
+            BranchKind::Child => {
+                node = child(image, f, node, found.at);
+            }
+        }
+    }
+    let end = KeyEnd::Node(node);
+    Fork { end, depth }
+}
+
+// The bound of a key, from a node to which its first bytes lead: each level adds the slot number at the branch of the next byte.
+pub fn follow(image: &[u8], f: Frame, key: &[u8], from: LevelSum) -> Bound
+    requires { ⌜ Leads-on (now image) f (now key) from ⌝ }
+    ensures { λ r. ⌜ ((above : ℕ) → Leading (now (image .entry)) f (now (key .entry)) (from .node .0) (from .depth) (above + from .sum) → Bound-ended (now (image .entry)) f (now (key .entry)) above r) ⌝ }
+{
+    let mut level = from;
+    while level.depth < key.len() {
+        let d = level.depth;
+        let m = level.node;
+        let found = find(image, f, m, wide(key[d]));
+        let next = child_and_slot(image, f, m, found.at);
+        let slot = next.slot;
+        let node = next.child;
+        level = LevelSum {
+            node,
+            depth: d + 1,
+            sum: level.sum + slot.0,
+        };
+        let kind = found.kind;
+        match kind {
+            BranchKind::Absent => {
+                let end = KeyEnd::Nowhere;
+                return Bound { level, end };
+            }
+            BranchKind::Leaf => {
+                let end = KeyEnd::Leaf(slot);
+                return Bound { level, end };
+            }
+            BranchKind::Child => {}
+        }
+    }
+    let node = level.node;
+    let end = KeyEnd::Node(node);
+    Bound { level, end }
 }
 
 // 1 if the key leads to an open leaf whose highest key lies below it, else 0.
-pub fn passed_at(image: &[u8], f: Frame, key: &[u8], s: Stop) -> usize
-    requires { ⌜ Accepted (now image) f × Stopped (now image) f (now key) (s .leaf) (s .depth) × (length (now key) ≤ 64) ⌝ }
+pub fn passed_at(image: &[u8], f: Frame, key: &[u8], end: KeyEnd, depth: usize) -> usize
+    requires { ⌜ Key-ended (now image) f (now key) end depth ⌝ }
     ensures { λ r. ⌜ (r ≡ passed-there (now (image .entry)) f (now (key .entry))) × (r ≤ 1) ⌝ }
 {
-    let leaf = s.leaf;
-    match leaf {
-        LeafStop::Nowhere => 0,
-        LeafStop::Exact => 0,
-        LeafStop::Open(slot) => one_if(high_below(image, f, slot, key, s.depth)),
+    match end {
+        KeyEnd::Nowhere => 0,
+        KeyEnd::Node(_) => 0,
+        KeyEnd::Leaf(slot) => one_if(high_below(image, f, slot, key, depth)),
     }
 }
 
 // 1 if the key leads to a leaf whose lowest key does not lie above it, else 0.
-pub fn reached_at(image: &[u8], f: Frame, key: &[u8], s: Stop) -> usize
-    requires { ⌜ Accepted (now image) f × Stopped (now image) f (now key) (s .leaf) (s .depth) × (length (now key) ≤ 64) ⌝ }
+pub fn reached_at(image: &[u8], f: Frame, key: &[u8], end: KeyEnd, depth: usize) -> usize
+    requires { ⌜ Key-ended (now image) f (now key) end depth ⌝ }
     ensures { λ r. ⌜ (r ≡ reached-there (now (image .entry)) f (now (key .entry))) × (r ≤ 1) ⌝ }
 {
-    let leaf = s.leaf;
-    match leaf {
-        LeafStop::Nowhere => 0,
-        LeafStop::Exact => 1,
-        LeafStop::Open(slot) => one_if(!low_above(image, f, slot, key, s.depth)),
+    match end {
+        KeyEnd::Nowhere => 0,
+        KeyEnd::Node(node) => one_if(is_exact(image, f, node)),
+        KeyEnd::Leaf(slot) => one_if(!low_above(image, f, slot, key, depth)),
     }
 }

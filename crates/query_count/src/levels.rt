@@ -1,26 +1,17 @@
-// The sum of a bound's slot numbers level by level: along its key, and on the levels below where the key has led.
+// The sum of a bound's slot numbers on the levels below where its key has led, level by level.
 ghost use mathlib.Core.Path.{_≡_};
 ghost use mathlib.Core.List.{[]};
-ghost use Prim.Native.Nat.{_+_, _-_, _*_, _≤_, _<_};
-ghost use lib.ListN.{length};
+ghost use Prim.Native.Nat.{_+_, _-_, _*_, _≤_};
 ghost use Rattle.nav_laws.specs.Accepted.{Accepted, nodes};
-ghost use Rattle.nav_laws.specs.FoundBranch.{node-count, Is-node};
+ghost use Rattle.nav_laws.specs.FoundBranch.{node-count};
 ghost use Rattle.query_laws.specs.LevelSums.{slots-below};
 ghost use Rattle.query_laws.specs.Summed.{level-starts};
-ghost use Rattle.query_count.specs.Levels.{Level-step, Levels-left, Bounded, Down-to, Gone-down};
-use bits::numbers::smaller;
-use bits::numbers::wide;
+ghost use Rattle.query_count.specs.Levels.{Down-to, Gone-down, Sums-apart};
+use bits::numbers::larger;
 use image_types::Frame;
 use image_types::MAX_LEVELS;
 use image_types::NodeNum;
-use nav::behind::child_and_slot;
-use nav::branches::find;
 use nav::nodes::counts_before;
-use nav_laws::BranchKind;
-use nav_laws::LeafStop;
-use query_point::descent::NOWHERE;
-use query_point::descent::Stop;
-use query_point::descent::leaf_at;
 
 // A bound on the level `depth`: the first node there that does not lie before it, and the sum of its slot numbers on the levels above.
 pub struct LevelSum {
@@ -35,123 +26,6 @@ pub const AT_ROOT: LevelSum = LevelSum {
     depth: 0,
     sum: 0,
 };
-
-// One level of a bound: the leaves before it on this level, the first node of the next level that does not lie before it,
-// whether its key goes on there, and, where the key does not, where it has led.
-pub struct LevelStep {
-    pub leaves: usize,
-    pub next: NodeNum,
-    pub on: bool,
-    pub stop: Stop,
-}
-
-// The bound of a key: the sum of its slot numbers over the levels left, and where the key leads.
-pub struct Bound {
-    pub sum: usize,
-    pub stop: Stop,
-}
-
-// One level along the key: past the leaves before the branch of its next byte, to the first node behind them.
-fn branch_step(image: &[u8], f: Frame, key: &[u8], depth: usize, node: NodeNum) -> LevelStep
-    requires { ⌜ Is-node (now image) f (node .0) × (depth < length (now key)) ⌝ }
-    ensures { λ r. ⌜ Level-step (now (image .entry)) f (now (key .entry)) depth (node .0) r ⌝ }
-{
-    let found = find(image, f, node, wide(key[depth]));
-    let behind = child_and_slot(image, f, node, found.at);
-    let kind = found.kind;
-    let slot = behind.slot;
-    let next = behind.child;
-    let mut leaf = LeafStop::Nowhere;
-    match kind {
-        BranchKind::Absent => {}
-        BranchKind::Leaf => {
-            leaf = LeafStop::Open(slot);
-        }
-        BranchKind::Child => {
-            return LevelStep {
-                leaves: slot.0,
-                next,
-                on: true,
-                stop: NOWHERE,
-            };
-        }
-    }
-    LevelStep {
-        leaves: slot.0,
-        next,
-        on: false,
-        stop: Stop {
-            leaf,
-            depth: depth + 1,
-        },
-    }
-}
-
-// One level below the key's last branch: past the leaves before the node. Where the key ends at the node, it leads to the node's exact leaf or nowhere.
-fn end_step(image: &[u8], f: Frame, key: &[u8], depth: usize, node: NodeNum) -> LevelStep
-    requires { ⌜ Is-node (now image) f (node .0) × (length (now key) ≤ depth) ⌝ }
-    ensures { λ r. ⌜ Level-step (now (image .entry)) f (now (key .entry)) depth (node .0) r ⌝ }
-{
-    let before = counts_before(image, f, node);
-    let mut leaf = LeafStop::Nowhere;
-    if depth == key.len() {
-        leaf = leaf_at(image, f, node);
-    }
-    LevelStep {
-        leaves: before.leaves,
-        next: NodeNum(before.children + 1),
-        on: false,
-        stop: Stop { leaf, depth },
-    }
-}
-
-// One level of the bound of a key whose first bytes, `depth` of them, are passed. A key with fewer bytes was left on a level above.
-fn level_step(image: &[u8], f: Frame, key: &[u8], depth: usize, node: NodeNum) -> LevelStep
-    requires { ⌜ Is-node (now image) f (node .0) ⌝ }
-    ensures { λ r. ⌜ Level-step (now (image .entry)) f (now (key .entry)) depth (node .0) r ⌝ }
-{
-    if depth < key.len() {
-        return branch_step(image, f, key, depth, node);
-    }
-    end_step(image, f, key, depth, node)
-}
-
-// The leaves before a bound on its level and on each of the levels left: the same task one level lower each time, so the recursion goes at most 64 levels deep.
-// Where the key does not go on, the levels below get no more of it than is passed. Once all nodes lie before the bound, each level has all leaves.
-pub fn sum_levels(image: &[u8], f: Frame, key: &[u8], levels: usize, node: NodeNum) -> Bound
-    requires { ⌜ Levels-left (now image) f (now key) levels (node .0) ⌝ }
-    ensures { λ r. ⌜ Bounded (now (image .entry)) f (now (key .entry)) levels (node .0) r ⌝ }
-{
-    if levels == 0 {
-        return Bound {
-            sum: 0,
-            stop: NOWHERE,
-        };
-    }
-    if node.0 == f.dense.nodes + f.sparse.nodes {
-        return Bound {
-            sum: levels * f.leaves,
-            stop: NOWHERE,
-        };
-    }
-    let depth = MAX_LEVELS - levels;
-    let step = level_step(image, f, key, depth, node);
-    if step.on {
-        let below = sum_levels(image, f, key, levels - 1, step.next);
-        let stop = below.stop;
-        return Bound {
-            sum: step.leaves + below.sum,
-            stop,
-        };
-    }
-    let passed = smaller(depth, key.len());
-    let below = sum_levels(image, f, &key[..passed], levels - 1, step.next);
-    let stop = step.stop;
-    Bound {
-        sum: step.leaves + below.sum,
-        stop,
-    }
-}
 
 // The bound of a key that has ended, on a level further down: each level on the way there adds the leaves before its node. Once all nodes lie before the bound, each level has all leaves.
 pub fn go_down(image: &[u8], f: Frame, from: LevelSum, depth: usize) -> LevelSum
@@ -190,4 +64,35 @@ pub fn level_starts(image: &[u8], f: Frame) -> usize
     ensures { λ r. ⌜ r ≡ level-starts (now (image .entry)) f ⌝ }
 {
     sum_below(image, f, AT_ROOT)
+}
+
+// The sums of two bounds, of which only the difference counts.
+pub struct BoundSums {
+    pub lower: usize,
+    pub upper: usize,
+}
+
+// The sums of two bounds whose keys have ended, down to the first level on which both have the same node: from there on both add the same.
+pub fn sums_apart(image: &[u8], f: Frame, a: LevelSum, b: LevelSum) -> BoundSums
+    requires { ⌜ Down-to (now image) f a 64 × Down-to (now image) f b 64 ⌝ }
+    ensures { λ r. ⌜ Sums-apart (now (image .entry)) f a b r ⌝ }
+{
+    let mut depth = larger(a.depth, b.depth);
+    let mut lower = go_down(image, f, a, depth);
+    let mut upper = go_down(image, f, b, depth);
+    while depth < MAX_LEVELS {
+        if lower.node.0 == upper.node.0 {
+            return BoundSums {
+                lower: lower.sum,
+                upper: upper.sum,
+            };
+        }
+        depth = depth + 1;
+        lower = go_down(image, f, lower, depth);
+        upper = go_down(image, f, upper, depth);
+    }
+    BoundSums {
+        lower: lower.sum,
+        upper: upper.sum,
+    }
 }

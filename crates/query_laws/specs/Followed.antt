@@ -81,10 +81,10 @@ module _ (s : Bytes) (f : Frame) (a : Accepted s f) (key : Bytes) where
   way-ends d m h o = let z : 64 - d ≡ 0 = omega arith in let k = rw z at (o .levels-in) in omega (arith, o .node-in, k)
 
   -- the key ends at a node, which may be an exact leaf
-  pub stopped-end : (d m : ℕ) (stop : LeafStop) → d ≡ length key → stop ≡ exact-stop (is-exact (node-at (nodes s f) m)) → On-way s f key d m → Stopped s f key stop d
-  stopped-end d m stop z x o = let n = drop-of-length-le key {i = d} (omega arith) in record {
-    leads = o .leads ∙ ap (descend (nodes s f) m) n ∙ descend-end (nodes s f) m (is-exact (node-at (nodes s f) m)) refl ∙ ap (λ (t : LeafStop). stop-of t []) (sym x) ∙ ap (stop-of stop) (sym n);
-    depth-in = o .depth-in;
+  pub stopped-end : (d m : ℕ) (stop : LeafStop) → d ≡ length key → stop ≡ exact-stop (is-exact (node-at (nodes s f) m)) → descend (nodes s f) 0 key ≡ descend (nodes s f) m (drop d key) → Stopped s f key stop d
+  stopped-end d m stop z x e = let n = drop-of-length-le key {i = d} (omega arith) in record {
+    leads = e ∙ ap (descend (nodes s f) m) n ∙ descend-end (nodes s f) m (is-exact (node-at (nodes s f) m)) refl ∙ ap (λ (t : LeafStop). stop-of t []) (sym x) ∙ ap (stop-of stop) (sym n);
+    depth-in = omega arith;
     leaf-in = λ v q. no-slot (is-exact (node-at (nodes s f) m)) v (sym x ∙ q);
   }
     where

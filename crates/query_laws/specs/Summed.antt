@@ -12,20 +12,21 @@ use Rattle.image_types.specs.declared.Frame.{Frame}
 use Rattle.image_types.specs.declared.ValuePos.{ValuePos}
 use Rattle.nav_laws.specs.declared.BranchKind.{BranchKind}
 use Rattle.nav_laws.specs.declared.BranchKind.the-variants.{Absent, Leaf, Child}
-use Rattle.nav_laws.specs.declared.LeafStop.the-variants.{Nowhere, Open}
+use Rattle.nav_laws.specs.declared.LeafStop.{LeafStop}
+use Rattle.nav_laws.specs.declared.LeafStop.the-variants.{Nowhere, Exact, Open}
 use Rattle.query_laws.specs.Bounds.{high-passed, low-reached}
 use Rattle.nav_laws.specs.Slots.{node-at, leaves-before, slot-number, slot-of}
 use Rattle.nav_laws.specs.Descent.{descend, children-before, child-number, value}
 use Rattle.nav_laws.specs.NextLabel.{kind-with}
 use Rattle.query_laws.specs.LevelSums.{slots-below, slots-behind}
 use Rattle.nav_laws.specs.NumberBounds.{child-range, slot-range, children-all, leaves-all}
-use Rattle.query_laws.specs.Steps.{stop-of, exact-stop, descend-end}
+use Rattle.query_laws.specs.Steps.{exact-stop}
 use Rattle.query_laws.specs.SuffixBytes.{bit-le}
 use Rattle.nav_laws.specs.Accepted.{Accepted, nodes}
 use Rattle.nav_laws.specs.Positions.{branches, place}
 use Rattle.nav_laws.specs.FoundBranch.{node-count}
-use Rattle.query_laws.specs.Answers.{value-none, value-open}
-use Rattle.query_laws.specs.Followed.{node-length, byte-on, stopped-none, stopped-open, sum-on, sum-off, level-next}
+use Rattle.query_laws.specs.Answers.{value-none, value-exact, value-open}
+use Rattle.query_laws.specs.Followed.{Stopped, node-length, byte-on, stopped-end, stopped-none, stopped-open, sum-on, sum-off, level-next}
 
 -- the sum of the slot numbers of the empty key's bound, which is the first node of every level
 abbrev pub level-starts : Bytes → Frame → ℕ
@@ -47,7 +48,14 @@ pub record Leading (s : Bytes) (f : Frame) (key : Bytes) (node depth sum : ℕ) 
   pub leads : descend (nodes s f) 0 key ≡ descend (nodes s f) node (drop depth key)
   pub sums : slots-below (nodes s f) 64 0 key ≡ sum + slots-below (nodes s f) (64 - depth) node (drop depth key)
 
--- where a key has led: the first node of a level that does not lie before its bound, and the sum on the levels above it
+-- where a key has led: the leaf there, the first node of a level that does not lie before the key's bound, and the sum on the levels above it
+pub record Ended (s : Bytes) (f : Frame) (key : Bytes) (leaf : LeafStop) (node depth sum : ℕ) : Type 0 where
+  pub node-in : node ≤ node-count f
+  pub small : sum ≤ depth * 65535
+  pub sums : slots-below (nodes s f) 64 0 key ≡ sum + slots-below (nodes s f) (64 - depth) node []
+  pub stop-is : Stopped s f key leaf depth
+
+-- the same bound, with an open leaf that the key has passed in the sum
 pub record Summed (s : Bytes) (f : Frame) (key : Bytes) (node depth sum : ℕ) : Type 0 where
   pub node-in : node ≤ node-count f
   pub depth-in : depth ≤ length key
@@ -95,23 +103,31 @@ module _ (s : Bytes) (f : Frame) (a : Accepted s f) (key : Bytes) where
   pub leading-root : 0 < node-count f → Leading s f key 0 0 0
   leading-root h = record { node-in = h; depth-in = omega arith; small = omega arith; leads = refl; sums = omega (arith, refl {a = slots-below (nodes s f) 64 0 key}) }
 
-  module _ (m d sum : ℕ) (o : Leading s f key m d sum) where
-    unpassed : (b : Bool) → value false (high-passed (length key)) (f .width) (nodes s f) (stop-of (exact-stop b) []) ≡ 0
-    unfolding value
-    unpassed true = refl
-    unpassed false = refl
+  -- what counts where the key has led goes into the sum
+  summed : (leaf : LeafStop) (m d sum : ℕ) → Ended s f key leaf m d sum → (n : ℕ) → n ≤ 1 → passed-there s f key ≡ n → Summed s f key m d (sum + n)
+  summed leaf m d sum o n t e = record { node-in = o .node-in; depth-in = o .stop-is .depth-in; small = omega (arith, o .small); sums = omega (arith, o .sums) }
 
-    -- the end of the key: an exact leaf there is not passed
-    pub summed-end : length key ≤ d → Summed s f key m d sum
-    summed-end h = let e = drop-of-length-le key {i = d} h in record {
+  -- where nothing counts, the sum is the same
+  unsummed : (leaf : LeafStop) (m d sum : ℕ) → Ended s f key leaf m d sum → passed-there s f key ≡ 0 → Summed s f key m d sum
+  unsummed leaf m d sum o e = let z : sum + 0 ≡ sum = omega arith in rw z at (summed leaf m d sum o 0 (omega arith) e)
+
+  -- an exact leaf at the key's end is not passed
+  pub end-unpassed : (d : ℕ) (b : Bool) → Stopped s f key (exact-stop b) d → passed-there s f key ≡ 0
+  end-unpassed d true t = value-exact s f a key Exact d (t .leads) false (high-passed (length key)) refl
+  end-unpassed d false t = value-none s f a key Nowhere d (t .leads) false (high-passed (length key)) refl
+
+  module _ (m d sum : ℕ) (o : Leading s f key m d sum) where
+    -- the end of the key, at a node that may be an exact leaf
+    pub ended-end : length key ≤ d → Ended s f key (exact-stop (is-exact (node-at (nodes s f) m))) m d sum
+    ended-end h = record {
       node-in = omega (arith, o .node-in);
-      depth-in = o .depth-in;
-      small = omega (arith, o .small);
-      sums = omega (arith, o .sums, ap (slots-below (nodes s f) (64 - d) m) e, none-passed (o .leads ∙ ap (descend (nodes s f) m) e ∙ descend-end (nodes s f) m (is-exact (node-at (nodes s f) m)) refl));
+      small = o .small;
+      sums = omega (arith, o .sums, ap (slots-below (nodes s f) (64 - d) m) (drop-of-length-le key {i = d} h));
+      stop-is = stopped-end s f a key d m (exact-stop (is-exact (node-at (nodes s f) m))) (omega (arith, o .depth-in)) refl (o .leads);
     }
-      where
-        none-passed : descend (nodes s f) 0 key ≡ stop-of (exact-stop (is-exact (node-at (nodes s f) m))) [] → passed-there s f key ≡ 0
-        none-passed e = ap (value false (high-passed (length key)) (f .width) (nodes s f)) e ∙ unpassed (is-exact (node-at (nodes s f) m))
+
+    pub summed-end : length key ≤ d → Summed s f key m d sum
+    summed-end h = let e = ended-end h in unsummed (exact-stop (is-exact (node-at (nodes s f) m))) m d sum e (end-unpassed d (is-exact (node-at (nodes s f) m)) (e .stop-is))
 
     module _ (kind : BranchKind) (child slot : ℕ) (h : d < length key) (short : length key ≤ 64) (is : kind ≡ kind-with (getD key d 0) (drop (place s f m (getD key d 0)) (branches s f m)))
         (child-is : child ≡ child-number (nodes s f) m (place s f m (getD key d 0))) (slot-is : slot ≡ slot-number (nodes s f) m (place s f m (getD key d 0))) where
@@ -131,28 +147,32 @@ module _ (s : Bytes) (f : Frame) (a : Accepted s f) (key : Bytes) where
             sums = rw child-is (omega (arith, o .sums, w));
           }
 
-      -- none: the first node behind the branches before the byte, and what counts there
-      off : (kind ≡ Child → ⊥) → (n : ℕ) → n ≤ 1 → passed-there s f key ≡ n → Summed s f key child (d + 1) (sum + slot + n)
-      off k n t e =
+      -- none: the first node behind the branches before the byte
+      off : (kind ≡ Child → ⊥) → (leaf : LeafStop) → Stopped s f key leaf (d + 1) → Ended s f key leaf child (d + 1) (sum + slot)
+      off k leaf t =
           let w = rw (level-next d) at (sum-off s f a key m d kind h is k (64 - d)) in
           record {
             node-in = rw child-is (rest-child s f a m (place s f m (getD key d 0)) (omega (arith, o .node-in)));
-            depth-in = omega arith;
             small = omega (arith, o .small, slot-few);
             sums = rw child-is (omega (arith, o .sums, w));
+            stop-is = t;
           }
 
       -- no branch at all
-      pub summed-none : kind ≡ Absent → Summed s f key child (d + 1) (sum + slot)
-      summed-none k =
-          let t = stopped-none s f a key m d kind h is k (o .leads) .leads in
-          let z : sum + slot + 0 ≡ sum + slot = omega arith in
-          rw z at (off (λ q. let n : _≡_ {A = ℕ} 0 1 = cc in omega arith) 0 (omega arith) (value-none s f a key Nowhere (d + 1) t false (high-passed (length key)) refl))
+      pub ended-none : kind ≡ Absent → Ended s f key Nowhere child (d + 1) (sum + slot)
+      ended-none k = off (λ q. let n : _≡_ {A = ℕ} 0 1 = cc in omega arith) Nowhere (stopped-none s f a key m d kind h is k (o .leads))
 
-      -- an open leaf, which counts if the key has passed it
+      -- an open leaf
+      pub ended-leaf : kind ≡ Leaf → (v : ValuePos) → v .0 ≡ slot → Ended s f key (Open v) child (d + 1) (sum + slot)
+      ended-leaf k v e = off (λ q. let n : _≡_ {A = ℕ} 0 1 = cc in omega arith) (Open v) (stopped-open s f a key m d kind h is v (e ∙ slot-is) k (o .leads))
+
+      pub summed-none : kind ≡ Absent → Summed s f key child (d + 1) (sum + slot)
+      summed-none k = let e = ended-none k in unsummed Nowhere child (d + 1) (sum + slot) e (value-none s f a key Nowhere (d + 1) (e .stop-is .leads) false (high-passed (length key)) refl)
+
+      -- an open leaf counts if the key has passed it
       pub summed-leaf : kind ≡ Leaf → Summed s f key child (d + 1) (sum + slot + bit (high-passed (length key) (slot-of (f .width) (nodes s f) slot) (drop (d + 1) key)))
       summed-leaf k =
           let v : ValuePos = record { 0 = slot } in
-          let t = stopped-open s f a key m d kind h is v slot-is k (o .leads) .leads in
-          off (λ q. let n : _≡_ {A = ℕ} 0 1 = cc in omega arith) (bit (high-passed (length key) (slot-of (f .width) (nodes s f) slot) (drop (d + 1) key))) (bit-le (high-passed (length key) (slot-of (f .width) (nodes s f) slot) (drop (d + 1) key)))
-          (value-open s f a key (Open v) (d + 1) t false (high-passed (length key)) v refl)
+          let e = ended-leaf k v refl in
+          let b = high-passed (length key) (slot-of (f .width) (nodes s f) slot) (drop (d + 1) key) in
+          summed (Open v) child (d + 1) (sum + slot) e (bit b) (bit-le b) (value-open s f a key (Open v) (d + 1) (e .stop-is .leads) false (high-passed (length key)) v refl)

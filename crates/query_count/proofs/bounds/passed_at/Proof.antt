@@ -1,10 +1,7 @@
 use borrow.Author.Needs.{needs}
-use Rattle.query_laws.specs.Answers.{value-none, value-exact, value-open}
-use Rattle.query_laws.specs.Bounds.{high-passed}
+use Rattle.query_count.specs.Bounds.{slot-inside, passed-nowhere, passed-node, passed-leaf}
 use Rattle.image_types.specs.declared.ValuePos.{ValuePos}
 use Rattle.spec.specs.Bytes.{bit}
-use lib.ListN.{length}
-use mathlib.Core.Bool.{false}
 use native.Mathlib.Omega.{arith}
 use mathlib.Core.Path.{sym, ap, _∙_}
 use Rattle.query_count.proofs.bounds.passed_at.Statement.{statement}
@@ -16,7 +13,7 @@ entered c = c .before .before .before .before .before
 
 -- the slot of the open leaf
 abbrev slot : tie.After-known-told → ValuePos
-slot c = c .before .leaf .given .0 .0
+slot c = c .before .end .given .0 .0
 
 enum-told : tie.Need-enum-told
 enum-told c = search needs
@@ -24,13 +21,14 @@ enum-told c = search needs
 enum-told-2 : tie.Need-enum-told-2
 enum-told-2 c = search needs
 
-enum-known-leaf : tie.Need-enum-known-leaf
-enum-known-leaf c = search needs
+enum-known-end : tie.Need-enum-known-end
+enum-known-end c = search needs
 
 high-below-requires : tie.Need-high-below-requires
 high-below-requires c κs =
-    let p = entered c .pre in
-    (p .0, p .1 .leaf-in (slot c) (c .before .leaf .given .1), p .1 .depth-in, p .2)
+    let s = entered c in
+    let p = s .pre in
+    (p .accepted, slot-inside (s .args .image .now) (s .args .f) (s .args .key .now) (s .args .end) (s .args .depth) p (slot c) (c .before .end .given .1), p .stop-is .depth-in, p .short)
 
 one-if-requires : tie.Need-one-if-requires
 one-if-requires c κs = search needs
@@ -38,19 +36,18 @@ one-if-requires c κs = search needs
 returns : tie.Need-returns
 returns c =
     let s = c .before .before .before .before in
-    (sym (value-none (s .args .image .now) (s .args .f) (s .pre .0) (s .args .key .now) (s .args .s .leaf) (s .args .s .depth) (s .pre .1 .leads) false (high-passed (length (s .args .key .now))) (c .enum-told .given .1)), omega arith)
+    (sym (passed-nowhere (s .args .image .now) (s .args .f) (s .args .key .now) (s .args .end) (s .args .depth) (s .pre) (c .enum-told .given .1)), omega arith)
 
 returns-2 : tie.Need-returns-2
 returns-2 c =
     let s = c .before .before .before .before in
-    (sym (value-exact (s .args .image .now) (s .args .f) (s .pre .0) (s .args .key .now) (s .args .s .leaf) (s .args .s .depth) (s .pre .1 .leads) false (high-passed (length (s .args .key .now))) (c .enum-told2 .given .1)), omega arith)
+    (sym (passed-node (s .args .image .now) (s .args .f) (s .args .key .now) (s .args .end) (s .args .depth) (s .pre) _ (c .enum-told2 .given .1)), omega arith)
 
 returns-3 : tie.Need-returns-3
 returns-3 c =
     let k = c .before .before in
     let s = entered k in
-    let o = value-open (s .args .image .now) (s .args .f) (s .pre .0) (s .args .key .now) (s .args .s .leaf) (s .args .s .depth) (s .pre .1 .leads) false (high-passed (length (s .args .key .now))) (slot k) (k .before .leaf .given .1) in
-    (c .one-if .ensures .0 ∙ ap bit (c .before .high-below .ensures) ∙ sym o, c .one-if .ensures .1)
+    (c .one-if .ensures .0 ∙ ap bit (c .before .high-below .ensures) ∙ sym (passed-leaf (s .args .image .now) (s .args .f) (s .args .key .now) (s .args .end) (s .args .depth) (s .pre) (slot k) (k .before .end .given .1)), c .one-if .ensures .1)
 
 pub passed-at-spec : {M : Type 1} → statement M
 passed-at-spec =
@@ -58,7 +55,7 @@ passed-at-spec =
     (tie.spec
     enum-told
     enum-told-2
-    enum-known-leaf
+    enum-known-end
     high-below-requires
     one-if-requires
     returns

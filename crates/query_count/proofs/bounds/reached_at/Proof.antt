@@ -1,66 +1,81 @@
 use borrow.Author.Needs.{needs}
-use Rattle.query_laws.specs.Answers.{value-none, value-exact, value-open}
-use Rattle.query_laws.specs.Bounds.{low-reached}
+use Rattle.query_count.specs.Bounds.{slot-inside, reached-nowhere, reached-node, reached-leaf}
+use Rattle.image_types.specs.declared.NodeNum.{NodeNum}
 use Rattle.image_types.specs.declared.ValuePos.{ValuePos}
 use Rattle.spec.specs.Bytes.{bit}
-use lib.ListN.{length}
-use mathlib.Core.Bool.{true}
 use native.Mathlib.Omega.{arith}
 use mathlib.Core.Path.{sym, ap, _∙_}
 use Rattle.query_count.proofs.bounds.reached_at.Statement.{statement}
 use Rattle.query_count.proofs.bounds.reached_at.Tie as tie
 
--- where the function was entered, from where the leaf is known to be open
+-- where the function was entered, from where the key is known to end at a node
 abbrev entered : tie.After-known-told → tie.Start
 entered c = c .before .before .before .before .before
 
+-- the node
+abbrev node : tie.After-known-told → NodeNum
+node c = c .before .end .given .0 .0
+
+-- where the function was entered, from where the leaf is known to be open
+abbrev entered-open : tie.After-known-told2 → tie.Start
+entered-open c = c .before .before .before .before .before
+
 -- the slot of the open leaf
-abbrev slot : tie.After-known-told → ValuePos
-slot c = c .before .leaf .given .0 .0
+abbrev slot : tie.After-known-told2 → ValuePos
+slot c = c .before .end2 .given .0 .0
 
 enum-told : tie.Need-enum-told
 enum-told c = search needs
 
-enum-told-2 : tie.Need-enum-told-2
-enum-told-2 c = search needs
+enum-known-end : tie.Need-enum-known-end
+enum-known-end c = search needs
 
-enum-known-leaf : tie.Need-enum-known-leaf
-enum-known-leaf c = search needs
-
-low-above-requires : tie.Need-low-above-requires
-low-above-requires c κs =
-    let p = entered c .pre in
-    (p .0, p .1 .leaf-in (slot c) (c .before .leaf .given .1), p .1 .depth-in, p .2)
+is-exact-requires : tie.Need-is-exact-requires
+is-exact-requires c κs = let p = entered c .pre in record { accepted = p .accepted; inside = p .inside (node c) (c .before .end .given .1) }
 
 one-if-requires : tie.Need-one-if-requires
 one-if-requires c κs = search needs
 
+enum-known-end-2 : tie.Need-enum-known-end-2
+enum-known-end-2 c = search needs
+
+low-above-requires : tie.Need-low-above-requires
+low-above-requires c κs =
+    let s = entered-open c in
+    let p = s .pre in
+    (p .accepted, slot-inside (s .args .image .now) (s .args .f) (s .args .key .now) (s .args .end) (s .args .depth) p (slot c) (c .before .end2 .given .1), p .stop-is .depth-in, p .short)
+
+one-if-requires-2 : tie.Need-one-if-requires-2
+one-if-requires-2 c κs = search needs
+
 returns : tie.Need-returns
 returns c =
     let s = c .before .before .before .before in
-    (sym (value-none (s .args .image .now) (s .args .f) (s .pre .0) (s .args .key .now) (s .args .s .leaf) (s .args .s .depth) (s .pre .1 .leads) true (low-reached (length (s .args .key .now))) (c .enum-told .given .1)), omega arith)
+    (sym (reached-nowhere (s .args .image .now) (s .args .f) (s .args .key .now) (s .args .end) (s .args .depth) (s .pre) (c .enum-told .given .1)), omega arith)
 
 returns-2 : tie.Need-returns-2
 returns-2 c =
-    let s = c .before .before .before .before in
-    (sym (value-exact (s .args .image .now) (s .args .f) (s .pre .0) (s .args .key .now) (s .args .s .leaf) (s .args .s .depth) (s .pre .1 .leads) true (low-reached (length (s .args .key .now))) (c .enum-told2 .given .1)), omega arith)
+    let k = c .before .before in
+    let s = entered k in
+    (c .one-if .ensures .0 ∙ ap bit (c .before .is-exact .ensures) ∙ sym (reached-node (s .args .image .now) (s .args .f) (s .args .key .now) (s .args .end) (s .args .depth) (s .pre) (node k) (k .before .end .given .1)), c .one-if .ensures .1)
 
 returns-3 : tie.Need-returns-3
 returns-3 c =
     let k = c .before .before in
-    let s = entered k in
-    let o = value-open (s .args .image .now) (s .args .f) (s .pre .0) (s .args .key .now) (s .args .s .leaf) (s .args .s .depth) (s .pre .1 .leads) true (low-reached (length (s .args .key .now))) (slot k) (k .before .leaf .given .1) in
-    (c .one-if .ensures .0 ∙ ap bit (sym (c .before .low-above .ensures)) ∙ sym o, c .one-if .ensures .1)
+    let s = entered-open k in
+    (c .one-if2 .ensures .0 ∙ ap bit (sym (c .before .low-above .ensures)) ∙ sym (reached-leaf (s .args .image .now) (s .args .f) (s .args .key .now) (s .args .end) (s .args .depth) (s .pre) (slot k) (k .before .end2 .given .1)), c .one-if2 .ensures .1)
 
 pub reached-at-spec : {M : Type 1} → statement M
 reached-at-spec =
     tie.close
     (tie.spec
     enum-told
-    enum-told-2
-    enum-known-leaf
-    low-above-requires
+    enum-known-end
+    is-exact-requires
     one-if-requires
+    enum-known-end-2
+    low-above-requires
+    one-if-requires-2
     returns
     returns-2
     returns-3)

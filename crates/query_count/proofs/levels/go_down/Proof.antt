@@ -30,7 +30,7 @@ sum-small : (l : tie.At-loop Inv-loop μ-loop) → l .loop .bound .sum ≤ l .lo
 sum-small l = omega (arith, entered l .pre .small, l .loop .inv .0 .small, l .loop .inv .1)
 
 loop-holds : tie.Need-loop-holds Inv-loop μ-loop
-loop-holds c = let s = c .before in (down-none (s .args .image .now) (s .args .f) (s .pre .accepted) (s .args .from) (s .pre .node-in), omega arith, s .pre .from-in)
+loop-holds c = let s = c .before in (down-none (s .args .image .now) (s .args .f) (s .pre .accepted) (s .args .from) (s .args .from .depth) refl (s .pre .node-in), omega arith, s .pre .from-in)
 
 add-if2 : tie.Need-add-if2 Inv-loop μ-loop
 add-if2 c =

@@ -104,7 +104,7 @@ returns-4 : tie.Need-returns-4 Inv-loop μ-loop
 returns-4 c =
     let l = c .before .before in
     let s = entered l in
-    stopped-end (s .args .image .now) (s .args .f) (s .pre) (s .args .key .now) (l .loop .depth) (l .loop .node .0) (c .leaf-at .result) (omega (arith, l .loop .inv .depth-in)) (c .leaf-at .ensures) (l .loop .inv)
+    stopped-end (s .args .image .now) (s .args .f) (s .pre) (s .args .key .now) (l .loop .depth) (l .loop .node .0) (c .leaf-at .result) (omega (arith, l .loop .inv .depth-in)) (c .leaf-at .ensures) (l .loop .inv .leads)
 
 pub descend-spec : {M : Type 1} → statement M
 descend-spec =

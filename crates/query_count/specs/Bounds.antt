@@ -1,0 +1,299 @@
+-- What the functions of two bounds ask and give: the way that two keys share, the bound of each from where they part, and what counts where it leads.
+use Prim.Native.Nat.{ℕ, zero, suc, _+_, _-_, _<_, _≤_}
+use mathlib.Core.Path.{_≡_, refl, sym, ap, _∙_}
+use mathlib.Core.Bool.{Bool, true, false, cond}
+use mathlib.Core.List.{[], _∷_}
+use native.Mathlib.Omega.{arith}
+use lib.ListN.{length, getD, drop}
+use lib.Dec.{eqb}
+use borrow.Author.Tests.{eqb-true}
+use Rattle.spec.specs.Bytes.{Bytes, bit, shared}
+use Rattle.spec.specs.Nodes.{is-exact, read-leaves}
+use Rattle.spec.specs.Questions.{counted}
+use Rattle.image_types.specs.declared.Frame.{Frame}
+use Rattle.image_types.specs.declared.NodeNum.{NodeNum}
+use Rattle.image_types.specs.declared.ValuePos.{ValuePos}
+use Rattle.nav_laws.specs.declared.BranchKind.the-variants.{Absent, Leaf, Child}
+use Rattle.nav_laws.specs.declared.Found.{Found}
+use Rattle.nav_laws.specs.declared.LeafStop.{LeafStop}
+use Rattle.nav_laws.specs.declared.LeafStop.the-variants.{Nowhere, Open}
+use Rattle.nav_laws.specs.Accepted.{Accepted, nodes}
+use Rattle.nav_laws.specs.Slots.{node-at, slot-number, slot-of}
+use Rattle.nav_laws.specs.Descent.{child-number}
+use Rattle.nav_laws.specs.NextLabel.{kind-with}
+use Rattle.nav_laws.specs.Positions.{branches, place, child-at, slot-at}
+use Rattle.nav_laws.specs.FoundBranch.{node-count, Found-branch, Behind-branch}
+use Rattle.query_laws.specs.Bounds.{high-passed, low-reached}
+use Rattle.query_laws.specs.LevelSums.{slots-below}
+use Rattle.query_laws.specs.Steps.{exact-stop}
+use Rattle.query_laws.specs.Followed.{Stopped, stopped-nowhere, sum-nowhere}
+use Rattle.query_laws.specs.Summed.{Leading, Ended, passed-there, reached-there, end-unpassed, leading-root, leading-on, ended-none, ended-leaf, ended-end}
+use Rattle.query_laws.specs.Answers.{value-none, value-exact, value-open, count-bounds}
+use Rattle.query_count.specs.declared.bounds.KeyEnd.{KeyEnd}
+use Rattle.query_count.specs.declared.bounds.KeyEnd.the-variants as End
+use Rattle.query_count.specs.declared.bounds.Bound.{Bound}
+use Rattle.query_count.specs.declared.levels.LevelSum.{LevelSum}
+use Rattle.query_count.specs.declared.levels.BoundSums.{BoundSums}
+use Rattle.query_count.specs.Levels.{Down-to, Sums-apart}
+
+-- the leaf where a key has led: none, the node if it is an exact leaf, or the open leaf
+abbrev pub leaf-of : Bytes → Frame → KeyEnd → LeafStop
+leaf-of s f End.Nowhere = Nowhere
+leaf-of s f (End.Node m) = exact-stop (is-exact (node-at (nodes s f) (m .0)))
+leaf-of s f (End.Leaf v) = Open v
+
+-- A key has led there, with so many of its bytes passed.
+pub record Key-ended (s : Bytes) (f : Frame) (key : Bytes) (end : KeyEnd) (depth : ℕ) : Type 0 where
+  -- the image is accepted
+  pub accepted : Accepted s f
+  -- the key is no longer than a path
+  pub short : length key ≤ 64
+  -- the leaf there
+  pub stop-is : Stopped s f key (leaf-of s f end) depth
+  -- a node there is one of the nodes
+  pub inside : (m : NodeNum) → end ≡ End.Node m → m .0 < node-count f
+
+-- ---- the way that two keys share
+
+-- The bytes that two keys share lead to a node, with the same sum of slot numbers on the levels above it.
+pub record Parted (s : Bytes) (f : Frame) (lo hi : Bytes) (node depth : ℕ) : Type 0 where
+  pub accepted : Accepted s f
+  pub lo-short : length lo ≤ 64
+  pub hi-short : length hi ≤ 64
+  -- the sum
+  pub above : ℕ
+  pub lower : Leading s f lo node depth above
+  pub upper : Leading s f hi node depth above
+
+-- Both keys have led to the same leaf or nowhere, by the same branch, so that their sums are the same.
+pub record Same-end (s : Bytes) (f : Frame) (lo hi : Bytes) (end : KeyEnd) (depth : ℕ) : Type 0 where
+  pub sums : slots-below (nodes s f) 64 0 lo ≡ slots-below (nodes s f) 64 0 hi
+  pub lower : Key-ended s f lo end depth
+  pub upper : Key-ended s f hi end depth
+
+-- what is known where the shared bytes lead, by where that is
+abbrev pub Parts : Bytes → Frame → Bytes → Bytes → ℕ → KeyEnd → Type 0
+Parts s f lo hi depth End.Nowhere = Same-end s f lo hi End.Nowhere depth
+Parts s f lo hi depth (End.Node m) = Parted s f lo hi (m .0) depth
+Parts s f lo hi depth (End.Leaf v) = Same-end s f lo hi (End.Leaf v) depth
+
+-- the ways part at a node
+pub parts-node : (s : Bytes) (f : Frame) (lo hi : Bytes) (depth : ℕ) (end : KeyEnd) (m : NodeNum) → end ≡ End.Node m → Parts s f lo hi depth end → Parted s f lo hi (m .0) depth
+parts-node s f lo hi depth end m e o = rw e at o
+
+-- elsewhere both end
+pub parts-same : (s : Bytes) (f : Frame) (lo hi : Bytes) (depth : ℕ) (end : KeyEnd) → ((m : NodeNum) → end ≡ End.Node m → ⊥) → Parts s f lo hi depth end → Same-end s f lo hi end depth
+parts-same s f lo hi depth End.Nowhere h o = o
+parts-same s f lo hi depth (End.Node m) h o = absurd (h m refl)
+parts-same s f lo hi depth (End.Leaf v) h o = o
+
+-- ---- the bound of a key
+
+-- The first bytes of a key lead to a node, from where the key is followed.
+pub record Leads-on (s : Bytes) (f : Frame) (key : Bytes) (from : LevelSum) : Type 0 where
+  pub accepted : Accepted s f
+  pub short : length key ≤ 64
+  -- the sum on the levels above, beside the bound's own
+  pub above : ℕ
+  pub leads : Leading s f key (from .node .0) (from .depth) (above + from .sum)
+
+-- The bound of a key that has ended, whose sum leaves out a sum on the levels above.
+pub record Bound-ended (s : Bytes) (f : Frame) (key : Bytes) (above : ℕ) (r : Bound) : Type 0 where
+  pub ended : Ended s f key (leaf-of s f (r .end)) (r .level .node .0) (r .level .depth) (above + r .level .sum)
+  -- a node where the key leads is one of the nodes
+  pub inside : (m : NodeNum) → r .end ≡ End.Node m → m .0 < node-count f
+
+module _ (s : Bytes) (f : Frame) (lo hi : Bytes) (fork : LevelSum) (o : Parted s f lo hi (fork .node .0) (fork .depth)) (none : fork .sum ≡ 0) where
+  none-above : o .above + fork .sum ≡ o .above
+  none-above = omega arith
+
+  -- the lower bound is followed from where the ways part
+  pub lower-leads : Leading s f lo (fork .node .0) (fork .depth) (o .above + fork .sum)
+  lower-leads = rw none-above (o .lower)
+
+  -- and so is the upper
+  pub upper-leads : Leading s f hi (fork .node .0) (fork .depth) (o .above + fork .sum)
+  upper-leads = rw none-above (o .upper)
+
+module _ (s : Bytes) (f : Frame) (a : Accepted s f) (key : Bytes) (short : length key ≤ 64) (above : ℕ) (r : Bound) (o : Bound-ended s f key above r) where
+  -- a bound whose key has ended goes down through all levels
+  pub bound-down : Down-to s f (r .level) 64
+  bound-down = record {
+    accepted = a;
+    node-in = o .ended .node-in;
+    from-in = omega (arith, o .ended .stop-is .depth-in);
+    depth-in = omega arith;
+    small = omega (arith, o .ended .small);
+  }
+
+  -- its key has led somewhere
+  pub bound-key : Key-ended s f key (r .end) (r .level .depth)
+  bound-key = record { accepted = a; short = short; stop-is = o .ended .stop-is; inside = o .inside }
+
+-- ---- what counts where a key leads
+
+module _ (s : Bytes) (f : Frame) (key : Bytes) (end : KeyEnd) (depth : ℕ) (o : Key-ended s f key end depth) where
+  -- the slot of an open leaf is one of the leaves
+  pub slot-inside : (v : ValuePos) → end ≡ End.Leaf v → v .0 < f .leaves
+  slot-inside v e = o .stop-is .leaf-in v (ap (leaf-of s f) e)
+
+  -- nothing is passed
+  pub passed-nowhere : end ≡ End.Nowhere → passed-there s f key ≡ 0
+  passed-nowhere e = value-none s f (o .accepted) key (leaf-of s f end) depth (o .stop-is .leads) false (high-passed (length key)) (ap (leaf-of s f) e)
+
+  -- nor where the key ends at a node
+  pub passed-node : (m : NodeNum) → end ≡ End.Node m → passed-there s f key ≡ 0
+  passed-node m e = end-unpassed s f (o .accepted) key depth (is-exact (node-at (nodes s f) (m .0))) (rw e at (o .stop-is))
+
+  -- an open leaf is passed by its highest key
+  pub passed-leaf : (v : ValuePos) → end ≡ End.Leaf v → passed-there s f key ≡ bit (high-passed (length key) (slot-of (f .width) (nodes s f) (v .0)) (drop depth key))
+  passed-leaf v e = value-open s f (o .accepted) key (leaf-of s f end) depth (o .stop-is .leads) false (high-passed (length key)) v (ap (leaf-of s f) e)
+
+  -- nothing is reached
+  pub reached-nowhere : end ≡ End.Nowhere → reached-there s f key ≡ 0
+  reached-nowhere e = value-none s f (o .accepted) key (leaf-of s f end) depth (o .stop-is .leads) true (low-reached (length key)) (ap (leaf-of s f) e)
+
+  -- a node is reached if it is an exact leaf
+  pub reached-node : (m : NodeNum) → end ≡ End.Node m → reached-there s f key ≡ bit (is-exact (node-at (nodes s f) (m .0)))
+  reached-node m e = go (is-exact (node-at (nodes s f) (m .0))) (ap (leaf-of s f) e)
+    where
+      go : (b : Bool) → leaf-of s f end ≡ exact-stop b → reached-there s f key ≡ bit b
+      go true q = value-exact s f (o .accepted) key (leaf-of s f end) depth (o .stop-is .leads) true (low-reached (length key)) q
+      go false q = value-none s f (o .accepted) key (leaf-of s f end) depth (o .stop-is .leads) true (low-reached (length key)) q
+
+  -- an open leaf is reached by its lowest key
+  pub reached-leaf : (v : ValuePos) → end ≡ End.Leaf v → reached-there s f key ≡ bit (low-reached (length key) (slot-of (f .width) (nodes s f) (v .0)) (drop depth key))
+  reached-leaf v e = value-open s f (o .accepted) key (leaf-of s f end) depth (o .stop-is .leads) true (low-reached (length key)) v (ap (leaf-of s f) e)
+
+-- ---- bytes of the shared prefix
+
+-- a byte of the shared prefix stands in both keys
+pub shared-byte : (p q : Bytes) (i : ℕ) → i < shared p q → (i < length p) × (i < length q) × (getD p i 0 ≡ getD q i 0)
+unfolding shared
+shared-byte [] q i h = absurd (omega arith)
+shared-byte (x ∷ p) [] i h = absurd (omega arith)
+shared-byte (x ∷ p) (y ∷ q) i h = go (eqb x y) refl (shared-byte p q) i h
+  where
+    go : (b : Bool) → eqb x y ≡ b → ((j : ℕ) → j < shared p q → (j < length p) × (j < length q) × (getD p j 0 ≡ getD q j 0))
+        → (i : ℕ) → i < cond b (suc (shared p q)) 0 → (i < suc (length p)) × (i < suc (length q)) × (getD (x ∷ p) i 0 ≡ getD (y ∷ q) i 0)
+    go true e r zero h = (omega arith, omega arith, eqb-true x y e)
+    go true e r (suc i) h = let t = r i (omega arith) in (omega arith, omega arith, t .2)
+    go false e r i h = absurd (omega arith)
+
+-- ---- one level of the shared way
+
+module _ (s : Bytes) (f : Frame) (a : Accepted s f) (lo hi : Bytes) (g : length lo ≤ 64) (h : length hi ≤ 64) where
+  -- an image without nodes
+  pub parts-nowhere : node-count f ≡ 0 → Same-end s f lo hi End.Nowhere 0
+  parts-nowhere z = record {
+    sums = sum-nowhere s f a lo g z ∙ sym (sum-nowhere s f a hi h z);
+    lower = record { accepted = a; short = g; stop-is = stopped-nowhere s f a lo z; inside = λ m q. let n : _≡_ {A = ℕ} 0 1 = cc in absurd (omega arith) };
+    upper = record { accepted = a; short = h; stop-is = stopped-nowhere s f a hi z; inside = λ m q. let n : _≡_ {A = ℕ} 0 1 = cc in absurd (omega arith) };
+  }
+
+  -- no byte is passed
+  pub parted-root : 0 < node-count f → Parted s f lo hi 0 0
+  parted-root n = record { accepted = a; lo-short = g; hi-short = h; above = 0; lower = leading-root s f a lo n; upper = leading-root s f a hi n }
+
+module _ (s : Bytes) (f : Frame) (lo hi : Bytes) (m d : ℕ) (o : Parted s f lo hi m d) (within : d < shared lo hi) (b : Found) (t : Found-branch s f m (getD lo d 0) b) where
+  -- the child behind the branch of the shared byte, and its slot
+  abbrev child : ℕ
+  child = child-number (nodes s f) m (place s f m (getD lo d 0))
+
+  abbrev slot : ℕ
+  slot = slot-number (nodes s f) m (place s f m (getD lo d 0))
+
+  same : getD lo d 0 ≡ getD hi d 0
+  same = shared-byte lo hi d within .2
+
+  upper-kind : b .kind ≡ kind-with (getD hi d 0) (drop (place s f m (getD hi d 0)) (branches s f m))
+  upper-kind = rw same at (t .kind-is)
+
+  upper-child : child ≡ child-number (nodes s f) m (place s f m (getD hi d 0))
+  upper-child = ap (λ (y : ℕ). child-number (nodes s f) m (place s f m y)) same
+
+  upper-slot : slot ≡ slot-number (nodes s f) m (place s f m (getD hi d 0))
+  upper-slot = ap (λ (y : ℕ). slot-number (nodes s f) m (place s f m y)) same
+
+  -- a branch that continues: both keys go on, with the same sum
+  pub parted-next : b .kind ≡ Child → (c : ℕ) → c ≡ child-at s f m (b .at .0) → Parted s f lo hi c (d + 1)
+  parted-next k c e = let z : c ≡ child = e ∙ t .at-is .child-is in rw z (record {
+    accepted = o .accepted;
+    lo-short = o .lo-short;
+    hi-short = o .hi-short;
+    above = o .above + slot;
+    lower = leading-on s f (o .accepted) lo m d (o .above) (o .lower) (b .kind) child slot (shared-byte lo hi d within .0) (o .lo-short) (t .kind-is) refl refl k;
+    upper = leading-on s f (o .accepted) hi m d (o .above) (o .upper) (b .kind) child slot (shared-byte lo hi d within .1) (o .hi-short) upper-kind upper-child upper-slot k;
+  })
+
+  -- one that ends, or none: both keys end there
+  same-end : (end : KeyEnd) → ((n : NodeNum) → end ≡ End.Node n → ⊥) → Ended s f lo (leaf-of s f end) child (d + 1) (o .above + slot) → Ended s f hi (leaf-of s f end) child (d + 1) (o .above + slot) → Same-end s f lo hi end (d + 1)
+  same-end end n x y = record {
+    sums = x .sums ∙ sym (y .sums);
+    lower = record { accepted = o .accepted; short = o .lo-short; stop-is = x .stop-is; inside = λ m q. absurd (n m q) };
+    upper = record { accepted = o .accepted; short = o .hi-short; stop-is = y .stop-is; inside = λ m q. absurd (n m q) };
+  }
+
+  -- none
+  pub same-none : b .kind ≡ Absent → Same-end s f lo hi End.Nowhere (d + 1)
+  same-none k = same-end End.Nowhere (λ n q. let z : _≡_ {A = ℕ} 0 1 = cc in omega arith)
+      (ended-none s f (o .accepted) lo m d (o .above) (o .lower) (b .kind) child slot (shared-byte lo hi d within .0) (o .lo-short) (t .kind-is) refl refl k)
+      (ended-none s f (o .accepted) hi m d (o .above) (o .upper) (b .kind) child slot (shared-byte lo hi d within .1) (o .hi-short) upper-kind upper-child upper-slot k)
+
+  -- an open leaf
+  pub same-leaf : b .kind ≡ Leaf → (v : ValuePos) → v .0 ≡ slot-at s f m (b .at .0) → Same-end s f lo hi (End.Leaf v) (d + 1)
+  same-leaf k v e = same-end (End.Leaf v) (λ n q. let z : _≡_ {A = ℕ} 0 1 = cc in omega arith)
+      (ended-leaf s f (o .accepted) lo m d (o .above) (o .lower) (b .kind) child slot (shared-byte lo hi d within .0) (o .lo-short) (t .kind-is) refl refl k v (e ∙ t .at-is .slot-is))
+      (ended-leaf s f (o .accepted) hi m d (o .above) (o .upper) (b .kind) child slot (shared-byte lo hi d within .1) (o .hi-short) upper-kind upper-child upper-slot k v (e ∙ t .at-is .slot-is))
+
+-- ---- one level of a bound
+
+module _ (s : Bytes) (f : Frame) (a : Accepted s f) (key : Bytes) (short : length key ≤ 64) (above : ℕ) (from : LevelSum) (o : Leading s f key (from .node .0) (from .depth) (above + from .sum)) where
+  -- the key ends at the node
+  pub bound-end : length key ≤ from .depth → Bound-ended s f key above (record { level = from; end = End.Node (from .node) })
+  bound-end h = record {
+    ended = ended-end s f a key (from .node .0) (from .depth) (above + from .sum) o h;
+    inside = λ m q. let z : m ≡ from .node = cc in rw z (o .node-in);
+  }
+
+  module _ (h : from .depth < length key) (b : Found) (t : Found-branch s f (from .node .0) (getD key (from .depth) 0) b) (to : LevelSum) (slot : ValuePos) (v : Behind-branch s f (from .node .0) (b .at .0) (to .node .0) (slot .0))
+      (d : to .depth ≡ from .depth + 1) (w : to .sum ≡ from .sum + slot .0) where
+    to-sum : above + to .sum ≡ above + from .sum + slot .0
+    to-sum = omega arith
+
+    to-child : to .node .0 ≡ child-number (nodes s f) (from .node .0) (place s f (from .node .0) (getD key (from .depth) 0))
+    to-child = v .child-is ∙ t .at-is .child-is
+
+    to-slot : slot .0 ≡ slot-number (nodes s f) (from .node .0) (place s f (from .node .0) (getD key (from .depth) 0))
+    to-slot = v .slot-is ∙ t .at-is .slot-is
+
+    -- a branch that continues
+    pub bound-next : b .kind ≡ Child → Leading s f key (to .node .0) (to .depth) (above + to .sum)
+    bound-next k = rw (d, to-sum) (leading-on s f a key (from .node .0) (from .depth) (above + from .sum) o (b .kind) (to .node .0) (slot .0) h short (t .kind-is) to-child to-slot k)
+
+    -- none: the key leads nowhere
+    pub bound-none : b .kind ≡ Absent → Bound-ended s f key above (record { level = to; end = End.Nowhere })
+    bound-none k = record {
+      ended = rw (d, to-sum) (ended-none s f a key (from .node .0) (from .depth) (above + from .sum) o (b .kind) (to .node .0) (slot .0) h short (t .kind-is) to-child to-slot k);
+      inside = λ m q. let z : _≡_ {A = ℕ} 0 1 = cc in absurd (omega arith);
+    }
+
+    -- one that ends: the key leads to its open leaf
+    pub bound-leaf : b .kind ≡ Leaf → Bound-ended s f key above (record { level = to; end = End.Leaf slot })
+    bound-leaf k = record {
+      ended = rw (d, to-sum) (ended-leaf s f a key (from .node .0) (from .depth) (above + from .sum) o (b .kind) (to .node .0) (slot .0) h short (t .kind-is) to-child to-slot k slot refl);
+      inside = λ m q. let z : _≡_ {A = ℕ} 0 1 = cc in absurd (omega arith);
+    }
+
+-- ---- counts
+
+-- Both keys have led to the same leaf or nowhere: what counts there is left.
+pub count-same : (s : Bytes) (f : Frame) (lo hi : Bytes) (end : KeyEnd) (depth : ℕ) → Same-end s f lo hi end depth → (u v : ℕ) → u ≡ passed-there s f lo → v ≡ reached-there s f hi → counted (read-leaves s) lo hi ≡ v - u
+count-same s f lo hi end depth o u v p q =
+    omega (arith, count-bounds s f (o .lower .accepted) lo hi (o .lower .short) (o .upper .short) (slots-below (nodes s f) 64 0 lo) (slots-below (nodes s f) 64 0 hi) u v refl refl p q, o .sums)
+
+-- Two bounds from where the keys part: their sums, as far as they differ, and what counts where each key leads.
+pub count-parted : (s : Bytes) (f : Frame) (lo hi : Bytes) (above : ℕ) (a b : Bound) → Accepted s f → length lo ≤ 64 → length hi ≤ 64 → Bound-ended s f lo above a → Bound-ended s f hi above b → (r : BoundSums) → Sums-apart s f (a .level) (b .level) r
+    → (u v : ℕ) → u ≡ passed-there s f lo → v ≡ reached-there s f hi → counted (read-leaves s) lo hi ≡ (r .upper + v) - (r .lower + u)
+count-parted s f lo hi above a b z g h x y r t u v p q =
+    omega (arith, count-bounds s f z lo hi g h (slots-below (nodes s f) 64 0 lo) (slots-below (nodes s f) 64 0 hi) u v refl refl p q, x .ended .sums, y .ended .sums, t .apart)
