@@ -1,11 +1,11 @@
-// The position of a one inside a word: the field that holds it is halved by the counts of ones in all fields, which are found at once, down to four bits, whose places are in the table.
+// The position of a one inside a word: the field that holds it is halved by the counts of ones in all fields, which are found at once, down to a pair of bits, whose places are in the table. A one among ones that stand side by side from the lowest bit on is at its number.
 ghost use mathlib.Core.Path.{_≡_};
 ghost use Prim.Native.Nat.{ℕ, _+_, _%_, _^_, _≤_, _<_};
 ghost use lib.Count.{ones};
 ghost use Rattle.bits_laws.specs.CountLaws.{Counts, Field-counts, paired};
 ghost use Rattle.bits_laws.specs.NarrowLaws.{Narrowed};
 use super::numbers::wide;
-use byte_places::place_in_half;
+use byte_places::place_in_pair;
 
 // Masks of a word, each with every other field from the first on. Every other bit.
 const BITS: u64 = 0x5555555555555555;
@@ -30,8 +30,9 @@ fn paired(n: u64, w: usize, mask: u64) -> u64
     (n & mask) + ((n >> w) & mask)
 }
 
-// The ones of each field of 4, 8, 16 and 32 bits of a word, counted for all fields at once.
+// The ones of each field of 2, 4, 8, 16 and 32 bits of a word, counted for all fields at once.
 struct FieldCounts {
+    of_2: u64,
     of_4: u64,
     of_8: u64,
     of_16: u64,
@@ -40,7 +41,7 @@ struct FieldCounts {
 
 // The ones of the fields of x.
 fn field_counts(x: u64) -> FieldCounts
-    ensures { λ r. ⌜ Field-counts x (r .of_4) (r .of_8) (r .of_16) (r .of_32) ⌝ }
+    ensures { λ r. ⌜ Field-counts x (r .of_2) (r .of_4) (r .of_8) (r .of_16) (r .of_32) ⌝ }
 {
     let of_2 = paired(x, 1, BITS);
     let of_4 = paired(of_2, 2, PAIRS);
@@ -48,6 +49,7 @@ fn field_counts(x: u64) -> FieldCounts
     let of_16 = paired(of_8, 8, BYTES);
     let of_32 = paired(of_16, 16, DOUBLE_BYTES);
     FieldCounts {
+        of_2,
         of_4,
         of_8,
         of_16,
@@ -76,35 +78,47 @@ fn half_of(counts: u64, w: usize, field: Field) -> Field
     }
 }
 
-// The four bits of x that hold its m-th set bit, counted from 0.
-fn four_bits(x: u64, m: usize) -> Field
+// The pair of bits of x that holds its m-th set bit, counted from 0.
+fn pair_of(x: u64, m: usize) -> Field
     requires { ⌜ m < ones x ⌝ }
-    ensures { λ r. ⌜ Narrowed x m 4 16 (r .at) (r .left) ⌝ }
+    ensures { λ r. ⌜ Narrowed x m 2 32 (r .at) (r .left) ⌝ }
 {
     let n = field_counts(x);
     let in_32 = half_of(n.of_32, 32, Field { at: 0, left: m });
     let in_16 = half_of(n.of_16, 16, in_32);
     let in_8 = half_of(n.of_8, 8, in_16);
-    half_of(n.of_4, 4, in_8)
+    let in_4 = half_of(n.of_4, 4, in_8);
+    half_of(n.of_2, 2, in_4)
 }
 
-// The position of the m-th set bit, counted from 0, of a word that has more than m.
+// A word whose bits are all ones.
+const ALL_ONES: u64 = 0xffffffffffffffff;
+
+// How many ones stand side by side from the lowest bit of a word on.
+fn lowest_run(x: u64) -> usize
+    ensures { λ r. ⌜ ((m : ℕ) → m < r → ones (x % 2 ^ (m + 1)) ≡ m + 1) × (r ≤ 64) ⌝ }
+{
+    u64::trailing_zeros(ALL_ONES - x) as usize
+}
+
+// The position of the m-th set bit, counted from 0, of a word that has more than m. In a word of S-LOUDS a run of ones is common: nodes with one entry each.
 pub fn select_in_word(x: u64, m: usize) -> usize
     requires { ⌜ m < ones x ⌝ }
     ensures { λ r. ⌜ (ones (x % 2 ^ r) ≤ m) × (m < ones (x % 2 ^ (r + 1))) × (r < 64) ⌝ }
 {
-    let field = four_bits(x, m);
-    let bits = ((x >> field.at) % 16) as usize;
-    field.at + wide(place_in_half(bits, field.left))
+    if m < lowest_run(x) {
+        return m;
+    }
+    let field = pair_of(x, m);
+    let bits = ((x >> field.at) % 4) as usize;
+    field.at + wide(place_in_pair(bits, field.left))
 }
 
-// The same with no table: the four bits are halved twice more. It takes longer, and its frame is small.
+// The same with no table: the pair of bits is halved as well. Its frame is small.
 pub fn select_by_halves(x: u64, m: usize) -> usize
     requires { ⌜ m < ones x ⌝ }
     ensures { λ r. ⌜ (ones (x % 2 ^ r) ≤ m) × (m < ones (x % 2 ^ (r + 1))) × (r < 64) ⌝ }
 {
-    let of_2 = paired(x, 1, BITS);
-    let in_2 = half_of(of_2, 2, four_bits(x, m));
-    let bit = half_of(x, 1, in_2);
+    let bit = half_of(x, 1, pair_of(x, m));
     bit.at
 }

@@ -71,8 +71,9 @@ counts-paired w (suc c) n x p h =
         let behind : Counts w (c + c) (n / 2 ^ (w + w)) (x / 2 ^ (w + w)) = rw (← shr-shr n w w, ← shr-shr x w w) r in
         rw f (more {c = c} (low t (w + w) l ∙ ap₂ (λ (u v : ℕ). u + v) a b ∙ sym (ones-behind x w w)) (rw (high t (w + w) l) (rest behind)))
 
--- the counts of the fields of 4, 8, 16 and 32 bits of a word
-pub record Field-counts (x of-4 of-8 of-16 of-32 : ℕ) : Type 0 where
+-- the counts of the fields of 2, 4, 8, 16 and 32 bits of a word
+pub record Field-counts (x of-2 of-4 of-8 of-16 of-32 : ℕ) : Type 0 where
+  pub pairs : Counts 2 32 of-2 x
   pub fours : Counts 4 16 of-4 x
   pub eights : Counts 8 8 of-8 x
   pub sixteens : Counts 16 4 of-16 x
@@ -80,10 +81,10 @@ pub record Field-counts (x of-4 of-8 of-16 of-32 : ℕ) : Type 0 where
 
 -- as they are found: each from those of half the width, by the mask of that width
 pub field-counts : (x n2 n4 n8 n16 n32 : ℕ) → n2 ≡ paired 1 (every-other 1 32) x → n4 ≡ paired 2 (every-other 2 16) n2 → n8 ≡ paired 4 (every-other 4 8) n4
-    → n16 ≡ paired 8 (every-other 8 4) n8 → n32 ≡ paired 16 (every-other 16 2) n16 → Field-counts x n4 n8 n16 n32
+    → n16 ≡ paired 8 (every-other 8 4) n8 → n32 ≡ paired 16 (every-other 16 2) n16 → Field-counts x n2 n4 n8 n16 n32
 field-counts x n2 n4 n8 n16 n32 a b c d e =
     let two : Counts 2 32 n2 x = rw a (counts-paired 1 32 x x (omega arith) (counts-digits 64 x)) in
     let four : Counts 4 16 n4 x = rw b (counts-paired 2 16 n2 x (omega arith) two) in
     let eight : Counts 8 8 n8 x = rw c (counts-paired 4 8 n4 x (omega arith) four) in
     let sixteen : Counts 16 4 n16 x = rw d (counts-paired 8 4 n8 x (omega arith) eight) in
-    record { fours = four; eights = eight; sixteens = sixteen; halves = rw e (counts-paired 16 2 n16 x (omega arith) sixteen) }
+    record { pairs = two; fours = four; eights = eight; sixteens = sixteen; halves = rw e (counts-paired 16 2 n16 x (omega arith) sixteen) }

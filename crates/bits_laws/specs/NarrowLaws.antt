@@ -1,4 +1,4 @@
--- Select inside a word: the field that holds the one is halved by the counts of all fields, down to four bits, where its place is that of the table.
+-- Select inside a word: the field that holds the one is halved by the counts of all fields, down to a pair of bits, where its place is that of the table.
 use mathlib.Core.Path.{_≡_, refl, sym, ap, _∙_}
 use mathlib.Core.Bool.{Bool, true, false}
 use mathlib.Core.List.{[], _∷_}
@@ -15,7 +15,7 @@ use Rattle.bits_laws.specs.ValueLaws.{Small}
 use Rattle.bits_laws.specs.RankLaws.{ones-behind, rank-ones, rank-up}
 use Rattle.bits_laws.specs.SelectLaws.{select-is}
 use Rattle.bits_laws.specs.WordLaws.{ones-none}
-use Rattle.bits_laws.specs.CountLaws.{Counts, every-other, paired, counts-at, counts-digits, counts-paired}
+use Rattle.bits_laws.specs.CountLaws.{Counts, counts-at}
 
 -- the one of x that has m ones below it stands in field `index` of the k fields of w bits, which starts at bit `at`, with `left` ones below it in the field
 pub record Narrowed (x m w k at left : ℕ) : Type 0 where
@@ -64,38 +64,34 @@ rank-byte h l k = let e : value (h ∷ []) ≡ h = omega arith in rank-ones (h �
     small zero = l
     small (suc i) = omega arith
 
--- the place among four bits
-four-bits : (h j : ℕ) → h < 16 → j < ones h → (place h j < 4) × (ones (h % 2 ^ place h j) ≤ j) × (j < ones (h % 2 ^ (place h j + 1)))
-four-bits h j l g =
+-- the place in a pair of bits
+two-bits : (h j : ℕ) → h < 4 → j < ones h → (place h j < 2) × (ones (h % 2 ^ place h j) ≤ j) × (j < ones (h % 2 ^ (place h j + 1)))
+two-bits h j l g =
     let r = rank-byte h (omega arith) in
     let is = select-is (h ∷ []) 8 j in
-    let four : rank (h ∷ []) 4 ≡ ones h = r 4 ∙ ap ones (mod-eq-of-lt l) in
-    let below : place h j < 4 = go (ltb (place h j) 4) refl four is in
+    let two : rank (h ∷ []) 2 ≡ ones h = r 2 ∙ ap ones (mod-eq-of-lt l) in
+    let below : place h j < 2 = go (ltb (place h j) 2) refl two is in
     (below, omega (arith, is .1, r (place h j)), omega (arith, is .2 (omega arith), r (place h j + 1)))
   where
-    go : (b : Bool) → ltb (place h j) 4 ≡ b → rank (h ∷ []) 4 ≡ ones h
-        → (place h j ≤ 8) × (rank (h ∷ []) (place h j) ≤ j) × (place h j < 8 → j < rank (h ∷ []) (place h j + 1)) → place h j < 4
-    go true e four is = ltb-true (place h j) 4 e
-    go false e four is = absurd (omega (arith, rank-up (h ∷ []) 4 (place h j) (ltb-false (place h j) 4 e)))
+    go : (b : Bool) → ltb (place h j) 2 ≡ b → rank (h ∷ []) 2 ≡ ones h
+        → (place h j ≤ 8) × (rank (h ∷ []) (place h j) ≤ j) × (place h j < 8 → j < rank (h ∷ []) (place h j + 1)) → place h j < 2
+    go true e two is = ltb-true (place h j) 2 e
+    go false e two is = absurd (omega (arith, rank-up (h ∷ []) 2 (place h j) (ltb-false (place h j) 2 e)))
 
 -- the place in the word
-pub narrowed-place : (x m at left : ℕ) → Narrowed x m 4 16 at left
-    → (ones (x % 2 ^ (at + place (x / 2 ^ at % 16) left)) ≤ m) × (m < ones (x % 2 ^ (at + place (x / 2 ^ at % 16) left + 1))) × (at + place (x / 2 ^ at % 16) left < 64)
+pub narrowed-place : (x m at left : ℕ) → Narrowed x m 2 32 at left
+    → (ones (x % 2 ^ (at + place (x / 2 ^ at % 4) left)) ≤ m) × (m < ones (x % 2 ^ (at + place (x / 2 ^ at % 4) left + 1))) × (at + place (x / 2 ^ at % 4) left < 64)
 narrowed-place x m at left p =
-    let h : ℕ = x / 2 ^ at % 16 in
+    let h : ℕ = x / 2 ^ at % 4 in
     let t : ℕ = place h left in
-    let f = four-bits h left (omega arith) (p .held) in
-    let w : 4 - t + t ≡ 4 = omega arith in
-    let v : 4 - (t + 1) + (t + 1) ≡ 4 = omega arith in
-    let c = sym (mod-mod-pow (x / 2 ^ at) (4 - t) t) ∙ ap (λ (n : ℕ). x / 2 ^ at % 2 ^ n % 2 ^ t) w in
-    let d = sym (mod-mod-pow (x / 2 ^ at) (4 - (t + 1)) (t + 1)) ∙ ap (λ (n : ℕ). x / 2 ^ at % 2 ^ n % 2 ^ (t + 1)) v in
+    let f = two-bits h left (omega arith) (p .held) in
+    let w : 2 - t + t ≡ 2 = omega arith in
+    let v : 2 - (t + 1) + (t + 1) ≡ 2 = omega arith in
+    let c = sym (mod-mod-pow (x / 2 ^ at) (2 - t) t) ∙ ap (λ (n : ℕ). x / 2 ^ at % 2 ^ n % 2 ^ t) w in
+    let d = sym (mod-mod-pow (x / 2 ^ at) (2 - (t + 1)) (t + 1)) ∙ ap (λ (n : ℕ). x / 2 ^ at % 2 ^ n % 2 ^ (t + 1)) v in
     let s : at + t + 1 ≡ at + (t + 1) = omega arith in
     let b = p .below in
     (omega (arith, ones-behind x at t, ap ones c, f .1), omega (arith, ones-behind x at (t + 1), ap ones d, f .2, ap (λ (n : ℕ). ones (x % 2 ^ n)) s), omega (arith, p .inside, p .aligned))
-
--- the counts of the fields of two bits
-pub counts-pairs : (x n : ℕ) → n ≡ paired 1 (every-other 1 32) x → Counts 2 32 n x
-counts-pairs x n e = rw e (counts-paired 1 32 x x (omega arith) (counts-digits 64 x))
 
 -- a field of one bit is the one
 pub narrowed-bit : (x m at left : ℕ) → Narrowed x m 1 64 at left → (ones (x % 2 ^ at) ≤ m) × (m < ones (x % 2 ^ (at + 1))) × (at < 64)

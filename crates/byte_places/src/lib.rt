@@ -263,10 +263,10 @@ const PLACES: [u8; 2048] = *b"\
     \x00\x01\x02\x03\x04\x05\x06\x07\
 ";
 
-// The position of the one in a half byte h that has j ones below it, or 8 where there is no such one: row h, which is one of the first 16. The remainder changes no index. It is for the compiler, which has no constant data and writes what can be read of a constant to the stack at each read: 128 numbers in the place of 2,048.
-pub fn place_in_half(h: usize, j: usize) -> u8
-    requires { ⌜ (h < 16) × (j < 8) ⌝ }
+// The position of the one in a pair of bits h that has j ones below it, or 8 where there is no such one: row h, which is one of the first four. The remainder changes no index. It is for the compiler, which has no constant data and writes what can be read of a constant to the stack at each read: 32 numbers in the place of 2,048.
+pub fn place_in_pair(h: usize, j: usize) -> u8
+    requires { ⌜ (h < 4) × (j < 8) ⌝ }
     ensures { λ r. ⌜ r ≡ place h j ⌝ }
 {
-    PLACES[(8 * h + j) % 128]
+    PLACES[(8 * h + j) % 32]
 }

@@ -1,112 +1,102 @@
-use mathlib.Core.Path.{_≡_, sym, ap, _∙_}
-use Prim.Native.Nat.{_+_, _*_, _-_, _/_, _%_, _≤_}
+use mathlib.Core.Path.{_≡_, ap, _∙_}
+use Prim.Native.Nat.{ℕ, _+_, _*_, _-_, _/_, _%_, _^_, _<_}
+use native.Mathlib.Nat.{div-le-self}
 use native.Mathlib.Omega.{arith}
 use borrow.Author.Needs.{needs}
 use lib.Count.{ones, ones-le}
-use Rattle.bits_laws.specs.Bits.{rank}
+use Rattle.bits_laws.specs.Bits.{rank, select}
 use Rattle.bits_laws.specs.ValueLaws.{Small}
-use Rattle.bits_laws.specs.RankLaws.{rank-up, rank-whole-word}
-use Rattle.bits_laws.specs.SelectLaws.{select-all}
-use Rattle.bits_laws.specs.WordLaws.{select-word}
+use Rattle.bits_laws.specs.WordLaws.{one-reached, word-room, rank-rest, select-word}
 use Rattle.bits.proofs.select.select_from.Statement.{statement}
 use Rattle.bits.proofs.select.select_from.Tie as tie
 
-abbrev Inv-loop : tie.InvT-loop
-Inv-loop s n from before m q₀ r₀ q r = (q ≤ n / 64 + 1) × (r ≡ rank s (64 * q)) × (r ≤ m)
-
-abbrev μ-loop : tie.MeasureT-loop
-μ-loop s n from before m q₀ r₀ q r = n / 64 + 1 - q
-
-ones-before-requires : tie.Need-ones-before-requires Inv-loop μ-loop
-ones-before-requires c κs = search needs
-
-sub-r : tie.Need-sub-r Inv-loop μ-loop
-sub-r c =
-    let a = c .before .before .args in
-    let e : 64 * (a .from / 64) + a .from % 64 ≡ a .from = omega arith in
-    omega (arith, ap (rank (a .s .now)) e)
-
-loop-holds : tie.Need-loop-holds Inv-loop μ-loop
-loop-holds c =
-    let a = c .before .before .args in
-    let e : 64 * (a .from / 64) + a .from % 64 ≡ a .from = omega arith in
-    (omega arith, omega (arith, ap (rank (a .s .now)) e), omega arith)
-
-read-word-requires : tie.Need-read-word-requires Inv-loop μ-loop
+read-word-requires : tie.Need-read-word-requires
 read-word-requires c κs = search needs
 
-cast-w : tie.Need-cast-w Inv-loop μ-loop
-cast-w c = omega (arith, ones-le 64 (c .read-word .result) (omega arith))
+shr-x : tie.Need-shr-x
+shr-x c = search needs
 
-sub-if1 : tie.Need-sub-if1 Inv-loop μ-loop
+cast-w : tie.Need-cast-w
+cast-w c =
+    let x = c .read-word .result in
+    let j = c .before .before .args .from % 64 in
+    omega (arith, ones-le 64 (x / 2 ^ j) (omega (arith, div-le-self x (2 ^ j))))
+
+sub-if1 : tie.Need-sub-if1
 sub-if1 c = search needs
 
-mul-smaller : tie.Need-mul-smaller Inv-loop μ-loop
-mul-smaller c = search needs
-
-sub-select-in-word : tie.Need-sub-select-in-word Inv-loop μ-loop
+sub-select-in-word : tie.Need-sub-select-in-word
 sub-select-in-word c = search needs
 
-select-in-word-requires : tie.Need-select-in-word-requires Inv-loop μ-loop
+select-in-word-requires : tie.Need-select-in-word-requires
 select-in-word-requires c κs = search needs
 
-add-smaller : tie.Need-add-smaller Inv-loop μ-loop
-add-smaller c = search needs
+add-smaller : tie.Need-add-smaller
+add-smaller c =
+    let a = c .before .before .before .before .args in
+    let t = c .select-in-word in
+    let word = c .before .before .read-word in
+    let j = a .from % 64 in
+    let room = word-room j (word .result) (t .result) (omega arith) (omega arith) (one-reached (word .result / 2 ^ j) (t .result) (omega arith)) in
+    omega arith
 
-smaller-requires : tie.Need-smaller-requires Inv-loop μ-loop
+smaller-requires : tie.Need-smaller-requires
 smaller-requires c κs = search needs
 
-returns : tie.Need-returns Inv-loop μ-loop
+returns : tie.Need-returns
 returns c =
-    let a = c .before .before .before .before .before .before .before .before .args in
-    let q = c .before .before .before .before .before .loop .q in
+    let a = c .before .before .before .before .before .args in
     let t = c .before .select-in-word in
     let word = c .before .before .before .read-word in
-    let small : Small (a .s .now) = λ i. c .before .before .before .before .before .before .before .shared-slice-known .given i .fits in
-    (c .smaller .ensures ∙ select-word (a .s .now) small q 0 (64 * q) (word .result) (omega arith) (omega (arith, word .ensures)) (a .n) (a .m) (t .result) (omega arith) (omega arith) (omega arith), omega arith)
+    let j = a .from % 64 in
+    let x = word .result / 2 ^ j in
+    let small : Small (a .s .now) = λ i. c .before .before .before .before .shared-slice-known .given i .fits in
+    let room = word-room j (word .result) (t .result) (omega arith) (omega arith) (one-reached x (t .result) (omega arith)) in
+    (c .smaller .ensures ∙ select-word (a .s .now) small (a .from / 64) j (a .from) x (omega arith) (ap (λ (n : ℕ). n / 2 ^ j) (word .ensures)) (a .n) (a .m) (t .result) room (omega arith) (omega arith), omega arith)
 
-add-r : tie.Need-add-r Inv-loop μ-loop
-add-r c = search needs
+add-t11 : tie.Need-add-t11
+add-t11 c = search needs
 
-add-q : tie.Need-add-q Inv-loop μ-loop
-add-q c = search needs
+sub-t18 : tie.Need-sub-t18
+sub-t18 c = search needs
 
-loop-less : tie.Need-loop-less Inv-loop μ-loop
-loop-less c = search needs
+sub-t19 : tie.Need-sub-t19
+sub-t19 c = search needs
 
-loop-again : tie.Need-loop-again Inv-loop μ-loop
-loop-again c =
-    let a = c .before .before .before .before .before .before .args in
-    let q = c .before .before .before .loop .q in
-    let small : Small (a .s .now) = λ i. c .before .before .before .before .before .shared-slice-known .given i .fits in
-    let e : 64 * q + 64 ≡ 64 * (q + 1) = omega arith in
-    (omega arith, omega (arith, ap (rank (a .s .now)) e, rank-whole-word (a .s .now) small q .0, ap ones (c .before .read-word .ensures)), omega arith)
+pass-steps-requires : tie.Need-pass-steps-requires
+pass-steps-requires c κs = search needs
 
-returns-2 : tie.Need-returns-2 Inv-loop μ-loop
+select-words-requires : tie.Need-select-words-requires
+select-words-requires c κs = search needs
+
+returns-2 : tie.Need-returns-2
 returns-2 c =
-    let a = c .before .before .before .before .args in
-    (sym (select-all (a .s .now) (a .n) (a .m) (omega (arith, rank-up (a .s .now) (a .n) (64 * c .before .loop .q) (omega arith)))), omega arith)
+    let a = c .before .before .before .before .before .args in
+    let s = a .s .now in
+    let word = c .before .before .before .read-word in
+    let j = a .from % 64 in
+    let x = word .result / 2 ^ j in
+    let small : Small s = λ i. c .before .before .before .before .shared-slice-known .given i .fits in
+    let rest = rank-rest s small (a .from / 64) j (a .from) x (omega arith) (ap (λ (n : ℕ). n / 2 ^ j) (word .ensures)) (omega arith) in
+    let e : rank s (64 * c .before .pass-steps .result .word) + c .before .pass-steps .result .ones ≡ a .m = omega (arith, rest, c .before .pass-steps .ensures .1) in
+    (c .select-words .ensures .0 ∙ ap (select s (a .n)) e, c .select-words .ensures .1)
 
 pub select-from-spec : {M : Type 1} → statement M
 select-from-spec =
     tie.close
     (tie.spec
-    Inv-loop
-    μ-loop
-    ones-before-requires
-    sub-r
-    loop-holds
     read-word-requires
+    shr-x
     cast-w
     sub-if1
-    mul-smaller
     sub-select-in-word
     select-in-word-requires
     add-smaller
     smaller-requires
     returns
-    add-r
-    add-q
-    loop-less
-    loop-again
+    add-t11
+    sub-t18
+    sub-t19
+    pass-steps-requires
+    select-words-requires
     returns-2)

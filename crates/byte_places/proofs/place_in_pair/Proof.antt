@@ -4,8 +4,8 @@ use native.Mathlib.Omega.{arith}
 use borrow.Author.Needs.{needs}
 use Rattle.bits_laws.specs.Bits.{rank, select, place}
 use Rattle.bits_laws.specs.TableLaws.{places-rule}
-use Rattle.byte_places.proofs.place_in_half.Statement.{statement}
-use Rattle.byte_places.proofs.place_in_half.Tie as tie
+use Rattle.byte_places.proofs.place_in_pair.Statement.{statement}
+use Rattle.byte_places.proofs.place_in_pair.Tie as tie
 
 mul-result : tie.Need-mul-result
 mul-result c = search needs
@@ -21,9 +21,9 @@ returns : tie.Need-returns
 unfolding rank select
 returns c =
     let a = c .args in
-    let row : (8 * a .h + a .j) % 128 / 8 ≡ a .h = omega arith in
-    let at : (8 * a .h + a .j) % 128 % 8 ≡ a .j = omega arith in
-    rw (places-rule 128 (omega arith) (omega arith)) (ap₂ place row at)
+    let row : (8 * a .h + a .j) % 32 / 8 ≡ a .h = omega arith in
+    let at : (8 * a .h + a .j) % 32 % 8 ≡ a .j = omega arith in
+    rw (places-rule 32 (omega arith) (omega arith)) (ap₂ place row at)
 
-pub place-in-half-spec : {M : Type 1} → statement M
-place-in-half-spec = tie.close (tie.spec mul-result add-result array-read-result returns)
+pub place-in-pair-spec : {M : Type 1} → statement M
+place-in-pair-spec = tie.close (tie.spec mul-result add-result array-read-result returns)
