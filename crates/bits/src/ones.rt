@@ -4,6 +4,7 @@ ghost use Prim.Native.Nat.{_+_, _*_, _≤_, _<_};
 ghost use lib.ListN.{length};
 ghost use Rattle.bits_laws.specs.Bits.{bit-at, rank, with-bit, with-ones, with-number};
 use super::numbers::read_word;
+use super::numbers::read64;
 use super::numbers::wide;
 
 // Bit i of s.
@@ -45,12 +46,12 @@ pub fn set_number(out: &mut [u8], i: usize, v: usize)
     set_ones(out, q + 2, w / 65536 % 256);
 }
 
-// The ones in word q of s, that is, in bits 64 q to 64 q + 63.
+// The ones in word q of s, that is, in bits 64 q to 64 q + 63. The word lies whole within s, so that nothing tests for the end of s.
 pub fn ones_word(s: &[u8], q: usize) -> usize
-    requires { ⌜ q * 8 ≤ length (now s) ⌝ }
+    requires { ⌜ q * 8 + 8 ≤ length (now s) ⌝ }
     ensures { λ r. ⌜ (rank (now (s .entry)) (64 * q + 64) ≡ rank (now (s .entry)) (64 * q) + r) × (r ≤ 64) ⌝ }
 {
-    u64::count_ones(read_word(s, q)) as usize
+    u64::count_ones(read64(s, q * 8)) as usize
 }
 
 // The ones in the first j bits of word q of s.

@@ -7,8 +7,8 @@ ghost use Rattle.bits_laws.specs.Bits.{rank, select};
 use super::in_word::select_by_halves;
 use super::in_word::select_in_word;
 use super::numbers::read_word;
-use super::numbers::read64;
 use super::numbers::smaller;
+use super::ones::ones_word;
 
 // The position of the lowest set bit of a word that is not zero.
 fn lowest_one(x: u64) -> usize
@@ -57,7 +57,7 @@ fn ones_step(s: &[u8], q: usize) -> usize
     let mut r = 0usize;
     let mut i = 0usize;
     while i < STEP_WORDS {
-        r = r + u64::count_ones(read64(s, (q + i) * 8)) as usize;
+        r = r + ones_word(s, q + i);
         i = i + 1;
     }
     r

@@ -7,19 +7,22 @@ use borrow.Author.Needs.{needs}
 use Rattle.bits.proofs.ones.ones_word.Statement.{statement}
 use Rattle.bits.proofs.ones.ones_word.Tie as tie
 
-read-word-requires : tie.Need-read-word-requires
-read-word-requires c κs = search needs
+mul-read64 : tie.Need-mul-read64
+mul-read64 c = search needs
+
+read64-requires : tie.Need-read64-requires
+read64-requires c κs = search needs
 
 cast-result : tie.Need-cast-result
 cast-result c =
     let a = c .before .before .args in
-    omega (arith, ones-le 64 (c .read-word .result) (rw (c .read-word .ensures) (word-lt (a .s .now) (a .q * 8))))
+    omega (arith, ones-le 64 (c .read64 .result) (rw (c .read64 .ensures) (word-lt (a .s .now) (a .q * 8))))
 
 returns : tie.Need-returns
 returns c =
     let a = c .before .before .args in
     let small : Small (a .s .now) = λ i. c .before .shared-slice-known .given i .fits in
-    rw (c .read-word .ensures) (rank-whole-word (a .s .now) small (a .q))
+    rw (c .read64 .ensures) (rank-whole-word (a .s .now) small (a .q))
 
 pub ones-word-spec : {M : Type 1} → statement M
-ones-word-spec = tie.close (tie.spec read-word-requires cast-result returns)
+ones-word-spec = tie.close (tie.spec mul-read64 read64-requires cast-result returns)

@@ -22,16 +22,16 @@ returns c =
     let e : min (64 * a .q + 64) (a .n) ≡ 64 * a .q + (a .n - 64 * a .q) = omega arith in
     (ap (rank (a .s .now)) e ∙ c .ones-before .ensures .0, omega (arith, c .ones-before .ensures .1))
 
-whole-word-ones-requires : tie.Need-whole-word-ones-requires
-whole-word-ones-requires c κs = search needs
+ones-word-requires : tie.Need-ones-word-requires
+ones-word-requires c κs = search needs
 
 returns-2 : tie.Need-returns-2
 returns-2 c =
     let a = c .before .before .before .args in
     let e : min (64 * a .q + 64) (a .n) ≡ 64 * a .q + 64 = omega arith in
-    rw e (c .whole-word-ones .ensures)
+    rw e (c .ones-word .ensures)
 
 pub ones-among-spec : {M : Type 1} → statement M
 ones-among-spec =
     tie.close
-    (tie.spec mul-left sub-left ones-before-requires returns whole-word-ones-requires returns-2)
+    (tie.spec mul-left sub-left ones-before-requires returns ones-word-requires returns-2)
