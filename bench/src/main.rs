@@ -2,7 +2,6 @@
 //! report, or the part of it that is named. The module `timing` says how times are taken.
 
 mod measure;
-mod questions;
 mod tables;
 mod timing;
 

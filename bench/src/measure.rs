@@ -1,10 +1,10 @@
 //! The measurements: two calls that are compared on one list with one setting, of the
 //! library and of the fast implementation, or two of the library.
 
-use crate::questions::{questions, Kind};
 use crate::timing::{compare, Effort, Figures};
 use range_filter_bench::fast;
 use range_filter_bench::keys::KeySet;
+use range_filter_bench::questions::{questions, Kind};
 use range_filter_tests::library;
 use range_filter_tests::random::Random;
 use range_filter_tests::reference::keys::{self, MAX_KEY};

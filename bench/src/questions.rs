@@ -3,61 +3,104 @@
 use range_filter_tests::random::Random;
 use range_filter_tests::reference::questions::Question;
 
-/// A named way to make a question from two keys in ascending order.
+/// How many keys a middle range goes on, and of how many keys a wide one goes on one.
+const MIDDLE: usize = 2;
+const WIDE_SHARE: usize = 100;
+
+/// A named way to make a question about a key of an ascending list, by its number.
 pub struct Kind {
     pub name: &'static str,
-    pub make: fn(Vec<u8>, Vec<u8>) -> Question,
+    make: fn(&[Vec<u8>], usize) -> Question,
 }
 
-/// The kinds of questions; a range ends at the key with its last byte FF, and a stem
-/// is the first half of a key.
-pub const KINDS: [Kind; 5] = [
-    Kind {
-        name: "point",
-        make: |key, _| Question::Point(key),
-    },
-    Kind {
-        name: "range",
-        make: |key, _| Question::Range(key.clone(), with_last_ff(key)),
-    },
+/// The kinds of questions about one key; a stem is the first half of a key.
+pub const KEY_KINDS: [Kind; 3] = [
+    POINT,
     Kind {
         name: "begins-with",
-        make: |key, _| Question::BeginsWith(key[..key.len() / 2].to_vec()),
-    },
-    Kind {
-        name: "count",
-        make: Question::Count,
+        make: |keys, number| Question::BeginsWith(stem(&keys[number])),
     },
     Kind {
         name: "seek",
-        make: |key, _| Question::Seek(key),
+        make: |keys, number| Question::Seek(keys[number].clone()),
     },
 ];
 
-/// Replaces the last byte of a key by FF.
-fn with_last_ff(mut key: Vec<u8>) -> Vec<u8> {
-    key.pop();
-    key.push(0xFF);
-    key
+/// The question whether there is a key.
+pub const POINT: Kind = Kind {
+    name: "point",
+    make: |keys, number| Question::Point(keys[number].clone()),
+};
+
+/// The kinds of questions about what is between two bounds.
+pub const RANGE_KINDS: [Kind; 6] = [
+    Kind {
+        name: "range, short",
+        make: |keys, number| range(short(keys, number)),
+    },
+    Kind {
+        name: "range, middle",
+        make: |keys, number| range(further(keys, number, MIDDLE)),
+    },
+    Kind {
+        name: "range, wide",
+        make: |keys, number| range(further(keys, number, keys.len() / WIDE_SHARE)),
+    },
+    Kind {
+        name: "count, short",
+        make: |keys, number| count(short(keys, number)),
+    },
+    Kind {
+        name: "count, middle",
+        make: |keys, number| count(further(keys, number, MIDDLE)),
+    },
+    Kind {
+        name: "count, wide",
+        make: |keys, number| count(further(keys, number, keys.len() / WIDE_SHARE)),
+    },
+];
+
+/// Gives the first half of a key.
+fn stem(key: &[u8]) -> Vec<u8> {
+    key[..key.len() / 2].to_vec()
 }
 
-/// Gives questions of one kind about keys, half of them of the list and half of another
-/// list that is made like it.
+/// Gives a key and the same with its last byte FF.
+fn short(keys: &[Vec<u8>], number: usize) -> [Vec<u8>; 2] {
+    let lower = keys[number].clone();
+    let mut upper = lower.clone();
+    upper.pop();
+    upper.push(0xFF);
+    [lower, upper]
+}
+
+/// Gives a key and the one so many keys further on, or the last.
+fn further(keys: &[Vec<u8>], number: usize, distance: usize) -> [Vec<u8>; 2] {
+    let last = keys.len() - 1;
+    [number, last.min(number + distance)].map(|number| keys[number].clone())
+}
+
+/// Asks whether there is a key from bound to bound.
+fn range([lower, upper]: [Vec<u8>; 2]) -> Question {
+    Question::Range(lower, upper)
+}
+
+/// Asks how many keys there are from bound to bound.
+fn count([lower, upper]: [Vec<u8>; 2]) -> Question {
+    Question::Count(lower, upper)
+}
+
+/// Gives questions of one kind, half of them about keys of the list and half of them about
+/// keys of another list that is made like it; both bounds are of the same list.
 pub fn questions(
     random: &mut Random,
     [keys, others]: [&[Vec<u8>]; 2],
     kind: &Kind,
     count: usize,
 ) -> Vec<Question> {
-    let mut key = || {
-        let from = if random.once_in(2) { keys } else { others };
-        random.pick(from).clone()
-    };
     let question = |_| {
-        let mut two = [key(), key()];
-        two.sort();
-        let [lower, upper] = two;
-        (kind.make)(lower, upper)
+        let from = if random.once_in(2) { keys } else { others };
+        (kind.make)(from, random.below(from.len()))
     };
     (0..count).map(question).collect()
 }

@@ -1,9 +1,9 @@
 //! The tables of the report, in Markdown.
 
 use crate::measure::{self, List, Setting};
-use crate::questions::KINDS;
 use crate::timing::{Figures, ROUNDS};
 use range_filter_bench::keys::{KeySet, BURST, KEY_SETS, RANDOM_13, STATION, STATIONS};
+use range_filter_bench::questions::{Kind, KEY_KINDS, POINT, RANGE_KINDS};
 use range_filter_tests::reference::keys::MAX_KEYS;
 use range_filter_tests::reference::questions::MAX_QUESTIONS;
 
@@ -17,7 +17,10 @@ const SETTINGS: [Setting; 6] = [
     setting(2, 8),
 ];
 
-/// The settings that the other tables have.
+/// The settings that ask is measured with.
+const ASK_SETTINGS: [Setting; 4] = [setting(0, 0), setting(0, 8), setting(2, 0), setting(2, 8)];
+
+/// The settings of the table that shows how costs grow.
 const FEW_SETTINGS: [Setting; 2] = [setting(0, 0), setting(2, 8)];
 
 /// The key sets and the numbers of keys of the table that shows how costs grow.
@@ -83,32 +86,39 @@ pub fn print_walk() {
     print_by_setting(measure::walk);
 }
 
-/// Prints the table of ask.
+/// Prints the tables of ask.
 pub fn print_ask() {
-    print_heading("Ask", &format!("Calls with {} questions of one kind, half of them about keys of the list, the check of the image included: nanoseconds a question by the library, and the ratio to the fast implementation. The last column is a call with one question: its microseconds by the library, and the ratio.", with_commas(MAX_QUESTIONS)));
-    let kinds = KINDS.iter().map(|kind| kind.name.to_string());
-    print_row(&keys_heading(), kinds.chain(["one question".to_string()]));
-    print_rule(KINDS.len() + 1);
+    let questions = with_commas(MAX_QUESTIONS);
+    print_heading("Ask", &format!("Calls with {questions} questions of one kind, half of them about keys of the list and half of them about keys of another list made like it, the check of the image included; nanoseconds a question: library, fast, ratio. A stem is the first half of a key. The last column is a call with one question, for a point: its microseconds."));
+    print_by_kind(&KEY_KINDS, Some("one question"));
+    println!("\nRanges and counts, likewise. A short range goes from a key to the same with its last byte FF, a middle one from a key to the second behind it in its list, a wide one over one hundredth of the list.\n");
+    print_by_kind(&RANGE_KINDS, None);
+}
+
+/// Prints a table with a row for each key set and setting and a column for each kind of
+/// questions, and one for calls with one question where it is named.
+fn print_by_kind(kinds: &[Kind], one_question: Option<&str>) {
+    let names = kinds.iter().map(|kind| kind.name).chain(one_question);
+    let names: Vec<String> = names.map(str::to_string).collect();
+    let columns = names.len();
+    print_row(&keys_heading(), names);
+    print_rule(columns);
     for key_set in &KEY_SETS {
         let list = List::new(key_set, MAX_KEYS);
-        for setting in FEW_SETTINGS {
+        for setting in ASK_SETTINGS {
+            let ask = |kind| cell(&measure::ask(&list, setting, kind, MAX_QUESTIONS), 1.0);
+            let one = one_question.map(|_| cell(&measure::ask(&list, setting, &POINT, 1), 1e3));
             let name = format!("{}, {}", list.name, setting_name(setting));
-            print_row(&name, ask_cells(&list, setting));
+            print_row(&name, kinds.iter().map(ask).chain(one));
         }
     }
 }
 
-/// Gives the cells of a row of ask.
-fn ask_cells(list: &List, setting: Setting) -> impl Iterator<Item = String> + '_ {
-    let cell = |time: f64, ratio: f64| format!("{}, {ratio:.2}", number(time));
-    let kinds = KINDS.iter().map(move |kind| {
-        let figures = measure::ask(list, setting, kind, MAX_QUESTIONS);
-        cell(figures.library, figures.ratio)
-    });
-    kinds.chain(std::iter::once_with(move || {
-        let figures = measure::ask(list, setting, &KINDS[0], 1);
-        cell(figures.library / 1_000.0, figures.ratio)
-    }))
+/// Gives a cell with the figures of the library and the fast implementation in a unit of
+/// so many nanoseconds, and their ratio.
+fn cell(figures: &Figures, unit: f64) -> String {
+    let [library, fast] = [figures.library, figures.fast].map(|time| number(time / unit));
+    format!("{library}, {fast}, {:.2}", figures.ratio)
 }
 
 /// Prints the table of costs against the number of keys.
@@ -144,11 +154,7 @@ fn print_by_setting(measure: Measure) {
     print_rule(SETTINGS.len());
     for key_set in &KEY_SETS {
         let list = List::new(key_set, MAX_KEYS);
-        let cells = SETTINGS.map(|setting| {
-            let figures = measure(&list, setting);
-            let [library, fast] = [figures.library, figures.fast].map(number);
-            format!("{library}, {fast}, {:.2}", figures.ratio)
-        });
+        let cells = SETTINGS.map(|setting| cell(&measure(&list, setting), 1.0));
         print_row(list.name, cells);
     }
 }

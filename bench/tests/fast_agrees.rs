@@ -3,15 +3,19 @@
 
 use range_filter_bench::fast;
 use range_filter_bench::keys::KEY_SETS;
+use range_filter_bench::questions::{questions, KEY_KINDS, RANGE_KINDS};
 use range_filter_tests::answer::Answer;
 use range_filter_tests::compare::{self, Case};
 use range_filter_tests::generate::images::{any_image, built, large_images, small_frame, CHANGES};
-use range_filter_tests::generate::keys::{any_keys, many_keys, many_mixed_keys};
-use range_filter_tests::generate::questions::questions_near;
+use range_filter_tests::generate::keys::{
+    any_keys, ascending, keys_by_node_size, many_keys, many_mixed_keys,
+};
+use range_filter_tests::generate::questions::{key_near, questions_near};
 use range_filter_tests::generate::{any_settings, damaged};
 use range_filter_tests::random::Random;
+use range_filter_tests::reference::check::accepted_leaves;
 use range_filter_tests::reference::keys::{self, MAX_KEYS};
-use range_filter_tests::reference::questions::{write, MAX_QUESTIONS};
+use range_filter_tests::reference::questions::{write, Question, MAX_QUESTIONS};
 use range_filter_tests::reference::walk::RECORD_BYTES;
 use range_filter_tests::tally::{judge_changed_images, Tally};
 
@@ -24,6 +28,8 @@ const SMALL_FRAMES: usize = 100_000;
 const CHANGES_A_LARGE_IMAGE: usize = 20;
 const QUESTION_FILES: usize = 3_000;
 const LARGE_QUESTION_FILES: usize = 20;
+const NODE_SIZES: [usize; 6] = [2, 8, 16, 17, 64, 256];
+const MEASURED_QUESTIONS: usize = 100;
 const WALKED_IMAGES: usize = 1_000;
 const WALKED_KEYS: usize = 5_000;
 const PLACES_A_LARGE_IMAGE: usize = 20;
@@ -61,6 +67,43 @@ fn compare_walks(random: &mut Random, image: &[u8], places: usize) -> usize {
     let behind = compare_walk(image, leaves as u64 + 1, ROOM);
     assert_eq!(behind, Answer::Refused(17));
     leaves
+}
+
+/// Compares the replies to questions over an image: of all kinds, about keys near the ends
+/// of the leaves' intervals, and with bounds near the same leaf or near neighbours.
+fn compare_questions(random: &mut Random, image: &[u8], count: usize) {
+    let file = write(&questions_near(random, image, count));
+    compare_ask(image, &file, ROOM).length();
+    let file = write(&close_questions(random, image, count));
+    compare_ask(image, &file, ROOM).length();
+}
+
+/// Gives ranges and counts whose bounds are near the same leaf or near neighbours.
+fn close_questions(random: &mut Random, image: &[u8], count: usize) -> Vec<Question> {
+    let leaves = accepted_leaves(image).expect("a built image is accepted");
+    let question = |_| {
+        let first = random.below(leaves.len().max(1));
+        let end = leaves.len().min(first + 1 + random.below(3));
+        let mut bounds = [(); 2].map(|()| key_near(random, &leaves[first..end]));
+        bounds.sort();
+        let [lower, upper] = bounds;
+        match random.below(2) {
+            0 => Question::Range(lower, upper),
+            _ => Question::Count(lower, upper),
+        }
+    };
+    (0..count).map(question).collect()
+}
+
+/// Gives one question of each kind.
+fn one_of_each_kind() -> Vec<u8> {
+    write(&[
+        Question::Point(b"a".to_vec()),
+        Question::Seek(Vec::new()),
+        Question::BeginsWith(Vec::new()),
+        Question::Range(Vec::new(), vec![0xFF; 64]),
+        Question::Count(b"a".to_vec(), b"b".to_vec()),
+    ])
 }
 
 /// Gives some hundred keys, of which some begin others, with settings that go round.
@@ -187,9 +230,87 @@ fn questions_over_large_images_are_replied_to_alike() {
 fn damaged_images_are_refused_by_ask_alike() {
     let tally = Tally::of(13, QUESTION_FILES, |random| {
         let image = any_image(random);
-        compare_ask(&damaged(random, &image), b"QP\x01aQS\x00", ROOM).number()
+        compare_ask(&damaged(random, &image), &one_of_each_kind(), ROOM).number()
     });
     assert!(tally.times(0) > 0 && tally.times(11) > 0, "{tally:?}");
+}
+
+#[test]
+fn changed_images_are_asked_or_refused_alike() {
+    let mut random = Random::new(18);
+    let mut tally = Tally::default();
+    for _ in 0..QUESTION_FILES {
+        let image = any_image(&mut random);
+        for change in &CHANGES {
+            let changed = (change.apply)(&mut random, &image);
+            let number = compare_ask(&changed, &one_of_each_kind(), ROOM).number();
+            tally.note(number);
+            if number == 0 {
+                compare_questions(&mut random, &changed, 10);
+            }
+        }
+    }
+    assert_eq!(tally.numbers(), [0, 11, 12, 13, 14, 15, 16]);
+}
+
+#[test]
+fn empty_images_are_asked_alike() {
+    for dense_levels in 0..=4 {
+        let image = built(&[], dense_levels, 8);
+        compare_ask(&image, &one_of_each_kind(), ROOM).length();
+    }
+}
+
+#[test]
+fn close_bounds_are_replied_to_alike() {
+    let mut random = Random::new(19);
+    for _ in 0..QUESTION_FILES {
+        let image = any_image(&mut random);
+        compare_questions(&mut random, &image, 40);
+    }
+}
+
+#[test]
+fn questions_over_nodes_of_any_size_are_replied_to_alike() {
+    let mut random = Random::new(20);
+    for most in NODE_SIZES {
+        for settings in [(0, 0), (0, 8), (1, 3), (2, 16)] {
+            let mut keys = keys_by_node_size(&mut random, most);
+            let exact = (0..=u8::MAX).filter(|_| random.once_in(3));
+            keys.extend(exact.map(|first| vec![first]));
+            let image = built(&ascending(keys), settings.0, settings.1);
+            compare_questions(&mut random, &image, 200);
+        }
+    }
+}
+
+#[test]
+fn questions_at_the_end_of_a_whole_block_are_replied_to_alike() {
+    let mut random = Random::new(21);
+    for first in [0x00, 0x7F, 0xFF] {
+        let node = (0..=u8::MAX).map(|second| vec![first, second]);
+        let others = (0..=u8::MAX).filter(|&other| other != first);
+        let keys = ascending(node.chain(others.map(|other| vec![other])).collect());
+        for settings in [(0, 0), (0, 8), (1, 8), (2, 8)] {
+            let image = built(&keys, settings.0, settings.1);
+            compare_questions(&mut random, &image, 200);
+        }
+    }
+}
+
+#[test]
+fn measured_questions_are_replied_to_alike() {
+    for key_set in &KEY_SETS {
+        let [keys, others] = [22, 23].map(|seed| (key_set.make)(&mut Random::new(seed), 1_000));
+        for settings in [(0, 0), (0, 8), (2, 0), (2, 8)] {
+            let image = built(&keys, settings.0, settings.1);
+            for kind in KEY_KINDS.iter().chain(&RANGE_KINDS) {
+                let mut random = Random::new(24);
+                let asked = questions(&mut random, [&keys, &others], kind, MEASURED_QUESTIONS);
+                compare_ask(&image, &write(&asked), ROOM).length();
+            }
+        }
+    }
 }
 
 #[test]

@@ -1,7 +1,7 @@
 //! Question files and their replies.
 
 use super::check::accept;
-use super::trie::{Path, Trie};
+use super::trie::Trie;
 use range_filter_tests::answer::Answer;
 use range_filter_tests::reference::keys::MAX_KEY;
 use range_filter_tests::reference::questions::MAX_QUESTIONS;
@@ -34,10 +34,9 @@ fn reply_bytes(image: &[u8], file: &[u8]) -> Result<Vec<u8>, u32> {
     let image = accept(image)?;
     let questions = parse(file)?;
     let trie = Trie::new(&image);
-    let mut path = Path::new();
     let mut replies = Vec::with_capacity(questions.len() * (REPLY_HEAD + MAX_KEY));
     for question in &questions {
-        reply(&trie, &mut path, question, &mut replies);
+        reply(&trie, question, &mut replies);
     }
     Ok(replies)
 }
@@ -88,7 +87,7 @@ fn parse_key<'a>(rest: &mut &'a [u8]) -> Result<&'a [u8], u32> {
 }
 
 /// Writes the reply to a question.
-fn reply(trie: &Trie, path: &mut Path, question: &Question, replies: &mut Vec<u8>) {
+fn reply(trie: &Trie, question: &Question, replies: &mut Vec<u8>) {
     let Question {
         letter,
         lower,
@@ -96,57 +95,34 @@ fn reply(trie: &Trie, path: &mut Path, question: &Question, replies: &mut Vec<u8
     } = *question;
     let number = match letter {
         b'P' => u32::from(trie.has(lower)),
-        b'R' => u32::from(meets(trie, path, lower, upper)),
-        b'B' => u32::from(begins(trie, path, lower)),
-        b'C' => count(trie, path, lower, upper),
-        _ => return reply_to_seek(trie, path, lower, replies),
+        b'R' => u32::from(trie.meets(lower, upper)),
+        b'B' => u32::from(begins(trie, lower)),
+        b'C' => trie.count(lower, upper),
+        _ => return reply_to_seek(trie, lower, replies),
     };
-    write_reply(replies, letter, number, &[]);
+    replies.extend_from_slice(&reply_head(letter, number, 0));
 }
 
-/// Says whether some leaf has a possible key in a range: the first one that reaches
-/// the lower bound must start in it.
-fn meets(trie: &Trie, path: &mut Path, lower: &[u8], upper: &[u8]) -> bool {
-    trie.seek(lower, path)
-        .is_some_and(|leaf| path.lowest(leaf) <= upper)
-}
-
-/// Says whether some leaf has a possible key from a stem to the stem and one FF.
-fn begins(trie: &Trie, path: &mut Path, stem: &[u8]) -> bool {
+/// Says whether some leaf has a possible key from a stem to the stem and one FF; a stem of
+/// 64 bytes is the whole range.
+fn begins(trie: &Trie, stem: &[u8]) -> bool {
     let mut upper = [0xFF; MAX_KEY + 1];
     upper[..stem.len()].copy_from_slice(stem);
-    meets(trie, path, stem, &upper[..MAX_KEY.min(stem.len() + 1)])
+    trie.meets(stem, &upper[..MAX_KEY.min(stem.len() + 1)])
 }
 
-/// Counts the leaves with a possible key in a range: those that start at or below
-/// the upper bound, less those that end below the lower one.
-fn count(trie: &Trie, path: &mut Path, lower: &[u8], upper: &[u8]) -> u32 {
-    let ended = match trie.seek(lower, path) {
-        Some(_) => trie.place(path),
-        None => return 0,
-    };
-    let started = match trie.seek(upper, path) {
-        Some(leaf) => trie.place(path) + usize::from(path.lowest(leaf) <= upper),
-        None => trie.leaves(),
-    };
-    (started - ended) as u32
+/// Writes the reply to a seek: the key goes behind room for the head, which is then filled.
+fn reply_to_seek(trie: &Trie, start: &[u8], replies: &mut Vec<u8>) {
+    let head = replies.len();
+    let key = head + REPLY_HEAD;
+    replies.resize(key, 0);
+    let number = trie.seek(start, replies).map_or(NONE, |place| place as u32);
+    let length = replies.len() - key;
+    replies[head..key].copy_from_slice(&reply_head(b'S', number, length));
 }
 
-/// Writes the reply to a seek: the first leaf that reaches the start, with the
-/// greater of the start and its lowest key.
-fn reply_to_seek(trie: &Trie, path: &mut Path, start: &[u8], replies: &mut Vec<u8>) {
-    match trie.seek(start, path) {
-        Some(leaf) => {
-            let place = trie.place(path) as u32;
-            write_reply(replies, b'S', place, path.lowest(leaf).max(start));
-        }
-        None => write_reply(replies, b'S', NONE, &[]),
-    }
-}
-
-/// Writes one reply.
-fn write_reply(replies: &mut Vec<u8>, letter: u8, number: u32, key: &[u8]) {
+/// Gives a reply up to its key, of which the length is given.
+fn reply_head(letter: u8, number: u32, length: usize) -> [u8; REPLY_HEAD] {
     let [a, b, c, d] = number.to_le_bytes();
-    replies.extend_from_slice(&[b'A', b'N', letter, a, b, c, d, key.len() as u8]);
-    replies.extend_from_slice(key);
+    [b'A', b'N', letter, a, b, c, d, length as u8]
 }

@@ -6,6 +6,50 @@ const LOW_BITS: u64 = 0x0101_0101_0101_0101;
 /// The highest bit of each byte of a word.
 const HIGH_BITS: u64 = 0x8080_8080_8080_8080;
 
+/// The words of a block.
+const BLOCK: usize = 8;
+
+/// As many words of ones as a block has, and as many of zeros: from the right place on, the
+/// mask that keeps the first words of a block.
+static KEPT: [u64; 2 * BLOCK] = {
+    let mut kept = [0; 2 * BLOCK];
+    let (ones, _) = kept.split_at_mut(BLOCK);
+    ones.copy_from_slice(&[u64::MAX; BLOCK]);
+    kept
+};
+
+/// The bytes that are compared at once.
+pub const WINDOW: usize = 16;
+
+/// As many zeros as bytes are compared at once, and as many bytes FF: from the right place
+/// on, what makes all but the first bytes FF, which is below no other.
+static DROPPED: [u8; 2 * WINDOW] = {
+    let mut dropped = [0; 2 * WINDOW];
+    let (_, behind) = dropped.split_at_mut(WINDOW);
+    behind.copy_from_slice(&[0xFF; WINDOW]);
+    dropped
+};
+
+/// The positions of the ones of each byte, by their numbers, and 8 where there is none.
+static SELECT_IN_BYTE: [[u8; 8]; 256] = positions_in_bytes();
+
+/// Gives the positions of the ones of each byte.
+const fn positions_in_bytes() -> [[u8; 8]; 256] {
+    let mut positions = [[8; 8]; 256];
+    let mut byte = 0;
+    while byte < 256 {
+        let mut rest = byte;
+        let mut number = 0;
+        while rest != 0 {
+            positions[byte][number] = rest.trailing_zeros() as u8;
+            rest &= rest - 1;
+            number += 1;
+        }
+        byte += 1;
+    }
+    positions
+}
+
 /// Loads eight bytes from an offset on, low byte first, zeros behind the end.
 #[inline]
 pub fn load(bytes: &[u8], at: usize) -> u64 {
@@ -33,7 +77,8 @@ pub fn word(body: &[u8], index: usize) -> u64 {
 /// Reads one entry of a table of 32-bit numbers.
 #[inline]
 pub fn entry(table: &[u8], index: usize) -> usize {
-    load(table, index * 4) as u32 as usize
+    let four = table.get(index * 4..).and_then(<[u8]>::first_chunk);
+    four.map_or(0, |&four| u32::from_le_bytes(four)) as usize
 }
 
 /// Reads one bit of a body.
@@ -70,22 +115,30 @@ pub fn is_clear_from(body: &[u8], position: usize) -> bool {
     first >> (position % 8) == 0 && rest.iter().fold(0, |set, byte| set | byte) == 0
 }
 
-/// Gives the position of a one of a word, by its number from 0: byte counts summed
-/// by one multiplication find its byte.
+/// Sums the ones of the bytes of a word: each byte has those up to its own.
 #[inline]
-pub fn select_in_word(word: u64, number: usize) -> usize {
+fn byte_sums(word: u64) -> u64 {
     let pairs = word - (word >> 1 & 0x5555_5555_5555_5555);
     let fours = (pairs & 0x3333_3333_3333_3333) + (pairs >> 2 & 0x3333_3333_3333_3333);
     let bytes = (fours + (fours >> 4)) & 0x0F0F_0F0F_0F0F_0F0F;
-    let sums = bytes.wrapping_mul(LOW_BITS);
+    bytes.wrapping_mul(LOW_BITS)
+}
+
+/// Gives the position of a one of a word, by its number from 0.
+#[inline]
+pub fn select_in_word(word: u64, number: usize) -> usize {
+    select_by_sums(word, byte_sums(word), number)
+}
+
+/// Gives the position of a one of a word whose byte sums are known: as many bytes are
+/// before its own as have sums up to its number.
+#[inline]
+fn select_by_sums(word: u64, sums: u64, number: usize) -> usize {
     let passed = (((number as u64 * LOW_BITS) | HIGH_BITS) - sums) & HIGH_BITS;
     let shift = ((passed >> 7).wrapping_mul(LOW_BITS) >> 56) as usize * 8;
     let before = (sums << 8 >> shift & 0xFF) as usize;
-    let mut rest = word >> shift;
-    for _ in before..number {
-        rest &= rest - 1;
-    }
-    shift + rest.trailing_zeros() as usize
+    let byte = (word >> shift & 0xFF) as usize;
+    shift + usize::from(SELECT_IN_BYTE[byte][(number - before) & 7])
 }
 
 /// Gives the position of the first one of a body from a position on, or the limit
@@ -109,32 +162,167 @@ pub fn rank(body: &[u8], table: &[u8], position: usize) -> usize {
 }
 
 /// Counts the ones of a body before a position, from a table with an entry for each
-/// eight words.
-#[inline]
+/// eight words. All eight are counted under a mask, by vectors and without a branch.
+#[inline(always)]
 pub fn rank_by_eight(body: &[u8], table: &[u8], position: usize) -> usize {
     let index = position / 64;
-    let first = index & !7;
-    let whole: usize = (first..index).map(|i| ones(word(body, i))).sum();
-    entry(table, index / 8) + whole + ones(word(body, index) & below(position % 64))
+    let last = word(body, index) & below(position % 64);
+    entry(table, index / BLOCK)
+        + ones_before(body, index & !(BLOCK - 1), index % BLOCK)
+        + ones(last)
 }
 
-/// Gives the position of a one of a body, by its number from 0, from a table with
-/// the position of each 64th; empty words are passed without counting.
-#[inline]
-pub fn select(body: &[u8], table: &[u8], number: usize) -> usize {
+/// Counts the ones of so many words, at most a block, from an index on.
+#[inline(always)]
+fn ones_before(body: &[u8], index: usize, count: usize) -> usize {
+    match body.get(index * 8..).and_then(<[u8]>::first_chunk) {
+        Some(block) => ones_of_block(block, count),
+        None => ones_at_end(body, index, count),
+    }
+}
+
+/// Counts the ones of so many words of the last block, which is not whole.
+#[cold]
+#[inline(never)]
+fn ones_at_end(body: &[u8], index: usize, count: usize) -> usize {
+    (index..index + count).map(|i| ones(word(body, i))).sum()
+}
+
+/// Counts the ones of the first words of a block; the loop becomes vector code.
+#[inline(always)]
+fn ones_of_block(block: &[u8; 8 * BLOCK], count: usize) -> usize {
+    let kept = &KEPT[BLOCK - count..][..BLOCK];
+    let mut sums = 0;
+    for (index, kept) in kept.iter().enumerate() {
+        let word = word(block, index) & kept;
+        let pairs = word - (word >> 1 & 0x5555_5555_5555_5555);
+        let fours = (pairs & 0x3333_3333_3333_3333) + (pairs >> 2 & 0x3333_3333_3333_3333);
+        sums += (fours + (fours >> 4)) & 0x0F0F_0F0F_0F0F_0F0F;
+    }
+    let sums = (sums & 0x00FF_00FF_00FF_00FF) + (sums >> 8 & 0x00FF_00FF_00FF_00FF);
+    (sums.wrapping_mul(0x0001_0001_0001_0001) >> 48) as usize
+}
+
+/// A one of a body: its position, and the ones of its word behind it, shifted down by it.
+struct One {
+    position: usize,
+    behind: u64,
+}
+
+/// Finds a one of a body, by its number from 0, from a table with the position of each
+/// 64th. The first two words are looked at without a branch, since it is in either as
+/// often as not.
+#[inline(always)]
+fn find_one(body: &[u8], table: &[u8], number: usize) -> One {
     let start = entry(table, number / 64);
-    let mut left = number % 64;
-    let mut index = start / 64;
-    let mut rest = word(body, index) & !below(start % 64);
+    let left = number % 64;
+    let index = start / 64;
+    let [first, second] = [
+        word(body, index) & !below(start % 64),
+        word(body, index + 1),
+    ];
+    let [first_sums, second_sums] = [byte_sums(first), byte_sums(second)];
+    let inside = (first_sums >> 56) as usize;
+    let (index, rest, sums, left) = if left < inside {
+        (index, first, first_sums, left)
+    } else {
+        (index + 1, second, second_sums, left - inside)
+    };
+    if left < (sums >> 56) as usize {
+        return One::in_word(index, rest, sums, left);
+    }
+    find_one_behind(body, index + 1, left - (sums >> 56) as usize)
+}
+
+/// Finds a one of a body, by its number from a word on: as many blocks are passed as end
+/// before it, and then single words.
+#[inline(never)]
+fn find_one_behind(body: &[u8], index: usize, left: usize) -> One {
+    let (mut index, mut left) = pass_blocks(body, index, left);
     loop {
-        let inside = if rest == 0 { 0 } else { ones(rest) };
+        let rest = word(body, index);
+        let sums = byte_sums(rest);
+        let inside = (sums >> 56) as usize;
         if left < inside {
-            return index * 64 + select_in_word(rest, left);
+            return One::in_word(index, rest, sums, left);
         }
         left -= inside;
         index += 1;
-        rest = word(body, index);
     }
+}
+
+impl One {
+    /// Finds a one of a word, by its number in the word, whose byte sums are known.
+    #[inline(always)]
+    fn in_word(index: usize, word: u64, sums: u64, number: usize) -> Self {
+        let bit = select_by_sums(word, sums, number);
+        One {
+            position: index * 64 + bit,
+            behind: word >> bit,
+        }
+    }
+}
+
+/// Passes as many blocks from a word on as do not hold a one, by its number from there;
+/// gives the word and the number behind them.
+#[inline(always)]
+fn pass_blocks(body: &[u8], mut index: usize, mut left: usize) -> (usize, usize) {
+    loop {
+        let inside = ones_before(body, index, BLOCK);
+        if left < inside {
+            return (index, left);
+        }
+        left -= inside;
+        index += BLOCK;
+    }
+}
+
+/// Gives the position of a one of a body, by its number from 0, from a table with the
+/// position of each 64th.
+#[inline(always)]
+pub fn select(body: &[u8], table: &[u8], number: usize) -> usize {
+    find_one(body, table, number).position
+}
+
+/// Gives the position of a one of a body and that of the next, or the limit where there
+/// is none below it.
+#[inline(always)]
+pub fn select_two(body: &[u8], table: &[u8], number: usize, limit: usize) -> [usize; 2] {
+    let One { position, behind } = find_one(body, table, number);
+    let next = behind >> 1;
+    let end = match next {
+        0 => next_one(body, (position / 64 + 1) * 64, limit),
+        _ => position + 1 + next.trailing_zeros() as usize,
+    };
+    [position, end]
+}
+
+/// Counts how many of sixteen bytes, of so many first ones alone, are below another; the
+/// loop becomes vector code.
+#[inline(always)]
+pub fn bytes_below(bytes: &[u8; WINDOW], count: usize, limit: u8) -> usize {
+    let dropped = &DROPPED[WINDOW - count..][..WINDOW];
+    let pairs = bytes.iter().zip(dropped);
+    let below = pairs.map(|(byte, dropped)| u8::from(byte | dropped < limit));
+    below.sum::<u8>().into()
+}
+
+/// Loads sixteen bytes from an offset on, zeros behind the end.
+#[inline]
+pub fn sixteen(bytes: &[u8], at: usize) -> [u8; WINDOW] {
+    match bytes.get(at..).and_then(<[u8]>::first_chunk) {
+        Some(sixteen) => *sixteen,
+        None => sixteen_at_end(bytes, at),
+    }
+}
+
+/// Loads the fewer than sixteen bytes that are left from an offset on; this is rare.
+#[cold]
+fn sixteen_at_end(bytes: &[u8], at: usize) -> [u8; WINDOW] {
+    let rest = bytes.get(at..).unwrap_or_default();
+    let mut sixteen = [0; WINDOW];
+    sixteen[..rest.len()].copy_from_slice(rest);
+    sixteen
 }
 
 /// Gathers the lowest bits of 64 bytes that are 0 or 1.

@@ -1,353 +1,262 @@
-//! Moving over the trie of an accepted image by rank and select. A branch is known by
-//! its position: bits of dense nodes first, sparse entries behind them.
+//! Moving over the trie of an accepted image, whose upper nodes are dense and whose lower
+//! ones are sparse.
 
-use super::bits::{bit, next_one, rank, rank_by_eight, select};
 use super::check::{slot, Accepted};
-use range_filter_tests::reference::build::EXTRA_LABEL;
-use range_filter_tests::reference::format::{
-    DC, DL, DP, NODE_BITS, RC, RL, RP, RS, SB, SC, SL, TS,
-};
-use range_filter_tests::reference::keys::MAX_KEY;
-
-/// Room for a cut key and two suffix bytes.
-const LOWEST_ROOM: usize = MAX_KEY + 2;
+use super::dense::Dense;
+use super::sparse::Sparse;
+use range_filter_tests::reference::format::{Frame, NODE_BITS};
+use std::cmp::Ordering;
 
 /// The trie of an accepted image.
 pub struct Trie<'a> {
-    image: &'a Accepted<'a>,
+    frame: &'a Frame<'a>,
+    dense: Dense<'a>,
+    sparse: Sparse<'a>,
     dense_nodes: usize,
-    dense_bits: usize,
-    nodes: usize,
-    entries: usize,
-    leaves: usize,
-    slots_before_levels: usize,
+    dense_children: usize,
+    dense_leaves: usize,
+    pub levels: usize,
+    pub slots_before_levels: usize,
+}
+
+/// A branch: a bit of D-Labels or a sparse entry.
+#[derive(Clone, Copy)]
+pub enum Branch {
+    Dense(usize),
+    Sparse(usize),
 }
 
 /// The continuing branches and the slots before a node or branch in level order.
-#[derive(Clone, Copy, Default)]
-struct Before {
-    children: usize,
-    slots: usize,
-}
-
-/// A path from the root: on each level the label, the branch and what is before it.
-pub struct Path {
-    depth: usize,
-    labels: [u8; LOWEST_ROOM],
-    branches: [usize; MAX_KEY],
-    before: [Before; MAX_KEY],
-}
-
-/// The leaf at the end of a path, with its suffix as the high bits of two bytes.
 #[derive(Clone, Copy)]
-pub enum Leaf {
-    Exact,
-    Open { suffix: u16 },
+pub struct Before {
+    pub children: usize,
+    pub slots: usize,
 }
 
-impl Path {
-    /// Stands at the root.
-    pub fn new() -> Self {
-        Path {
-            depth: 0,
-            labels: [0; LOWEST_ROOM],
-            branches: [0; MAX_KEY],
-            before: [Before::default(); MAX_KEY],
-        }
-    }
+/// Where a label leads from a node: the first branch whose label is not below it, if there
+/// is one, whether this has the label, and what is before it.
+pub struct Step {
+    pub before: Before,
+    pub branch: Option<Branch>,
+    pub on_label: bool,
+}
 
-    /// Gives the lowest possible key of the leaf at the end.
-    pub fn lowest(&mut self, leaf: Leaf) -> &[u8] {
-        let Leaf::Open { suffix } = leaf else {
-            return &self.labels[..self.depth];
-        };
-        let bytes = suffix.to_be_bytes();
-        self.labels[self.depth..self.depth + 2].copy_from_slice(&bytes);
-        let length = match bytes {
-            [0, 0] => 0,
-            [_, 0] => 1,
-            _ => 2,
-        };
-        &self.labels[..self.depth + length]
+/// The start of a node: what is before it, and its first branch unless it is an exact leaf.
+pub struct Start {
+    pub before: Before,
+    pub branch: Option<Branch>,
+}
+
+impl Before {
+    /// Gives the first node that is not the child of a branch before.
+    #[inline]
+    pub fn node(self) -> usize {
+        self.children + 1
     }
 }
 
 impl<'a> Trie<'a> {
     /// Takes an accepted image.
     pub fn new(image: &'a Accepted<'a>) -> Self {
-        let header = &image.frame.header;
-        let dense_nodes = header.dense_nodes as usize;
         let starts = &image.levels.starts[..image.levels.count];
         Trie {
-            image,
-            dense_nodes,
-            dense_bits: dense_nodes * NODE_BITS,
-            nodes: dense_nodes + header.sparse_nodes as usize,
-            entries: header.sparse_entries as usize,
-            leaves: header.leaves as usize,
+            frame: &image.frame,
+            dense: Dense::new(image),
+            sparse: Sparse::new(image),
+            dense_nodes: image.dense.nodes,
+            dense_children: image.dense.children,
+            dense_leaves: image.dense.leaves,
+            levels: image.levels.count,
             slots_before_levels: starts.iter().map(|start| start.leaves).sum(),
         }
     }
 
-    /// Gives the number of leaves.
-    pub fn leaves(&self) -> usize {
-        self.leaves
+    /// Says whether there are no leaves, and so no nodes.
+    pub fn is_empty(&self) -> bool {
+        self.frame.header.leaves == 0
     }
 
-    /// Gives one of the twelve bodies.
+    /// Gives the branch of a node with a label.
     #[inline]
-    fn body(&self, body: usize) -> &'a [u8] {
-        self.image.frame.bodies[body]
-    }
-
-    /// Gives the first entry of a sparse node.
-    #[inline]
-    fn first_entry(&self, node: usize) -> usize {
-        select(self.body(SB), self.body(TS), node - self.dense_nodes)
-    }
-
-    /// Gives the entry behind the last of the sparse node that an entry is in.
-    #[inline]
-    fn behind_node(&self, entry: usize) -> usize {
-        next_one(self.body(SB), entry + 1, self.entries)
-    }
-
-    /// Says whether a node is an exact leaf.
-    fn is_exact(&self, node: usize) -> bool {
-        self.first_branch_unless_exact(node).is_none()
-    }
-
-    /// Gives the first branch of a node that is no exact leaf.
-    fn first_branch_unless_exact(&self, node: usize) -> Option<usize> {
-        if node < self.dense_nodes {
-            let [from, end] = [node * NODE_BITS, (node + 1) * NODE_BITS];
-            let exact = bit(self.body(DP), node);
-            return (!exact).then(|| next_one(self.body(DL), from, end));
+    pub fn branch(&self, node: usize, label: u8) -> Option<Branch> {
+        match node.checked_sub(self.dense_nodes) {
+            None => self.dense.branch(node, label).map(Branch::Dense),
+            Some(node) => self.sparse.branch(node, label).map(Branch::Sparse),
         }
-        let first = self.first_entry(node);
-        let exact = self.body(SL)[first] == EXTRA_LABEL
-            && first + 1 < self.entries
-            && !bit(self.body(SB), first + 1);
-        (!exact).then_some(self.dense_bits + first)
     }
 
     /// Gives the first branch of a node whose label is not below another.
     #[inline]
-    fn lower_bound(&self, node: usize, label: u8) -> Option<usize> {
-        if node < self.dense_nodes {
-            let end = (node + 1) * NODE_BITS;
-            let from = node * NODE_BITS + usize::from(label);
-            return Some(next_one(self.body(DL), from, end)).filter(|&found| found < end);
+    pub fn branch_from(&self, node: usize, label: u8) -> Option<Branch> {
+        match node.checked_sub(self.dense_nodes) {
+            None => self.dense.branch_from(node, label).map(Branch::Dense),
+            Some(node) => self.sparse.branch_from(node, label).map(Branch::Sparse),
         }
-        let first = self.first_entry(node);
-        let end = self.behind_node(first);
-        let start = first + usize::from(end - first > 1 && self.body(SL)[first] == EXTRA_LABEL);
-        let labels = &self.body(SL)[start..end];
-        let found = start + labels.partition_point(|&other| other < label);
-        (found < end).then_some(self.dense_bits + found)
+    }
+
+    /// Gives the first branch of a node, or nothing where it is an exact leaf.
+    #[inline]
+    pub fn first(&self, node: usize) -> Option<Branch> {
+        match node.checked_sub(self.dense_nodes) {
+            None => self.dense.first(node).map(Branch::Dense),
+            Some(node) => self.sparse.first(node).map(Branch::Sparse),
+        }
+    }
+
+    /// Gives the last branch of a node.
+    #[inline]
+    pub fn last(&self, node: usize) -> Branch {
+        match node.checked_sub(self.dense_nodes) {
+            None => Branch::Dense(self.dense.last(node)),
+            Some(node) => Branch::Sparse(self.sparse.last(node)),
+        }
+    }
+
+    /// Says whether a node is an exact leaf.
+    #[inline]
+    pub fn is_exact(&self, node: usize) -> bool {
+        match node.checked_sub(self.dense_nodes) {
+            None => self.dense.is_exact(node),
+            Some(node) => self.sparse.is_exact(self.sparse.start(node)),
+        }
     }
 
     /// Gives the next branch of the same node.
-    fn next_branch(&self, branch: usize) -> Option<usize> {
-        if branch < self.dense_bits {
-            let end = (branch / NODE_BITS + 1) * NODE_BITS;
-            return Some(next_one(self.body(DL), branch + 1, end)).filter(|&found| found < end);
+    #[inline]
+    pub fn next(&self, branch: Branch) -> Option<Branch> {
+        match branch {
+            Branch::Dense(position) => self.dense.next(position).map(Branch::Dense),
+            Branch::Sparse(entry) => self.sparse.next(entry).map(Branch::Sparse),
         }
-        let next = branch + 1 - self.dense_bits;
-        (next < self.entries && !bit(self.body(SB), next)).then_some(branch + 1)
     }
 
     /// Gives the label of a branch.
     #[inline]
-    fn label(&self, branch: usize) -> u8 {
-        if branch < self.dense_bits {
-            (branch % NODE_BITS) as u8
-        } else {
-            self.body(SL)[branch - self.dense_bits]
+    pub fn label(&self, branch: Branch) -> u8 {
+        match branch {
+            Branch::Dense(position) => self.dense.label(position),
+            Branch::Sparse(entry) => self.sparse.label(entry),
         }
     }
 
     /// Says whether a branch continues.
     #[inline]
-    fn has_child(&self, branch: usize) -> bool {
-        if branch < self.dense_bits {
-            bit(self.body(DC), branch)
-        } else {
-            bit(self.body(SC), branch - self.dense_bits)
+    pub fn has_child(&self, branch: Branch) -> bool {
+        match branch {
+            Branch::Dense(position) => self.dense.has_child(position),
+            Branch::Sparse(entry) => self.sparse.has_child(entry),
         }
     }
 
-    /// Counts what is before a sparse entry.
+    /// Gives the node that a branch leads to, or nothing where it is an open leaf.
     #[inline]
-    fn before_entry(&self, entry: usize) -> Before {
-        let children = rank_by_eight(self.body(SC), self.body(RS), entry);
-        Before {
-            children: self.image.dense.children + children,
-            slots: self.image.dense.leaves + entry - children,
-        }
-    }
-
-    /// Counts what is before a dense bit, exact leaves of nodes up to its own apart.
-    #[inline]
-    fn before_bit(&self, position: usize) -> Before {
-        let children = rank(self.body(DC), self.body(RC), position);
-        Before {
-            children,
-            slots: rank(self.body(DL), self.body(RL), position) - children,
-        }
+    pub fn child(&self, branch: Branch) -> Option<usize> {
+        self.has_child(branch).then(|| match branch {
+            Branch::Dense(position) => self.dense.children_before(position) + 1,
+            Branch::Sparse(entry) => self.before_entry(entry).node(),
+        })
     }
 
     /// Counts what is before a branch; its node's exact leaf is.
     #[inline]
-    fn before_branch(&self, branch: usize) -> Before {
-        if branch >= self.dense_bits {
-            return self.before_entry(branch - self.dense_bits);
+    pub fn before(&self, branch: Branch) -> Before {
+        match branch {
+            Branch::Dense(position) => self.before_position(position),
+            Branch::Sparse(entry) => self.before_entry(entry),
         }
-        let node = branch / NODE_BITS;
-        let mut before = self.before_bit(branch);
-        before.slots += rank(self.body(DP), self.body(RP), node);
-        before.slots += usize::from(bit(self.body(DP), node));
-        before
     }
 
-    /// Counts what is before a node; its exact leaf is not.
-    fn before_node(&self, node: usize) -> Before {
-        if node >= self.dense_nodes {
-            return self.before_entry(self.first_entry(node));
+    /// Counts what is before a bit of a dense node; the node's exact leaf is.
+    #[inline]
+    fn before_position(&self, position: usize) -> Before {
+        Before {
+            children: self.dense.children_before(position),
+            slots: self.dense.slots_before(position),
         }
-        let mut before = self.before_bit(node * NODE_BITS);
-        before.slots += rank(self.body(DP), self.body(RP), node);
-        before
+    }
+
+    /// Counts what is before a sparse entry, or before the end of them.
+    #[inline]
+    fn before_entry(&self, entry: usize) -> Before {
+        let children = self.sparse.children_before(entry);
+        Before {
+            children: self.dense_children + children,
+            slots: self.dense_leaves + entry - children,
+        }
+    }
+
+    /// Counts what is before a node, or before the end of them; its exact leaf is not.
+    #[inline]
+    pub fn before_node(&self, node: usize) -> Before {
+        match node.checked_sub(self.dense_nodes) {
+            None => Before {
+                children: self.dense.children_before(node * NODE_BITS),
+                slots: self.dense.slots_before_node(node),
+            },
+            Some(node) => self.before_entry(self.sparse.start(node)),
+        }
+    }
+
+    /// Gives the start of a node.
+    #[inline]
+    pub fn start(&self, node: usize) -> Start {
+        match node.checked_sub(self.dense_nodes) {
+            None => Start {
+                before: self.before_node(node),
+                branch: self.first(node),
+            },
+            Some(node) => {
+                let start = self.sparse.start(node);
+                Start {
+                    before: self.before_entry(start),
+                    branch: (!self.sparse.is_exact(start)).then_some(Branch::Sparse(start)),
+                }
+            }
+        }
+    }
+
+    /// Takes a label from a node.
+    #[inline]
+    pub fn step(&self, node: usize, label: u8) -> Step {
+        match node.checked_sub(self.dense_nodes) {
+            None => Step {
+                before: self.before_position(node * NODE_BITS + usize::from(label)),
+                branch: self.dense.branch_from(node, label).map(Branch::Dense),
+                on_label: self.dense.branch(node, label).is_some(),
+            },
+            Some(node) => {
+                let found = self.sparse.search(node, label);
+                Step {
+                    before: self.before_entry(found.entry),
+                    branch: found.branch().map(Branch::Sparse),
+                    on_label: found.on_label,
+                }
+            }
+        }
+    }
+
+    /// Compares the suffix of an open leaf with the bits of a key behind the cut; where
+    /// there are no suffixes no slot is looked for.
+    #[inline]
+    pub fn compare_leaf(&self, leaf: Branch, behind_cut: &[u8]) -> Ordering {
+        match self.frame.header.settings.width {
+            0 => Ordering::Equal,
+            _ => self.compare_slot(self.before(leaf).slots, behind_cut),
+        }
+    }
+
+    /// Compares the suffix in a slot with the bits of a key behind the cut.
+    #[inline]
+    pub fn compare_slot(&self, number: usize, behind_cut: &[u8]) -> Ordering {
+        let byte = |at: usize| behind_cut.get(at).copied().unwrap_or(0);
+        let kept = !(0xFFFF_u32 >> self.frame.header.settings.width) as u16;
+        let bits = u16::from_be_bytes([byte(0), byte(1)]) & kept;
+        self.suffix(number).cmp(&bits)
     }
 
     /// Reads the suffix in a slot as the high bits of two bytes.
     #[inline]
-    fn suffix(&self, number: usize) -> u16 {
-        (slot(&self.image.frame, number) as u16).reverse_bits()
-    }
-
-    /// Reads the bits of a key behind a cut that a suffix is compared with.
-    #[inline]
-    fn key_suffix(&self, key: &[u8], cut: usize) -> u16 {
-        let byte = |at: usize| key.get(at).copied().unwrap_or(0);
-        let kept = !(0xFFFF_u32 >> self.image.frame.header.settings.width) as u16;
-        u16::from_be_bytes([byte(cut), byte(cut + 1)]) & kept
-    }
-
-    /// Says whether some leaf has a key among its possible keys.
-    pub fn has(&self, key: &[u8]) -> bool {
-        if self.leaves == 0 {
-            return false;
-        }
-        let mut node = 0;
-        for (level, &label) in key.iter().enumerate() {
-            let found = self.lower_bound(node, label);
-            let Some(branch) = found.filter(|&branch| self.label(branch) == label) else {
-                return false;
-            };
-            let before = self.before_branch(branch);
-            if !self.has_child(branch) {
-                return self.suffix(before.slots) == self.key_suffix(key, level + 1);
-            }
-            node = before.children + 1;
-        }
-        self.is_exact(node)
-    }
-
-    /// Finds the first leaf whose highest possible key is not below a start, and
-    /// leaves the path to it.
-    pub fn seek(&self, start: &[u8], path: &mut Path) -> Option<Leaf> {
-        path.depth = 0;
-        if self.leaves == 0 {
-            return None;
-        }
-        let mut node = 0;
-        for &label in start {
-            let Some(branch) = self.lower_bound(node, label) else {
-                return self.next_leaf(path);
-            };
-            let before = self.step(path, branch);
-            if self.label(branch) != label {
-                return Some(self.first_leaf_below(path));
-            }
-            if !self.has_child(branch) {
-                let suffix = self.suffix(before.slots);
-                if self.key_suffix(start, path.depth) <= suffix {
-                    return Some(Leaf::Open { suffix });
-                }
-                return self.next_leaf(path);
-            }
-            node = before.children + 1;
-        }
-        Some(self.first_leaf(path, node))
-    }
-
-    /// Adds a branch to a path.
-    #[inline]
-    fn step(&self, path: &mut Path, branch: usize) -> Before {
-        let before = self.before_branch(branch);
-        path.labels[path.depth] = self.label(branch);
-        path.branches[path.depth] = branch;
-        path.before[path.depth] = before;
-        path.depth += 1;
-        before
-    }
-
-    /// Goes to the first leaf behind everything below the end of a path.
-    fn next_leaf(&self, path: &mut Path) -> Option<Leaf> {
-        while path.depth > 0 {
-            path.depth -= 1;
-            if let Some(next) = self.next_branch(path.branches[path.depth]) {
-                self.step(path, next);
-                return Some(self.first_leaf_below(path));
-            }
-        }
-        None
-    }
-
-    /// Goes to the first leaf at or below the last branch of a path.
-    fn first_leaf_below(&self, path: &mut Path) -> Leaf {
-        let last = path.depth - 1;
-        let Before { children, slots } = path.before[last];
-        if self.has_child(path.branches[last]) {
-            return self.first_leaf(path, children + 1);
-        }
-        Leaf::Open {
-            suffix: self.suffix(slots),
-        }
-    }
-
-    /// Goes to the first leaf at or below a node.
-    fn first_leaf(&self, path: &mut Path, node: usize) -> Leaf {
-        let mut node = node;
-        while let Some(branch) = self.first_branch_unless_exact(node) {
-            let before = self.step(path, branch);
-            if !self.has_child(branch) {
-                return Leaf::Open {
-                    suffix: self.suffix(before.slots),
-                };
-            }
-            node = before.children + 1;
-        }
-        Leaf::Exact
-    }
-
-    /// Gives the number in key order of the leaf at the end of a path: on each level
-    /// the leaves before the path, and on the levels below it those before the first
-    /// node that is not before it.
-    pub fn place(&self, path: &Path) -> usize {
-        let passed = &path.before[..path.depth];
-        let mut slots: usize = passed.iter().map(|before| before.slots).sum();
-        let mut children = passed.last().map_or(0, |before| before.children);
-        for _ in path.depth..self.image.levels.count {
-            if children + 1 == self.nodes {
-                slots += self.leaves;
-                break;
-            }
-            let before = self.before_node(children + 1);
-            slots += before.slots;
-            children = before.children;
-        }
-        slots - self.slots_before_levels
+    pub fn suffix(&self, number: usize) -> u16 {
+        (slot(self.frame, number) as u16).reverse_bits()
     }
 }
