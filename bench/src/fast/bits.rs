@@ -18,18 +18,6 @@ static KEPT: [u64; 2 * BLOCK] = {
     kept
 };
 
-/// The bytes that are compared at once.
-pub const WINDOW: usize = 16;
-
-/// As many zeros as bytes are compared at once, and as many bytes FF: from the right place
-/// on, what makes all but the first bytes FF, which is below no other.
-static DROPPED: [u8; 2 * WINDOW] = {
-    let mut dropped = [0; 2 * WINDOW];
-    let (_, behind) = dropped.split_at_mut(WINDOW);
-    behind.copy_from_slice(&[0xFF; WINDOW]);
-    dropped
-};
-
 /// The positions of the ones of each byte, by their numbers, and 8 where there is none.
 static SELECT_IN_BYTE: [[u8; 8]; 256] = positions_in_bytes();
 
@@ -115,13 +103,18 @@ pub fn is_clear_from(body: &[u8], position: usize) -> bool {
     first >> (position % 8) == 0 && rest.iter().fold(0, |set, byte| set | byte) == 0
 }
 
+/// Counts the ones of each byte of a word.
+#[inline]
+fn byte_ones(word: u64) -> u64 {
+    let pairs = word - (word >> 1 & 0x5555_5555_5555_5555);
+    let fours = (pairs & 0x3333_3333_3333_3333) + (pairs >> 2 & 0x3333_3333_3333_3333);
+    (fours + (fours >> 4)) & 0x0F0F_0F0F_0F0F_0F0F
+}
+
 /// Sums the ones of the bytes of a word: each byte has those up to its own.
 #[inline]
 fn byte_sums(word: u64) -> u64 {
-    let pairs = word - (word >> 1 & 0x5555_5555_5555_5555);
-    let fours = (pairs & 0x3333_3333_3333_3333) + (pairs >> 2 & 0x3333_3333_3333_3333);
-    let bytes = (fours + (fours >> 4)) & 0x0F0F_0F0F_0F0F_0F0F;
-    bytes.wrapping_mul(LOW_BITS)
+    byte_ones(word).wrapping_mul(LOW_BITS)
 }
 
 /// Gives the position of a one of a word, by its number from 0.
@@ -130,12 +123,12 @@ pub fn select_in_word(word: u64, number: usize) -> usize {
     select_by_sums(word, byte_sums(word), number)
 }
 
-/// Gives the position of a one of a word whose byte sums are known: as many bytes are
-/// before its own as have sums up to its number.
+/// Gives the position of a one of a word whose byte sums are known: its byte is the first
+/// one whose sum is above its number.
 #[inline]
 fn select_by_sums(word: u64, sums: u64, number: usize) -> usize {
-    let passed = (((number as u64 * LOW_BITS) | HIGH_BITS) - sums) & HIGH_BITS;
-    let shift = ((passed >> 7).wrapping_mul(LOW_BITS) >> 56) as usize * 8;
+    let above = (sums + (127 - number as u64) * LOW_BITS) & HIGH_BITS;
+    let shift = above.trailing_zeros() as usize & 56;
     let before = (sums << 8 >> shift & 0xFF) as usize;
     let byte = (word >> shift & 0xFF) as usize;
     shift + usize::from(SELECT_IN_BYTE[byte][(number - before) & 7])
@@ -192,13 +185,10 @@ fn ones_at_end(body: &[u8], index: usize, count: usize) -> usize {
 #[inline(always)]
 fn ones_of_block(block: &[u8; 8 * BLOCK], count: usize) -> usize {
     let kept = &KEPT[BLOCK - count..][..BLOCK];
-    let mut sums = 0;
-    for (index, kept) in kept.iter().enumerate() {
-        let word = word(block, index) & kept;
-        let pairs = word - (word >> 1 & 0x5555_5555_5555_5555);
-        let fours = (pairs & 0x3333_3333_3333_3333) + (pairs >> 2 & 0x3333_3333_3333_3333);
-        sums += (fours + (fours >> 4)) & 0x0F0F_0F0F_0F0F_0F0F;
-    }
+    let words = kept.iter().enumerate();
+    let sums: u64 = words
+        .map(|(index, kept)| byte_ones(word(block, index) & kept))
+        .sum();
     let sums = (sums & 0x00FF_00FF_00FF_00FF) + (sums >> 8 & 0x00FF_00FF_00FF_00FF);
     (sums.wrapping_mul(0x0001_0001_0001_0001) >> 48) as usize
 }
@@ -210,8 +200,8 @@ struct One {
 }
 
 /// Finds a one of a body, by its number from 0, from a table with the position of each
-/// 64th. The first two words are looked at without a branch, since it is in either as
-/// often as not.
+/// 64th. The first two words are looked at without a branch, since it often is in one of
+/// them, in either about as often.
 #[inline(always)]
 fn find_one(body: &[u8], table: &[u8], number: usize) -> One {
     let start = entry(table, number / 64);
@@ -297,32 +287,15 @@ pub fn select_two(body: &[u8], table: &[u8], number: usize, limit: usize) -> [us
     [position, end]
 }
 
-/// Counts how many of sixteen bytes, of so many first ones alone, are below another; the
-/// loop becomes vector code.
-#[inline(always)]
-pub fn bytes_below(bytes: &[u8; WINDOW], count: usize, limit: u8) -> usize {
-    let dropped = &DROPPED[WINDOW - count..][..WINDOW];
-    let pairs = bytes.iter().zip(dropped);
-    let below = pairs.map(|(byte, dropped)| u8::from(byte | dropped < limit));
-    below.sum::<u8>().into()
-}
-
-/// Loads sixteen bytes from an offset on, zeros behind the end.
+/// Counts how many of so many ascending bytes, at most eight, are below another: the bytes
+/// behind them are made FF, and the first that is not below is looked for.
 #[inline]
-pub fn sixteen(bytes: &[u8], at: usize) -> [u8; WINDOW] {
-    match bytes.get(at..).and_then(<[u8]>::first_chunk) {
-        Some(sixteen) => *sixteen,
-        None => sixteen_at_end(bytes, at),
-    }
-}
-
-/// Loads the fewer than sixteen bytes that are left from an offset on; this is rare.
-#[cold]
-fn sixteen_at_end(bytes: &[u8], at: usize) -> [u8; WINDOW] {
-    let rest = bytes.get(at..).unwrap_or_default();
-    let mut sixteen = [0; WINDOW];
-    sixteen[..rest.len()].copy_from_slice(rest);
-    sixteen
+pub fn bytes_below(bytes: u64, count: usize, limit: u8) -> usize {
+    let bytes = bytes | u64::MAX.checked_shl(8 * count as u32).unwrap_or(0);
+    let limits = u64::from(limit) * LOW_BITS;
+    let low_bits_reach = (bytes | HIGH_BITS) - (limits & !HIGH_BITS);
+    let reach = (bytes & !limits) | (!(bytes ^ limits) & low_bits_reach);
+    (reach & HIGH_BITS).trailing_zeros() as usize / 8
 }
 
 /// Gathers the lowest bits of 64 bytes that are 0 or 1.

@@ -43,11 +43,24 @@ impl Trie<'_> {
         let mut lower = bound(Side::Lower, lower);
         let mut upper = bound(Side::Upper, upper);
         let mut count = 0;
-        while lower.node != upper.node || lower.on_way.is_some() || upper.on_way.is_some() {
+        while lower.on_way.is_some() || upper.on_way.is_some() {
             count += self.pass(&mut upper);
             count -= self.pass(&mut lower);
         }
-        count as u32
+        (count + self.count_between(lower.node, upper.node)) as u32
+    }
+
+    /// Counts the leaves at or below the nodes of a level from one on and before another.
+    fn count_between(&self, mut from: usize, mut to: usize) -> usize {
+        let mut count = 0;
+        while from != to {
+            let first = self.before_node(from);
+            let behind = self.before_node(to);
+            count += behind.slots - first.slots;
+            from = first.node();
+            to = behind.node();
+        }
+        count
     }
 
     /// Takes a bound to the next level, and gives the slots that it passes on its own, from

@@ -1,10 +1,13 @@
 //! The sparse nodes of an accepted image, numbered from the first of them, and their
 //! entries.
 
-use super::bits::{bit, bytes_below, rank_by_eight, select, select_two, sixteen, WINDOW};
+use super::bits::{bit, bytes_below, load, rank_by_eight, select, select_two};
 use super::check::Accepted;
 use range_filter_tests::reference::build::EXTRA_LABEL;
 use range_filter_tests::reference::format::{NODE_BITS, RS, SB, SC, SL, TS};
+
+/// The labels that are compared at once.
+const WINDOW: usize = 8;
 
 /// The sparse nodes.
 pub struct Sparse<'a> {
@@ -98,13 +101,14 @@ impl<'a> Sparse<'a> {
         self.search_span(start, end, label)
     }
 
-    /// Searches the entries of a node for a label; the extra label is not below any.
+    /// Searches the entries of a node for a label, by one word where they are few.
     #[inline(always)]
     fn search_span(&self, start: usize, end: usize, label: u8) -> Found {
         let count = end - start;
-        let extra = usize::from(count > 1 && self.labels[start] == EXTRA_LABEL);
+        let labels = load(self.labels, start);
+        let extra = usize::from(count > 1 && labels as u8 == EXTRA_LABEL);
         let below = if count <= WINDOW {
-            bytes_below(&sixteen(self.labels, start), count, label)
+            bytes_below(labels >> (8 * extra), count - extra, label)
         } else {
             self.labels_below(start + extra, end, label)
         };
@@ -129,7 +133,7 @@ impl<'a> Sparse<'a> {
             from += if passes { half } else { 0 };
             left -= half;
         }
-        from + bytes_below(&sixteen(self.labels, start + from), left, label)
+        from + bytes_below(load(self.labels, start + from), left, label)
     }
 
     /// Gives the branch of a node with a label.

@@ -176,7 +176,7 @@ impl<'a> Trie<'a> {
     }
 
     /// Counts what is before a sparse entry, or before the end of them.
-    #[inline]
+    #[inline(always)]
     fn before_entry(&self, entry: usize) -> Before {
         let children = self.sparse.children_before(entry);
         Before {
@@ -186,7 +186,7 @@ impl<'a> Trie<'a> {
     }
 
     /// Counts what is before a node, or before the end of them; its exact leaf is not.
-    #[inline]
+    #[inline(always)]
     pub fn before_node(&self, node: usize) -> Before {
         match node.checked_sub(self.dense_nodes) {
             None => Before {
