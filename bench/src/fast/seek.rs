@@ -73,15 +73,9 @@ impl Trie<'_> {
                     if self.has_child(branch) {
                         continue;
                     }
-                    let slot = step.before.slots;
-                    match self.compare_slot(slot, &start[level + 1..]) {
-                        Ordering::Less => {
-                            slots += 1;
-                            Target::Higher(higher)
-                        }
-                        Ordering::Equal => Target::Holding,
-                        Ordering::Greater => Target::Above { slot },
-                    }
+                    let target = self.at_leaf(step.before.slots, &start[level + 1..]);
+                    slots += usize::from(target.is_none());
+                    target.unwrap_or(Target::Higher(higher))
                 }
             };
             return Way {
@@ -96,6 +90,16 @@ impl Trie<'_> {
             node,
             slots,
             target: Target::Node,
+        }
+    }
+
+    /// Gives the target where the way ends at an open leaf with a slot, unless the leaf ends
+    /// below the start.
+    fn at_leaf(&self, slot: usize, behind_cut: &[u8]) -> Option<Target> {
+        match self.compare_slot(slot, behind_cut) {
+            Ordering::Less => None,
+            Ordering::Equal => Some(Target::Holding),
+            Ordering::Greater => Some(Target::Above { slot }),
         }
     }
 
