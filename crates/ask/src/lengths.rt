@@ -16,6 +16,7 @@ use ask_files::file::key_at;
 use ask_files::file::question_at;
 use ask_files::reply::REPLY_HEAD;
 use image_types::Frame;
+use keys::MAX_KEY_BYTES;
 use query_count::levels::level_starts;
 
 // The length of the key in the reply to a question. Only a seek's reply has one, so no other question is answered for it. `starts` is the sum of slot numbers for the empty key.
@@ -25,7 +26,8 @@ fn key_length(image: &[u8], f: Frame, starts: usize, file: &[u8], question: Ques
 {
     match question {
         QuestionAt::Seek(at, n) => {
-            let a = seek_reply(image, f, starts, key_at(file, at, n));
+            let mut key = [0u8; MAX_KEY_BYTES];
+            let a = seek_reply(image, f, starts, key_at(file, at, n), &mut key);
             a.n
         }
         QuestionAt::Point(_, _) => 0,

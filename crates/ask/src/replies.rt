@@ -16,6 +16,7 @@ use ask_files::reply::Answered;
 use ask_files::reply::keyless;
 use ask_files::reply::write_answered;
 use image_types::Frame;
+use keys::MAX_KEY_BYTES;
 use query_count::count::count;
 use query_count::levels::level_starts;
 use query_laws::SoughtLeaf;
@@ -28,37 +29,40 @@ use query_seek::seek::seek;
 const NO_LEAF: usize = 0xFFFFFFFF;
 
 // The reply to a seek: the leaf's number and key, or none, FFFFFFFF without a key. `starts` is the sum of slot numbers for the empty key.
-pub fn seek_reply(image: &[u8], f: Frame, starts: usize, start: &[u8]) -> Answered
-    requires { ⌜ Accepted (now image) f × (starts ≡ level-starts (now image) f) × (length (now start) ≤ 64) ⌝ }
-    ensures { λ r. ⌜ Sized r × (reply-of r ≡ reply (read-leaves (now (image .entry))) (QS (now (start .entry)))) ⌝ }
+pub fn seek_reply(image: &[u8], f: Frame, starts: usize, start: &[u8], key: &mut [u8]) -> Answered
+    requires { ⌜ Accepted (now image) f × (starts ≡ level-starts (now image) f) × (length (now start) ≤ 64) × (length (now key) ≡ 64) ⌝ }
+    ensures { λ r. ⌜ Sized r (now (key .exit)) × (reply-of r (now (key .exit)) ≡ reply (read-leaves (now (image .entry))) (QS (now (start .entry)))) ⌝ }
 {
-    let s = seek(image, f, starts, start);
+    let s = seek(image, f, starts, start, key);
     let leaf = s.leaf;
     match leaf {
         SoughtLeaf::None => keyless(b'S', NO_LEAF),
-        SoughtLeaf::At(number) => {
-            let key = s.key;
-            Answered {
-                letter: b'S',
-                number,
-                key,
-                n: s.n,
-            }
-        }
+        SoughtLeaf::At(number) => Answered {
+            letter: b'S',
+            number,
+            n: s.n,
+        },
     }
 }
 
-// The reply to a question of the file. `starts`, for a seek, is the sum of slot numbers for the empty key.
-fn reply_to(image: &[u8], f: Frame, starts: usize, file: &[u8], question: QuestionAt) -> Answered
-    requires { ⌜ Accepted (now image) f × (starts ≡ level-starts (now image) f) × Inside (now file) question ⌝ }
-    ensures { λ r. ⌜ Sized r × (reply-of r ≡ reply (read-leaves (now (image .entry))) (question-of (now (file .entry)) question)) ⌝ }
+// The reply to a question of the file, its key in a buffer. `starts`, for a seek, is the sum of slot numbers for the empty key.
+fn reply_to(
+    image: &[u8],
+    f: Frame,
+    starts: usize,
+    file: &[u8],
+    question: QuestionAt,
+    key: &mut [u8],
+) -> Answered
+    requires { ⌜ Accepted (now image) f × (starts ≡ level-starts (now image) f) × Inside (now file) question × (length (now key) ≡ 64) ⌝ }
+    ensures { λ r. ⌜ Sized r (now (key .exit)) × (reply-of r (now (key .exit)) ≡ reply (read-leaves (now (image .entry))) (question-of (now (file .entry)) question)) ⌝ }
 {
     match question {
         QuestionAt::Point(at, n) => {
             let number = point(image, f, key_at(file, at, n));
             keyless(b'P', number)
         }
-        QuestionAt::Seek(at, n) => seek_reply(image, f, starts, key_at(file, at, n)),
+        QuestionAt::Seek(at, n) => seek_reply(image, f, starts, key_at(file, at, n), key),
         QuestionAt::Begins(at, n) => {
             let number = begins_with(image, f, key_at(file, at, n));
             keyless(b'B', number)
@@ -80,13 +84,14 @@ pub fn write_replies(image: &[u8], f: Frame, file: &[u8], out: &mut [u8]) -> usi
     ensures { λ r. ⌜ Replies-written (now (image .entry)) (now (file .entry)) (now (out .entry)) (now (out .exit)) r ⌝ }
 {
     let starts = level_starts(image, f);
+    let mut key = [0u8; MAX_KEY_BYTES];
     let mut at = 0usize;
     let mut to = 0usize;
     while at < file.len() {
         let asked = question_at(file, at);
         let question = asked.question;
-        let a = reply_to(image, f, starts, file, question);
-        to = write_answered(out, to, a);
+        let a = reply_to(image, f, starts, file, question, &mut key);
+        to = write_answered(out, to, a, &key);
         at = asked.next;
     }
     to

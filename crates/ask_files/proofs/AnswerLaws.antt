@@ -3,7 +3,7 @@ use mathlib.Core.Path.{_≡_, sym, ap, ap₂, subst, _∙_}
 use mathlib.Core.List.{List, []}
 use Prim.Native.Nat.{ℕ, _+_, _≤_}
 use native.Mathlib.Omega.{arith}
-use lib.ListN.{length}
+use lib.ListN.{length, take}
 use Rattle.spec.specs.Bytes.{Bytes}
 use Rattle.spec.specs.Leaves.{Leaf}
 use Rattle.spec.specs.Questions.{QS, Reply, point, begins-with, range, counted, reply, reply-bytes, replies, questions-of}
@@ -29,14 +29,22 @@ Not-seek (Begins a n) = Unit
 Not-seek (Range a n b m) = Unit
 Not-seek (Count a n b m) = Unit
 
+-- a reply without a key, whatever the buffer holds
+module _ (a : Answered) (buffer : Bytes) (none : a .n ≡ 0) where
+  pub keyless-sized : length buffer ≡ 64 → Sized a buffer
+  keyless-sized h = record { small = omega arith; buffer = h }
+
+  pub keyless-of : {letter number : ℕ} → reply-of a [] ≡ answer letter number [] → reply-of a buffer ≡ answer letter number []
+  keyless-of e = ap (λ (n : ℕ). answer (a .letter) (a .number) (take n buffer)) none ∙ sym (ap (λ (n : ℕ). answer (a .letter) (a .number) (take n [])) none) ∙ e
+
 module _ (ls : List Leaf) (file : Bytes) where
   -- the reply to a question, after a match
   pub reply-keyless : {q x : QuestionAt} → q ≡ x → reply ls (question-of file x) ≡ reply ls (question-of file q)
   reply-keyless h = ap (λ (z : QuestionAt). reply ls (question-of file z)) (sym h)
 
   -- the length of its key
-  pub reply-key : (a : Answered) (q : QuestionAt) → Sized a → reply-of a ≡ reply ls (question-of file q) → a .n ≡ length (reply ls (question-of file q) .key)
-  reply-key a q s e = sym (key-length a s) ∙ ap (λ r. length (r .key)) e
+  pub reply-key : (a : Answered) (buffer : Bytes) (q : QuestionAt) → Sized a buffer → reply-of a buffer ≡ reply ls (question-of file q) → a .n ≡ length (reply ls (question-of file q) .key)
+  reply-key a buffer q s e = sym (key-length a buffer s) ∙ ap (λ r. length (r .key)) e
 
   -- the reply to each kind of question, with its keys as they are lent
   module _ (a n : ℕ) (k : Bytes) (lent : k ≡ key file a n) where
@@ -69,13 +77,13 @@ module _ (ls : List Leaf) (file : Bytes) where
   keyless-keyless {q} {x} h t = sym (ap (λ (z : QuestionAt). length (reply ls (question-of file z) .key)) h ∙ keyless x t)
 
 -- ask's second pass with replies by value: room for the next one, and the buffer with it
-module _ (ls : List Leaf) (file out : Bytes) (room : length (replies ls (questions-of file)) ≤ length out) (at to : ℕ) (new : Bytes) (p : Replied ls file out at to new) (next : ℕ) (q : QuestionAt) (w : Followed file at (question-of file q) next) (a : Answered) (s : Sized a) (e : reply-of a ≡ reply ls (question-of file q)) where
+module _ (ls : List Leaf) (file out : Bytes) (room : length (replies ls (questions-of file)) ≤ length out) (at to : ℕ) (new : Bytes) (p : Replied ls file out at to new) (next : ℕ) (q : QuestionAt) (w : Followed file at (question-of file q) next) (a : Answered) (buffer : Bytes) (s : Sized a buffer) (e : reply-of a buffer ≡ reply ls (question-of file q)) where
   pub answered-room : to + 8 + a .n ≤ length new
-  answered-room = omega (arith, reply-key ls file a q s e, replied-room ls file out room at to new p next (question-of file q) w)
+  answered-room = omega (arith, reply-key ls file a buffer q s e, replied-room ls file out room at to new p next (question-of file q) w)
 
-  pub answered-more : (end : ℕ) (written : Bytes) → end ≡ to + 8 + a .n → written ≡ placed new to (reply-bytes (reply-of a)) → Replied ls file out next end written
+  pub answered-more : (end : ℕ) (written : Bytes) → end ≡ to + 8 + a .n → written ≡ placed new to (reply-bytes (reply-of a buffer)) → Replied ls file out next end written
   answered-more end written f g =
-      let h : to + 8 + length (reply ls (question-of file q) .key) ≡ end = ap (λ (k : ℕ). to + 8 + k) (sym (reply-key ls file a q s e)) ∙ sym f in
+      let h : to + 8 + length (reply ls (question-of file q) .key) ≡ end = ap (λ (k : ℕ). to + 8 + k) (sym (reply-key ls file a buffer q s e)) ∙ sym f in
       let i : placed new to (reply-bytes (reply ls (question-of file q))) ≡ written = ap (λ (r : Reply). placed new to (reply-bytes r)) (sym e) ∙ sym g in
       subst (λ (z : Bytes). Replied ls file out next end z) i
       (subst (λ (k : ℕ). Replied ls file out next k (placed new to (reply-bytes (reply ls (question-of file q))))) h (replied-more ls file out room at to new p next (question-of file q) w))

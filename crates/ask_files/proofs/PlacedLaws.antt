@@ -32,5 +32,5 @@ reply-placed out headed new at letter number key h e f = placed-behind out heade
 -- ---- replies by value
 
 -- the length of the key of a reply by value
-pub key-length : (a : Answered) → Sized a → length (reply-of a .key) ≡ a .n
-key-length a s = length-take-le (a .n) (a .key) (omega (arith, s .small, s .array))
+pub key-length : (a : Answered) (key : Bytes) → Sized a key → length (reply-of a key .key) ≡ a .n
+key-length a key s = length-take-le (a .n) key (omega (arith, s .small, s .buffer))

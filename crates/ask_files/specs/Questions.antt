@@ -101,11 +101,11 @@ reply-mark letter = 65 ∷ 78 ∷ letter ∷ []
 abbrev pub reply-head : ℕ → ℕ → ℕ → Bytes
 reply-head letter number n = reply-mark letter ++ le32 number ++ (n ∷ [])
 
--- a reply by value as document 01's reply
-abbrev pub reply-of : Answered → Reply
-reply-of a = answer (a .letter) (a .number) (take (a .n) (a .key))
+-- a reply by value, its key at the front of a buffer, as document 01's reply
+abbrev pub reply-of : Answered → Bytes → Reply
+reply-of a key = answer (a .letter) (a .number) (take (a .n) key)
 
--- its key stands in the array
-pub record Sized (a : Answered) : Type 0 where
+-- its key stands in a buffer of 64 bytes
+pub record Sized (a : Answered) (key : Bytes) : Type 0 where
   pub small : a .n ≤ 64
-  pub array : length (a .key) ≡ 64
+  pub buffer : length key ≡ 64

@@ -9,16 +9,14 @@ ghost use Rattle.ask_laws.specs.ReplyLaws.{answer};
 ghost use Rattle.ask_files.specs.Questions.{reply-mark, reply-head, reply-of, Sized};
 use bits::copy::write_bytes;
 use bits::numbers::write32;
-use keys::MAX_KEY_BYTES;
 
 // The bytes of a reply before its key: the mark, the letter, the number and the key's length.
 pub const REPLY_HEAD: usize = 8;
 
-// A reply by value: its letter, its number, and its key in the first n bytes of an array.
+// A reply by value, its key in a buffer: the letter, the number, and how many bytes of the buffer are the key.
 pub struct Answered {
     pub letter: u8,
     pub number: usize,
-    pub key: [u8; MAX_KEY_BYTES],
     pub n: usize,
 }
 
@@ -54,22 +52,19 @@ pub fn write_reply(out: &mut [u8], at: usize, letter: u8, number: usize, key: &[
 
 // A reply without a key.
 pub fn keyless(letter: u8, number: usize) -> Answered
-    ensures { λ r. ⌜ Sized r × (reply-of r ≡ answer letter number []) ⌝ }
+    ensures { λ r. ⌜ (r .n ≡ 0) × (reply-of r [] ≡ answer letter number []) ⌝ }
 {
     Answered {
         letter,
         number,
-        key: [0u8; MAX_KEY_BYTES],
         n: 0,
     }
 }
 
 // The bytes of a reply by value go to out from at, and all else stays; the offset behind them.
-pub fn write_answered(out: &mut [u8], at: usize, a: Answered) -> usize
-    requires { ⌜ Sized a × (at + 8 + a .n ≤ length (now out)) ⌝ }
-    ensures { λ r. ⌜ (r ≡ at + 8 + a .n) × (now (out .exit) ≡ placed (now (out .entry)) at (reply-bytes (reply-of a))) ⌝ }
+pub fn write_answered(out: &mut [u8], at: usize, a: Answered, key: &[u8]) -> usize
+    requires { ⌜ Sized a (now key) × (at + 8 + a .n ≤ length (now out)) ⌝ }
+    ensures { λ r. ⌜ (r ≡ at + 8 + a .n) × (now (out .exit) ≡ placed (now (out .entry)) at (reply-bytes (reply-of a (now (key .entry))))) ⌝ }
 {
-    let n = a.n;
-    let key = a.key;
-    write_reply(out, at, a.letter, a.number, &key[..n])
+    write_reply(out, at, a.letter, a.number, &key[..a.n])
 }

@@ -34,12 +34,16 @@ use Rattle.nav_laws.specs.Paths.{node-on, onward, downward, standing, On
 abbrev pub Branch-from : Bytes → Frame → ℕ → ℕ → NextBranch → Type 0
 Branch-from s f m y b = Next-branch s f m y (b .kind) (b .label) (b .at .0)
 
--- The path's node at depth d has this branch, with its own label, and stands on its level.
-pub record Has-branch (s : Bytes) (f : Frame) (path : List NodeNum) (d : ℕ) (b : NextBranch) : Type 0 where
+-- Node m at depth d has this branch, with its own label, and stands on its level.
+pub record Node-branch (s : Bytes) (f : Frame) (m d : ℕ) (b : NextBranch) : Type 0 where
   pub deep : d < 64
-  pub on : On-level (nodes s f) (64 - d) (node-on path d)
+  pub on : On-level (nodes s f) (64 - d) m
   pub there : b .kind ≡ Kind.Absent → ⊥
-  pub branch-is : Branch-from s f (node-on path d) (b .label) b
+  pub branch-is : Branch-from s f m (b .label) b
+
+-- so has the path's node at depth d
+abbrev pub Has-branch : Bytes → Frame → List NodeNum → ℕ → NextBranch → Type 0
+Has-branch s f path d b = Node-branch s f (node-on path d) d b
 
 -- A path with d labels ends nowhere; at the exact leaf that its last node is; or at an open leaf, behind its last label.
 pub record Ends (s : Bytes) (f : Frame) (path : List NodeNum) (d : ℕ) (stop : LeafStop) : Type 0 where
@@ -83,7 +87,7 @@ node-in s f a l m on = omega (arith, level-node (nodes s f) l m on, length-appen
 
 -- The first branch from a label on is the one with its own label.
 module _ (s : Bytes) (f : Frame) (l m y : ℕ) (b : NextBranch) (on : On-level (nodes s f) l m) (is : Branch-from s f m y b) (there : b .kind ≡ Kind.Absent → ⊥) where
-  same-place : place s f m (b .label) ≡ place s f m y
+  pub same-place : place s f m (b .label) ≡ place s f m y
   same-place = go (ltb (place s f m y) (length (branches s f m))) refl
     where
       go : (t : Bool) → ltb (place s f m y) (length (branches s f m)) ≡ t → place s f m (b .label) ≡ place s f m y
@@ -92,7 +96,7 @@ module _ (s : Bytes) (f : Frame) (l m y : ℕ) (b : NextBranch) (on : On-level (
           ap (λ (x : ℕ). labels-below x (branches s f m)) (is .there there .label-is ∙ sym (label-first (branches s f m) (place s f m y) h)) ∙ own-place (branches s f m) (place s f m y) (level-rising (nodes s f) l m on) h
       go false e = absurd (there (is .kind-is ∙ sym (kind-end (branches s f m) (place s f m y) (ltb-false (place s f m y) (length (branches s f m)) e))))
 
-  own-branch : Branch-from s f m (b .label) b
+  pub own-branch : Branch-from s f m (b .label) b
   own-branch =
       let e = same-place in
       record { kind-is = rw e (is .kind-is); there = λ n. let t = is .there n in record { label-is = rw e (t .label-is); label-byte = t .label-byte; at-is = rw e (t .at-is) } }
@@ -122,48 +126,57 @@ module _ (s : Bytes) (f : Frame) (path : List NodeNum) (cut : Bytes) (d y : ℕ)
 pub first-there : (s : Bytes) (f : Frame) (l m : ℕ) (b : NextBranch) → On-level (nodes s f) l m → Branch-from s f m 0 b → b .kind ≡ Kind.Absent → ⊥
 first-there s f l m b on is e = level-branch (nodes s f) l m on (sym (is .kind-is) ∙ e)
 
-module _ (s : Bytes) (f : Frame) (a : Accepted s f) (path : List NodeNum) (cut : Bytes) (d : ℕ) (b : NextBranch) (h : Has-branch s f path d b) where
-  rising : Ascends (branches s f (node-on path d))
-  rising = level-rising (nodes s f) (64 - d) (node-on path d) (h .on)
+module _ (s : Bytes) (f : Frame) (a : Accepted s f) (m d : ℕ) (b : NextBranch) (h : Node-branch s f m d b) where
+  -- the labels of its node ascend
+  pub rising : Ascends (branches s f m)
+  rising = level-rising (nodes s f) (64 - d) m (h .on)
 
   -- behind the branch stands an open leaf
-  module _ (v : ValuePos) (is : v .0 ≡ slot-at s f (node-on path d) (b .at .0)) (ends : b .kind ≡ Kind.Leaf) where
-    slot-is : v .0 ≡ slot-number (nodes s f) (node-on path d) (place s f (node-on path d) (b .label))
+  module _ (v : ValuePos) (is : v .0 ≡ slot-at s f m (b .at .0)) (ends : b .kind ≡ Kind.Leaf) where
+    pub slot-is : v .0 ≡ slot-number (nodes s f) m (place s f m (b .label))
     slot-is = is ∙ h .branch-is .there (h .there) .at-is .slot-is
 
-    pub leaf-onward : length cut ≡ 64 → onward (nodes s f) path cut d (b .label) ≡ standing (f .width) (nodes s f) path (set cut d (b .label)) (d + 1) (Stop.Open v)
-    leaf-onward room = onward-leaf (nodes s f) path cut d (b .label) (b .kind) (omega (arith, h .deep)) (h .branch-is .kind-is) rising (h .branch-is .there (h .there) .label-is) (f .width) (a .writable .wide) ends v slot-is
-
     pub leaf-slot : v .0 < f .leaves
-    leaf-slot = omega (arith, slot-is, kind-slot (nodes s f) (node-on path d) (place s f (node-on path d) (b .label)) (b .kind) (h .branch-is .kind-is) ends, a .writable .leaf-total)
+    leaf-slot = omega (arith, slot-is, kind-slot (nodes s f) m (place s f m (b .label)) (b .kind) (h .branch-is .kind-is) ends, a .writable .leaf-total)
 
   -- behind it stands a node of the next level
-  module _ (c : NodeNum) (is : c .0 ≡ child-at s f (node-on path d) (b .at .0)) (continues : b .kind ≡ Kind.Child) where
-    child-is : c .0 ≡ child-number (nodes s f) (node-on path d) (place s f (node-on path d) (b .label))
+  module _ (c : NodeNum) (is : c .0 ≡ child-at s f m (b .at .0)) (continues : b .kind ≡ Kind.Child) where
+    pub child-is : c .0 ≡ child-number (nodes s f) m (place s f m (b .label))
     child-is = is ∙ h .branch-is .there (h .there) .at-is .child-is
 
     pub child-on : On-level (nodes s f) (64 - (d + 1)) (c .0)
     child-on =
         let z : 64 - d ≡ suc (64 - (d + 1)) = omega (arith, h .deep) in
-        rw child-is (level-child (nodes s f) (64 - (d + 1)) (node-on path d) (place s f (node-on path d) (b .label)) (rw z at (h .on)) (sym (h .branch-is .kind-is) ∙ continues))
+        rw child-is (level-child (nodes s f) (64 - (d + 1)) m (place s f m (b .label)) (rw z at (h .on)) (sym (h .branch-is .kind-is) ∙ continues))
 
     pub child-deep : d + 1 < 64
     child-deep = omega (arith, level-left (nodes s f) (64 - (d + 1)) (c .0) child-on)
 
-    module _ (long : length path ≡ 64) where
-      -- it is the node of the path there
-      pub child-node : node-on (set path (d + 1) c) (d + 1) ≡ c .0
-      child-node = node-stored path (d + 1) c (omega (arith, child-deep))
+module _ (s : Bytes) (f : Frame) (a : Accepted s f) (path : List NodeNum) (cut : Bytes) (d : ℕ) (b : NextBranch) (h : Has-branch s f path d b) where
+  -- an open leaf, where the path ends
+  pub leaf-onward : (v : ValuePos) → v .0 ≡ slot-at s f (node-on path d) (b .at .0) → b .kind ≡ Kind.Leaf → length cut ≡ 64
+      → onward (nodes s f) path cut d (b .label) ≡ standing (f .width) (nodes s f) path (set cut d (b .label)) (d + 1) (Stop.Open v)
+  leaf-onward v is ends room =
+      onward-leaf (nodes s f) path cut d (b .label) (b .kind) (omega (arith, h .deep)) (h .branch-is .kind-is) (rising s f a (node-on path d) d b h) (h .branch-is .there (h .there) .label-is) (f .width) (a .writable .wide) ends v (slot-is s f a (node-on path d) d b h v is ends)
 
-      -- the nodes of the path stand on their levels if those above it do
-      pub child-levels : On-levels (nodes s f) path d → On-levels (nodes s f) (set path (d + 1) c) (d + 1)
-      child-levels on i h = go (ltb i (d + 1)) refl
-        where
-          go : (t : Bool) → ltb i (d + 1) ≡ t → On-level (nodes s f) (64 - i) (node-on (set path (d + 1) c) i)
-          go true e = let k = ltb-true i (d + 1) e in rw (node-kept path (d + 1) i c (λ q. omega arith)) (on i (omega arith))
-          go false e = let k : i ≡ d + 1 = omega (arith, ltb-false i (d + 1) e) in rw (k, child-node) child-on
+  -- a node of the next level
+  module _ (c : NodeNum) (is : c .0 ≡ child-at s f (node-on path d) (b .at .0)) (continues : b .kind ≡ Kind.Child) (long : length path ≡ 64) where
+    deep : d + 1 < 64
+    deep = child-deep s f a (node-on path d) d b h c is continues
 
-      -- and the leaves behind the branch are those at or below it
-      pub child-downward : length cut ≡ 64 → onward (nodes s f) path cut d (b .label) ≡ downward (nodes s f) (set path (d + 1) c) (set cut d (b .label)) (d + 1)
-      child-downward room =
-          onward-child (nodes s f) path cut d (b .label) (b .kind) (omega (arith, h .deep)) (h .branch-is .kind-is) rising (h .branch-is .there (h .there) .label-is) continues c child-is (omega (arith, child-deep))
+    -- it is the node of the path there
+    pub child-node : node-on (set path (d + 1) c) (d + 1) ≡ c .0
+    child-node = node-stored path (d + 1) c (omega (arith, deep))
+
+    -- the nodes of the path stand on their levels if those above it do
+    pub child-levels : On-levels (nodes s f) path d → On-levels (nodes s f) (set path (d + 1) c) (d + 1)
+    child-levels on i l = go (ltb i (d + 1)) refl
+      where
+        go : (t : Bool) → ltb i (d + 1) ≡ t → On-level (nodes s f) (64 - i) (node-on (set path (d + 1) c) i)
+        go true e = let k = ltb-true i (d + 1) e in rw (node-kept path (d + 1) i c (λ q. omega arith)) (on i (omega arith))
+        go false e = let k : i ≡ d + 1 = omega (arith, ltb-false i (d + 1) e) in rw (k, child-node) (child-on s f a (node-on path d) d b h c is continues)
+
+    -- and the leaves behind the branch are those at or below it
+    pub child-downward : length cut ≡ 64 → onward (nodes s f) path cut d (b .label) ≡ downward (nodes s f) (set path (d + 1) c) (set cut d (b .label)) (d + 1)
+    child-downward room =
+        onward-child (nodes s f) path cut d (b .label) (b .kind) (omega (arith, h .deep)) (h .branch-is .kind-is) (rising s f a (node-on path d) d b h) (h .branch-is .there (h .there) .label-is) continues c (child-is s f a (node-on path d) d b h c is continues) (omega (arith, deep))

@@ -38,6 +38,12 @@ pub enum LeafStop {
     Open(ValuePos),
 }
 
+// The leaf where a way from the root ends, and how many labels lead to it.
+pub struct LeafEnd {
+    pub depth: usize,
+    pub stop: LeafStop,
+}
+
 // A path from the root: its node on each level, and the label that is taken there.
 pub struct Path {
     pub nodes: [NodeNum; MAX_LEVELS],

@@ -1,17 +1,14 @@
 -- What the functions over the paths of an accepted image ask and give.
-use Prim.Native.Nat.{ℕ, _-_, _<_, _≤_}
+use Prim.Native.Nat.{ℕ, _<_, _≤_}
 use mathlib.Core.Path.{_≡_}
 use mathlib.Core.List.{List, []}
-use lib.ListN.{length, take}
+use lib.ListN.{length}
 use Rattle.spec.specs.Bytes.{Bytes}
 use Rattle.spec.specs.Leaves.{Leaf}
 use Rattle.image_types.specs.declared.Frame.{Frame}
-use Rattle.image_types.specs.declared.ValuePos.{ValuePos}
 use Rattle.nav_laws.specs.declared.BranchKind.the-variants as Kind
-use Rattle.nav_laws.specs.declared.LeafStop.the-variants as Stop
 use Rattle.nav_laws.specs.declared.Path.{Path}
 use Rattle.nav_laws.specs.Accepted.{Accepted, nodes}
-use Rattle.nav_laws.specs.Below.{On-level}
 use Rattle.nav_laws.specs.Paths.{node-on, onward, standing, On-levels}
 use Rattle.nav_laws.specs.PathSteps.{Has-branch, Ends}
 use Rattle.nav_paths.specs.declared.higher.Higher.{Higher}
@@ -49,24 +46,9 @@ pub record Next-higher (s : Bytes) (f : Frame) (path : Path) (depth from : ℕ) 
 
 -- ---- down
 
--- The path has a node at a depth. The nodes above it are not asked for.
-pub record Has-node (s : Bytes) (f : Frame) (path : Path) (depth : ℕ) : Type 0 where
-  pub accepted : Accepted s f
-  pub deep : depth < 64
-  -- the node stands on its level
-  pub on : On-level (nodes s f) (64 - depth) (node-on (path .nodes) depth)
-
 -- From the path's node at a depth the first of these leaves is reached.
 pub record Reaches (s : Bytes) (f : Frame) (path : Path) (depth : ℕ) (leaves : List Leaf) (r : PathEnd) : Type 0 where
   -- the leaf where the path ends and those behind the path are these leaves
   pub leaves-are : leaves ≡ standing (f .width) (nodes s f) (r .path .nodes) (r .path .labels) (r .depth) (r .stop)
-  -- the path ends at a leaf
-  pub found : r .stop ≡ Stop.Nowhere → ⊥
-  -- it has at most 64 labels
-  pub depth-range : r .depth ≤ 64
-  -- the slot of an open leaf is one of the image's
-  pub slot-range : (v : ValuePos) → r .stop ≡ Stop.Open v → v .0 < f .leaves
-  -- the labels above the node are kept
-  pub kept : take depth (r .path .labels) ≡ take depth (path .labels)
   -- where the nodes to the depth stand on their levels, so do all to the leaf
   pub levels : On-levels (nodes s f) (path .nodes) depth → Ends s f (r .path .nodes) (r .depth) (r .stop)

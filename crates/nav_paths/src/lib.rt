@@ -1,10 +1,10 @@
-// Paths from the root of an accepted image: the first leaf below a node of one, by which a seek goes; and what the next higher branch of one is, which a walk finds (`walk_levels`).
+// Paths from the root of an accepted image, by which a walk goes (`walk_levels`, `walk_locate`): the one that has its root only, where one ends, and what its next higher branch is.
 ghost use Rattle.nav_paths.specs.PathContracts.{Root-only};
 use image_types::NodeNum;
 use nav_laws::Path;
 
 pub mod higher; // higher.rt: the next higher branch
-pub mod leaf; // leaf.rt: down to the first leaf
+pub mod leaf; // leaf.rt: a path that ends at a leaf
 
 // The path that has its root only.
 pub fn root_path() -> Path

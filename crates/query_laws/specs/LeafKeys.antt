@@ -1,28 +1,32 @@
--- The leaf that a seek reaches over a path, by its lowest key.
-use Prim.Native.Nat.{ℕ, suc, _+_, _-_, _<_, _≤_}
-use mathlib.Core.Path.{_≡_, refl, sym, ap, ap₂, _∙_}
-use mathlib.Core.Bool.{false}
-use mathlib.Core.List.{List}
+-- The leaf that a seek reaches, by its lowest key: down from a node or a branch to the first leaf, with the labels in a key.
+use Prim.Native.Nat.{ℕ, _+_, _-_, _<_, _≤_}
+use mathlib.Core.Path.{_≡_, refl, sym, ap, _∙_}
+use mathlib.Core.Bool.{true, false}
 use mathlib.Core.Option.{Option, none, some}
 use native.Mathlib.Omega.{arith}
-use lib.ListN.{length, getD, take, drop}
-use lib.Seq.{getD-take, take-take}
-use Rattle.spec.specs.Bytes.{Bytes}
+use lib.ListN.{length, getD, take, set, length-set}
+use lib.Seq.{take-take}
+use Rattle.spec.specs.Bytes.{Bytes, Bits}
 use Rattle.spec.specs.Leaves.{Leaf, lowest}
-use Rattle.spec.specs.Nodes.{Node}
 use Rattle.image_types.specs.declared.Frame.{Frame}
 use Rattle.image_types.specs.declared.NodeNum.{NodeNum}
 use Rattle.image_types.specs.declared.ValuePos.{ValuePos}
+use Rattle.nav_laws.specs.declared.BranchKind.the-variants as Kind
+use Rattle.nav_laws.specs.declared.FirstBranch.{FirstBranch}
+use Rattle.nav_laws.specs.declared.LeafEnd.{LeafEnd}
 use Rattle.nav_laws.specs.declared.LeafStop.{LeafStop}
-use Rattle.nav_laws.specs.declared.LeafStop.the-variants.{Nowhere, Open}
+use Rattle.nav_laws.specs.declared.LeafStop.the-variants.{Nowhere, Exact, Open}
+use Rattle.nav_laws.specs.declared.NextBranch.{NextBranch}
 use Rattle.nav_laws.specs.Accepted.{Accepted, nodes}
-use Rattle.nav_laws.specs.Below.{below, from-label, On-level}
-use Rattle.nav_laws.specs.Paths.{node-on, onward, downward, rest, standing}
+use Rattle.nav_laws.specs.Below.{On-level, level-left}
+use Rattle.nav_laws.specs.FoundBranch.{First-branch}
+use Rattle.nav_laws.specs.PathSteps.{Branch-from, Node-branch, own-branch, first-there, leaf-slot, child-on}
+use Rattle.nav_laws.specs.Positions.{child-at, slot-at}
 use Rattle.nav_laws.specs.Slots.{slot-of}
 use Rattle.query_laws.specs.Bounds.{low-rest}
-use Rattle.query_laws.specs.Next.{head-of, behind-each, front-head, below-some, from-some}
-use Rattle.query_laws.specs.Seeks.{low-each, low-of, standing-low}
-use Rattle.query_laws.specs.Seeking.{leaf-below, Has-higher}
+use Rattle.query_laws.specs.FirstLeaf.{leaf-below, leaf-behind, below-exact, below-plain, behind-own, behind-leaf, behind-child}
+use Rattle.query_laws.specs.Seeks.{low-each, low-of}
+use Rattle.query_laws.specs.Seeking.{Has-higher}
 
 -- An optional leaf is the one at this stop, whose cut key is the first `depth` bytes of `cut`.
 pub record Has-key (s : Bytes) (f : Frame) (leaf : Option Leaf) (stop : LeafStop) (cut : Bytes) (depth : ℕ) : Type 0 where
@@ -56,41 +60,102 @@ pub open-key : (s : Bytes) (f : Frame) (v : ValuePos) (cut : Bytes) (d : ℕ) �
 unfolding lowest low-rest
 open-key s f v cut d h i = record { low-is = refl; depth-in = h; slot-in = λ u q. let e : v ≡ u = cc in rw e at i }
 
--- ---- a start that begins a path's labels
+-- the exact leaf there
+pub exact-key : (s : Bytes) (f : Frame) (suffix : Bits) (cut : Bytes) (d : ℕ) → d ≤ 64 → Has-key s f (some (record { cut = take d cut; exact = true; suffix = suffix })) Exact cut d
+unfolding lowest
+exact-key s f suffix cut d h = record { low-is = refl; depth-in = h; slot-in = λ u q. let z : _≡_ {A = ℕ} 0 1 = cc in absurd (omega arith) }
 
--- the labels of a path begin with the start
+-- ---- a key that begins with the start
+
+-- the key begins with the start
 abbrev pub Begins-with : Bytes → Bytes → Type 0
-Begins-with labels start = take (length start) labels ≡ start
+Begins-with key start = take (length start) key ≡ start
 
-module _ (labels start : Bytes) (b : Begins-with labels start) (d : ℕ) where
-  -- their front is that of the start
-  pub same-front : d ≤ length start → take d labels ≡ take d start
-  same-front h = sym (take-take d (length start) labels h) ∙ ap (take d) b
+-- its front is that of the start
+pub same-front : (key start : Bytes) → Begins-with key start → (d : ℕ) → d ≤ length start → take d key ≡ take d start
+same-front key start b d h = sym (take-take d (length start) key h) ∙ ap (take d) b
 
-  -- and so is each byte of it
-  pub same-byte : d < length start → getD labels d 0 ≡ getD start d 0
-  same-byte h = sym (getD-take (length start) labels d 0 h) ∙ ap (λ (xs : Bytes). getD xs d 0) b
+-- ---- the way down to the first leaf
 
--- ---- the leaf where a path ends
+-- The leaf is the first behind branch b of node m, to which the first d bytes of a key of 64 lead.
+pub record First-behind (s : Bytes) (f : Frame) (leaf : Option Leaf) (key : Bytes) (m d : ℕ) (b : NextBranch) : Type 0 where
+  pub accepted : Accepted s f
+  pub branch : Node-branch s f m d b
+  pub key-size : length key ≡ 64
+  pub leaf-is : leaf ≡ leaf-behind (nodes s f) key m d (b .label)
 
--- the path's node at depth d, over whose labels the path was followed to a leaf
-module _ (s : Bytes) (f : Frame) (start labels : Bytes) (b : Begins-with labels start) (path : List NodeNum) (d m : ℕ) (at : node-on path d ≡ m) (ends : List NodeNum) (cut : Bytes) (depth : ℕ) (stop : LeafStop) where
-  -- The first leaf at or below the node has the lowest key of the leaf where the path ends.
-  pub below-low : d ≤ length start → On-level (nodes s f) (64 - d) m → downward (nodes s f) path labels d ≡ standing (f .width) (nodes s f) ends cut depth stop
-      → low-each (leaf-below (nodes s f) start m d) ≡ low-of (f .width) (nodes s f) stop (take depth cut)
-  unfolding downward
-  below-low h on e =
-      let t = rw (same-front labels start b d h, at) at (ap head-of e) in
-      ap low-each (sym (front-head (take d start) (below (nodes s f) (64 - d) m) (rest (nodes s f) path labels d) (below-some (nodes s f) (64 - d) m on)) ∙ t)
-      ∙ standing-low (f .width) (nodes s f) ends cut depth stop
+-- The leaf is the first at or below node m, to which the first d bytes of a key of 64 lead.
+pub record First-below (s : Bytes) (f : Frame) (leaf : Option Leaf) (key : Bytes) (m d : ℕ) : Type 0 where
+  pub accepted : Accepted s f
+  pub level : On-level (nodes s f) (64 - d) m
+  pub key-size : length key ≡ 64
+  pub leaf-is : leaf ≡ leaf-below (nodes s f) key m d
 
-  -- And so has the first leaf behind the node's labels above the start's byte.
-  pub higher-low : d < length start → length start ≤ 64 → Has-higher (nodes s f) start m d → onward (nodes s f) path labels d (getD start d 0 + 1) ≡ standing (f .width) (nodes s f) ends cut depth stop
-      → low-each (behind-each (take d start) (head-of (from-label (nodes s f) (63 - d) m (getD start d 0 + 1)))) ≡ low-of (f .width) (nodes s f) stop (take depth cut)
-  unfolding onward
-  higher-low h short up e =
-      let z : 64 - d ≡ suc (63 - d) = omega arith in
-      let t = rw (same-front labels start b d (omega arith), at) at (ap head-of e) in
-      let some = from-some (nodes s f) (63 - d) m (getD start d 0 + 1) (rw z at (up .level)) (up .label-there) in
-      ap low-each (sym (front-head (take d start) (from-label (nodes s f) (63 - d) m (getD start d 0 + 1)) (rest (nodes s f) path labels d) some) ∙ t)
-      ∙ standing-low (f .width) (nodes s f) ends cut depth stop
+-- The leaf is the one where a way from the root ends, whose labels are at the front of a key of 64 bytes.
+pub record Reached (s : Bytes) (f : Frame) (leaf : Option Leaf) (key : Bytes) (end : LeafEnd) : Type 0 where
+  pub key-is : Has-key s f leaf (end .stop) key (end .depth)
+  pub key-size : length key ≡ 64
+
+-- a node and its first branch
+module _ {s : Bytes} {f : Frame} {leaf : Option Leaf} {key : Bytes} {m d : ℕ} (w : First-below s f leaf key m d) where
+  -- a node on its level stands above the 64th
+  pub below-deep : d < 64
+  below-deep = omega (arith, level-left (nodes s f) (64 - d) m (w .level))
+
+  module _ (first : FirstBranch) (n : First-branch s f m first) where
+    -- the node is an exact leaf
+    pub exact-reached : first .exact ≡ true → Reached s f leaf key (record { depth = d; stop = Exact })
+    exact-reached e =
+        record { key-is = rw (w .leaf-is ∙ below-exact (nodes s f) key m d below-deep (sym (n .exact-is) ∙ e)) (exact-key s f _ key d (omega (arith, below-deep))); key-size = w .key-size }
+
+    -- it is none, and has a first branch
+    pub first-behind : first .exact ≡ false → First-behind s f leaf key m d (first .branch)
+    first-behind e =
+        let there = first-there s f (64 - d) m (first .branch) (w .level) (n .branch-is) in
+        record {
+          accepted = w .accepted;
+          branch = record { deep = below-deep; on = w .level; there = there; branch-is = own-branch s f (64 - d) m 0 (first .branch) (w .level) (n .branch-is) there };
+          key-size = w .key-size;
+          leaf-is = w .leaf-is ∙ below-plain (nodes s f) key m d below-deep (sym (n .exact-is) ∙ e) ∙ behind-own s f key m d 0 (first .branch) (w .level) (n .branch-is) there;
+        }
+
+-- a branch, whose label goes to the key
+module _ {s : Bytes} {f : Frame} {leaf : Option Leaf} {key : Bytes} {m d : ℕ} {b : NextBranch} (w : First-behind s f leaf key m d b) where
+  label-size : length (set key d (b .label)) ≡ 64
+  label-size = length-set key d (b .label) ∙ w .key-size
+
+  -- it ends at an open leaf
+  pub open-reached : (v : ValuePos) → v .0 ≡ slot-at s f m (b .at .0) → b .kind ≡ Kind.Leaf → Reached s f leaf (set key d (b .label)) (record { depth = d + 1; stop = Open v })
+  open-reached v is ends = record {
+    key-is =
+        rw (w .leaf-is ∙ behind-leaf s f (w .accepted) key m d b (w .branch) (w .key-size) v is ends)
+        (open-key s f v (set key d (b .label)) (d + 1) (omega (arith, w .branch .deep)) (leaf-slot s f (w .accepted) m d b (w .branch) v is ends));
+    key-size = label-size;
+  }
+
+  -- it continues to a node
+  pub child-below : (c : NodeNum) → c .0 ≡ child-at s f m (b .at .0) → b .kind ≡ Kind.Child → First-below s f leaf (set key d (b .label)) (c .0) (d + 1)
+  child-below c is continues = record {
+    accepted = w .accepted;
+    level = child-on s f (w .accepted) m d b (w .branch) c is continues;
+    key-size = label-size;
+    leaf-is = w .leaf-is ∙ behind-child s f (w .accepted) key m d b (w .branch) (w .key-size) c is continues;
+  }
+
+-- ---- from the way along a start
+
+module _ {s : Bytes} {f : Frame} (a : Accepted s f) {key start : Bytes} (size : length key ≡ 64) (begins : Begins-with key start) {m d : ℕ} where
+  -- the node where the way ends
+  pub start-below : d ≤ length start → On-level (nodes s f) (64 - d) m → First-below s f (leaf-below (nodes s f) start m d) key m d
+  start-below h on = record { accepted = a; level = on; key-size = size; leaf-is = rw (same-front key start begins d h) }
+
+  -- the first branch of a node on the way with a higher label than the start's byte
+  pub start-behind : {b : NextBranch} → d < length start → length start ≤ 64 → Has-higher (nodes s f) start m d → Branch-from s f m (getD start d 0 + 1) b → First-behind s f (leaf-behind (nodes s f) start m d (getD start d 0 + 1)) key m d b
+  start-behind {b} h short up is =
+      let there : b .kind ≡ Kind.Absent → ⊥ = λ e. up .label-there (sym (is .kind-is) ∙ e) in
+      record {
+        accepted = a;
+        branch = record { deep = omega arith; on = up .level; there = there; branch-is = own-branch s f (64 - d) m (getD start d 0 + 1) b (up .level) is there };
+        key-size = size;
+        leaf-is = behind-own s f start m d (getD start d 0 + 1) b (up .level) is there ∙ rw (same-front key start begins d (omega arith));
+      }

@@ -15,3 +15,4 @@ pub mod LeafKeys
 pub mod SlotBits
 pub mod Sought
 pub mod Summed
+pub mod FirstLeaf

@@ -12,9 +12,8 @@ use borrow.Author.Tests.{eqb-true, eqb-false, leb-true, leb-false}
 use Rattle.spec.specs.Bytes.{Bytes, Bits, bit, count}
 use Rattle.spec.specs.Leaves.{Leaf}
 use Rattle.spec.specs.Nodes.{Group, Branch, to-node, to-leaf, Node, node, branches-of, is-exact, prefix, branch-leaves, children, exact-leaf}
-use Rattle.nav_laws.specs.declared.BranchKind.{BranchKind}
 use Rattle.nav_laws.specs.declared.BranchKind.the-variants.{Absent, Leaf as Ends, Child}
-use Rattle.nav_laws.specs.Counting.{labels-below, none-below-zero, below-low, below-high, counts, counts-low, counts-same, open-same, prefixed-low, branches-none, branches-high, count-append, exact-none, exact-counted}
+use Rattle.nav_laws.specs.Counting.{labels-below, below-low, below-high, counts, counts-low, counts-same, open-same, prefixed-low, branches-none, branches-high, count-append, exact-none, exact-counted}
 use Rattle.nav_laws.specs.Slots.{node-at, slot-number, slot-of, slot-is}
 use Rattle.nav_laws.specs.Descent.{child-number}
 use Rattle.nav_laws.specs.NextLabel.{first-kind, kind-with, is-there, there-not, not-there, low-none}
@@ -92,7 +91,8 @@ behind-or : (p : Bytes) (a b : Option Leaf) → behind-each p (or-else a b) ≡ 
 behind-or p none b = refl
 behind-or p (some l) b = refl
 
-behind-twice : (p : Bytes) (x : ℕ) (a : Option Leaf) → behind-each p (behind-each (x ∷ []) a) ≡ behind-each (p ++ (x ∷ [])) a
+-- bytes before a label before a leaf
+pub behind-twice : (p : Bytes) (x : ℕ) (a : Option Leaf) → behind-each p (behind-each (x ∷ []) a) ≡ behind-each (p ++ (x ∷ [])) a
 behind-twice p x none = refl
 behind-twice p x (some l) = ap (λ (c : Bytes). some (record { cut = c; exact = l .exact; suffix = l .suffix })) (sym (append-assoc p (x ∷ []) (l .cut)))
 
@@ -278,7 +278,7 @@ below-some ns (suc l) m on =
     rw (below-step ns l m) (omega (arith, length-append (exact-leaf (own-slot (node-at ns m))) (from-label ns l m 0), from-deep ns l m 0 on (λ c o. below-some ns l c o) (level-branch ns (suc l) m on)))
 
 -- Behind a branch from the label y on there is a leaf.
-pub from-some : (ns : List Node) (l m y : ℕ) → On-level ns (suc l) m → (first-kind (drop (place-at ns m y) (branches-at ns m)) ≡ Absent → ⊥) → 0 < length (from-label ns l m y)
+from-some : (ns : List Node) (l m y : ℕ) → On-level ns (suc l) m → (first-kind (drop (place-at ns m y) (branches-at ns m)) ≡ Absent → ⊥) → 0 < length (from-label ns l m y)
 from-some ns l m y on h = from-deep ns l m y on (λ c o. below-some ns l c o) h
 
 -- ---- the leaf behind a higher label

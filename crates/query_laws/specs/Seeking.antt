@@ -9,7 +9,7 @@ use native.Mathlib.Numerals.{add-one}
 use lib.ListN.{length, getD, take, drop, drop-of-length-le}
 use lib.Seq.{take-suc}
 use lib.Dec.{eqb}
-use Rattle.spec.specs.Bytes.{Bytes, Bits, bit}
+use Rattle.spec.specs.Bytes.{Bytes, bit}
 use Rattle.spec.specs.Leaves.{Leaf}
 use Rattle.spec.specs.Nodes.{Branch, to-node, to-leaf, Node, branches-of, read-leaves}
 use Rattle.image_types.specs.declared.Frame.{Frame}
@@ -18,7 +18,7 @@ use Rattle.image_types.specs.declared.ValuePos.{ValuePos}
 use Rattle.nav_laws.specs.declared.BranchKind.the-variants as Kind
 use Rattle.nav_laws.specs.declared.Found.{Found}
 use Rattle.nav_laws.specs.Accepted.{Accepted, nodes}
-use Rattle.nav_laws.specs.Below.{below, from-label, On-level, level-child}
+use Rattle.nav_laws.specs.Below.{from-label, On-level, level-child}
 use Rattle.nav_laws.specs.Counting.{labels-below}
 use Rattle.nav_laws.specs.Descent.{child-number}
 use Rattle.nav_laws.specs.FoundBranch.{node-count, Found-branch, Behind-branch}
@@ -31,6 +31,7 @@ use Rattle.query_laws.specs.declared.LastHigher.the-variants.{None, At}
 use Rattle.query_laws.specs.declared.WayEnd.{WayEnd}
 use Rattle.query_laws.specs.declared.WayEnd.the-variants as End
 use Rattle.query_laws.specs.Bounds.{high-passed}
+use Rattle.query_laws.specs.FirstLeaf.{leaf-below, leaf-behind}
 use Rattle.query_laws.specs.Next.{head-of, behind-each, higher-at, higher-kept, higher-taken, next-from, next-end, next-absent, next-open, next-child}
 use Rattle.query_laws.specs.Ordered.{next-leaf}
 use Rattle.query_laws.specs.Seeks.{root-level, next-root}
@@ -43,7 +44,7 @@ use Rattle.query_laws.specs.Summed.{Leading, Summed, leading-root, leadi
 -- the first leaf behind the last higher label: none, or behind the labels of a node above the start's byte at its depth
 abbrev pub higher-leaf : List Node → Bytes → LastHigher → Option Leaf
 higher-leaf ns start None = none
-higher-leaf ns start (At m d) = behind-each (take d start) (head-of (from-label ns (63 - d) (m .0) (getD start d 0 + 1)))
+higher-leaf ns start (At m d) = leaf-behind ns start (m .0) d (getD start d 0 + 1)
 
 -- Node m, at depth d of the way, has a label above the start's byte there.
 pub record Has-higher (ns : List Node) (start : Bytes) (m d : ℕ) : Type 0 where
@@ -54,10 +55,6 @@ pub record Has-higher (ns : List Node) (start : Bytes) (m d : ℕ) : Type 0 wher
 abbrev pub Higher-in : List Node → Bytes → ℕ → LastHigher → Type 0
 Higher-in ns start n None = Unit
 Higher-in ns start n (At m d) = (d < n) × Has-higher ns start (m .0) d
-
--- the first leaf at or below node m, to which the first d bytes of the start lead
-abbrev pub leaf-below : List Node → Bytes → ℕ → ℕ → Option Leaf
-leaf-below ns start m d = behind-each (take d start) (head-of (below ns (64 - d) m))
 
 -- the leaf where the way ends, m the last node and d its depth: the one behind the last higher label; the first at or below the node; the open leaf
 abbrev pub end-leaf : ℕ → List Node → Bytes → WayEnd → LastHigher → ℕ → ℕ → Option Leaf

@@ -5,7 +5,7 @@ use mathlib.Core.Bool.{false}
 use mathlib.Core.List.{List, [], _∷_, _++_}
 use mathlib.Core.Option.{Option, none, some}
 use native.Mathlib.Omega.{arith}
-use lib.ListN.{length, take}
+use lib.ListN.{length}
 use Rattle.spec.specs.Bytes.{Bytes, concat}
 use Rattle.spec.specs.Leaves.{Leaf, lowest}
 use Rattle.spec.specs.Nodes.{Node, read-leaves}
@@ -13,18 +13,16 @@ use Rattle.spec.specs.Questions.{Sought, found, greater}
 use Rattle.spec.specs.Questions as spec
 use Rattle.theory.specs.LevelTrie.{trie}
 use Rattle.image_types.specs.declared.Frame.{Frame}
-use Rattle.image_types.specs.declared.NodeNum.{NodeNum}
 use Rattle.nav_laws.specs.declared.LeafStop.{LeafStop}
 use Rattle.nav_laws.specs.declared.LeafStop.the-variants.{Nowhere, Exact, Open}
 use Rattle.nav_laws.specs.Accepted.{Accepted, nodes}
 use Rattle.nav_laws.specs.Below.{below, On-level, Root, level-node, trie-root}
 use Rattle.nav_laws.specs.Counting.{counts}
 use Rattle.nav_laws.specs.FoundBranch.{node-count}
-use Rattle.nav_laws.specs.Paths.{standing}
 use Rattle.nav_laws.specs.Slots.{slot-of}
 use Rattle.query_laws.specs.Bounds.{low-rest, high-passed, highest-counts}
 use Rattle.query_laws.specs.Followed.{node-length}
-use Rattle.query_laws.specs.Next.{head-of, or-else, next-of, behind-each, next-from}
+use Rattle.query_laws.specs.Next.{or-else, next-of, behind-each, next-from}
 use Rattle.query_laws.specs.Ordered.{next-leaf, found-leaf}
 
 -- ---- the lowest key of the leaf that is found
@@ -39,13 +37,6 @@ abbrev pub low-of : ℕ → List Node → LeafStop → Bytes → Option Bytes
 low-of w ns Nowhere cut = none
 low-of w ns Exact cut = some cut
 low-of w ns (Open v) cut = some (cut ++ low-rest (length cut) (slot-of w ns (v .0)))
-
--- The leaf where a path ends has that lowest key.
-pub standing-low : (w : ℕ) (ns : List Node) (path : List NodeNum) (labels : Bytes) (d : ℕ) (stop : LeafStop) → low-each (head-of (standing w ns path labels d stop)) ≡ low-of w ns stop (take d labels)
-unfolding standing lowest low-rest
-standing-low w ns path labels d Nowhere = refl
-standing-low w ns path labels d Exact = refl
-standing-low w ns path labels d (Open v) = refl
 
 -- what a seek finds, by the lowest key of the leaf
 abbrev pub found-low : Option Bytes → ℕ → Bytes → Sought

@@ -10,13 +10,12 @@ use Rattle.image_types.specs.declared.ValuePos.{ValuePos}
 use Rattle.nav_laws.specs.declared.LeafStop.{LeafStop}
 use Rattle.nav_laws.specs.declared.LeafStop.the-variants.{Nowhere, Exact, Open}
 use Rattle.nav_laws.specs.Accepted.{Accepted, nodes}
-use Rattle.nav_laws.specs.Below.{On-level}
 use Rattle.nav_laws.specs.Slots.{slot-of}
 use Rattle.query_laws.specs.declared.LastHigher.{LastHigher}
 use Rattle.query_laws.specs.Bounds.{high-passed}
-use Rattle.query_laws.specs.LeafKeys.{Has-key}
+use Rattle.query_laws.specs.LeafKeys.{Begins-with, Reached}
 use Rattle.query_laws.specs.Ordered.{next-leaf}
-use Rattle.query_laws.specs.Seeking.{leaf-end, Key-followed}
+use Rattle.query_laws.specs.Seeking.{leaf-end, Higher-in, Key-followed}
 use Rattle.query_laws.specs.Summed.{Summed}
 use Rattle.query_count.specs.declared.levels.LevelSum.{LevelSum}
 use Rattle.query_seek.specs.declared.way.Way.{Way}
@@ -54,21 +53,24 @@ leaf-there Nowhere = false
 leaf-there Exact = true
 leaf-there (Open v) = true
 
--- The first `depth` bytes of a start lead to node m, which stands on its level.
-pub record Starts-at (s : Bytes) (f : Frame) (start : Bytes) (m depth : ℕ) : Type 0 where
+-- This is the last higher label that a start has passed, and a key of 64 bytes begins with the start.
+pub record Passed-higher (s : Bytes) (f : Frame) (start : Bytes) (higher : LastHigher) (key : Bytes) : Type 0 where
   pub accepted : Accepted s f
   pub short : length start ≤ 64
-  pub depth-in : depth ≤ length start
-  pub level : On-level (nodes s f) (64 - depth) m
+  pub key-size : length key ≡ 64
+  pub begins : Begins-with key start
+  pub inside : Higher-in (nodes s f) start (length start) higher
 
--- The start of a seek has been followed this way.
-pub record Way-followed (s : Bytes) (f : Frame) (start : Bytes) (way : Way) : Type 0 where
+-- The start of a seek has been followed this way, and a key of 64 bytes begins with it.
+pub record Way-followed (s : Bytes) (f : Frame) (start : Bytes) (way : Way) (key : Bytes) : Type 0 where
   pub accepted : Accepted s f
   pub short : length start ≤ 64
+  pub key-size : length key ≡ 64
+  pub begins : Begins-with key start
   pub ended : Key-followed s f start (way .end) (way .higher) (way .bound .node .0) (way .bound .depth) (way .bound .sum)
 
--- The first leaf that the start has not passed, and the start's bound.
-pub record Next-leaf (s : Bytes) (f : Frame) (start : Bytes) (r : NextLeaf) : Type 0 where
-  pub leaf : Has-key s f (next-leaf (read-leaves s) start) (r .leaf .stop) (r .leaf .cut) (r .leaf .depth)
+-- The first leaf that the start has not passed, with its cut key at the front of a key, and the start's bound.
+pub record Next-leaf (s : Bytes) (f : Frame) (start key : Bytes) (r : NextLeaf) : Type 0 where
+  pub leaf : Reached s f (next-leaf (read-leaves s) start) key (r .end)
   -- where there is a leaf, the bound is that of the start
-  pub bound : (r .leaf .stop ≡ Nowhere → ⊥) → Summed s f start (r .bound .node .0) (r .bound .depth) (r .bound .sum)
+  pub bound : (r .end .stop ≡ Nowhere → ⊥) → Summed s f start (r .bound .node .0) (r .bound .depth) (r .bound .sum)

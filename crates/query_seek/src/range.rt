@@ -17,14 +17,14 @@ pub fn range(image: &[u8], f: Frame, lo: &[u8], hi: &[u8]) -> usize
     requires { ⌜ Accepted (now image) f × (length (now lo) ≤ 64) × (length (now hi) ≤ 64) ⌝ }
     ensures { λ r. ⌜ r ≡ range (read-leaves (now (image .entry))) (now (lo .entry)) (now (hi .entry)) ⌝ }
 {
-    let next = next_leaf(image, f, lo);
-    let leaf = next.leaf;
-    let stop = leaf.stop;
-    let mut key = leaf.cut;
+    let mut key = [0u8; 64];
+    let next = next_leaf(image, f, lo, &mut key);
+    let end = next.end;
+    let stop = end.stop;
     if !is_leaf(stop) {
         return 0;
     }
-    let n = lowest_key(image, f, stop, &mut key, leaf.depth);
+    let n = lowest_key(image, f, stop, &mut key, end.depth);
     let order = compare(hi, &key[..n]);
     match order {
         Order::Below => 0,

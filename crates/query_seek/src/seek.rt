@@ -69,36 +69,32 @@ fn greater_key(start: &[u8], key: &mut [u8], n: usize) -> usize
     }
 }
 
-// What a seek finds: the leaf, if there is one, and a key in the first n bytes of an array.
+// What a seek finds: the leaf, if there is one, and how many bytes of a buffer are its key.
 pub struct Sought {
     pub leaf: SoughtLeaf,
-    pub key: [u8; 64],
     pub n: usize,
 }
 
-// The first leaf whose highest possible key is not below the start: its number, and the greater of the start and its lowest key. `starts` is the sum of slot numbers for the empty key.
-pub fn seek(image: &[u8], f: Frame, starts: usize, start: &[u8]) -> Sought
-    requires { ⌜ Accepted (now image) f × (starts ≡ level-starts (now image) f) × (length (now start) ≤ 64) ⌝ }
-    ensures { λ r. ⌜ Is-sought (now (image .entry)) (now (start .entry)) (r .leaf) (r .key) (r .n) ⌝ }
+// The first leaf whose highest possible key is not below the start: its number, and in the first n bytes of `key` the greater of the start and its lowest key. `starts` is the sum of slot numbers for the empty key.
+pub fn seek(image: &[u8], f: Frame, starts: usize, start: &[u8], key: &mut [u8]) -> Sought
+    requires { ⌜ Accepted (now image) f × (starts ≡ level-starts (now image) f) × (length (now start) ≤ 64) × (length (now key) ≡ 64) ⌝ }
+    ensures { λ r. ⌜ Is-sought (now (image .entry)) (now (start .entry)) (r .leaf) (now (key .exit)) (r .n) × (length (now (key .exit)) ≡ 64) ⌝ }
 {
-    let next = next_leaf(image, f, start);
-    let leaf = next.leaf;
-    let stop = leaf.stop;
-    let mut key = leaf.cut;
+    let next = next_leaf(image, f, start, key);
+    let end = next.end;
+    let stop = end.stop;
     if !is_leaf(stop) {
         return Sought {
             leaf: SoughtLeaf::None,
-            key,
             n: 0,
         };
     }
-    let low = lowest_key(image, f, stop, &mut key, leaf.depth);
-    let n = greater_key(start, &mut key, low);
+    let low = lowest_key(image, f, stop, key, end.depth);
+    let n = greater_key(start, key, low);
     let bound = next.bound;
     let number = sum_below(image, f, bound) - starts;
     Sought {
         leaf: SoughtLeaf::At(number),
-        key,
         n,
     }
 }

@@ -27,7 +27,7 @@ use Rattle.nav_paths.specs.declared.higher.Higher.{Higher}
 use Rattle.nav_paths.specs.PathContracts.{Searchable, Next-higher}
 use Rattle.walk_laws.specs.SuffixNumber.{number-zero}
 use Rattle.walk_cursor.specs.declared.Cursor.{Cursor}
-use Rattle.walk_levels.specs.declared.moves.LeafEnd.{LeafEnd}
+use Rattle.nav_laws.specs.declared.LeafEnd.{LeafEnd}
 use Rattle.walk_levels.specs.declared.moves.Resume.{Resume}
 use Rattle.walk_levels.specs.Levels.{numbered, path-of, Levels, Descended}
 use Rattle.walk_cursor.specs.Stands.{Stands, At-leaf, Stands-at, No-leaf, cursor-of, Resumes-from, Reads-leaf, Is-leaf}

@@ -16,7 +16,7 @@ use Rattle.nav_laws.specs.Accepted.{Accepted, nodes}
 use Rattle.nav_laws.specs.Paths.{standing}
 use Rattle.nav_laws.specs.PathSteps.{Ends}
 use Rattle.nav_laws.specs.Slots.{slot-of}
-use Rattle.walk_levels.specs.declared.moves.LeafEnd.{LeafEnd}
+use Rattle.nav_laws.specs.declared.LeafEnd.{LeafEnd}
 use Rattle.walk_levels.specs.declared.moves.Resume.{Resume}
 use Rattle.walk_levels.specs.Levels.{numbered, Kept, Room}
 use Rattle.walk_cursor.specs.declared.Cursor.{Cursor}

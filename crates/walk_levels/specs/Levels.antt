@@ -23,7 +23,7 @@ use Rattle.nav_paths.specs.declared.higher.Higher.{Higher}
 use Rattle.nav_paths.specs.PathContracts.{Searchable, Next-higher, Reaches}
 use Rattle.walk_levels.specs.declared.entries.Entry.{Entry}
 use Rattle.walk_levels.specs.declared.moves.Entered.{Entered}
-use Rattle.walk_levels.specs.declared.moves.LeafEnd.{LeafEnd}
+use Rattle.nav_laws.specs.declared.LeafEnd.{LeafEnd}
 use Rattle.walk_levels.specs.declared.moves.Resume.{Resume}
 use Rattle.walk_levels.specs.Entries.{child-from, Next-entry, Behind-node}
 

@@ -18,6 +18,7 @@ use image_types::NodeNum;
 use nav::branches::is_there;
 use nav_laws::BranchKind;
 use nav_laws::FirstBranch;
+use nav_laws::LeafEnd;
 use nav_laws::LeafStop;
 use nav_laws::NextBranch;
 use nav_paths::higher::Higher;
@@ -32,12 +33,6 @@ pub struct Resume {
 pub struct Entered {
     pub first: FirstBranch,
     pub entry: Entry,
-}
-
-// The leaf where a path ends, and how many labels lead to it.
-pub struct LeafEnd {
-    pub depth: usize,
-    pub stop: LeafStop,
 }
 
 // The next higher branch of the path. Its levels stay as they are: a node without a branch left is left behind its last entry.

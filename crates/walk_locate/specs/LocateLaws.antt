@@ -226,17 +226,17 @@ module _ (s : Bytes) (f : Frame) (a : Accepted s f) (place : ℕ) (p : Path) (d 
         record {
           nodes-room = g .nodes-room;
           labels-room = length-set (p .labels) d (r .low .label) ∙ g .labels-room;
-          ends = ends-open s f (p .nodes) d (g .deep) (g .on) v (leaf-slot s f a (p .nodes) (p .labels) d (r .low) taken v is ends);
+          ends = ends-open s f (p .nodes) d (g .deep) (g .on) v (leaf-slot s f a (node-on (p .nodes) d) d (r .low) taken v is ends);
           leaves-are = leaves-behind ∙ ap (λ (n : ℕ). drop n (onward (nodes s f) (p .nodes) (p .labels) d (r .low .label))) z ∙ leaf-onward s f a (p .nodes) (p .labels) d (r .low) taken v is ends (g .labels-room);
         }
 
     -- it continues to a node
     module _ (c : NodeNum) (is : c .0 ≡ child-at s f (node-on (p .nodes) d) (r .low .at .0)) (continues : r .low .kind ≡ Kind.Child) where
       pub next-deep : d + 1 < 64
-      next-deep = child-deep s f a (p .nodes) (p .labels) d (r .low) taken c is continues
+      next-deep = child-deep s f a (node-on (p .nodes) d) d (r .low) taken c is continues
 
       pub next-on : On-level (nodes s f) (64 - (d + 1)) (c .0)
-      next-on = child-on s f a (p .nodes) (p .labels) d (r .low) taken c is continues
+      next-on = child-on s f a (node-on (p .nodes) d) d (r .low) taken c is continues
 
       next-node : node-on (set (p .nodes) (d + 1) c) (d + 1) ≡ c .0
       next-node = child-node s f a (p .nodes) (p .labels) d (r .low) taken c is continues (g .nodes-room)

@@ -8,10 +8,10 @@ ghost use Rattle.walk_levels.specs.Levels.{numbered};
 ghost use Rattle.walk_cursor.specs.Stands.{Stands-at};
 use descent::descend_to;
 use image_types::Frame;
+use nav_laws::LeafEnd;
 use nav_laws::Path;
 use walk_cursor::Cursor;
 use walk_cursor::at_no_leaf;
-use walk_levels::moves::LeafEnd;
 
 pub mod branch; // branch.rt: the branch of a node before which so many of its leaves stand
 pub mod descent; // descent.rt: the path from the root to the leaf at a place

@@ -13,6 +13,9 @@ enum-known-question c = search needs
 key-at-requires : tie.Need-key-at-requires
 key-at-requires c κs = inside-keyless (c .before .before .before .before .before .args .file .now) (c .before .question .given .1) (c .before .before .before .before .before .pre .2)
 
+slice-aggregate-seek-reply : tie.Need-slice-aggregate-seek-reply
+slice-aggregate-seek-reply c = search needs
+
 seek-reply-requires : tie.Need-seek-reply-requires
 seek-reply-requires c κs = search needs
 
@@ -30,11 +33,11 @@ enum-told-4 c = search needs
 
 returns : tie.Need-returns
 returns c =
-    let a = c .before .before .before .before .before .before .before .args in
-    let g = c .before .before .before .question .given in
-    let r = c .seek-reply in
-    let e = r .ensures .1 ∙ seek-keyless (read-leaves (a .image .now)) (a .file .now) (g .0 .0) (g .0 .1 .0) _ (c .before .key-at .ensures .0) ∙ reply-keyless (read-leaves (a .image .now)) (a .file .now) (g .1) in
-    (reply-key (read-leaves (a .image .now)) (a .file .now) (r .result) (a .question) (r .ensures .0) e, r .ensures .0 .small)
+    let a = c .before .before .before .before .before .before .before .before .before .args in
+    let g = c .before .before .before .before .before .question .given in
+    let r = c .before .seek-reply in
+    let e = r .ensures .1 ∙ seek-keyless (read-leaves (a .image .now)) (a .file .now) (g .0 .0) (g .0 .1 .0) _ (c .before .before .before .key-at .ensures .0) ∙ reply-keyless (read-leaves (a .image .now)) (a .file .now) (g .1) in
+    (reply-key (read-leaves (a .image .now)) (a .file .now) (r .result) _ (a .question) (r .ensures .0) e, r .ensures .0 .small)
 
 returns-2 : tie.Need-returns-2
 returns-2 c =
@@ -62,6 +65,7 @@ key-length-spec =
     (tie.spec
     enum-known-question
     key-at-requires
+    slice-aggregate-seek-reply
     seek-reply-requires
     enum-told
     enum-told-2

@@ -1,5 +1,5 @@
 -- The replies to the questions passed stand in the buffer, one behind the other.
-use mathlib.Core.Path.{sym, ap, _∙_}
+use mathlib.Core.Path.{_≡_, sym, ap, _∙_}
 use mathlib.Core.List.{_++_}
 use Prim.Native.Nat.{ℕ, _≤_, _-_}
 use native.Mathlib.Omega.{arith}
@@ -13,10 +13,10 @@ use Rattle.ask.proofs.replies.write_replies.Statement.{statement}
 use Rattle.ask.proofs.replies.write_replies.Tie as tie
 
 abbrev Inv-loop : tie.InvT-loop
-Inv-loop image f file out₀ starts at₀ to₀ out at to = (at ≤ length file) × Replied (read-leaves image) file out₀ at to out
+Inv-loop image f file out₀ starts key₀ at₀ to₀ out key at to = (at ≤ length file) × Replied (read-leaves image) file out₀ at to out × (length key ≡ 64)
 
 abbrev μ-loop : tie.MeasureT-loop
-μ-loop image f file out₀ starts at₀ to₀ out at to = length file - at
+μ-loop image f file out₀ starts key₀ at₀ to₀ out key at to = length file - at
 
 level-starts-requires : tie.Need-level-starts-requires Inv-loop μ-loop
 level-starts-requires c κs = search needs
@@ -24,37 +24,43 @@ level-starts-requires c κs = search needs
 loop-holds : tie.Need-loop-holds Inv-loop μ-loop
 loop-holds c =
     let a = c .before .before .before .before .args in
-    (omega arith, replied-start (read-leaves (a .image .now)) (a .file .now) (a .out .now) _ (c .before .before .before .before .pre .1))
+    (omega arith, replied-start (read-leaves (a .image .now)) (a .file .now) (a .out .now) _ (c .before .before .before .before .pre .1), search needs)
 
 question-at-requires : tie.Need-question-at-requires Inv-loop μ-loop
 question-at-requires c κs = (c .loop-test .taken, c .before .loop .inv .1 .taken-here)
 
+slice-aggregate-reply-to : tie.Need-slice-aggregate-reply-to Inv-loop μ-loop
+slice-aggregate-reply-to c = search needs
+
 reply-to-requires : tie.Need-reply-to-requires Inv-loop μ-loop
-reply-to-requires c κs = (c .before .before .before .before .before .before .before .pre .0, c .before .before .before .level-starts .ensures, c .question-at .ensures .inside)
+reply-to-requires c κs = (c .before .before .before .before .before .before .before .before .pre .0, c .before .before .before .before .level-starts .ensures, c .before .question-at .ensures .inside, c .before .before .before .loop .inv .2)
+
+slice-aggregate-write-answered : tie.Need-slice-aggregate-write-answered Inv-loop μ-loop
+slice-aggregate-write-answered c = search needs
 
 write-answered-requires : tie.Need-write-answered-requires Inv-loop μ-loop
 write-answered-requires c κs =
-    let a = c .before .before .before .before .before .before .before .before .before .args in
-    let p = c .before .before .before .before .before .before .before .before .before .pre in
-    let l = c .before .before .before .before .loop in
-    let q = c .before .before .question-at in
-    let r = c .before .reply-to in
-    (r .ensures .0, answered-room (read-leaves (a .image .now)) (a .file .now) (a .out .now) (p .2) (l .at) (l .to) (l .out) (l .inv .1) (q .result .next) (q .result .question) (q .ensures .followed) (r .result) (r .ensures .0) (r .ensures .1))
-
-loop-less : tie.Need-loop-less Inv-loop μ-loop
-loop-less c =
-    let w = c .before .before .before .before .before .question-at .ensures .followed in
-    omega (arith, w .later, w .inside)
-
-loop-again : tie.Need-loop-again Inv-loop μ-loop
-loop-again c =
     let a = c .before .before .before .before .before .before .before .before .before .before .before .before .args in
     let p = c .before .before .before .before .before .before .before .before .before .before .before .before .pre in
     let l = c .before .before .before .before .before .before .before .loop in
     let q = c .before .before .before .before .before .question-at in
-    let r = c .before .before .before .before .reply-to in
+    let r = c .before .before .before .reply-to in
+    (r .ensures .0, answered-room (read-leaves (a .image .now)) (a .file .now) (a .out .now) (p .2) (l .at) (l .to) (l .out) (l .inv .1) (q .result .next) (q .result .question) (q .ensures .followed) (r .result) _ (r .ensures .0) (r .ensures .1))
+
+loop-less : tie.Need-loop-less Inv-loop μ-loop
+loop-less c =
+    let w = c .before .before .before .before .before .before .before .before .question-at .ensures .followed in
+    omega (arith, w .later, w .inside)
+
+loop-again : tie.Need-loop-again Inv-loop μ-loop
+loop-again c =
+    let a = c .before .before .before .before .before .before .before .before .before .before .before .before .before .before .before .args in
+    let p = c .before .before .before .before .before .before .before .before .before .before .before .before .before .before .before .pre in
+    let l = c .before .before .before .before .before .before .before .before .before .before .loop in
+    let q = c .before .before .before .before .before .before .before .before .question-at in
+    let r = c .before .before .before .before .before .before .reply-to in
     let w = c .before .before .write-answered .ensures in
-    (q .ensures .followed .inside, answered-more (read-leaves (a .image .now)) (a .file .now) (a .out .now) (p .2) (l .at) (l .to) (l .out) (l .inv .1) (q .result .next) (q .result .question) (q .ensures .followed) (r .result) (r .ensures .0) (r .ensures .1) _ _ (w .0) (w .1))
+    (q .ensures .followed .inside, answered-more (read-leaves (a .image .now)) (a .file .now) (a .out .now) (p .2) (l .at) (l .to) (l .out) (l .inv .1) (q .result .next) (q .result .question) (q .ensures .followed) (r .result) _ (r .ensures .0) (r .ensures .1) _ _ (w .0) (w .1), r .ensures .0 .buffer)
 
 same-length : tie.Need-same-length Inv-loop μ-loop
 same-length c =
@@ -82,7 +88,9 @@ write-replies-spec =
     level-starts-requires
     loop-holds
     question-at-requires
+    slice-aggregate-reply-to
     reply-to-requires
+    slice-aggregate-write-answered
     write-answered-requires
     loop-less
     loop-again

@@ -1,8 +1,8 @@
-use Rattle.query_seek.proofs.NextLaws.{above-branch, above-key}
-use Rattle.query_laws.specs.LeafKeys.{Has-key, no-key}
+use Rattle.query_laws.specs.LeafKeys.{First-behind, Reached, no-key, start-behind}
+use Rattle.query_laws.specs.FirstLeaf.{leaf-behind}
 use Rattle.query_laws.specs.Seeking.{higher-leaf, Higher-in}
 use Rattle.nav_laws.specs.Accepted.{nodes}
-use Rattle.nav_laws.specs.PathSteps.{Branch-from, node-in}
+use Rattle.nav_laws.specs.PathSteps.{node-in}
 use Rattle.query_laws.specs.declared.LastHigher.{LastHigher}
 use Rattle.query_laws.specs.declared.LastHigher.the-variants.{At}
 use mathlib.Core.Path.{sym, subst}
@@ -16,7 +16,7 @@ use Rattle.query_seek.proofs.next.leaf_above.Tie as tie
 
 -- where the function was entered, from where the last higher label is known
 abbrev entered : tie.After-known-told → tie.Start
-entered c = c .before .before .before .before .before
+entered c = c .before .before .before .before .before .before
 
 -- its node and its depth
 abbrev node : tie.After-known-told → NodeNum
@@ -27,17 +27,21 @@ depth c = c .before .higher .given .0 .1 .0
 
 -- the node stands on its level and has a higher label than the start's byte
 inside : (c : tie.After-known-told) → Higher-in (nodes (entered c .args .image .now) (entered c .args .f)) (entered c .args .start .now) (length (entered c .args .start .now)) (At (node c) (depth c))
-inside c = subst (λ (h : LastHigher). Higher-in (nodes (entered c .args .image .now) (entered c .args .f)) (entered c .args .start .now) (length (entered c .args .start .now)) h) (c .before .higher .given .1) (entered c .pre .2)
+inside c = subst (λ (h : LastHigher). Higher-in (nodes (entered c .args .image .now) (entered c .args .f)) (entered c .args .start .now) (length (entered c .args .start .now)) h) (c .before .higher .given .1) (entered c .pre .inside)
 
--- the first branch with such a label
-branch : (c : tie.After-next-branch) → Branch-from (entered (c .before .before .before) .args .image .now) (entered (c .before .before .before) .args .f) (node (c .before .before .before) .0) (getD (entered (c .before .before .before) .args .start .now) (depth (c .before .before .before)) 0 + 1) (c .next-branch .result)
-branch c = rw (c .before .wide .ensures .0) at (c .next-branch .ensures)
+-- where it is known, from where its first branch with such a label is
+abbrev known : tie.After-next-branch → tie.After-known-told
+known c = c .before .before .before
+
+-- the leaf is the first behind that branch
+behind : (c : tie.After-next-branch)
+    → First-behind (entered (known c) .args .image .now) (entered (known c) .args .f) (leaf-behind (nodes (entered (known c) .args .image .now) (entered (known c) .args .f)) (entered (known c) .args .start .now) (node (known c) .0) (depth (known c)) (getD (entered (known c) .args .start .now) (depth (known c)) 0 + 1)) (entered (known c) .args .key .now) (node (known c) .0) (depth (known c)) (c .next-branch .result)
+behind c =
+    let p = entered (known c) .pre in
+    start-behind (p .accepted) (p .key-size) (p .begins) (inside (known c) .0) (p .short) (inside (known c) .1) (rw (c .before .wide .ensures .0) at (c .next-branch .ensures))
 
 enum-told : tie.Need-enum-told
 enum-told c = search needs
-
-no-leaf-requires : tie.Need-no-leaf-requires
-no-leaf-requires c κs = search needs
 
 enum-known-higher : tie.Need-enum-known-higher
 enum-known-higher c = search needs
@@ -55,49 +59,38 @@ next-branch-requires : tie.Need-next-branch-requires
 next-branch-requires c κs =
     let k = c .before .before in
     let s = entered k in
-    (record { accepted = s .pre .0; inside = node-in (s .args .image .now) (s .args .f) (s .pre .0) (64 - depth k) (node k .0) (inside k .1 .level) }, omega (arith, c .wide .ensures .1))
-
-path-to-requires : tie.Need-path-to-requires
-path-to-requires c κs =
-    let k = c .before .before .before in
-    (entered k .pre .1, omega (arith, inside k .0, entered k .pre .1))
+    (record { accepted = s .pre .accepted; inside = node-in (s .args .image .now) (s .args .f) (s .pre .accepted) (64 - depth k) (node k .0) (inside k .1 .level) }, omega (arith, c .wide .ensures .1))
 
 first-behind-requires : tie.Need-first-behind-requires
-first-behind-requires c κs =
-    let k = c .before .before .before .before in
-    (entered k .pre .0, above-branch (c .path-to .result) (c .path-to .ensures .1) (omega (arith, inside k .0, entered k .pre .1)) (inside k .1) (branch (c .before)))
-
-leaf-of-requires : tie.Need-leaf-of-requires
-leaf-of-requires c κs = search needs
+first-behind-requires c κs = let w = behind (c .before) in (w .accepted, w .branch, w .key-size)
 
 returns : tie.Need-returns
 returns c =
     let s = c .before .before .before .before .before in
-    let n = c .no-leaf in
-    rw (c .before .enum-told .given .1, n .ensures .0, n .ensures .1) (no-key (s .args .image .now) (s .args .f) (n .result .cut))
+    rw (c .enum-told .given .1) (record { key-is = no-key (s .args .image .now) (s .args .f) (s .args .key .now); key-size = s .pre .key-size })
+
+same-length : tie.Need-same-length
+same-length c = search needs
 
 returns-2 : tie.Need-returns-2
 returns-2 c =
-    let p = c .before .before in
-    let k = p .before .before .before .before in
+    let b = c .before .before .before .before in
+    let k = known b in
     let s = entered k in
-    let r = c .leaf-of .result in
-    subst (λ (h : LastHigher). Has-key (s .args .image .now) (s .args .f) (higher-leaf (nodes (s .args .image .now) (s .args .f)) (s .args .start .now) h) (r .stop) (r .cut) (r .depth)) (sym (k .before .higher .given .1))
-    (above-key (p .path-to .ensures .0) (p .path-to .ensures .1) (inside k .0) (entered k .pre .1) (inside k .1) (branch (p .before)) (c .before .first-behind .ensures) (c .leaf-of .ensures))
+    let r = c .before .before .first-behind in
+    subst (λ (h : LastHigher). Reached (s .args .image .now) (s .args .f) (higher-leaf (nodes (s .args .image .now) (s .args .f)) (s .args .start .now) h) (r .last .1 .1 .1 .1 .0) (r .result)) (sym (k .before .higher .given .1)) (rw (behind b .leaf-is) (r .ensures))
 
 pub leaf-above-spec : {M : Type 1} → statement M
 leaf-above-spec =
     tie.close
     (tie.spec
     enum-told
-    no-leaf-requires
     enum-known-higher
     shared-slice-read-wide
     wide-requires
     add-next-branch
     next-branch-requires
-    path-to-requires
     first-behind-requires
-    leaf-of-requires
     returns
+    same-length
     returns-2)

@@ -1,56 +1,85 @@
-use Rattle.query_laws.specs.LeafKeys.{open-key, same-front}
+use Rattle.query_laws.specs.LeafKeys.{First-below, open-key, same-front, start-below}
+use Rattle.query_laws.specs.FirstLeaf.{leaf-below}
 use Rattle.query_laws.specs.Seeking.{higher-within, ended-past, ended-node, ended-leaf}
 use Rattle.nav_laws.specs.Accepted.{nodes}
 use Rattle.image_types.specs.declared.ValuePos.{ValuePos}
 use lib.ListN.{length}
 use native.Mathlib.Omega.{arith}
+use mathlib.Core.Path.{_∙_}
 use borrow.Author.Needs.{needs}
 use Rattle.query_seek.proofs.next.leaf_of_way.Statement.{statement}
 use Rattle.query_seek.proofs.next.leaf_of_way.Tie as tie
+
+-- where the function was entered, from where the way is known to end past all leaves below its last node, at a node, or at an open leaf
+abbrev past : tie.After-enum-told → tie.Start
+past c = c .before .before .before .before .before .before
+
+abbrev at-node : tie.After-enum-told2 → tie.Start
+at-node c = c .before .before .before .before .before .before
+
+abbrev at-leaf : tie.After-known-told → tie.Start
+at-leaf c = c .before .before .before .before .before .before .before
+
+-- the leaf is the first at or below the node
+below : (c : tie.After-enum-told2)
+    → First-below (at-node c .args .image .now) (at-node c .args .f) (leaf-below (nodes (at-node c .args .image .now) (at-node c .args .f)) (at-node c .args .start .now) (at-node c .args .way .bound .node .0) (at-node c .args .way .bound .depth)) (at-node c .args .key .now) (at-node c .args .way .bound .node .0) (at-node c .args .way .bound .depth)
+below c =
+    let p = at-node c .pre in
+    start-below (p .accepted) (p .key-size) (p .begins) (p .ended .sums .depth-in) (ended-node (p .ended) (c .enum-told2 .given .1) .1)
 
 enum-told : tie.Need-enum-told
 enum-told c = search needs
 
 leaf-above-requires : tie.Need-leaf-above-requires
 leaf-above-requires c κs =
-    let s = c .before .before .before .before .before in
+    let s = past (c .before) in
     let e = s .pre .ended in
-    (s .pre .accepted, s .pre .short, higher-within (nodes (s .args .image .now) (s .args .f)) (s .args .start .now) (s .args .way .bound .depth) (length (s .args .start .now)) (s .args .way .higher) (e .sums .depth-in) (e .higher-in))
+    record {
+      accepted = s .pre .accepted;
+      short = s .pre .short;
+      key-size = s .pre .key-size;
+      begins = s .pre .begins;
+      inside = higher-within (nodes (s .args .image .now) (s .args .f)) (s .args .start .now) (s .args .way .bound .depth) (length (s .args .start .now)) (s .args .way .higher) (e .sums .depth-in) (e .higher-in);
+    }
 
 enum-told-2 : tie.Need-enum-told-2
 enum-told-2 c = search needs
 
-leaf-below-requires : tie.Need-leaf-below-requires
-leaf-below-requires c κs =
-    let s = c .before .before .before .before .before .before in
-    let e = s .pre .ended in
-    record { accepted = s .pre .accepted; short = s .pre .short; depth-in = e .sums .depth-in; level = ended-node e (c .before .enum-told2 .given .1) .1 }
+first-below-requires : tie.Need-first-below-requires
+first-below-requires c κs = let w = below (c .before .before) in (w .accepted, w .level, w .key-size)
 
 enum-known-end : tie.Need-enum-known-end
 enum-known-end c = search needs
 
-labels-of-requires : tie.Need-labels-of-requires
-labels-of-requires c κs = search needs
+same-length : tie.Need-same-length
+same-length c = search needs
 
 returns : tie.Need-returns
 returns c =
-    let s = c .before .before .before .before .before .before in
-    rw (ended-past (s .pre .ended) (c .before .enum-told .given .1)) (c .leaf-above .ensures)
+    let k = c .before .before .before .before in
+    rw (ended-past (past k .pre .ended) (k .enum-told .given .1)) (c .before .before .leaf-above .ensures)
+
+same-length-2 : tie.Need-same-length-2
+same-length-2 c = search needs
 
 returns-2 : tie.Need-returns-2
 returns-2 c =
-    let s = c .before .before .before .before .before .before .before in
-    rw (ended-node (s .pre .ended) (c .before .before .enum-told2 .given .1) .0) (c .leaf-below .ensures)
+    let k = c .before .before .before .before .before in
+    rw (ended-node (at-node k .pre .ended) (k .enum-told2 .given .1) .0 ∙ below k .leaf-is) (c .before .before .first-below .ensures)
 
 returns-3 : tie.Need-returns-3
 returns-3 c =
-    let s = c .before .before .before .before .before .before .before in
-    let end = c .before .before .end .given in
+    let s = at-leaf c in
+    let end = c .before .end .given in
     let slot : ValuePos = end .0 .0 in
     let e = s .pre .ended in
     let there = ended-leaf e slot (end .1) in
-    let front = same-front (c .labels-of .result) (s .args .start .now) (c .labels-of .ensures) (s .args .way .bound .depth) (e .sums .depth-in) in
-    rw (there .0, ← front) (open-key (s .args .image .now) (s .args .f) slot (c .labels-of .result) (s .args .way .bound .depth) (omega (arith, e .sums .depth-in, s .pre .short)) (there .1))
+    let d = s .args .way .bound .depth in
+    let front = same-front (s .args .key .now) (s .args .start .now) (s .pre .begins) d (e .sums .depth-in) in
+    record {
+      key-is = rw (there .0, ← front) (open-key (s .args .image .now) (s .args .f) slot (s .args .key .now) d (omega (arith, e .sums .depth-in, s .pre .short)) (there .1));
+      key-size = s .pre .key-size;
+    }
 
 pub leaf-of-way-spec : {M : Type 1} → statement M
 leaf-of-way-spec =
@@ -59,9 +88,10 @@ leaf-of-way-spec =
     enum-told
     leaf-above-requires
     enum-told-2
-    leaf-below-requires
+    first-below-requires
     enum-known-end
-    labels-of-requires
+    same-length
     returns
+    same-length-2
     returns-2
     returns-3)

@@ -1,12 +1,10 @@
 -- The lowest key of the first leaf that the lower bound has not passed, against the upper bound.
 use Rattle.query_seek.proofs.NextLaws.{there-not, not-there}
 use Rattle.query_seek.proofs.RangeLaws.{range-none, range-below, range-reached}
-use Rattle.nav_laws.specs.declared.LeafStop.the-variants.{Nowhere}
 use borrow.Author.Tests.{not-true, not-false}
-use lib.ListN.{length, length-map}
 use lib.Seq.{length-take-le}
 use mathlib.Core.Logic.{inl, inr}
-use mathlib.Core.Path.{_≡_, sym, _∙_}
+use mathlib.Core.Path.{sym, _∙_}
 use native.Mathlib.Omega.{arith}
 use borrow.Author.Needs.{needs}
 use Rattle.query_seek.proofs.range.range.Statement.{statement}
@@ -14,7 +12,7 @@ use Rattle.query_seek.proofs.range.range.Tie as tie
 
 -- where the function was entered, from where the first leaf that the lower bound has not passed is known
 abbrev entered : tie.After-next-leaf → tie.Start
-entered c = c .before .before .before .before
+entered c = c .before .before .before .before .before
 
 -- where that leaf is known, from where it is there, and from where its lowest key is compared
 abbrev known : tie.Else1 → tie.After-next-leaf
@@ -26,9 +24,8 @@ lowest c = c .before .before .before
 abbrev there : tie.After-compare → tie.Else1
 there c = lowest c .before .before
 
--- the cut key is in an array of 64 bytes
-cut-size : (c : tie.After-next-leaf) → length (c .next-leaf .result .leaf .cut) ≡ 64
-cut-size c = simp length-map at (c .next-leaf .ok .1 .1 .0 .1 .1 .1 .0 .1 .0 .1)
+slice-aggregate-next-leaf : tie.Need-slice-aggregate-next-leaf
+slice-aggregate-next-leaf c = search needs
 
 next-leaf-requires : tie.Need-next-leaf-requires
 next-leaf-requires c κs = search needs
@@ -41,8 +38,8 @@ returns c =
     let n = c .before .before .before .before in
     let s = entered n in
     let r = n .next-leaf in
-    let nowhere = not-there (r .result .leaf .stop) (sym (c .before .is-leaf .ensures) ∙ not-true _ (c .if1 .taken)) in
-    range-none (s .args .image .now) (s .args .f) (s .pre .0) (s .args .lo .now) (s .args .hi .now) (r .result .leaf .stop) _ (r .ensures .leaf .low-is) nowhere
+    let nowhere = not-there (r .result .end .stop) (sym (c .before .is-leaf .ensures) ∙ not-true _ (c .if1 .taken)) in
+    range-none (s .args .image .now) (s .args .f) (s .pre .0) (s .args .lo .now) (s .args .hi .now) (r .result .end .stop) _ (r .ensures .leaf .key-is .low-is) nowhere
 
 slice-aggregate-lowest-key : tie.Need-slice-aggregate-lowest-key
 slice-aggregate-lowest-key c = search needs
@@ -53,10 +50,10 @@ lowest-key-requires c κs =
     let r = known e .next-leaf in
     record {
       accepted = entered (known e) .pre .0;
-      there = there-not (r .result .leaf .stop) (sym (e .before .is-leaf .ensures) ∙ not-false _ (e .if1 .left));
-      slot-in = r .ensures .leaf .slot-in;
-      key-size = cut-size (known e);
-      depth-in = r .ensures .leaf .depth-in;
+      there = there-not (r .result .end .stop) (sym (e .before .is-leaf .ensures) ∙ not-false _ (e .if1 .left));
+      slot-in = r .ensures .leaf .key-is .slot-in;
+      key-size = r .ensures .leaf .key-size;
+      depth-in = r .ensures .leaf .key-is .depth-in;
     }
 
 array-share-prefix-key : tie.Need-array-share-prefix-key
@@ -84,26 +81,27 @@ returns-2 c =
     let k = c .before .before in
     let r = known (there k) .next-leaf in
     let s = entered (known (there k)) in
-    range-below (s .args .image .now) (s .args .f) (s .pre .0) (s .args .lo .now) (s .args .hi .now) (r .result .leaf .stop) _ (r .ensures .leaf .low-is) _ (lowest k .lowest-key .ensures .low-is) (sym (k .compare .ensures) ∙ c .enum-told .given .1)
+    range-below (s .args .image .now) (s .args .f) (s .pre .0) (s .args .lo .now) (s .args .hi .now) (r .result .end .stop) _ (r .ensures .leaf .key-is .low-is) _ (lowest k .lowest-key .ensures .low-is) (sym (k .compare .ensures) ∙ c .enum-told .given .1)
 
 returns-3 : tie.Need-returns-3
 returns-3 c =
     let k = c .before .before in
     let r = known (there k) .next-leaf in
     let s = entered (known (there k)) in
-    range-reached (s .args .image .now) (s .args .f) (s .pre .0) (s .args .lo .now) (s .args .hi .now) (r .result .leaf .stop) _ (r .ensures .leaf .low-is) _ (lowest k .lowest-key .ensures .low-is) (inl (sym (k .compare .ensures) ∙ c .enum-told2 .given .1))
+    range-reached (s .args .image .now) (s .args .f) (s .pre .0) (s .args .lo .now) (s .args .hi .now) (r .result .end .stop) _ (r .ensures .leaf .key-is .low-is) _ (lowest k .lowest-key .ensures .low-is) (inl (sym (k .compare .ensures) ∙ c .enum-told2 .given .1))
 
 returns-4 : tie.Need-returns-4
 returns-4 c =
     let k = c .before .before in
     let r = known (there k) .next-leaf in
     let s = entered (known (there k)) in
-    range-reached (s .args .image .now) (s .args .f) (s .pre .0) (s .args .lo .now) (s .args .hi .now) (r .result .leaf .stop) _ (r .ensures .leaf .low-is) _ (lowest k .lowest-key .ensures .low-is) (inr (sym (k .compare .ensures) ∙ c .enum-told3 .given .1))
+    range-reached (s .args .image .now) (s .args .f) (s .pre .0) (s .args .lo .now) (s .args .hi .now) (r .result .end .stop) _ (r .ensures .leaf .key-is .low-is) _ (lowest k .lowest-key .ensures .low-is) (inr (sym (k .compare .ensures) ∙ c .enum-told3 .given .1))
 
 pub range-spec : {M : Type 1} → statement M
 range-spec =
     tie.close
     (tie.spec
+    slice-aggregate-next-leaf
     next-leaf-requires
     is-leaf-requires
     returns

@@ -6,7 +6,6 @@ use Rattle.nav_laws.specs.declared.LeafStop.the-variants.{Nowhere}
 use borrow.Author.Tests.{not-true, not-false}
 use Rattle.query_laws.specs.Ordered.{passed}
 use Rattle.spec.specs.Nodes.{read-leaves}
-use lib.ListN.{length, length-map}
 use Prim.Native.Nat.{_-_, _≤_}
 use native.Mathlib.Omega.{arith}
 use mathlib.Core.Path.{_≡_, sym, _∙_}
@@ -16,27 +15,23 @@ use Rattle.query_seek.proofs.seek.seek.Tie as tie
 
 -- where the function was entered, from where the first leaf that the start has not passed is known
 abbrev entered : tie.After-next-leaf → tie.Start
-entered c = c .before .before .before
+entered c = c .before .before .before .before .before
 
 -- where that leaf is known, from where it is there, and from where the bound is taken
 abbrev known : tie.Else1 → tie.After-next-leaf
-known c = c .before .before .before .before
+known c = c .before .before .before .before .before
 
 abbrev there : tie.After-bound → tie.Else1
-there c = c .before .before .before .before .before .before .before
+there c = c .before .before .before .before .before .before .before .before .before
 
 -- there is a leaf
-some-leaf : (c : tie.Else1) → known c .next-leaf .result .leaf .stop ≡ Nowhere → ⊥
-some-leaf c = there-not (known c .next-leaf .result .leaf .stop) (sym (c .before .is-leaf .ensures) ∙ not-false _ (c .if1 .left))
+some-leaf : (c : tie.Else1) → known c .next-leaf .result .end .stop ≡ Nowhere → ⊥
+some-leaf c = there-not (known c .next-leaf .result .end .stop) (sym (c .before .is-leaf .ensures) ∙ not-false _ (c .if1 .left))
 
 -- the start's bound
 bound : (c : tie.Else1)
     → Summed (entered (known c) .args .image .now) (entered (known c) .args .f) (entered (known c) .args .start .now) (known c .next-leaf .result .bound .node .0) (known c .next-leaf .result .bound .depth) (known c .next-leaf .result .bound .sum)
 bound c = known c .next-leaf .ensures .bound (some-leaf c)
-
--- the cut key is in an array of 64 bytes
-cut-size : (c : tie.After-next-leaf) → length (c .next-leaf .result .leaf .cut) ≡ 64
-cut-size c = simp length-map at (c .next-leaf .ok .1 .1 .0 .1 .1 .1 .0 .1 .0 .1)
 
 next-leaf-requires : tie.Need-next-leaf-requires
 next-leaf-requires c κs = search needs
@@ -44,25 +39,22 @@ next-leaf-requires c κs = search needs
 is-leaf-requires : tie.Need-is-leaf-requires
 is-leaf-requires c κs = search needs
 
+same-length : tie.Need-same-length
+same-length c = search needs
+
 returns : tie.Need-returns
 returns c =
-    let n = c .before .before .before .before in
+    let n = c .before .before .before .before .before in
     let s = entered n in
     let r = n .next-leaf in
-    let nowhere = not-there (r .result .leaf .stop) (sym (c .before .is-leaf .ensures) ∙ not-true _ (c .if1 .taken)) in
-    record { answer = seek-none (s .args .image .now) (s .args .f) (s .pre .0) (s .args .start .now) (r .result .leaf .stop) _ (r .ensures .leaf .low-is) nowhere; key-in = omega arith; number-in = tt }
-
-slice-aggregate-lowest-key : tie.Need-slice-aggregate-lowest-key
-slice-aggregate-lowest-key c = search needs
+    let nowhere = not-there (r .result .end .stop) (sym (c .before .is-leaf .ensures) ∙ not-true _ (c .if1 .taken)) in
+    (record { answer = seek-none (s .args .image .now) (s .args .f) (s .pre .0) (s .args .start .now) (r .result .end .stop) _ (r .ensures .leaf .key-is .low-is) nowhere; key-in = omega arith; number-in = tt }, r .ensures .leaf .key-size)
 
 lowest-key-requires : tie.Need-lowest-key-requires
 lowest-key-requires c κs =
     let e = c .before in
     let r = known e .next-leaf .ensures in
-    record { accepted = entered (known e) .pre .0; there = some-leaf e; slot-in = r .leaf .slot-in; key-size = cut-size (known e); depth-in = r .leaf .depth-in }
-
-slice-aggregate-greater-key : tie.Need-slice-aggregate-greater-key
-slice-aggregate-greater-key c = search needs
+    record { accepted = entered (known e) .pre .0; there = some-leaf e; slot-in = r .leaf .key-is .slot-in; key-size = r .leaf .key-size; depth-in = r .leaf .key-is .depth-in }
 
 greater-key-requires : tie.Need-greater-key-requires
 greater-key-requires c κs = search needs
@@ -84,18 +76,24 @@ number c =
 sub-number : tie.Need-sub-number
 sub-number c = number c .0
 
+same-length-2 : tie.Need-same-length-2
+same-length-2 c = search needs
+
 returns-2 : tie.Need-returns-2
 returns-2 c =
     let e = there (c .before) in
     let s = entered (known e) in
     let r = known e .next-leaf in
-    let g = c .before .before .before .greater-key in
-    let l = c .before .before .before .before .before .before .lowest-key in
-    record {
-      answer = seek-found (s .args .image .now) (s .args .f) (s .pre .0) (s .args .start .now) (r .result .leaf .stop) _ (r .ensures .leaf .low-is) (c .sum-below .result - s .args .starts) _ _ (l .ensures .low-is) (g .ensures .0) (number c .1);
-      key-in = g .ensures .1;
-      number-in = omega (arith, number c .1, few-passed (s .args .image .now) (s .args .f) (s .pre .0) (s .args .start .now));
-    }
+    let k = c .before .before .before .before in
+    let g = k .greater-key in
+    let l = k .before .before .before .before .lowest-key in (
+      record {
+        answer = seek-found (s .args .image .now) (s .args .f) (s .pre .0) (s .args .start .now) (r .result .end .stop) _ (r .ensures .leaf .key-is .low-is) (c .sum-below .result - s .args .starts) _ _ (l .ensures .low-is) (g .ensures .0) (number c .1);
+        key-in = g .ensures .1;
+        number-in = omega (arith, number c .1, few-passed (s .args .image .now) (s .args .f) (s .pre .0) (s .args .start .now));
+      },
+      g .ensures .2,
+    )
 
 pub seek-spec : {M : Type 1} → statement M
 seek-spec =
@@ -103,11 +101,11 @@ seek-spec =
     (tie.spec
     next-leaf-requires
     is-leaf-requires
+    same-length
     returns
-    slice-aggregate-lowest-key
     lowest-key-requires
-    slice-aggregate-greater-key
     greater-key-requires
     sum-below-requires
     sub-number
+    same-length-2
     returns-2)
