@@ -2,9 +2,8 @@
 use Rattle.nav_laws.specs.FoundBranch.{Found-branch}
 use Rattle.spec.specs.Bytes.{shared}
 use Rattle.query_count.specs.Bounds.{Parted, parts-nowhere, parted-root, parted-next, same-none, same-leaf, shared-byte}
-use lib.ListN.{length, getD}
+use lib.ListN.{getD}
 use Prim.Native.Nat.{_-_, _<_}
-use mathlib.Core.Path.{_≡_}
 use native.Mathlib.Omega.{arith}
 use borrow.Author.Needs.{needs}
 use Rattle.query_count.proofs.bounds.shared_way.Statement.{statement}
