@@ -8,9 +8,12 @@ pub mod Answers
 pub mod Followed
 pub mod LowestKeys
 pub mod Next
+pub mod AtLabel
+pub mod Parting
 pub mod Seeks
 pub mod Ranges
 pub mod Seeking
+pub mod RangeWays
 pub mod LeafKeys
 pub mod SlotBits
 pub mod Sought

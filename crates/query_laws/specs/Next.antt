@@ -54,7 +54,7 @@ module _ {A : Type 0} where
       go true h = h
       go false h = refl
 
-  count-le : (p : A → Bool) (xs : List A) → count p xs ≤ length xs
+  pub count-le : (p : A → Bool) (xs : List A) → count p xs ≤ length xs
   unfolding count
   count-le p [] = omega arith
   count-le p (x ∷ xs) = go (p x) (count-le p xs)
@@ -109,12 +109,12 @@ front-head p (l ∷ g) rest h = refl
 -- ---- the leaves behind branches
 
 -- the groups that f gives for c and the n numbers behind it, c among them
-groups-from : (ℕ → Group) → ℕ → ℕ → List Group
+pub groups-from : (ℕ → Group) → ℕ → ℕ → List Group
 groups-from f c zero = []
 groups-from f c (suc n) = f c ∷ groups-from f (suc c) n
 
 -- the leaves behind branches are those over the groups that the branches lead to
-over-groups : (f : ℕ → Group) (es : List Branch) (c : ℕ) → behind-branches f es c ≡ branch-leaves es (groups-from f c (children es))
+pub over-groups : (f : ℕ → Group) (es : List Branch) (c : ℕ) → behind-branches f es c ≡ branch-leaves es (groups-from f c (children es))
 unfolding behind-branches branch-leaves children groups-from
 over-groups f [] c = refl
 over-groups f (to-leaf x s ∷ es) c = ap (λ (g : Group). record { cut = x ∷ []; exact = false; suffix = s } ∷ g) (over-groups f es c)
@@ -249,10 +249,10 @@ module _ (q : Bits → Bytes → Bool) (f : ℕ → Group) (y : ℕ) (k : Bytes)
 -- ---- nodes with leaves
 
 -- the branches of node m, and the place among them of the first whose label is not below y
-abbrev branches-at : List Node → ℕ → List Branch
+abbrev pub branches-at : List Node → ℕ → List Branch
 branches-at ns m = branches-of (node-at ns m)
 
-abbrev place-at : List Node → ℕ → ℕ → ℕ
+abbrev pub place-at : List Node → ℕ → ℕ → ℕ
 place-at ns m y = labels-below y (branches-of (node-at ns m))
 
 -- a branch from the label y on has a leaf behind it, if the nodes one level lower have one
@@ -308,7 +308,7 @@ unfolding below counts next-of
 next-from q ns l m path k higher = or-else (behind-each path (next-of (counts false q k) (below ns l m))) higher
 
 -- no leaf is passed by the empty key
-none-passed : (q : Bits → Bytes → Bool) (ns : List Node) (l m : ℕ) → count (counts false q []) (below ns l m) ≡ 0
+pub none-passed : (q : Bits → Bytes → Bool) (ns : List Node) (l m : ℕ) → count (counts false q []) (below ns l m) ≡ 0
 unfolding below count
 none-passed q ns zero m = refl
 none-passed q ns (suc l) m =
@@ -336,7 +336,7 @@ exact-passed : (q : Bits → Bytes → Bool) (o : Option Bits) (y : ℕ) (k : By
 exact-passed q o y k = next-none (counts false q (y ∷ k)) (exact-leaf o) (exact-counted false q o [] y k ∙ sym (exact-leaf-count o []))
 
 -- the child behind a branch, counted from the node's first
-child-from : (ns : List Node) (m i : ℕ) → child-number ns m 0 + children (take i (branches-at ns m)) ≡ child-number ns m i
+pub child-from : (ns : List Node) (m i : ℕ) → child-number ns m 0 + children (take i (branches-at ns m)) ≡ child-number ns m i
 unfolding child-number children
 child-from ns m i = omega arith
 

@@ -115,7 +115,7 @@ levels-end n ls ns g o e = go (realizable-trie n ls g o) (node-total n ls ns g o
         few zero h = omega arith
         few (suc c) h = omega (arith, h (omega arith))
 
-count-same : {A : Type 0} (p r : A → Bool) (xs : List A) → ((x : A) → p x ≡ r x) → count p xs ≡ count r xs
+pub count-same : {A : Type 0} (p r : A → Bool) (xs : List A) → ((x : A) → p x ≡ r x) → count p xs ≡ count r xs
 unfolding count
 count-same p r [] h = refl
 count-same p r (x ∷ xs) h = rw (h x, count-same p r xs h)

@@ -103,7 +103,7 @@ pub record Key-followed (s : Bytes) (f : Frame) (start : Bytes) (end : WayEnd) (
 -- ---- the last higher label
 
 -- a first branch that continues with the label y continues
-first-child : (y : ℕ) (fs : List Branch) → kind-with y fs ≡ Kind.Child → first-kind fs ≡ Kind.Child
+pub first-child : (y : ℕ) (fs : List Branch) → kind-with y fs ≡ Kind.Child → first-kind fs ≡ Kind.Child
 unfolding kind-with first-kind
 first-child y [] h = h
 first-child y (to-leaf x s ∷ fs) h = absurd (go (eqb x y) h)

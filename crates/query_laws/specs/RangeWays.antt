@@ -1,0 +1,271 @@
+-- A range over an accepted image, bound by bound: what the bytes passed so far leave of it, one law for each step of the ways along the bounds.
+use Prim.Native.Nat.{ℕ, suc, _+_, _-_, _<_, _≤_}
+use mathlib.Core.Path.{_≡_, refl, sym, ap, ap₂, _∙_}
+use mathlib.Core.Bool.{Bool, true, false, not, _&&_, _||_}
+use mathlib.Core.List.{List, [], _∷_}
+use native.Mathlib.Omega.{arith}
+use lib.ListN.{length, getD, drop, drop-of-length-le}
+use lib.Dec.{ltb}
+use borrow.Author.Tests.{ltb-true, ltb-false, lt-ltb, le-ltb}
+use Rattle.spec.specs.Bytes.{Bytes, Bits, bit, any, count}
+use Rattle.spec.specs.Keys as keys
+use Rattle.spec.specs.Leaves.{Leaf, highest, lowest}
+use Rattle.spec.specs.Nodes.{Group, is-exact, read-leaves}
+use Rattle.spec.specs.Questions.{range, counted}
+use Rattle.image_types.specs.declared.Frame.{Frame}
+use Rattle.nav_laws.specs.declared.BranchKind.{BranchKind}
+use Rattle.nav_laws.specs.declared.BranchKind.the-variants.{Absent, Leaf as Ends, Child}
+use Rattle.nav_laws.specs.Accepted.{Accepted, nodes}
+use Rattle.nav_laws.specs.Below.{below, On-level, Root, level-child, level-node, level-left, level-branch}
+use Rattle.nav_laws.specs.Counting.{counts}
+use Rattle.nav_laws.specs.FoundBranch.{node-count, Is-node, First-branch}
+use Rattle.nav_laws.specs.NextBranch.{Next-branch}
+use Rattle.nav_laws.specs.NextLabel.{first-kind, kind-with, is-there}
+use Rattle.nav_laws.specs.PathSteps.{node-in}
+use Rattle.nav_laws.specs.Positions.{branches, place, child-at, slot-at, Branch-at}
+use Rattle.nav_laws.specs.Slots.{node-at, slot-number, slot-of}
+use Rattle.query_laws.specs.AtLabel.{at-label, size-from, at-absent, at-open, at-child}
+use Rattle.query_laws.specs.Bounds.{high-passed, low-reached, highest-counts, lowest-counts}
+use Rattle.query_laws.specs.Ordered.{passed, reached, counted-is, range-counted}
+use Rattle.query_laws.specs.Parting.{some-left, some-reached, some-met, left-none, reached-none, left-open, reached-open, met-none, met-open, ahead-none, named-place, named-kind, ahead-lower, ahead-upto, ahead-higher, left-higher, left-same, reached-end, reached-exact, reached-lower, reached-same, met-same, met-past, met-above, met-between, met-parted, left-end, met-end}
+use Rattle.query_laws.specs.Root.{count-same}
+use Rattle.query_laws.specs.Seeking.{first-child}
+use Rattle.query_laws.specs.Seeks.{root-of, some-leaf}
+use Rattle.query_laws.specs.Followed.{node-length}
+use Rattle.query_laws.specs.Steps.{slot-in}
+use Rattle.query_laws.specs.SuffixBytes.{key-next}
+
+-- ---- definitions
+
+-- The first d bytes of a key lead to node m, which stands on its level.
+pub record Key-at (s : Bytes) (f : Frame) (key : Bytes) (m d : ℕ) : Type 0 where
+  pub accepted : Accepted s f
+  pub short : length key ≤ 64
+  pub depth-in : d ≤ length key
+  pub level : On-level (nodes s f) (64 - d) m
+
+-- There the key's next byte has a branch of this kind at position p.
+pub record Key-branch (s : Bytes) (f : Frame) (key : Bytes) (m d : ℕ) (kind : BranchKind) (p : ℕ) : Type 0 where
+  pub from : Key-at s f key m d
+  pub more : d < length key
+  pub kind-is : kind ≡ kind-with (getD key d 0) (drop (place s f m (getD key d 0)) (branches s f m))
+  pub at-is : Branch-at s f m (place s f m (getD key d 0)) p
+
+-- the leaves at or below node m at depth d, and those behind its branch with the byte of a key there
+abbrev pub group-below : Bytes → Frame → ℕ → ℕ → Group
+group-below s f m d = below (nodes s f) (64 - d) m
+
+abbrev pub group-behind : Bytes → Frame → Bytes → ℕ → ℕ → Group
+group-behind s f key m d = at-label (nodes s f) (64 - (d + 1)) m (getD key d 0)
+
+-- whether a leaf of a group does not end below lo, the first d bytes of lo before its cut key
+abbrev pub left-of : Bytes → ℕ → Group → Bool
+left-of lo d g = some-left (high-passed (length lo)) (drop d lo) g
+
+-- whether one does not start above hi
+abbrev pub reached-of : Bytes → ℕ → Group → Bool
+reached-of hi d g = some-reached (low-reached (length hi)) (drop d hi) g
+
+-- whether one does neither, lo not above hi
+abbrev pub met-of : Bytes → Bytes → ℕ → Group → Bool
+met-of lo hi d g = some-met (high-passed (length lo)) (low-reached (length hi)) (drop d lo) (drop d hi) g
+
+-- ---- behind a branch
+
+module _ {s : Bytes} {f : Frame} {key : Bytes} {m d : ℕ} {kind : BranchKind} {p : ℕ} (b : Key-branch s f key m d kind p) where
+  level-more : 64 - d ≡ suc (64 - (d + 1))
+  level-more = omega (arith, b .more, b .from .short)
+
+  -- no leaf
+  pub behind-absent : kind ≡ Absent → group-behind s f key m d ≡ []
+  behind-absent h = at-absent (nodes s f) (64 - (d + 1)) m (getD key d 0) kind (b .kind-is) h
+
+  -- an open leaf, whose slot is one of the leaves
+  pub behind-open : (slot : ℕ) → slot ≡ slot-at s f m p → kind ≡ Ends → group-behind s f key m d ≡ record { cut = []; exact = false; suffix = slot-of (f .width) (nodes s f) slot } ∷ []
+  behind-open slot e h =
+      rw (e ∙ b .at-is .slot-is) (at-open (nodes s f) (64 - (d + 1)) m (getD key d 0) kind (b .kind-is) (f .width) (b .from .accepted .writable .wide) h)
+
+  pub open-in : (slot : ℕ) → slot ≡ slot-at s f m p → kind ≡ Ends → slot < f .leaves
+  open-in slot e h = omega (arith, e, b .at-is .slot-is, slot-in (nodes s f) m (getD key d 0) kind (b .kind-is) h, b .from .accepted .writable .leaf-total)
+
+  -- the leaves at or below a child, which stands on its level
+  pub behind-child : (c : ℕ) → c ≡ child-at s f m p → kind ≡ Child → group-behind s f key m d ≡ group-below s f c (d + 1)
+  behind-child c e h = rw (e ∙ b .at-is .child-is) (at-child (nodes s f) (64 - (d + 1)) m (getD key d 0) kind (b .kind-is) h)
+
+  pub child-level : (c : ℕ) → c ≡ child-at s f m p → kind ≡ Child → On-level (nodes s f) (64 - (d + 1)) c
+  child-level c e h =
+      rw (e ∙ b .at-is .child-is) (level-child (nodes s f) (64 - (d + 1)) m (place s f m (getD key d 0)) (rw level-more at (b .from .level)) (first-child (getD key d 0) (drop (place s f m (getD key d 0)) (branches s f m)) (sym (b .kind-is) ∙ h)))
+
+  pub child-key : (c : ℕ) → c ≡ child-at s f m p → kind ≡ Child → Key-at s f key c (d + 1)
+  child-key c e h = record { accepted = b .from .accepted; short = b .from .short; depth-in = omega (arith, b .more); level = child-level c e h }
+
+-- ---- at a node
+
+module _ {s : Bytes} {f : Frame} {key : Bytes} {m d : ℕ} (n : Key-at s f key m d) where
+  -- it is one of the image's nodes
+  pub key-node : Is-node s f m
+  key-node = record { accepted = n .accepted; inside = node-in s f (n .accepted) (64 - d) m (n .level) }
+
+  module _ (more : d < length key) where
+    levels : 64 - d ≡ suc (64 - (d + 1))
+    levels = omega (arith, n .short)
+
+    on : On-level (nodes s f) (suc (64 - (d + 1))) m
+    on = rw levels at (n .level)
+
+    -- ---- along the lower bound
+
+    left-byte : left-of key d (group-below s f m d) ≡ some-left (high-passed (length key)) (getD key d 0 ∷ drop (d + 1) key) (below (nodes s f) (suc (64 - (d + 1))) m)
+    left-byte = rw (key-next key d more, levels)
+
+    -- a label above its byte: a leaf is left
+    pub left-above : is-there (first-kind (drop (place s f m (getD key d 0 + 1)) (branches s f m))) ≡ true → left-of key d (group-below s f m d) ≡ true
+    left-above h = left-byte ∙ left-higher (nodes s f) (64 - (d + 1)) m on (high-passed (length key)) (getD key d 0) (drop (d + 1) key) h
+
+    -- none: those behind its byte decide
+    pub left-on : is-there (first-kind (drop (place s f m (getD key d 0 + 1)) (branches s f m))) ≡ false → left-of key d (group-below s f m d) ≡ left-of key (d + 1) (group-behind s f key m d)
+    left-on h = left-byte ∙ left-same (nodes s f) (64 - (d + 1)) m on (high-passed (length key)) (getD key d 0) (drop (d + 1) key) h
+
+    -- ---- along the upper bound
+
+    reached-byte : reached-of key d (group-below s f m d) ≡ some-reached (low-reached (length key)) (getD key d 0 ∷ drop (d + 1) key) (below (nodes s f) (suc (64 - (d + 1))) m)
+    reached-byte = rw (key-next key d more, levels)
+
+    -- the node is an exact leaf: it is reached
+    pub reached-here : is-exact (node-at (nodes s f) m) ≡ true → reached-of key d (group-below s f m d) ≡ true
+    reached-here h = reached-byte ∙ reached-exact (nodes s f) (64 - (d + 1)) m on (low-reached (length key)) (getD key d 0) (drop (d + 1) key) h
+
+    -- a label below its byte: the leaves behind it are reached
+    pub reached-under : size-from (nodes s f) (64 - (d + 1)) m (getD key d 0) < size-from (nodes s f) (64 - (d + 1)) m 0 → reached-of key d (group-below s f m d) ≡ true
+    reached-under h = reached-byte ∙ reached-lower (nodes s f) (64 - (d + 1)) m on (low-reached (length key)) (getD key d 0) (drop (d + 1) key) h
+
+    -- neither: those behind its byte decide
+    pub reached-on : is-exact (node-at (nodes s f) m) ≡ false → size-from (nodes s f) (64 - (d + 1)) m (getD key d 0) ≡ size-from (nodes s f) (64 - (d + 1)) m 0
+        → reached-of key d (group-below s f m d) ≡ reached-of key (d + 1) (group-behind s f key m d)
+    reached-on h e = reached-byte ∙ reached-same (nodes s f) (64 - (d + 1)) m on (low-reached (length key)) (getD key d 0) (drop (d + 1) key) h e
+
+    -- ---- the first branch from a label on, the key's byte no lower
+
+    module _ {y label p : ℕ} {kind : BranchKind} (b : Next-branch s f m y kind label p) (upto : y ≤ getD key d 0) where
+      -- there is none
+      pub next-nothing : kind ≡ Absent → (size-from (nodes s f) (64 - (d + 1)) m (getD key d 0) ≡ size-from (nodes s f) (64 - (d + 1)) m y) × (group-behind s f key m d ≡ [])
+      next-nothing h = ahead-none (nodes s f) (64 - (d + 1)) m on y kind (b .kind-is) h (getD key d 0) upto
+
+      module _ (there : kind ≡ Absent → ⊥) where
+        -- its label is below the byte
+        pub next-under : label < getD key d 0 → size-from (nodes s f) (64 - (d + 1)) m (getD key d 0) < size-from (nodes s f) (64 - (d + 1)) m y
+        next-under h = ahead-lower (nodes s f) (64 - (d + 1)) m on y kind (b .kind-is) there label (b .there there .label-is) (getD key d 0) h
+
+        -- it is not
+        pub next-upto : getD key d 0 ≤ label → size-from (nodes s f) (64 - (d + 1)) m (getD key d 0) ≡ size-from (nodes s f) (64 - (d + 1)) m y
+        next-upto h = ahead-upto (nodes s f) (64 - (d + 1)) m on y kind (b .kind-is) there label (b .there there .label-is) (getD key d 0) upto h
+
+        -- it is above the byte
+        pub next-over : getD key d 0 < label → group-behind s f key m d ≡ []
+        next-over h = ahead-higher (nodes s f) (64 - (d + 1)) m on y kind (b .kind-is) there label (b .there there .label-is) (getD key d 0) upto h
+
+        -- it is the byte
+        pub next-own : label ≡ getD key d 0 → Key-branch s f key m d kind p
+        next-own h = record {
+          from = n;
+          more = more;
+          kind-is = rw (← h) (named-kind (nodes s f) (64 - (d + 1)) m on y kind (b .kind-is) there label (b .there there .label-is));
+          at-is = rw (← h, named-place (nodes s f) (64 - (d + 1)) m on y kind (b .kind-is) there label (b .there there .label-is)) (b .there there .at-is);
+        }
+
+  -- The first branch of the node is there.
+  pub first-there : {label p : ℕ} {kind : BranchKind} → Next-branch s f m 0 kind label p → kind ≡ Absent → ⊥
+  first-there b h = level-branch (nodes s f) (64 - d) m (n .level) (sym (b .kind-is) ∙ h)
+
+  module _ (ended : length key ≤ d) where
+    left : 64 - d ≡ suc (63 - d)
+    left = omega (arith, level-left (nodes s f) (64 - d) m (n .level))
+
+    -- The lower bound has ended: it has passed no leaf at or below the node.
+    pub left-stop : left-of key d (group-below s f m d) ≡ true
+    left-stop = rw (drop-of-length-le key {i = d} ended) (left-end (nodes s f) (64 - d) m (n .level) (high-passed (length key)))
+
+    -- The upper bound has ended: it reaches the exact leaf that the node is.
+    pub reached-stop : reached-of key d (group-below s f m d) ≡ is-exact (node-at (nodes s f) m)
+    reached-stop = rw (drop-of-length-le key {i = d} ended, left) (reached-end (nodes s f) (63 - d) m (rw left at (n .level)) (low-reached (length key)))
+
+-- ---- along both bounds
+
+module _ {s : Bytes} {f : Frame} {lo hi : Bytes} {m d : ℕ} (n : Key-at s f lo m d) (u : Key-at s f hi m d) where
+  -- The lower bound has ended: the upper decides.
+  pub met-stop : length lo ≤ d → met-of lo hi d (group-below s f m d) ≡ reached-of hi d (group-below s f m d)
+  met-stop h = rw (drop-of-length-le lo {i = d} h) (met-end (nodes s f) (64 - d) m (n .level) (high-passed (length lo)) (low-reached (length hi)) (drop d hi))
+
+  module _ (more : d < length lo) where
+    met-byte : met-of lo hi d (group-below s f m d) ≡ some-met (high-passed (length lo)) (low-reached (length hi)) (getD lo d 0 ∷ drop (d + 1) lo) (drop d hi) (below (nodes s f) (suc (64 - (d + 1))) m)
+    met-byte = rw (key-next lo d more, levels n more)
+
+    -- The upper bound has ended, and the lower has not.
+    pub met-ended : length hi ≤ d → met-of lo hi d (group-below s f m d) ≡ false
+    met-ended h =
+        met-byte ∙ rw (drop-of-length-le hi {i = d} h) (met-past (nodes s f) (64 - (d + 1)) m (on n more) (high-passed (length lo)) (low-reached (length hi)) (drop (d + 1) lo) [] (getD lo d 0))
+
+    module _ (further : d < length hi) where
+      met-bytes : met-of lo hi d (group-below s f m d) ≡ some-met (high-passed (length lo)) (low-reached (length hi)) (getD lo d 0 ∷ drop (d + 1) lo) (getD hi d 0 ∷ drop (d + 1) hi) (below (nodes s f) (suc (64 - (d + 1))) m)
+      met-bytes = met-byte ∙ rw (key-next hi d further)
+
+      -- Both go on with the same byte.
+      pub met-on : getD lo d 0 ≡ getD hi d 0 → met-of lo hi d (group-below s f m d) ≡ met-of lo hi (d + 1) (group-behind s f lo m d)
+      met-on e =
+          met-bytes
+          ∙ rw (← e) (met-same (nodes s f) (64 - (d + 1)) m (on n more) (high-passed (length lo)) (low-reached (length hi)) (drop (d + 1) lo) (drop (d + 1) hi) (getD lo d 0))
+
+      -- The lower bound lies above the upper.
+      pub met-crossed : getD hi d 0 < getD lo d 0 → met-of lo hi d (group-below s f m d) ≡ false
+      met-crossed h =
+          met-bytes ∙ met-above (nodes s f) (64 - (d + 1)) m (on n more) (high-passed (length lo)) (low-reached (length hi)) (drop (d + 1) lo) (drop (d + 1) hi) (getD lo d 0) (getD hi d 0) h
+
+      -- They part, and a label stands between their bytes.
+      pub met-inside : size-from (nodes s f) (64 - (d + 1)) m (getD hi d 0) < size-from (nodes s f) (64 - (d + 1)) m (getD lo d 0 + 1) → met-of lo hi d (group-below s f m d) ≡ true
+      met-inside h =
+          met-bytes ∙ met-between (nodes s f) (64 - (d + 1)) m (on n more) (high-passed (length lo)) (low-reached (length hi)) (drop (d + 1) lo) (drop (d + 1) hi) (getD lo d 0) (getD hi d 0) h
+
+      -- They part, and none does: each is asked alone.
+      pub met-apart : size-from (nodes s f) (64 - (d + 1)) m (getD hi d 0) ≡ size-from (nodes s f) (64 - (d + 1)) m (getD lo d 0 + 1)
+          → met-of lo hi d (group-below s f m d) ≡ left-of lo (d + 1) (group-behind s f lo m d) || reached-of hi (d + 1) (group-behind s f hi m d)
+      met-apart h =
+          met-bytes ∙ met-parted (nodes s f) (64 - (d + 1)) m (on n more) (high-passed (length lo)) (low-reached (length hi)) (drop (d + 1) lo) (drop (d + 1) hi) (getD lo d 0) (getD hi d 0) h
+
+-- ---- from the root
+
+module _ (s : Bytes) (f : Frame) (a : Accepted s f) where
+  passed-counts : (ls : List Leaf) (k : Bytes) → passed ls k ≡ count (counts false (high-passed (length k)) k) ls
+  unfolding passed
+  passed-counts ls k = count-same (λ l. keys.below (highest l) k) (counts false (high-passed (length k)) k) ls (λ l. highest-counts l k)
+
+  reached-counts : (ls : List Leaf) (k : Bytes) → reached ls k ≡ count (counts true (low-reached (length k)) k) ls
+  unfolding reached
+  reached-counts ls k = count-same (λ l. not (keys.below k (lowest l))) (counts true (low-reached (length k)) k) ls (λ l. lowest-counts l k)
+
+  difference : (r p : ℕ) → ltb 0 (r - p) ≡ ltb p r
+  difference r p = go (ltb p r) refl
+    where
+      go : (b : Bool) → ltb p r ≡ b → ltb 0 (r - p) ≡ b
+      go true e = lt-ltb 0 (r - p) (omega (arith, ltb-true p r e))
+      go false e = le-ltb 0 (r - p) (omega (arith, ltb-false p r e))
+
+  -- Over the leaves of an image with nodes, those at or below its root.
+  pub range-root : 0 < node-count f → (lo hi : Bytes) → range (read-leaves s) lo hi ≡ bit (met-of lo hi 0 (group-below s f 0 0))
+  unfolding some-met
+  range-root h lo hi =
+      range-counted (read-leaves s) lo hi ∙ ap (λ (c : ℕ). bit (ltb 0 c)) (counted-is (f .width) (read-leaves s) lo hi (a .realizable .ordered) (a .well-sized))
+      ∙ ap bit (difference (reached (read-leaves s) hi) (passed (read-leaves s) lo) ∙ ap₂ ltb (passed-counts (read-leaves s) lo) (reached-counts (read-leaves s) hi))
+      ∙ rw (root-of s f a (some-leaf s f a h) .whole)
+
+  -- An image without nodes has no leaf.
+  pub range-nowhere : node-count f ≡ 0 → (lo hi : Bytes) → range (read-leaves s) lo hi ≡ 0
+  unfolding range any
+  range-nowhere z lo hi = go (read-leaves s) (root-of s f a)
+    where
+      go : (ls : List Leaf) → (0 < length ls → Root (nodes s f) ls) → range ls lo hi ≡ 0
+      go [] r = refl
+      go (l ∷ ls) r = absurd (omega (arith, level-node (nodes s f) 64 0 (r (omega arith) .on), node-length s f a))
+
+  -- No byte of a key leads to the root.
+  pub key-root : 0 < node-count f → (key : Bytes) → length key ≤ 64 → Key-at s f key 0 0
+  key-root h key l = record { accepted = a; short = l; depth-in = omega arith; level = root-of s f a (some-leaf s f a h) .on }
