@@ -70,6 +70,10 @@ reached-of hi d g = some-reached (low-reached (length hi)) (drop d hi) g
 abbrev pub met-of : Bytes → Bytes → ℕ → Group → Bool
 met-of lo hi d g = some-met (high-passed (length lo)) (low-reached (length hi)) (drop d lo) (drop d hi) g
 
+-- no leaf is reached where there is none
+pub reached-empty : (key : Bytes) (d : ℕ) (g : Group) → g ≡ [] → reached-of key d g ≡ false
+reached-empty key d g e = rw e (reached-none (low-reached (length key)) (drop d key))
+
 -- ---- behind a branch
 
 module _ {s : Bytes} {f : Frame} {key : Bytes} {m d : ℕ} {kind : BranchKind} {p : ℕ} (b : Key-branch s f key m d kind p) where
@@ -98,6 +102,26 @@ module _ {s : Bytes} {f : Frame} {key : Bytes} {m d : ℕ} {kind : BranchKind} {
 
   pub child-key : (c : ℕ) → c ≡ child-at s f m p → kind ≡ Child → Key-at s f key c (d + 1)
   child-key c e h = record { accepted = b .from .accepted; short = b .from .short; depth-in = omega (arith, b .more); level = child-level c e h }
+
+  -- what they say of the lower bound
+  pub left-nothing : kind ≡ Absent → left-of key (d + 1) (group-behind s f key m d) ≡ false
+  left-nothing h = rw (behind-absent h) (left-none (high-passed (length key)) (drop (d + 1) key))
+
+  pub left-leaf : (slot : ℕ) → slot ≡ slot-at s f m p → kind ≡ Ends → left-of key (d + 1) (group-behind s f key m d) ≡ not (high-passed (length key) (slot-of (f .width) (nodes s f) slot) (drop (d + 1) key))
+  left-leaf slot e h = rw (behind-open slot e h) (left-open (high-passed (length key)) (drop (d + 1) key) (slot-of (f .width) (nodes s f) slot))
+
+  pub left-child : (c : ℕ) → c ≡ child-at s f m p → kind ≡ Child → left-of key (d + 1) (group-behind s f key m d) ≡ left-of key (d + 1) (group-below s f c (d + 1))
+  left-child c e h = rw (behind-child c e h)
+
+  -- and of the upper
+  pub reached-nothing : kind ≡ Absent → reached-of key (d + 1) (group-behind s f key m d) ≡ false
+  reached-nothing h = reached-empty key (d + 1) (group-behind s f key m d) (behind-absent h)
+
+  pub reached-leaf : (slot : ℕ) → slot ≡ slot-at s f m p → kind ≡ Ends → reached-of key (d + 1) (group-behind s f key m d) ≡ low-reached (length key) (slot-of (f .width) (nodes s f) slot) (drop (d + 1) key)
+  reached-leaf slot e h = rw (behind-open slot e h) (reached-open (low-reached (length key)) (drop (d + 1) key) (slot-of (f .width) (nodes s f) slot))
+
+  pub reached-child : (c : ℕ) → c ≡ child-at s f m p → kind ≡ Child → reached-of key (d + 1) (group-behind s f key m d) ≡ reached-of key (d + 1) (group-below s f c (d + 1))
+  reached-child c e h = rw (behind-child c e h)
 
 -- ---- at a node
 

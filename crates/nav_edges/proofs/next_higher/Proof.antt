@@ -1,0 +1,48 @@
+use Rattle.nav_edges.proofs.EdgeLaws.{higher-there}
+use Rattle.spec.specs.Bytes.{bit}
+use mathlib.Core.Path.{ap, _∙_}
+use native.Mathlib.Omega.{arith}
+use borrow.Author.Needs.{needs}
+use Rattle.nav_edges.proofs.next_higher.Statement.{statement}
+use Rattle.nav_edges.proofs.next_higher.Tie as tie
+
+add-next-branch : tie.Need-add-next-branch
+add-next-branch c = search needs
+
+next-branch-requires : tie.Need-next-branch-requires
+next-branch-requires c κs = search needs
+
+returns : tie.Need-returns
+returns c = search needs
+
+is-there-requires : tie.Need-is-there-requires
+is-there-requires c κs = search needs
+
+one-if-requires : tie.Need-one-if-requires
+one-if-requires c κs = search needs
+
+add-p : tie.Need-add-p
+add-p c =
+    let p = c .before .before .before .before .before .before .before .before .before .pre in
+    omega (arith, p .2 .at-is .within .sparse (omega arith), p .0 .accepted .entry-size, p .0 .accepted .writable .few-entries)
+
+higher-entry-requires : tie.Need-higher-entry-requires
+higher-entry-requires c κs =
+    let s = c .before .before .before .before .before .before .before .before .before in
+    higher-there (s .args .image .now) (s .args .f) (s .args .m .0) (record { accepted = s .pre .0 .accepted; behind-dense = omega arith; inside = s .pre .0 .inside }) (s .args .y) (s .args .b) (s .pre .2) _ (omega (arith, c .before .one-if .ensures .0 ∙ ap bit (c .before .before .is-there .ensures)))
+
+returns-2 : tie.Need-returns-2
+returns-2 c = search needs
+
+pub next-higher-spec : {M : Type 1} → statement M
+next-higher-spec =
+    tie.close
+    (tie.spec
+    add-next-branch
+    next-branch-requires
+    returns
+    is-there-requires
+    one-if-requires
+    add-p
+    higher-entry-requires
+    returns-2)

@@ -1,0 +1,38 @@
+// Range and begins-with over an accepted image.
+ghost use mathlib.Core.Path.{_≡_};
+ghost use Prim.Native.Nat.{_≤_};
+ghost use lib.ListN.{length};
+ghost use Rattle.spec.specs.Nodes.{read-leaves};
+ghost use Rattle.spec.specs.Questions.{range, begins-with};
+ghost use Rattle.nav_laws.specs.Accepted.{Accepted};
+use super::together::meets;
+use bits::numbers::one_if;
+use image_types::Frame;
+
+// 1 if some leaf has a possible key from lo to hi, both included, else 0.
+pub fn range(image: &[u8], f: Frame, lo: &[u8], hi: &[u8]) -> usize
+    requires { ⌜ Accepted (now image) f × (length (now lo) ≤ 64) × (length (now hi) ≤ 64) ⌝ }
+    ensures { λ r. ⌜ r ≡ range (read-leaves (now (image .entry))) (now (lo .entry)) (now (hi .entry)) ⌝ }
+{
+    if f.dense.nodes + f.sparse.nodes == 0 {
+        return 0;
+    }
+    one_if(meets(image, f, lo, hi))
+}
+
+// 1 if some leaf has a possible key from the stem to the stem followed by one FF (a 64-byte stem: to itself), else 0.
+pub fn begins_with(image: &[u8], f: Frame, stem: &[u8]) -> usize
+    requires { ⌜ Accepted (now image) f × (length (now stem) ≤ 64) ⌝ }
+    ensures { λ r. ⌜ r ≡ begins-with (read-leaves (now (image .entry))) (now (stem .entry)) ⌝ }
+{
+    if stem.len() == 64 {
+        return range(image, f, stem, stem);
+    }
+    let mut end = [255u8; 64];
+    let mut i = 0usize;
+    while i < stem.len() {
+        end[i] = stem[i];
+        i = i + 1;
+    }
+    range(image, f, stem, &end[..i + 1])
+}
