@@ -21,8 +21,8 @@ use query_count::count::count;
 use query_count::levels::level_starts;
 use query_laws::SoughtLeaf;
 use query_point::point::point;
-use query_seek::range::begins_with;
-use query_seek::range::range;
+use query_range::range::begins_with;
+use query_range::range::range;
 use query_seek::seek::seek;
 
 // The number in the reply to a seek that finds no leaf.

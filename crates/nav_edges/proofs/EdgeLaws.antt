@@ -9,16 +9,14 @@ use lib.Seq.{getD-drop}
 use lib.Dec.{ltb, eqb}
 use borrow.Author.Tests.{le-ltb, lt-ltb, ltb-true, ltb-false}
 use Rattle.spec.specs.Bytes.{Bytes, bit}
-use Rattle.spec.specs.Nodes.{label-of, children-of, total}
-use Rattle.spec.specs.Trie.{leaf-count}
-use Rattle.bits_laws.specs.Bits.{bit-at, rank}
+use Rattle.spec.specs.Nodes.{label-of}
+use Rattle.bits_laws.specs.Bits.{bit-at}
 use Rattle.bits_laws.specs.RankLaws.{rank-le}
 use Rattle.bits_laws.specs.SelectLaws.{select-le}
 use Rattle.image_types.specs.declared.Frame.{Frame}
-use Rattle.nav_laws.specs.declared.BranchKind.{BranchKind}
 use Rattle.nav_laws.specs.declared.BranchKind.the-variants.{Absent}
 use Rattle.nav_laws.specs.declared.Found.{Found}
-use Rattle.nav_laws.specs.Accepted.{Accepted, nodes}
+use Rattle.nav_laws.specs.Accepted.{nodes}
 use Rattle.nav_laws.specs.Counting.{labels-below-le}
 use Rattle.nav_laws.specs.FoundBranch.{Is-sparse, Found-branch, Entries-at}
 use Rattle.nav_laws.specs.LabelMaps.{matches}

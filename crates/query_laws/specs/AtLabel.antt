@@ -1,6 +1,6 @@
 -- The leaves at or below a node against a key, split at the key's next byte: those behind lower labels, those behind the byte's own, and those behind higher ones.
-use Prim.Native.Nat.{ℕ, zero, suc, _+_, _<_, _≤_}
-use mathlib.Core.Path.{_≡_, refl, sym, ap, ap₂, _∙_}
+use Prim.Native.Nat.{ℕ, suc, _+_, _<_}
+use mathlib.Core.Path.{_≡_, refl, sym, ap, _∙_}
 use mathlib.Core.Bool.{Bool, true, false, cond}
 use mathlib.Core.List.{List, [], _∷_, _++_, map}
 use native.Mathlib.Omega.{arith}
@@ -9,7 +9,7 @@ use lib.ListN.{length, take, drop, length-append, length-map}
 use lib.Dec.{leb, eqb}
 use borrow.Author.Tests.{eqb-true, eqb-false, leb-true, leb-false}
 use Rattle.spec.specs.Bytes.{Bytes, Bits, bit, count}
-use Rattle.spec.specs.Nodes.{Group, Branch, to-node, to-leaf, Node, node, label-of, has-child, branches-of, is-exact, prefix, children, exact-leaf}
+use Rattle.spec.specs.Nodes.{Group, Branch, to-node, to-leaf, Node, node, label-of, has-child, prefix, children, exact-leaf}
 use Rattle.nav_laws.specs.declared.BranchKind.{BranchKind}
 use Rattle.nav_laws.specs.declared.BranchKind.the-variants.{Absent, Leaf as Ends, Child}
 use Rattle.nav_laws.specs.Counting.{labels-below, below-low, below-high, counts, counts-same, prefixed-low, branches-high, count-append, exact-counted}

@@ -11,7 +11,6 @@ pub mod Next
 pub mod AtLabel
 pub mod Parting
 pub mod Seeks
-pub mod Ranges
 pub mod Seeking
 pub mod RangeWays
 pub mod LeafKeys

@@ -47,7 +47,7 @@ none-passed k l (m ∷ ls) o os f h =
         go false e = refl
 
 -- a key below the lowest key of a leaf reaches none behind it
-pub none-reached : {n : ℕ} (k : Bytes) (l : Leaf) (ls : List Leaf) → Well-sized n l → All-well-sized n ls → Before-all l ls → below k (lowest l) ≡ true → reached ls k ≡ 0
+none-reached : {n : ℕ} (k : Bytes) (l : Leaf) (ls : List Leaf) → Well-sized n l → All-well-sized n ls → Before-all l ls → below k (lowest l) ≡ true → reached ls k ≡ 0
 unfolding reached count
 none-reached k l [] o os f h = refl
 none-reached k l (m ∷ ls) o os f h =

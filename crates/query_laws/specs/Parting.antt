@@ -1,23 +1,23 @@
 -- A range over the leaves at or below a node: where both bounds go on with the same byte, where they part, and the one-sided questions that are left there.
 use Prim.Native.Nat.{ℕ, zero, suc, _+_, _-_, _<_, _≤_}
 use mathlib.Core.Path.{_≡_, refl, sym, ap, _∙_}
-use mathlib.Core.Bool.{Bool, true, false, cond, not, _&&_, _||_, true≢false}
-use mathlib.Core.List.{List, [], _∷_, _++_}
+use mathlib.Core.Bool.{Bool, true, false, cond, not, _&&_, _||_}
+use mathlib.Core.List.{List, [], _∷_}
 use mathlib.Core.Option.{none, some}
 use native.Mathlib.Omega.{arith}
 use lib.ListN.{length, drop, length-append}
-use lib.Dec.{ltb, eqb}
+use lib.Dec.{ltb}
 use borrow.Author.Tests.{ltb-true, ltb-false, lt-ltb, le-ltb, eq-eqb}
 use Rattle.spec.specs.Bytes.{Bytes, Bits, bit, count}
 use Rattle.spec.specs.Keys as keys
-use Rattle.spec.specs.Nodes.{Group, Branch, to-node, to-leaf, Node, node, branches-of, is-exact, children, exact-leaf}
+use Rattle.spec.specs.Nodes.{Group, Branch, to-node, to-leaf, Node, node, is-exact, children, exact-leaf}
 use Rattle.nav_laws.specs.declared.BranchKind.{BranchKind}
-use Rattle.nav_laws.specs.declared.BranchKind.the-variants.{Absent, Leaf as Ends, Child}
-use Rattle.nav_laws.specs.Counting.{labels-below, counts, branches-none, count-append, exact-none}
+use Rattle.nav_laws.specs.declared.BranchKind.the-variants.{Absent}
+use Rattle.nav_laws.specs.Counting.{counts, branches-none, count-append, exact-none}
 use Rattle.nav_laws.specs.Slots.{node-at}
 use Rattle.nav_laws.specs.Descent.{child-number}
 use Rattle.nav_laws.specs.NextLabel.{first-kind, first-label, kind-with, is-there, there-not, not-there, there-before, label-first, own-place}
-use Rattle.nav_laws.specs.Below.{behind-branches, own-slot, below, from-label, On-level, below-step, from-none, level-rising, level-child}
+use Rattle.nav_laws.specs.Below.{behind-branches, own-slot, below, from-label, On-level, below-step, from-none, level-rising}
 use Rattle.query_laws.specs.Next.{branches-at, place-at, count-le, groups-from, over-groups, below-some, from-some, none-passed}
 use Rattle.query_laws.specs.AtLabel.{at-label, size, size-from, from-next, byte-split, at-some}
 use Rattle.theory.specs.Levels.{exact-leaf-count}

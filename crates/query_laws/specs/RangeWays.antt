@@ -1,33 +1,33 @@
 -- A range over an accepted image, bound by bound: what the bytes passed so far leave of it, one law for each step of the ways along the bounds.
 use Prim.Native.Nat.{ℕ, suc, _+_, _-_, _<_, _≤_}
 use mathlib.Core.Path.{_≡_, refl, sym, ap, ap₂, _∙_}
-use mathlib.Core.Bool.{Bool, true, false, not, _&&_, _||_}
+use mathlib.Core.Bool.{Bool, true, false, not, _||_}
 use mathlib.Core.List.{List, [], _∷_}
 use native.Mathlib.Omega.{arith}
 use lib.ListN.{length, getD, drop, drop-of-length-le}
 use lib.Dec.{ltb}
 use borrow.Author.Tests.{ltb-true, ltb-false, lt-ltb, le-ltb}
-use Rattle.spec.specs.Bytes.{Bytes, Bits, bit, any, count}
+use Rattle.spec.specs.Bytes.{Bytes, bit, any, count}
 use Rattle.spec.specs.Keys as keys
 use Rattle.spec.specs.Leaves.{Leaf, highest, lowest}
 use Rattle.spec.specs.Nodes.{Group, is-exact, read-leaves}
-use Rattle.spec.specs.Questions.{range, counted}
+use Rattle.spec.specs.Questions.{range}
 use Rattle.image_types.specs.declared.Frame.{Frame}
 use Rattle.nav_laws.specs.declared.BranchKind.{BranchKind}
 use Rattle.nav_laws.specs.declared.BranchKind.the-variants.{Absent, Leaf as Ends, Child}
 use Rattle.nav_laws.specs.Accepted.{Accepted, nodes}
 use Rattle.nav_laws.specs.Below.{below, On-level, Root, level-child, level-node, level-left, level-branch}
 use Rattle.nav_laws.specs.Counting.{counts}
-use Rattle.nav_laws.specs.FoundBranch.{node-count, Is-node, First-branch}
+use Rattle.nav_laws.specs.FoundBranch.{node-count, Is-node}
 use Rattle.nav_laws.specs.NextBranch.{Next-branch}
 use Rattle.nav_laws.specs.NextLabel.{first-kind, kind-with, is-there}
 use Rattle.nav_laws.specs.PathSteps.{node-in}
 use Rattle.nav_laws.specs.Positions.{branches, place, child-at, slot-at, Branch-at}
-use Rattle.nav_laws.specs.Slots.{node-at, slot-number, slot-of}
+use Rattle.nav_laws.specs.Slots.{node-at, slot-of}
 use Rattle.query_laws.specs.AtLabel.{at-label, size-from, at-absent, at-open, at-child}
 use Rattle.query_laws.specs.Bounds.{high-passed, low-reached, highest-counts, lowest-counts}
 use Rattle.query_laws.specs.Ordered.{passed, reached, counted-is, range-counted}
-use Rattle.query_laws.specs.Parting.{some-left, some-reached, some-met, left-none, reached-none, left-open, reached-open, met-none, met-open, ahead-none, named-place, named-kind, ahead-lower, ahead-upto, ahead-higher, left-higher, left-same, reached-end, reached-exact, reached-lower, reached-same, met-same, met-past, met-above, met-between, met-parted, left-end, met-end}
+use Rattle.query_laws.specs.Parting.{some-left, some-reached, some-met, left-none, reached-none, left-open, reached-open, ahead-none, named-place, named-kind, ahead-lower, ahead-upto, ahead-higher, left-higher, left-same, reached-end, reached-exact, reached-lower, reached-same, met-same, met-past, met-above, met-between, met-parted, left-end, met-end}
 use Rattle.query_laws.specs.Root.{count-same}
 use Rattle.query_laws.specs.Seeking.{first-child}
 use Rattle.query_laws.specs.Seeks.{root-of, some-leaf}

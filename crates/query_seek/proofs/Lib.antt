@@ -1,3 +1,2 @@
 pub mod NextLaws
-pub mod RangeLaws
 pub mod SeekLaws

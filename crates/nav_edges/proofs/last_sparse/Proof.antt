@@ -6,7 +6,7 @@ use Rattle.bits_laws.specs.Bits.{bit-at}
 use mathlib.Core.List.{List}
 use Prim.Native.Nat.{ℕ, _-_}
 use native.Mathlib.Omega.{arith}
-use mathlib.Core.Path.{refl, sym, ap, _∙_}
+use mathlib.Core.Path.{refl, ap, _∙_}
 use borrow.Author.Needs.{needs}
 use Rattle.nav_edges.proofs.last_sparse.Statement.{statement}
 use Rattle.nav_edges.proofs.last_sparse.Tie as tie

@@ -6,7 +6,7 @@ use Rattle.nav_laws.specs.NextBranch.{Next-branch}
 use Rattle.nav_laws.specs.NextLabel.{there-not, not-there}
 use borrow.Author.Tests.{ltb-true, ltb-false}
 use lib.ListN.{getD}
-use Prim.Native.Nat.{_+_, _≤_, _<_}
+use Prim.Native.Nat.{_+_, _≤_}
 use mathlib.Core.Logic.{⊎-elim}
 use mathlib.Core.Path.{_≡_, sym, _∙_}
 use native.Mathlib.Omega.{arith}

@@ -1,7 +1,7 @@
 use borrow.Author.Needs.{needs}
 use Rattle.query_laws.specs.RangeWays.{Key-at, Key-branch, group-below, group-behind, met-of, key-root, key-node, child-key, child-level, open-in, met-stop, met-ended, met-on}
 use Rattle.query_range.proofs.ApartLaws.{met-nothing, met-leaf, met-child}
-use lib.ListN.{length, getD}
+use lib.ListN.{length}
 use Prim.Native.Nat.{_+_, _-_, _<_}
 use mathlib.Core.Path.{_≡_, refl, sym, _∙_}
 use native.Mathlib.Omega.{arith}

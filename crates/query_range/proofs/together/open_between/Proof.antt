@@ -1,5 +1,4 @@
-use mathlib.Core.Bool.{Bool, not, _&&_, false}
-use mathlib.Core.Path.{_≡_, sym, ap, _∙_}
+use mathlib.Core.Path.{sym, _∙_}
 use borrow.Author.Needs.{needs}
 use Rattle.query_range.proofs.together.open_between.Statement.{statement}
 use Rattle.query_range.proofs.together.open_between.Tie as tie
