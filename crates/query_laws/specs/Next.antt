@@ -278,7 +278,7 @@ below-some ns (suc l) m on =
     rw (below-step ns l m) (omega (arith, length-append (exact-leaf (own-slot (node-at ns m))) (from-label ns l m 0), from-deep ns l m 0 on (λ c o. below-some ns l c o) (level-branch ns (suc l) m on)))
 
 -- Behind a branch from the label y on there is a leaf.
-from-some : (ns : List Node) (l m y : ℕ) → On-level ns (suc l) m → (first-kind (drop (place-at ns m y) (branches-at ns m)) ≡ Absent → ⊥) → 0 < length (from-label ns l m y)
+pub from-some : (ns : List Node) (l m y : ℕ) → On-level ns (suc l) m → (first-kind (drop (place-at ns m y) (branches-at ns m)) ≡ Absent → ⊥) → 0 < length (from-label ns l m y)
 from-some ns l m y on h = from-deep ns l m y on (λ c o. below-some ns l c o) h
 
 -- ---- the leaf behind a higher label
