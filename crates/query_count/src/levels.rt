@@ -27,26 +27,27 @@ pub const AT_ROOT: LevelSum = LevelSum {
     sum: 0,
 };
 
-// The bound of a key that has ended, on a level further down: each level on the way there adds the leaves before its node. Once all nodes lie before the bound, each level has all leaves.
+// The bound of a key that has ended, on a level further down: past the leaves before its node, and the same task one level lower, so that the recursion on the levels left goes at most 64 levels deep.
+// Once all nodes lie before the bound, each level has all leaves.
 pub fn go_down(image: &[u8], f: Frame, from: LevelSum, depth: usize) -> LevelSum
     requires { ⌜ Down-to (now image) f from depth ⌝ }
     ensures { λ r. ⌜ Gone-down (now (image .entry)) f from depth r ⌝ }
 {
-    let mut bound = from;
-    while bound.depth < depth {
-        let node = bound.node;
-        if node.0 == f.dense.nodes + f.sparse.nodes {
-            let sum = bound.sum + (depth - bound.depth) * f.leaves;
-            return LevelSum { node, depth, sum };
-        }
-        let before = counts_before(image, f, node);
-        bound = LevelSum {
-            node: NodeNum(before.children + 1),
-            depth: bound.depth + 1,
-            sum: bound.sum + before.leaves,
-        };
+    if from.depth == depth {
+        return from;
     }
-    bound
+    let node = from.node;
+    if node.0 == f.dense.nodes + f.sparse.nodes {
+        let sum = from.sum + (depth - from.depth) * f.leaves;
+        return LevelSum { node, depth, sum };
+    }
+    let before = counts_before(image, f, node);
+    let next = LevelSum {
+        node: NodeNum(before.children + 1),
+        depth: from.depth + 1,
+        sum: from.sum + before.leaves,
+    };
+    go_down(image, f, next, depth)
 }
 
 // The sum over all levels for a bound whose key has ended.
