@@ -19,7 +19,7 @@ use Rattle.rank_tables_laws.specs.declared.Span.{Span}
 use Rattle.build_laws.specs.Limits.{counters, counter-max}
 use Rattle.build_laws.specs.Cursors.{sums}
 use Rattle.build_laws.specs.Counters.{Cursors-at}
-use Rattle.build_laws.specs.BytePass.{byte-state}
+use Rattle.build_laws.specs.BytePass.{Byte-state, byte-state}
 use Rattle.build_laws.specs.KeyRecords.{Accepted-list}
 use Rattle.build_laws.specs.Passes.{pass-keys, Pass-room}
 use Rattle.build_laws.specs.BodyChoice.{counters-of, levels-of}
@@ -62,11 +62,12 @@ module _ (list : Bytes) (p : Plan) (w : Planned list p) (b : Body) (cnt : List �
     pass-room size h = subst (λ (i : Levels). Pass-room (body-pass i) 0 (keys-of list) size cur) (sym e) (body-room (plan-settings p) (keys-of list) (w .ready .built) cur wide size b starts h)
 
     -- what the pass leaves in bytes that were zero
-    pub pass-leaves : (len : ℕ) (rest o z c′ : Bytes) → len ≡ length (list-body list p b) → Is-bytes o → Is-bytes rest → z ≡ replicate len 0 ++ rest
-        → byte-state o c′ ≡ pass-keys (body-pass l) 0 (keys-of list) (byte-state z cur) → o ≡ left-body (plan-settings p) (keys-of list) (w .ready .built) b ++ rest
-    pass-leaves len rest o z c′ n x y q f =
-        body-filled (plan-settings p) (keys-of list) (w .ready .built) cur wide rest o c′ x y b starts
-        (f ∙ ap (λ (i : Levels). pass-keys (body-pass i) 0 (keys-of list) (byte-state z cur)) e
+    pub pass-leaves : (len : ℕ) (rest o z : Bytes) → len ≡ length (list-body list p b) → Is-bytes o → Is-bytes rest → z ≡ replicate len 0 ++ rest
+        → o ≡ pass-keys (body-pass l) 0 (keys-of list) (byte-state z cur) .bytes → o ≡ left-body (plan-settings p) (keys-of list) (w .ready .built) b ++ rest
+    pass-leaves len rest o z n x y q f =
+        let r : Byte-state = pass-keys (body-pass l) 0 (keys-of list) (byte-state z cur) in
+        body-filled (plan-settings p) (keys-of list) (w .ready .built) cur wide rest o (r .cursors) x y b starts
+        (ap (λ (i : Bytes). byte-state i (r .cursors)) f ∙ ap (λ (i : Levels). pass-keys (body-pass i) 0 (keys-of list) (byte-state z cur)) e
         ∙ ap (λ (s : Bytes). pass-keys (body-pass (levels-of b (p .header .dense .levels))) 0 (keys-of list) (byte-state s cur)) (q ∙ ap (λ (i : ℕ). replicate i 0 ++ rest) n))
 
 -- a body that is left with its bits flipped has room for a bit of each entry

@@ -10,6 +10,7 @@ use lib.Dec.{leb, ltb, eqb}
 use borrow.Author.Tests.{lt-ltb, le-ltb, eq-eqb, ne-eqb, le-leb, lt-leb}
 use Rattle.spec.specs.Bytes.{Bytes, shared}
 use Rattle.bits_laws.specs.Bits.{key}
+use Rattle.image_types.specs.Records.{tail-part}
 use Rattle.build_laws.specs.LevelEntries.{pred}
 use Rattle.build_laws.specs.NeighbourLeaves.{cut-length}
 use Rattle.build_laws.specs.KeyEntries.{continues-at}
@@ -43,12 +44,9 @@ behind-none s a n h = rw (le-ltb (a + n) (length s) h)
 
 -- a record behind
 pub behind-some : (s : Bytes) (a n m r : ℕ) → a + n < length s → m ≡ getD s (a + n + 2) 0
-    → r ≡ shared (take (a + n - a) (drop a s)) (take (a + n + 3 + m - (a + n + 3)) (drop (a + n + 3) s)) → r ≡ shared-behind s a n
+    → r ≡ shared (take n (take (length s - a) (drop a s))) (take m (take (length s - (a + n + 3)) (drop (a + n + 3) s))) → r ≡ shared-behind s a n
 unfolding shared-behind
-behind-some s a n m r h e f =
-    let u : a + n - a ≡ n = omega arith in
-    let v : a + n + 3 + m - (a + n + 3) ≡ getD s (a + n + 2) 0 = omega (arith, e) in
-    f ∙ rw (u, v, lt-ltb (a + n) (length s) h)
+behind-some s a n m r h e f = f ∙ rw (tail-part s a, tail-part s (a + n + 3), e, lt-ltb (a + n) (length s) h)
 
 -- an exact leaf's branches continue
 pub continues-exact : (p q n d : ℕ) → q ≡ n → true ≡ continues-at p q n d

@@ -46,4 +46,5 @@ pub mod RecordsWritten
 pub mod Plan
 pub mod BodyWritten
 pub mod ListPass
+pub mod LongKeys
 pub mod CountedKeys

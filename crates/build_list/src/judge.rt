@@ -11,7 +11,7 @@ use build_laws::KeyList;
 use build_laws::Record;
 use keys::MAX_KEY_BYTES;
 use keys::compare::Order;
-use keys::compare::compare;
+use keys::compare::compare_fronts;
 
 // The number of a list that has a wrong mark or too few bytes.
 const MALFORMED: u32 = 1;
@@ -60,17 +60,15 @@ fn read_record(s: &[u8], at: usize, done: usize) -> Record
 
 // The record at `at`, behind `done` others, the last of them with its key of m bytes from `last`: the numbers of the record itself; then 3, key not above the last.
 fn judge_record(s: &[u8], at: usize, done: usize, last: usize, m: usize) -> Record
-    requires { ⌜ (at < length (now s)) × (done ≤ 65535) × (last + m ≤ length (now s)) ⌝ }
+    requires { ⌜ (at < length (now s)) × (done ≤ 65535) × (last + m ≤ at) ⌝ }
     ensures { λ r. ⌜ Record-judged (now (s .entry)) at done (key (now (s .entry)) last m) r ⌝ }
 {
     let found = read_record(s, at, done);
     match found {
         Record::Refused(r) => Record::Refused(r),
         Record::Key(n) => {
-            let last_end = last + m;
             let start = at + BEFORE_KEY;
-            let end = start + n;
-            let o = compare(&s[last..last_end], &s[start..end]);
+            let o = compare_fronts(&s[last..], m, &s[start..], n);
             match o {
                 Order::Below => Record::Key(n),
                 Order::Equal => Record::Refused(KEYS_UNORDERED),

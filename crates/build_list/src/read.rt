@@ -1,12 +1,15 @@
-// The key of a record, and what it shares with the next.
+// The key of a record, and what it shares with the next; the lengths of all keys.
 ghost use mathlib.Core.Path.{_≡_};
 ghost use Prim.Native.Nat.{_+_, _≤_, _<_};
 ghost use lib.ListN.{length};
-ghost use Rattle.build_laws.specs.KeyRecords.{record-end, Whole-records, shared-behind, key-at};
+ghost use Rattle.spec.specs.Keys.{keys-of};
+ghost use Rattle.build_laws.specs.KeyRecords.{record-end, Accepted-list, Whole-records, shared-behind, key-at};
+ghost use Rattle.build_laws.specs.LongKeys.{Long};
+ghost use mathlib.Core.Bool.{true};
 use super::BEFORE_KEY;
 use bits::numbers::wide;
 use build_laws::Key;
-use keys::compare::shared;
+use keys::compare::shared_fronts;
 
 // The length of the prefix that the key of n bytes from offset a on shares with the key of the record behind it, 0 if there is none.
 fn next_shared(s: &[u8], a: usize, n: usize) -> usize
@@ -16,8 +19,7 @@ fn next_shared(s: &[u8], a: usize, n: usize) -> usize
     let end = a + n;
     if end < s.len() {
         let start = end + BEFORE_KEY;
-        let stop = start + wide(s[end + 2]);
-        return shared(&s[a..end], &s[start..stop]);
+        return shared_fronts(&s[a..], n, &s[start..], wide(s[end + 2]));
     }
     0
 }
@@ -36,4 +38,20 @@ pub fn read_key(s: &[u8], at: usize, first: usize) -> Key
         first: first,
         next: q,
     }
+}
+
+// Whether all keys of the list have at least n bytes, by the lengths of the records alone.
+pub fn all_long(s: &[u8], n: usize) -> bool
+    requires { ⌜ Accepted-list (now s) ⌝ }
+    ensures { λ r. ⌜ (r ≡ true → Long n (keys-of (now (s .entry)))) ⌝ }
+{
+    let mut at = 0usize;
+    while at < s.len() {
+        let m = wide(s[at + 2]);
+        if m < n {
+            return false;
+        }
+        at = at + BEFORE_KEY + m;
+    }
+    true
 }

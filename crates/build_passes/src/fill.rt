@@ -20,6 +20,7 @@ use build_laws::Counters;
 use build_laws::Kind;
 use build_laws::Levels;
 use build_laws::Pass;
+use build_list::read::all_long;
 use build_list::read::read_key;
 
 // The labels of all keys' entries on the levels go to the body, from cursors at the starts of the levels.
@@ -118,6 +119,18 @@ fn fill_exact_cells(out: &mut [u8], cur: &mut Counters, s: &[u8], l: Levels)
     }
 }
 
+// D-IsPrefixKey of all keys' entries on the levels goes to the body. Where every key reaches over the levels none is an exact leaf there: the body stays as it is, and no pass is made.
+fn fill_exact(out: &mut [u8], cur: &mut Counters, s: &[u8], l: Levels)
+    requires { ⌜ Accepted-list (now s) × (length (now cur) ≡ counters) ⌝ }
+    requires { ⌜ Pass-room (entries-pass DP l) 0 (keys-of (now s)) (length (now out)) (now cur) ⌝ }
+    ensures { λ _. ⌜ now (out .exit) ≡ pass-keys (entries-pass DP l) 0 (keys-of (now (s .entry))) (byte-state (now (out .entry)) (now (cur .entry))) .bytes ⌝ }
+{
+    if all_long(s, l.hi) {
+        return;
+    }
+    fill_exact_cells(out, cur, s, l);
+}
+
 // The slots of n bits of all keys' leaves go to the body, from cursors at the starts of the levels.
 fn fill_slots(out: &mut [u8], cur: &mut Counters, s: &[u8], n: usize)
     requires { ⌜ Accepted-list (now s) × (length (now cur) ≡ counters) × (n ≤ 16) ⌝ }
@@ -138,7 +151,7 @@ fn fill_slots(out: &mut [u8], cur: &mut Counters, s: &[u8], n: usize)
 pub fn write_keys(out: &mut [u8], cur: &mut Counters, s: &[u8], pass: Pass)
     requires { ⌜ Accepted-list (now s) × (length (now cur) ≡ counters) × (pass .width ≤ 16) ⌝ }
     requires { ⌜ Pass-room pass 0 (keys-of (now s)) (length (now out)) (now cur) ⌝ }
-    ensures { λ _. ⌜ byte-state (now (out .exit)) (now (cur .exit)) ≡ pass-keys pass 0 (keys-of (now (s .entry))) (byte-state (now (out .entry)) (now (cur .entry))) ⌝ }
+    ensures { λ _. ⌜ now (out .exit) ≡ pass-keys pass 0 (keys-of (now (s .entry))) (byte-state (now (out .entry)) (now (cur .entry))) .bytes ⌝ }
 {
     let body = pass.body;
     let l = pass.levels;
@@ -146,7 +159,7 @@ pub fn write_keys(out: &mut [u8], cur: &mut Counters, s: &[u8], pass: Pass)
         Body::Entries(kind) => match kind {
             Kind::DL => fill_label_cells(out, cur, s, l),
             Kind::DC => fill_child_cells(out, cur, s, l),
-            Kind::DP => fill_exact_cells(out, cur, s, l),
+            Kind::DP => fill_exact(out, cur, s, l),
             Kind::SL => fill_labels(out, cur, s, l),
             Kind::SC => fill_leaves(out, cur, s, l),
             Kind::SB => fill_later(out, cur, s, l),

@@ -7,7 +7,7 @@ use native.Mathlib.Nat.{mod-one, add-zero, mod-eq-of-lt}
 use native.Mathlib.Omega.{arith}
 use borrow.Author.Tests.{eq-eqb, ne-eqb, eqb-true, ltb-true, ltb-false}
 use lib.ListN.{length, getD, take, drop, length-drop}
-use lib.Seq.{drop-cons, take-suc, take-add, getD-drop}
+use lib.Seq.{drop-cons, take-suc, take-add, take-take, drop-drop, getD-drop}
 use lib.Dec.{eqb, ltb}
 use lib.Pow.{pow-pos, high, low, field, mod-mod-pow, mod-pow-add}
 use lib.Bits.{bitXor, xor-mod, xor-self, xor-add-and, and-le-l, and-le-r}
@@ -190,3 +190,78 @@ last-word p q f g n a m e k {x} {y} ex ey l d h = go (ltb k 8) refl
     go false r =
         let s = ltb-false k 8 r in
         shared-end p q (n - 8 + k) (omega arith) (omega arith) (word-shared p q f g (n - 8) k x y e ex ey d l (omega arith) (omega arith)) (omega arith)
+
+-- ---- the words of a window
+
+-- fewer of bytes that are the same are the same
+pub take-fewer : (j i : ℕ) (p q : Bytes) → j ≤ i → take i p ≡ take i q → take j p ≡ take j q
+take-fewer j i p q h e = sym (take-take j i p h) ∙ ap (take j) e ∙ take-take j i q h
+
+-- k is how many low bytes, up to eight, the words x and y of two byte strings from i on have in common
+pub word-equal : (p q : Bytes) → Small p → Small q → (i k : ℕ) {x y : ℕ} → i + 8 ≤ length p → i + 8 ≤ length q → x ≡ word p i → y ≡ word q i
+    → k ≤ 8 → x % 2 ^ (8 * k) ≡ y % 2 ^ (8 * k) → (k < 8 → x % 2 ^ (8 + 8 * k) ≡ y % 2 ^ (8 + 8 * k) → ⊥) → k ≡ min (shared (drop i p) (drop i q)) 8
+unfolding word
+word-equal p q f g i k {x} {y} a b ex ey l d h = go (ltb k 8) refl
+  where
+    u : Bytes
+    u = drop i p
+
+    v : Bytes
+    v = drop i q
+
+    go : (b : Bool) → ltb k 8 ≡ b → k ≡ min (shared u v) 8
+    go true r =
+        let s = ltb-true k 8 r in
+        omega
+        (arith, word-differs u v (small-drop i p f) (small-drop i q g) 0 k x y refl ex ey d (omega (arith, length-drop i p)) (omega (arith, length-drop i q)) s (h s), s)
+    go false r =
+        let s = ltb-false k 8 r in
+        omega (
+          arith,
+          s,
+          l,
+          shared-add (0 + k) u v (omega (arith, length-drop i p)) (omega (arith, length-drop i q))
+              (word-shared u v (small-drop i p f) (small-drop i q g) 0 k x y refl ex ey d l (omega (arith, length-drop i p)) (omega (arith, length-drop i q))),
+        )
+
+-- where all eight bytes from i on are shared, what is shared from there on goes on behind them
+pub shared-on : (p q : Bytes) (i : ℕ) → 8 ≤ shared (drop i p) (drop i q) → shared (drop i p) (drop i q) ≡ 8 + shared (drop (i + 8) p) (drop (i + 8) q)
+shared-on p q i h =
+    let u : Bytes = drop i p in
+    let v : Bytes = drop i q in
+    let s = shared-same u v in
+    shared-add 8 u v (omega (arith, s .1, h)) (omega (arith, s .2, h)) (take-fewer 8 (shared u v) u v h (s .0)) ∙ ap₂ (λ (r t : Bytes). 8 + shared r t) (drop-drop 8 i p) (drop-drop 8 i q)
+
+-- what the fronts of two byte strings share
+pub fronts-shared : (n m : ℕ) (p q : Bytes) → shared (take n p) (take m q) ≡ min (shared p q) (min n m)
+unfolding shared
+fronts-shared zero m p q = omega arith
+fronts-shared (suc n) m [] q = omega arith
+fronts-shared (suc n) zero (x ∷ p) q = omega arith
+fronts-shared (suc n) (suc m) (x ∷ p) [] = omega arith
+fronts-shared (suc n) (suc m) (x ∷ p) (y ∷ q) = go (eqb x y) (fronts-shared n m p q)
+  where
+    go : (b : Bool) → shared (take n p) (take m q) ≡ min (shared p q) (min n m)
+        → cond b (suc (shared (take n p) (take m q))) 0 ≡ min (cond b (suc (shared p q)) 0) (min (suc n) (suc m))
+    go true ih = omega (arith, ih)
+    go false ih = omega arith
+
+-- From 16 bytes that are shared on, the next three words have e₂, e₃ and e₄ bytes in common; r₃ and r₂ are those of the last two and of all three, up to the first difference.
+pub window-shared : (p q : Bytes) → 8 ≤ shared p q → 8 ≤ shared (drop 8 p) (drop 8 q) → (e₂ e₃ e₄ r₃ r₂ : ℕ)
+    → e₂ ≡ min (shared (drop 16 p) (drop 16 q)) 8 → e₃ ≡ min (shared (drop 24 p) (drop 24 q)) 8 → e₄ ≡ min (shared (drop 32 p) (drop 32 q)) 8
+    → (e₃ < 8 → r₃ ≡ e₃) → (8 ≤ e₃ → r₃ ≡ 8 + e₄) → (e₂ < 8 → r₂ ≡ e₂) → (8 ≤ e₂ → r₂ ≡ 8 + r₃) → 16 + r₂ ≡ min (shared p q) 40
+window-shared p q h₀ h₁ e₂ e₃ e₄ r₃ r₂ g₂ g₃ g₄ a₃ b₃ a₂ b₂ = go (ltb e₂ 8) (ltb e₃ 8) refl refl
+  where
+    first : shared p q ≡ 16 + shared (drop 16 p) (drop 16 q)
+    first = omega (arith, shared-on p q 0 h₀, shared-on p q 8 h₁)
+
+    go : (b c : Bool) → ltb e₂ 8 ≡ b → ltb e₃ 8 ≡ c → 16 + r₂ ≡ min (shared p q) 40
+    go true c f g = let l = ltb-true e₂ 8 f in omega (arith, first, l, a₂ l, g₂)
+    go false true f g =
+        let l = ltb-false e₂ 8 f in
+        let m = ltb-true e₃ 8 g in
+        omega (arith, first, l, m, b₂ l, a₃ m, g₂, g₃, shared-on p q 16 (omega (arith, l, g₂)))
+    go false false f g =
+        let l = ltb-false e₂ 8 f in
+        let m = ltb-false e₃ 8 g in
+        omega (arith, first, l, m, b₂ l, b₃ m, g₂, g₃, g₄, shared-on p q 16 (omega (arith, l, g₂)), shared-on p q 24 (omega (arith, m, g₃)))

@@ -78,7 +78,7 @@ returns-2 c =
     let written = c .before .before .before .before .before .before .before .before .write-keys in
     body-again (a .list .now) (a .plan) (pre .planned) (a .body) (drop (a .len) (a .out .now)) (written .last .0) _ (sym (c .before .before .before .before .before .leaves-flipped .ensures) ∙ c .before .before .before .before .if2 .taken)
     (pass-leaves (a .list .now) (a .plan) (pre .planned) (a .body) (counters-of .result) (counters-of .ensures) (levels-of .result) (levels-of .ensures) (starts .last .0) (starts .ensures .1) (starts .ensures .0)
-    (a .len) (drop (a .len) (a .out .now)) _ _ _ (pre .size) (small-of (written .last .0) (λ i. c .before .before .before .before .before .before .slice-known3 .given i .fits)) (bytes-drop (a .len) (a .out .now) (small-of (a .out .now) (λ i. c .before .before .before .before .before .before .before .before .before .before .before .before .before .before .before .before .before .before .before .before .before .before .slice-known .given i .fits)))
+    (a .len) (drop (a .len) (a .out .now)) _ _ (pre .size) (small-of (written .last .0) (λ i. c .before .before .before .before .before .before .slice-known3 .given i .fits)) (bytes-drop (a .len) (a .out .now) (small-of (a .out .now) (λ i. c .before .before .before .before .before .before .before .before .before .before .before .before .before .before .before .before .before .before .before .before .before .before .slice-known .given i .fits)))
     (c .before .before .before .before .before .before .before .before .before .before .before .before .before .before .before .before .before .before .clear .ensures) (written .ensures))
     (c .before .before .flip .ensures)
 
@@ -95,7 +95,7 @@ returns-3 c =
     let written = c .before .before .before .before .write-keys in
     body-whole (a .list .now) (a .plan) (pre .planned) (a .body) (drop (a .len) (a .out .now)) (written .last .0) (sym (c .before .leaves-flipped .ensures) ∙ c .if2 .left)
     (pass-leaves (a .list .now) (a .plan) (pre .planned) (a .body) (counters-of .result) (counters-of .ensures) (levels-of .result) (levels-of .ensures) (starts .last .0) (starts .ensures .1) (starts .ensures .0)
-    (a .len) (drop (a .len) (a .out .now)) _ _ _ (pre .size) (small-of (written .last .0) (λ i. c .before .before .slice-known3 .given i .fits)) (bytes-drop (a .len) (a .out .now) (small-of (a .out .now) (λ i. c .before .before .before .before .before .before .before .before .before .before .before .before .before .before .before .before .before .before .slice-known .given i .fits)))
+    (a .len) (drop (a .len) (a .out .now)) _ _ (pre .size) (small-of (written .last .0) (λ i. c .before .before .slice-known3 .given i .fits)) (bytes-drop (a .len) (a .out .now) (small-of (a .out .now) (λ i. c .before .before .before .before .before .before .before .before .before .before .before .before .before .before .before .before .before .before .slice-known .given i .fits)))
     (c .before .before .before .before .before .before .before .before .before .before .before .before .before .before .clear .ensures) (written .ensures))
 
 pub fill-from-keys-spec : {M : Type 1} → statement M

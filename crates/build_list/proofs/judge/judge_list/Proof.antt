@@ -12,7 +12,7 @@ use Rattle.build_list.proofs.judge.judge_list.Statement.{statement}
 use Rattle.build_list.proofs.judge.judge_list.Tie as tie
 
 abbrev Inv-loop : tie.InvT-loop
-Inv-loop s at₀ last₀ m₀ count₀ at last m count = (last + m ≤ length s) × (count ≤ at) × (at ≤ length s) × (count ≤ 65535) × (key-list (parse-keys s) ≡ counted count (parse-records (length s - count) count (key s last m) (drop at s)))
+Inv-loop s at₀ last₀ m₀ count₀ at last m count = (last + m ≤ at) × (count ≤ at) × (at ≤ length s) × (count ≤ 65535) × (key-list (parse-keys s) ≡ counted count (parse-records (length s - count) count (key s last m) (drop at s)))
 
 abbrev μ-loop : tie.MeasureT-loop
 μ-loop s at₀ last₀ m₀ count₀ at last m count = length s - at
@@ -74,7 +74,7 @@ loop-again c =
     let r : Record-judged (a .s .now) (l .at) (l .count) (key (a .s .now) (l .last) (l .m)) (Key (found2 .given .0 .0)) = subst (Record-judged (a .s .now) (l .at) (l .count) (key (a .s .now) (l .last) (l .m))) (found2 .given .1) (judge-record .ensures) in
     let n = found2 .given .0 .0 in
     let e : length (a .s .now) - l .count - 1 ≡ length (a .s .now) - (l .count + 1) = omega arith in (
-      r .within,
+      omega arith,
       omega (arith, r .within),
       r .within,
       omega (arith, r .few),

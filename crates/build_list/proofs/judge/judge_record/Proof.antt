@@ -1,11 +1,12 @@
 use Rattle.spec.specs.Bytes.{Bytes}
 use Rattle.keys.specs.declared.compare.Order.{Order}
-use mathlib.Core.Path.{_≡_, sym, ap₂, subst, _∙_}
+use mathlib.Core.Path.{_≡_, sym, ap, ap₂, subst, _∙_}
 use mathlib.Core.Logic.{inl, inr}
 use Prim.Native.Nat.{ℕ, _+_, _-_}
-use lib.ListN.{take, drop}
+use lib.ListN.{length, take, drop, length-drop}
 use native.Mathlib.Omega.{arith}
 use Rattle.bits_laws.specs.Bits.{key}
+use Rattle.image_types.specs.Records.{tail-part}
 use Rattle.keys.specs.Order.{order}
 use Rattle.build_laws.specs.KeyList.{Record-read}
 use Rattle.keys.proofs.OrderLaws.{order-is-below, order-not-below}
@@ -14,12 +15,9 @@ use borrow.Author.Needs.{needs}
 use Rattle.build_list.proofs.judge.judge_record.Statement.{statement}
 use Rattle.build_list.proofs.judge.judge_record.Tie as tie
 
--- the two keys as the parts of the list that were compared
-parts : (s : Bytes) (i m j n : ℕ) (o x : Order) → o ≡ order (take (i + m - i) (drop i s)) (take (j + n - j) (drop j s)) → o ≡ x → order (key s i m) (key s j n) ≡ x
-parts s i m j n o x h e =
-    let e₁ : i + m - i ≡ m = omega arith in
-    let e₂ : j + n - j ≡ n = omega arith in
-    sym (ap₂ (λ (k l : ℕ). order (take k (drop i s)) (take l (drop j s))) e₁ e₂) ∙ sym h ∙ e
+-- the two keys as the fronts of the parts of the list that were compared
+fronts : (s : Bytes) (i m j n : ℕ) (o x : Order) → o ≡ order (take m (take (length s - i) (drop i s))) (take n (take (length s - j) (drop j s))) → o ≡ x → order (key s i m) (key s j n) ≡ x
+fronts s i m j n o x h e = sym (ap₂ (λ (k l : Bytes). order (take m k) (take n l)) (tail-part s i) (tail-part s j)) ∙ sym h ∙ e
 
 read-record-requires : tie.Need-read-record-requires
 read-record-requires c κs = search needs
@@ -30,45 +28,48 @@ enum-known-found c = search needs
 enum-known-found-2 : tie.Need-enum-known-found-2
 enum-known-found-2 c = search needs
 
-add-last-end : tie.Need-add-last-end
-add-last-end c = search needs
-
 add-start : tie.Need-add-start
 add-start c = search needs
 
-add-end : tie.Need-add-end
-add-end c =
-    let read-record = c .before .before .before .read-record in
-    let found2 = c .before .found2 in
-    let a = c .before .before .before .before .before .args in
-    let r : Record-read (a .s .now) (a .at) (a .done) (Key (found2 .given .0 .0)) = subst (Record-read (a .s .now) (a .at) (a .done)) (found2 .given .1) (read-record .ensures) in
-    omega (arith, r .within)
+sub-compare-fronts : tie.Need-sub-compare-fronts
+sub-compare-fronts c = search needs
 
-sub-compare : tie.Need-sub-compare
-sub-compare c = search needs
+part-compare-fronts-start : tie.Need-part-compare-fronts-start
+part-compare-fronts-start c = search needs
 
-part-compare-start : tie.Need-part-compare-start
-part-compare-start c = search needs
+part-compare-fronts-end : tie.Need-part-compare-fronts-end
+part-compare-fronts-end c = search needs
 
-part-compare-end : tie.Need-part-compare-end
-part-compare-end c = search needs
-
-sub-compare-2 : tie.Need-sub-compare-2
-sub-compare-2 c = search needs
-
-part-compare-start-2 : tie.Need-part-compare-start-2
-part-compare-start-2 c = search needs
-
-part-compare-end-2 : tie.Need-part-compare-end-2
-part-compare-end-2 c =
+sub-compare-fronts-2 : tie.Need-sub-compare-fronts-2
+sub-compare-fronts-2 c =
     let read-record = c .before .before .before .before .read-record in
     let found2 = c .before .before .found2 in
     let a = c .before .before .before .before .before .before .args in
     let r : Record-read (a .s .now) (a .at) (a .done) (Key (found2 .given .0 .0)) = subst (Record-read (a .s .now) (a .at) (a .done)) (found2 .given .1) (read-record .ensures) in
     omega (arith, r .within)
 
-compare-requires : tie.Need-compare-requires
-compare-requires c κs = search needs
+part-compare-fronts-start-2 : tie.Need-part-compare-fronts-start-2
+part-compare-fronts-start-2 c =
+    let read-record = c .before .before .before .before .read-record in
+    let found2 = c .before .before .found2 in
+    let a = c .before .before .before .before .before .before .args in
+    let r : Record-read (a .s .now) (a .at) (a .done) (Key (found2 .given .0 .0)) = subst (Record-read (a .s .now) (a .at) (a .done)) (found2 .given .1) (read-record .ensures) in
+    omega (arith, r .within)
+
+part-compare-fronts-end-2 : tie.Need-part-compare-fronts-end-2
+part-compare-fronts-end-2 c = search needs
+
+compare-fronts-requires : tie.Need-compare-fronts-requires
+compare-fronts-requires c κs =
+    let read-record = c .before .before .before .before .before .read-record in
+    let found2 = c .before .before .before .found2 in
+    let a = c .before .before .before .before .before .before .before .args in
+    let r : Record-read (a .s .now) (a .at) (a .done) (Key (found2 .given .0 .0)) = subst (Record-read (a .s .now) (a .at) (a .done)) (found2 .given .1) (read-record .ensures) in
+    let s = a .s .now in
+    let b = a .at + 3 in
+    let front = length-drop (a .last) s in
+    let back = length-drop b s in
+    (omega (arith, ap length (tail-part s (a .last)), front), omega (arith, r .within, ap length (tail-part s b), back), omega (arith, ap length (tail-part s (a .last)), front, ap length (tail-part s b), back))
 
 enum-told : tie.Need-enum-told
 enum-told c = search needs
@@ -91,33 +92,33 @@ returns-2 : tie.Need-returns-2
 returns-2 c =
     let read-record = c .before .before .before .before .before .before .before .before .read-record in
     let found2 = c .before .before .before .before .before .before .found2 in
-    let compare = c .before .before .compare in
+    let compare = c .before .before .compare-fronts in
     let a = c .before .before .before .before .before .before .before .before .before .before .args in
     let n = found2 .given .0 .0 in
     let r : Record-read (a .s .now) (a .at) (a .done) (Key n) = subst (Record-read (a .s .now) (a .at) (a .done)) (found2 .given .1) (read-record .ensures) in
-    let o = parts (a .s .now) (a .last) (a .m) (a .at + 3) n _ _ (compare .ensures) (c .enum-told .given .1) in
+    let o = fronts (a .s .now) (a .last) (a .m) (a .at + 3) n _ _ (compare .ensures) (c .enum-told .given .1) in
     record { within = r .within; few = r .few; high = λ f. r .high f (key (a .s .now) (a .last) (a .m)) (order-is-below (key (a .s .now) (a .last) (a .m)) (key (a .s .now) (a .at + 3) n) o) }
 
 returns-3 : tie.Need-returns-3
 returns-3 c =
     let read-record = c .before .before .before .before .before .before .before .before .read-record in
     let found2 = c .before .before .before .before .before .before .found2 in
-    let compare = c .before .before .compare in
+    let compare = c .before .before .compare-fronts in
     let a = c .before .before .before .before .before .before .before .before .before .before .args in
     let n = found2 .given .0 .0 in
     let r : Record-read (a .s .now) (a .at) (a .done) (Key n) = subst (Record-read (a .s .now) (a .at) (a .done)) (found2 .given .1) (read-record .ensures) in
-    let o = parts (a .s .now) (a .last) (a .m) (a .at + 3) n _ _ (compare .ensures) (c .enum-told2 .given .1) in
+    let o = fronts (a .s .now) (a .last) (a .m) (a .at + 3) n _ _ (compare .ensures) (c .enum-told2 .given .1) in
     λ f. r .low f (key (a .s .now) (a .last) (a .m)) (order-not-below (key (a .s .now) (a .last) (a .m)) (key (a .s .now) (a .at + 3) n) (inl o))
 
 returns-4 : tie.Need-returns-4
 returns-4 c =
     let read-record = c .before .before .before .before .before .before .before .before .read-record in
     let found2 = c .before .before .before .before .before .before .found2 in
-    let compare = c .before .before .compare in
+    let compare = c .before .before .compare-fronts in
     let a = c .before .before .before .before .before .before .before .before .before .before .args in
     let n = found2 .given .0 .0 in
     let r : Record-read (a .s .now) (a .at) (a .done) (Key n) = subst (Record-read (a .s .now) (a .at) (a .done)) (found2 .given .1) (read-record .ensures) in
-    let o = parts (a .s .now) (a .last) (a .m) (a .at + 3) n _ _ (compare .ensures) (c .enum-told3 .given .1) in
+    let o = fronts (a .s .now) (a .last) (a .m) (a .at + 3) n _ _ (compare .ensures) (c .enum-told3 .given .1) in
     λ f. r .low f (key (a .s .now) (a .last) (a .m)) (order-not-below (key (a .s .now) (a .last) (a .m)) (key (a .s .now) (a .at + 3) n) (inr o))
 
 pub judge-record-spec : {M : Type 1} → statement M
@@ -127,16 +128,14 @@ judge-record-spec =
     read-record-requires
     enum-known-found
     enum-known-found-2
-    add-last-end
     add-start
-    add-end
-    sub-compare
-    part-compare-start
-    part-compare-end
-    sub-compare-2
-    part-compare-start-2
-    part-compare-end-2
-    compare-requires
+    sub-compare-fronts
+    part-compare-fronts-start
+    part-compare-fronts-end
+    sub-compare-fronts-2
+    part-compare-fronts-start-2
+    part-compare-fronts-end-2
+    compare-fronts-requires
     enum-told
     enum-told-2
     enum-told-3

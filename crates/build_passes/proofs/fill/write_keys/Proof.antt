@@ -23,9 +23,13 @@ with-body p b = record { body = b; levels = p .levels; width = p .width }
 known : (p : Pass) (b : Body) (ks : List Bytes) (size : ℕ) (c : List ℕ) → p .body ≡ b → Pass-room p 0 ks size c → Pass-room (with-body p b) 0 ks size c
 known p b ks size c e r = subst (λ (i : Body). Pass-room (with-body p i) 0 ks size c) e r
 
--- what keys do in a body that is known
-does : (p : Pass) (b : Body) (ks : List Bytes) (s z : Byte-state) → p .body ≡ b → z ≡ pass-keys (with-body p b) 0 ks s → z ≡ pass-keys p 0 ks s
-does p b ks s z e h = h ∙ ap (λ (i : Body). pass-keys (with-body p i) 0 ks s) (sym e)
+-- the bytes that keys leave in a body that is known
+does : (p : Pass) (b : Body) (ks : List Bytes) (s : Byte-state) (o : Bytes) → p .body ≡ b → o ≡ pass-keys (with-body p b) 0 ks s .bytes → o ≡ pass-keys p 0 ks s .bytes
+does p b ks s o e h = h ∙ ap (λ (i : Body). pass-keys (with-body p i) 0 ks s .bytes) (sym e)
+
+-- the same, from all that they do
+does-all : (p : Pass) (b : Body) (ks : List Bytes) (s z : Byte-state) → p .body ≡ b → z ≡ pass-keys (with-body p b) 0 ks s → z .bytes ≡ pass-keys p 0 ks s .bytes
+does-all p b ks s z e h = does p b ks s (z .bytes) e (ap (λ (i : Byte-state). i .bytes) h)
 
 enum-known-body : tie.Need-enum-known-body
 enum-known-body c = search needs
@@ -51,8 +55,8 @@ fill-child-cells-requires c κs =
 enum-told-3 : tie.Need-enum-told-3
 enum-told-3 c = search needs
 
-fill-exact-cells-requires : tie.Need-fill-exact-cells-requires
-fill-exact-cells-requires c κs =
+fill-exact-requires : tie.Need-fill-exact-requires
+fill-exact-requires c κs =
     let a = c .before .before .before .before .before .before .before .before .before .before .args in
     let pre = c .before .before .before .before .before .before .before .before .before .before .pre in
     ((pre .0 .0, pre .0 .1), known (a .pass) (Entries DP) (keys-of (a .s .now)) (length (a .out .now)) (a .cur .now) (c .before .before .before .before .before .body .given .1 ∙ ap Entries (c .before .before .enum-told3 .given .1)) (pre .1))
@@ -99,7 +103,7 @@ same-length c = search needs
 returns : tie.Need-returns
 returns c =
     let a = c .before .before .before .before .before .before .before .before .before .before .before .before .before .args in
-    does (a .pass) (Entries DL) (keys-of (a .s .now)) (byte-state (a .out .now) (a .cur .now)) _ (c .before .before .before .before .before .before .before .before .body .given .1 ∙ ap Entries (c .before .before .before .before .before .enum-told .given .1)) (c .before .before .fill-label-cells .ensures)
+    does-all (a .pass) (Entries DL) (keys-of (a .s .now)) (byte-state (a .out .now) (a .cur .now)) _ (c .before .before .before .before .before .before .before .before .body .given .1 ∙ ap Entries (c .before .before .before .before .before .enum-told .given .1)) (c .before .before .fill-label-cells .ensures)
 
 same-length-2 : tie.Need-same-length-2
 same-length-2 c = search needs
@@ -107,7 +111,7 @@ same-length-2 c = search needs
 returns-2 : tie.Need-returns-2
 returns-2 c =
     let a = c .before .before .before .before .before .before .before .before .before .before .before .before .before .args in
-    does (a .pass) (Entries DC) (keys-of (a .s .now)) (byte-state (a .out .now) (a .cur .now)) _ (c .before .before .before .before .before .before .before .before .body .given .1 ∙ ap Entries (c .before .before .before .before .before .enum-told2 .given .1)) (c .before .before .fill-child-cells .ensures)
+    does-all (a .pass) (Entries DC) (keys-of (a .s .now)) (byte-state (a .out .now) (a .cur .now)) _ (c .before .before .before .before .before .before .before .before .body .given .1 ∙ ap Entries (c .before .before .before .before .before .enum-told2 .given .1)) (c .before .before .fill-child-cells .ensures)
 
 same-length-3 : tie.Need-same-length-3
 same-length-3 c = search needs
@@ -115,7 +119,7 @@ same-length-3 c = search needs
 returns-3 : tie.Need-returns-3
 returns-3 c =
     let a = c .before .before .before .before .before .before .before .before .before .before .before .before .before .args in
-    does (a .pass) (Entries DP) (keys-of (a .s .now)) (byte-state (a .out .now) (a .cur .now)) _ (c .before .before .before .before .before .before .before .before .body .given .1 ∙ ap Entries (c .before .before .before .before .before .enum-told3 .given .1)) (c .before .before .fill-exact-cells .ensures)
+    does (a .pass) (Entries DP) (keys-of (a .s .now)) (byte-state (a .out .now) (a .cur .now)) _ (c .before .before .before .before .before .before .before .before .body .given .1 ∙ ap Entries (c .before .before .before .before .before .enum-told3 .given .1)) (c .before .before .fill-exact .ensures)
 
 same-length-4 : tie.Need-same-length-4
 same-length-4 c = search needs
@@ -123,7 +127,7 @@ same-length-4 c = search needs
 returns-4 : tie.Need-returns-4
 returns-4 c =
     let a = c .before .before .before .before .before .before .before .before .before .before .before .before .before .args in
-    does (a .pass) (Entries SL) (keys-of (a .s .now)) (byte-state (a .out .now) (a .cur .now)) _ (c .before .before .before .before .before .before .before .before .body .given .1 ∙ ap Entries (c .before .before .before .before .before .enum-told4 .given .1)) (c .before .before .fill-labels .ensures)
+    does-all (a .pass) (Entries SL) (keys-of (a .s .now)) (byte-state (a .out .now) (a .cur .now)) _ (c .before .before .before .before .before .before .before .before .body .given .1 ∙ ap Entries (c .before .before .before .before .before .enum-told4 .given .1)) (c .before .before .fill-labels .ensures)
 
 same-length-5 : tie.Need-same-length-5
 same-length-5 c = search needs
@@ -131,7 +135,7 @@ same-length-5 c = search needs
 returns-5 : tie.Need-returns-5
 returns-5 c =
     let a = c .before .before .before .before .before .before .before .before .before .before .before .before .before .args in
-    does (a .pass) (Entries SC) (keys-of (a .s .now)) (byte-state (a .out .now) (a .cur .now)) _ (c .before .before .before .before .before .before .before .before .body .given .1 ∙ ap Entries (c .before .before .before .before .before .enum-told5 .given .1)) (c .before .before .fill-leaves .ensures)
+    does-all (a .pass) (Entries SC) (keys-of (a .s .now)) (byte-state (a .out .now) (a .cur .now)) _ (c .before .before .before .before .before .before .before .before .body .given .1 ∙ ap Entries (c .before .before .before .before .before .enum-told5 .given .1)) (c .before .before .fill-leaves .ensures)
 
 same-length-6 : tie.Need-same-length-6
 same-length-6 c = search needs
@@ -139,7 +143,7 @@ same-length-6 c = search needs
 returns-6 : tie.Need-returns-6
 returns-6 c =
     let a = c .before .before .before .before .before .before .before .before .before .before .before .before .before .args in
-    does (a .pass) (Entries SB) (keys-of (a .s .now)) (byte-state (a .out .now) (a .cur .now)) _ (c .before .before .before .before .before .before .before .before .body .given .1 ∙ ap Entries (c .before .before .before .before .before .enum-told6 .given .1)) (c .before .before .fill-later .ensures)
+    does-all (a .pass) (Entries SB) (keys-of (a .s .now)) (byte-state (a .out .now) (a .cur .now)) _ (c .before .before .before .before .before .before .before .before .body .given .1 ∙ ap Entries (c .before .before .before .before .before .enum-told6 .given .1)) (c .before .before .fill-later .ensures)
 
 same-length-7 : tie.Need-same-length-7
 same-length-7 c = search needs
@@ -147,7 +151,7 @@ same-length-7 c = search needs
 returns-7 : tie.Need-returns-7
 returns-7 c =
     let a = c .before .before .before .before .before .before .before .before .before .before .args in
-    does (a .pass) Slots (keys-of (a .s .now)) (byte-state (a .out .now) (a .cur .now)) _ (c .before .before .before .before .before .enum-told7 .given .1) (c .before .before .fill-slots .ensures)
+    does-all (a .pass) Slots (keys-of (a .s .now)) (byte-state (a .out .now) (a .cur .now)) _ (c .before .before .before .before .before .enum-told7 .given .1) (c .before .before .fill-slots .ensures)
 
 pub write-keys-spec : {M : Type 1} → statement M
 write-keys-spec =
@@ -159,7 +163,7 @@ write-keys-spec =
     enum-told-2
     fill-child-cells-requires
     enum-told-3
-    fill-exact-cells-requires
+    fill-exact-requires
     enum-told-4
     fill-labels-requires
     enum-told-5

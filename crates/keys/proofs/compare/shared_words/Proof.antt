@@ -1,18 +1,12 @@
 use mathlib.Core.Path.{_≡_, refl, sym, ap, _∙_}
 use Prim.Native.Nat.{ℕ, _-_, _≤_}
-use Rattle.keys.proofs.PrefixLaws.{word-shared, word-differs}
+use Rattle.keys.proofs.PrefixLaws.{take-fewer, word-shared, word-differs}
 use Rattle.bits_laws.specs.ValueLaws.{Small}
 use native.Mathlib.Omega.{arith}
 use borrow.Author.Needs.{needs}
 use lib.ListN.{take}
-use lib.Seq.{take-take}
-use Rattle.spec.specs.Bytes.{Bytes}
 use Rattle.keys.proofs.compare.shared_words.Statement.{statement}
 use Rattle.keys.proofs.compare.shared_words.Tie as tie
-
--- fewer of bytes that are the same are the same
-take-fewer : (j i : ℕ) (p q : Bytes) → j ≤ i → take i p ≡ take i q → take j p ≡ take j q
-take-fewer j i p q h e = sym (take-take j i p h) ∙ ap (take j) e ∙ take-take j i q h
 
 abbrev Inv-loop : tie.InvT-loop
 Inv-loop p q n i₀ i = (i ≤ n) × (take i p ≡ take i q)
