@@ -104,23 +104,33 @@ fn equal_window(p: &[u8], q: &[u8]) -> usize
     16 + run_on(equal_word(p, q, 16), last)
 }
 
-// The length of the longest prefix that two keys share: the first n bytes of p and the first m bytes of q, which is no longer than p. Bytes behind the keys are read where there are enough of them.
+// The length of the longest prefix that two keys share: the first n bytes of p and the first m bytes of q, which is no longer than p. The first word is known to be shared where q has one.
+fn shared_behind_word(p: &[u8], n: usize, q: &[u8], m: usize) -> usize
+    requires { ⌜ (n ≤ length (now p)) × (m ≤ length (now q)) × (length (now q) ≤ length (now p)) × (8 ≤ length (now q) → 8 ≤ shared (now p) (now q)) ⌝ }
+    ensures { λ r. ⌜ r ≡ shared (take n (now (p .entry))) (take m (now (q .entry))) ⌝ }
+{
+    if WINDOW <= q.len() {
+        let i = smaller(equal_window(p, q), smaller(n, m));
+        if i < WINDOW {
+            return i;
+        }
+    }
+    shared(&p[..n], &q[..m])
+}
+
+// The same for any first word, which tells mostly all: short, so that the passes over a list take the function in. Bytes behind the keys are read where there are enough of them.
 pub fn shared_fronts(p: &[u8], n: usize, q: &[u8], m: usize) -> usize
     requires { ⌜ (n ≤ length (now p)) × (m ≤ length (now q)) × (length (now q) ≤ length (now p)) ⌝ }
     ensures { λ r. ⌜ r ≡ shared (take n (now (p .entry))) (take m (now (q .entry))) ⌝ }
 {
-    if q.len() < WINDOW {
-        return shared(&p[..n], &q[..m]);
+    if q.len() < 8 {
+        return shared_behind_word(p, n, q, m);
     }
     let first = equal_word(p, q, 0);
     if first < 8 {
         return smaller(first, smaller(n, m));
     }
-    let i = smaller(equal_window(p, q), smaller(n, m));
-    if i < WINDOW {
-        return i;
-    }
-    shared(&p[..n], &q[..m])
+    shared_behind_word(p, n, q, m)
 }
 
 // The order by unsigned bytes of two keys, the first n bytes of p and the first m bytes of q, a proper prefix first: the byte behind the i bytes that they share decides.
