@@ -42,7 +42,7 @@ fn append_suffix(image: &[u8], f: Frame, slot: ValuePos, key: &mut [u8], depth: 
 }
 
 // The lowest key of the leaf at a stop, whose cut key is the first `depth` bytes of `key`; its length.
-pub fn lowest_key(image: &[u8], f: Frame, stop: LeafStop, key: &mut [u8], depth: usize) -> usize
+fn lowest_key(image: &[u8], f: Frame, stop: LeafStop, key: &mut [u8], depth: usize) -> usize
     requires { ⌜ Leaf-at (now image) f stop (now key) depth ⌝ }
     ensures { λ r. ⌜ Lowest-key (now (image .entry)) f stop (take depth (now (key .entry))) (now (key .exit)) r ⌝ }
 {
