@@ -65,7 +65,7 @@ fn shared_bytes(p: &[u8], q: &[u8], n: usize) -> usize
 }
 
 // The length of the longest prefix that two keys share: by words where both have one, else by bytes.
-fn shared(p: &[u8], q: &[u8]) -> usize
+pub fn shared(p: &[u8], q: &[u8]) -> usize
     ensures { λ r. ⌜ r ≡ shared (now (p .entry)) (now (q .entry)) ⌝ }
 {
     let n = smaller(p.len(), q.len());
