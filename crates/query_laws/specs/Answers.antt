@@ -5,8 +5,8 @@ use mathlib.Core.Bool.{Bool, true, false, not, _&&_}
 use mathlib.Core.List.{List, [], _∷_, _++_, append-assoc}
 use native.Mathlib.Omega.{arith}
 use native.Mathlib.Numerals.{add-one}
-use lib.ListN.{length, getD, take, drop, set, replicate, length-append}
-use lib.Seq.{take-at, take-all, take-suc, take-append-add, set-at, length-take-le}
+use lib.ListN.{length, getD, take, drop, set, replicate}
+use lib.Seq.{take-all, take-suc, set-at, length-take-le}
 use Rattle.spec.specs.Bytes.{Bytes, Bits, bit}
 use Rattle.spec.specs.Leaves.{Leaf}
 use Rattle.spec.specs.Nodes.{read-leaves}
@@ -99,18 +99,11 @@ pub stem-range : (ls : List Leaf) (stem : Bytes) → begins-with ls stem ≡ ran
 unfolding begins-with
 stem-range ls stem = refl
 
--- a stem of 64 bytes is its own end
-pub stem-whole : (stem : Bytes) → length stem ≡ 64 → stem-end stem ≡ stem
-stem-whole stem h = take-at stem (255 ∷ []) 64 h
+-- the end with all of the stem in it
+pub stem-filled : (stem : Bytes) (i : ℕ) → i ≡ length stem → take i stem ++ replicate (64 - i) 255 ≡ stem-end stem
+stem-filled stem i e = rw (take-all i stem (omega arith), e)
 
--- A shorter one is followed by one FF; filled with FF to 64 bytes, it has that end.
-pub stem-longer : (stem : Bytes) (i : ℕ) → i ≡ length stem → length stem < 64 → take (i + 1) (take i stem ++ replicate (64 - i) 255) ≡ stem-end stem
-stem-longer stem i e h =
-    let z : 64 - i ≡ suc (64 - (i + 1)) = omega arith in
-    let w : take i stem ≡ stem = take-all i stem (omega arith) in
-    rw (w, z, e) (take-append-add stem (255 ∷ replicate (64 - (length stem + 1)) 255) 1 ∙ sym (take-all 64 (stem ++ (255 ∷ [])) (omega (arith, length-append stem (255 ∷ [])))))
-
--- one byte of it more
+-- one byte of it more, in FF bytes
 pub stem-step : (stem end : Bytes) (i : ℕ) → i < length stem → i < 64 → end ≡ take i stem ++ replicate (64 - i) 255 → set end i (getD stem i 0) ≡ take (i + 1) stem ++ replicate (64 - (i + 1)) 255
 stem-step stem end i h l e =
     let z : 64 - i ≡ suc (64 - (i + 1)) = omega arith in

@@ -20,19 +20,16 @@ pub fn range(image: &[u8], f: Frame, lo: &[u8], hi: &[u8]) -> usize
     one_if(meets(image, f, lo, hi))
 }
 
-// 1 if some leaf has a possible key from the stem to the stem followed by one FF (a 64-byte stem: to itself), else 0.
+// 1 if some leaf has a possible key that begins with the stem, else 0: the range from the stem to the stem filled with FF to 64 bytes.
 pub fn begins_with(image: &[u8], f: Frame, stem: &[u8]) -> usize
     requires { ⌜ Accepted (now image) f × (length (now stem) ≤ 64) ⌝ }
     ensures { λ r. ⌜ r ≡ begins-with (read-leaves (now (image .entry))) (now (stem .entry)) ⌝ }
 {
-    if stem.len() == 64 {
-        return range(image, f, stem, stem);
-    }
     let mut end = [255u8; 64];
     let mut i = 0usize;
     while i < stem.len() {
         end[i] = stem[i];
         i = i + 1;
     }
-    range(image, f, stem, &end[..i + 1])
+    range(image, f, stem, &end)
 }

@@ -1,9 +1,9 @@
 -- Document 01, "Questions and replies": questions, the reply to each over a leaf list, and the bytes of both; with the numbers 24, 21, 22 and 23.
-use Prim.Native.Nat.{ℕ, zero, suc, _+_}
+use Prim.Native.Nat.{ℕ, zero, suc, _+_, _-_}
 use mathlib.Core.Bool.{Bool, true, false, cond, not, _&&_}
 use mathlib.Core.List.{List, [], _∷_, _++_, map}
 use mathlib.Core.Option.{Option}
-use lib.ListN.{length, take, drop, getD, getElem?}
+use lib.ListN.{length, take, drop, getD, getElem?, replicate}
 use lib.Dec.{ltb, eqb}
 use Rattle.spec.specs.Bytes.{Bytes, any, count, concat, letter, bit, le32, from32}
 use Rattle.spec.specs.Keys.{below}
@@ -57,11 +57,11 @@ unfoldable pub seek : List Leaf → Bytes → Sought
 unfolding seek-from
 seek ls start = seek-from 0 ls start
 
--- the end of a begins-with question's range: the stem followed by one FF, or a 64-byte stem itself
+-- the end of a begins-with question's range, by order 2: the stem filled with FF to 64 bytes
 abbrev pub stem-end : Bytes → Bytes
-stem-end stem = take 64 (stem ++ (255 ∷ []))
+stem-end stem = stem ++ replicate (64 - length stem) 255
 
--- begins-with: the range from the stem to its end
+-- begins-with: the range from the stem to its end, which has every key that begins with the stem
 unfoldable pub begins-with : List Leaf → Bytes → ℕ
 unfolding range
 begins-with ls stem = range ls stem (stem-end stem)

@@ -14,7 +14,7 @@ use Rattle.spec.specs.Bytes.{Bytes, any, bit, concat, le32, from32, ascii}
 use Rattle.spec.specs.Keys.{below}
 use Rattle.spec.specs.Leaves.{Leaf, possible, lowest, highest}
 use Rattle.spec.specs.Nodes.{read-leaves}
-use Rattle.spec.specs.Questions.{Sought, point, range, begins-with, counted, meets, greater, seek, seek-from, found, Question, QP, QS, QB, QR, QC, Reply, keyless, sought, reply, reply-bytes, replies, read-reply, reply-at, Parsed-questions, refused, taken, parse-questions, questions-of}
+use Rattle.spec.specs.Questions.{Sought, point, range, stem-end, begins-with, counted, meets, greater, seek, seek-from, found, Question, QP, QS, QB, QR, QC, Reply, keyless, sought, reply, reply-bytes, replies, read-reply, reply-at, Parsed-questions, refused, taken, parse-questions, questions-of}
 use Rattle.spec.specs.Answer.{Outcome, refuse, success, write}
 use Rattle.spec.specs.Check.{verdict}
 use Rattle.spec.specs.Ask.{ask}
@@ -64,7 +64,7 @@ number-small : (ls : List Leaf) → length ls ≤ 65535 → (q : Question) → r
 unfolding reply keyless point range begins-with counted seek
 number-small ls h (QP k) = bit-small (any (λ l. possible l k) ls)
 number-small ls h (QS start) = seek-place 0 ls start (omega arith)
-number-small ls h (QB stem) = bit-small (any (meets stem (take 64 (stem ++ (255 ∷ [])))) ls)
+number-small ls h (QB stem) = bit-small (any (meets stem (stem-end stem)) ls)
 number-small ls h (QR lo hi) = bit-small (any (meets lo hi) ls)
 number-small ls h (QC lo hi) = omega (arith, count-bound (meets lo hi) ls)
 

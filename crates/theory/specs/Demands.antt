@@ -7,14 +7,14 @@ use mathlib.Core.List.{List, [], _∷_}
 use mathlib.Core.Option.{none, some}
 use mathlib.Core.Logic.{_↔_}
 use lib.ListN.{length, getD, take, drop}
-use Rattle.spec.specs.Bytes.{Bytes, count}
+use Rattle.spec.specs.Bytes.{Bytes, count, begins}
 use Rattle.spec.specs.Keys.{below, within, keys, parse-keys, keys-of}
 use Rattle.spec.specs.Leaves.{Leaf, leaves}
 use Rattle.spec.specs.Image.{Settings, rows, image}
 use Rattle.spec.specs.Frame.{has-header, read-bodies, named, parts, read-settings}
 use Rattle.spec.specs.Nodes.{nodes-of, levels-of, read-leaves}
 use Rattle.spec.specs.Trie.{builders-trie}
-use Rattle.spec.specs.Questions.{stem-end, Question, QP, QS, QB, QR, QC, Reply, reply, replies, reply-at, taken, parse-questions, questions-of, question-at}
+use Rattle.spec.specs.Questions.{Question, QP, QS, QB, QR, QC, Reply, reply, replies, reply-at, taken, parse-questions, questions-of, question-at}
 use Rattle.spec.specs.Answer.{written, refused, refusal-weight, Outcome, success}
 use Rattle.spec.specs.Build.{in-range, trie-entries, image-length, build}
 use Rattle.spec.specs.Check.{header-valid, spare-clear, ranks-valid, slots-valid, accepted, check}
@@ -62,6 +62,10 @@ No-list-holds b k = (list : Bytes) → Builds list b → Holds list k → ⊥
 -- none of them has a key in the range
 abbrev pub No-list-has : Bytes → Bytes → Bytes → Type 0
 No-list-has b lo hi = (list : Bytes) → Builds list b → (k : Bytes) → Holds list k → within lo hi k ≡ false
+
+-- none of them has a key that begins with the stem
+abbrev pub No-list-begins : Bytes → Bytes → Type 0
+No-list-begins b stem = (list : Bytes) → Builds list b → (k : Bytes) → Holds list k → begins stem k ≡ false
 
 -- none of them holds a key at or after the start
 abbrev pub No-list-from : Bytes → Bytes → Type 0
@@ -232,8 +236,8 @@ pub record Replies-correct (b file final : Bytes) : Type 0 where
   pub key : (i : ℕ) (k : Bytes) → question-at file i ≡ some (QP k) → (reply-at i final .number ≡ 0) ↔ No-list-holds b k
   -- "or has a key in it";
   pub range : (i : ℕ) (lo hi : Bytes) → question-at file i ≡ some (QR lo hi) → (reply-at i final .number ≡ 0) ↔ No-list-has b lo hi
-  -- "the range of a begins-with question is the one that its reply rule names";
-  pub stem : (i : ℕ) (stem : Bytes) → question-at file i ≡ some (QB stem) → (reply-at i final .number ≡ 0) ↔ No-list-has b stem (stem-end stem)
+  -- Order 2: "a stem is denied exactly if no list with that image has a key beginning so";
+  pub stem : (i : ℕ) (stem : Bytes) → question-at file i ≡ some (QB stem) → (reply-at i final .number ≡ 0) ↔ No-list-begins b stem
   -- "a count is the number of keys that some such list has in the range, and no such list has more, or over two fewer";
   pub count : (i : ℕ) (lo hi : Bytes) → question-at file i ≡ some (QC lo hi) → Count b lo hi (reply-at i final .number)
   -- "a seek gives none exactly when no such list holds a key at or after its start",

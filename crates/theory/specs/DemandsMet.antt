@@ -7,13 +7,13 @@ use mathlib.Core.Option.{some}
 use mathlib.Core.Logic.{_↔_, Iff·trans}
 use native.Mathlib.Omega.{arith}
 use lib.ListN.{length, getD, take, drop}
-use Rattle.spec.specs.Bytes.{Bytes, count}
+use Rattle.spec.specs.Bytes.{Bytes, count, begins}
 use Rattle.spec.specs.Keys.{below, keys, write-keys, keys-of, within}
 use Rattle.spec.specs.Leaves.{Leaf, leaves}
 use Rattle.spec.specs.Image.{Settings, image}
 use Rattle.spec.specs.Frame.{read-settings}
 use Rattle.spec.specs.Nodes.{read-leaves}
-use Rattle.spec.specs.Questions.{point, range, begins-with, counted, seek, Sought, found, stem-end, Question, QP, QS, QB, QR, QC, Reply, keyless, sought, reply, replies, reply-at, questions-of, question-at}
+use Rattle.spec.specs.Questions.{point, range, begins-with, counted, seek, Sought, found, Question, QP, QS, QB, QR, QC, Reply, keyless, sought, reply, replies, reply-at, questions-of, question-at}
 use Rattle.spec.specs.Answer.{success, Outcome}
 use Rattle.spec.specs.Build.{in-range, build}
 use Rattle.spec.specs.Check.{verdict}
@@ -22,7 +22,8 @@ use Rattle.theory.specs.Terms.{Is-bytes, In, Bound, Key-list, Proper}
 use Rattle.theory.specs.Lists.{all-at}
 use Rattle.theory.specs.LeafLists.{leaf-equal}
 use Rattle.theory.specs.Choices.{Has-leaves, has-leaves-exactly, has-leaves-length}
-use Rattle.theory.specs.RangeLaws.{Count-correct, point-denied, range-denied, begins-denied, count-correct}
+use Rattle.theory.specs.RangeLaws.{Count-correct, point-denied, range-denied, count-correct}
+use Rattle.theory.specs.Stems.{begins-denied}
 use Rattle.theory.specs.SeekLaws.{Seek-correct, seek-none, seek-found}
 use Rattle.theory.specs.ReadBack.{read-back, settings-back}
 use Rattle.theory.specs.KeyFiles.{keys-exactly, bytes-write-keys}
@@ -290,7 +291,7 @@ module _ (b : Bytes) (o : Accept.Image-of-leaves b) where
           (Iff·trans (range-denied (o .leaves) lo hi (o .fits .realizable) (o .fits .well-sized) (p .lower) (p .order)) (every (λ ks. (k : Bytes) → In k ks → within lo hi k ≡ false)));
       stem = λ i stem e.
           rw (number-on i (QB stem) e ∙ reply-stem (o .leaves) stem)
-          (Iff·trans (begins-denied (o .leaves) stem (o .fits .realizable) (o .fits .well-sized) (proper i (QB stem) e)) (every (λ ks. (k : Bytes) → In k ks → within stem (stem-end stem) k ≡ false)));
+          (Iff·trans (begins-denied (o .leaves) stem (o .fits .realizable) (o .fits .well-sized) (proper i (QB stem) e)) (every (λ ks. (k : Bytes) → In k ks → begins stem k ≡ false)));
       count = λ i lo hi e.
           let p = proper i (QC lo hi) e in
           rw (number-on i (QC lo hi) e ∙ reply-count (o .leaves) lo hi) (count-lists lo hi (counted (o .leaves) lo hi) (count-correct (o .leaves) lo hi (o .fits .realizable) (o .fits .well-sized) (p .lower) (p .order)));

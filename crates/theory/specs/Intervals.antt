@@ -143,7 +143,8 @@ lowest-nil (suc m) (suc R) s h p =
     trimmed-nil (fill false 8 s) (take R (filled false m (drop 8 s)))
     ∙ rw (lowest-nil m R (drop 8 s) (omega (arith, length-drop 8 s)) p) (sym (starts-fill 8 s))
 
-below-all-ff : (R N : ℕ) (r : Bytes) → R ≤ N → length r ≤ R → Is-bytes r → below (take R (replicate N 255)) r ≡ false
+-- no bytes are above FF bytes that are as many
+pub below-all-ff : (R N : ℕ) (r : Bytes) → R ≤ N → length r ≤ R → Is-bytes r → below (take R (replicate N 255)) r ≡ false
 unfolding below
 below-all-ff zero N [] h l b = refl
 below-all-ff zero N (x ∷ r) h l b = absurd (omega arith)

@@ -5,17 +5,16 @@ use mathlib.Core.Bool.{cond, Bool, true, false, not, _&&_, _||_, true≢false, o
 use mathlib.Core.List.{List, [], _∷_, _++_, map, append-nil}
 use mathlib.Core.Logic.{_↔_}
 use native.Mathlib.Omega.{arith}
-use lib.ListN.{length, take, replicate, length-append}
+use lib.ListN.{length, take, replicate}
 use lib.Dec.{T, leb}
-use lib.Seq.{take-all, take-at}
-use borrow.Author.Tests.{not-true, leb-true, leb-false}
+use borrow.Author.Tests.{not-true}
 use Rattle.spec.specs.Bytes.{Bytes, any, count, filled, blocks, bit, equal, begins, same-bits}
 use Rattle.spec.specs.Keys.{below, within}
 use Rattle.spec.specs.Leaves.{Leaf, possible, lowest, highest, trimmed, bits-behind}
-use Rattle.spec.specs.Questions.{counted, meets, greater, stem-end, point, range, begins-with}
+use Rattle.spec.specs.Questions.{counted, meets, greater, point, range}
 use Rattle.theory.specs.Terms.{Is-bytes, In, here, there, Key, Keys, Bound}
 use Rattle.theory.specs.Lists.{all-in, any-in, in-any, any-count, count-any, and-both}
-use Rattle.theory.specs.Order.{below-asym, below-irrefl, below-le-lt, below-lt-le, below-append, below-nil}
+use Rattle.theory.specs.Order.{below-asym, below-irrefl, below-le-lt, below-lt-le}
 use Rattle.theory.specs.LeafLists.{before-below, Possible-key, Possible-keys, done, also, Ordered, Before-all, Realizable, Well-sized, All-well-sized}
 use Rattle.theory.specs.Intervals.{possible-interval-exactly, lowest-key, lowest-possible}
 use Rattle.theory.specs.Choices.{Has-leaves, Choice, split-possible, choice-has-leaves, has-leaves-possible}
@@ -339,25 +338,6 @@ range-denied ls lo hi g o q r =
       λ h ks b k i. false-if-not (within lo hi k) (λ e. z .0 h (ks, b, (k, i, e))),
       λ f. z .1 (λ a. true≢false (sym (a .2 .2) ∙ f (a .0) (a .1) (a .2 .0) (a .2 .1))),
     )
-
-stem-order : (stem : Bytes) → length stem ≤ 64 → below (stem-end stem) stem ≡ false
-stem-order stem h = go (leb (length stem) 63) refl
-  where
-    go : (b : Bool) → leb (length stem) 63 ≡ b → below (stem-end stem) stem ≡ false
-    go true e =
-        let w : stem-end stem ≡ stem ++ (255 ∷ []) = take-all 64 (stem ++ (255 ∷ [])) (omega (arith, leb-true (length stem) 63 e, length-append stem (255 ∷ []))) in
-        let v : below (stem ++ (255 ∷ [])) (stem ++ []) ≡ false = below-append stem (255 ∷ []) [] ∙ below-nil (255 ∷ []) in
-        rw w (rw (append-nil stem) at v)
-    go false e =
-        let n : length stem ≡ 64 = omega (arith, leb-false (length stem) 63 e) in
-        let w : stem-end stem ≡ stem = take-at stem (255 ∷ []) 64 n in
-        rw w (below-irrefl stem)
-
--- A begins-with question's reply is that of the range from the stem to the stem and one FF; it is denied exactly when none of the lists that have the leaves has a key in that range.
-pub begins-denied : {n : ℕ} (ls : List Leaf) (stem : Bytes) → Realizable n ls → All-well-sized n ls → Bound stem
-    → (begins-with ls stem ≡ 0) ↔ ((ks : List Bytes) → Has-leaves n ks ls → (k : Bytes) → In k ks → within stem (stem-end stem) k ≡ false)
-unfolding begins-with
-begins-denied ls stem g o q = range-denied ls stem (stem-end stem) g o q (stem-order stem (q .fits))
 
 -- ---- counts
 

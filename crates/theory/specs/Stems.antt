@@ -1,0 +1,63 @@
+-- Begins-with over a leaf list, and the key lists that have these leaves: a stem's range has just the keys that begin with the stem (stem-exactly).
+use Prim.Native.Nat.{ℕ, _-_, _≤_}
+use mathlib.Core.Path.{_≡_, refl, sym, ap, _∙_}
+use mathlib.Core.Bool.{Bool, true, false}
+use mathlib.Core.List.{List, [], _++_, append-nil}
+use mathlib.Core.Logic.{_↔_, Iff·trans}
+use native.Mathlib.Omega.{arith}
+use lib.ListN.{length, take, drop, replicate, length-drop, length-replicate}
+use lib.Seq.{take-all}
+use Rattle.spec.specs.Bytes.{Bytes, begins}
+use Rattle.spec.specs.Keys.{below, within}
+use Rattle.spec.specs.Leaves.{Leaf}
+use Rattle.spec.specs.Questions.{stem-end, begins-with}
+use Rattle.theory.specs.Terms.{Is-bytes, In, Key, Bound}
+use Rattle.theory.specs.Lists.{all-in, bytes-drop}
+use Rattle.theory.specs.Order.{below-append, below-nil, prefix-append, outside-prefix}
+use Rattle.theory.specs.LeafLists.{Realizable, All-well-sized}
+use Rattle.theory.specs.Intervals.{below-all-ff}
+use Rattle.theory.specs.Choices.{Has-leaves}
+use Rattle.theory.specs.RangeLaws.{range-denied}
+
+-- what stands behind a stem
+module _ (stem r : Bytes) where
+  -- is not below the stem,
+  behind-stem : below (stem ++ r) stem ≡ false
+  behind-stem = let e : below (stem ++ r) (stem ++ []) ≡ false = below-append stem r [] ∙ below-nil r in rw (append-nil stem) at e
+
+  -- and, where it is no longer than the FF bytes behind the stem, not above the stem's end
+  before-end : (m : ℕ) → length r ≤ m → Is-bytes r → below (stem ++ replicate m 255) (stem ++ r) ≡ false
+  before-end m l b =
+      let f : Bytes = replicate m 255 in
+      let e : take m f ≡ f = take-all m f (omega (arith, length-replicate {A = ℕ} m 255)) in
+      below-append stem f r ∙ (rw e at (below-all-ff m m r (omega arith) l b))
+
+-- The range of a stem is the right way round.
+stem-order : (stem : Bytes) → below (stem-end stem) stem ≡ false
+stem-order stem = behind-stem stem (replicate (64 - length stem) 255)
+
+-- The keys of at most 64 bytes from a stem to the stem filled with FF to 64 bytes are exactly those that begin with it; with an empty stem, all.
+pub stem-exactly : (stem k : Bytes) → length k ≤ 64 → Is-bytes k → within stem (stem-end stem) k ≡ begins stem k
+unfolding within
+stem-exactly stem k h b = go (begins stem k) refl
+  where
+    go : (x : Bool) → begins stem k ≡ x → within stem (stem-end stem) k ≡ x
+    go true e =
+        let r : Bytes = drop (length stem) k in
+        let s : k ≡ stem ++ r = prefix-append stem k e in
+        let low : below k stem ≡ false = ap (λ (z : Bytes). below z stem) s ∙ behind-stem stem r in
+        let high : below (stem-end stem) k ≡ false = ap (below (stem-end stem)) s ∙ before-end stem r (64 - length stem) (omega (arith, length-drop (length stem) k)) (bytes-drop (length stem) k b) in
+        rw (low, high)
+    go false e = rw (append-nil stem) at (outside-prefix stem k [] (replicate (64 - length stem) 255) e)
+
+-- A stem is denied exactly when none of the lists that have the leaves has a key that begins with it.
+pub begins-denied : {n : ℕ} (ls : List Leaf) (stem : Bytes) → Realizable n ls → All-well-sized n ls → Bound stem
+    → (begins-with ls stem ≡ 0) ↔ ((ks : List Bytes) → Has-leaves n ks ls → (k : Bytes) → In k ks → begins stem k ≡ false)
+unfolding begins-with
+begins-denied {n} ls stem g o q = Iff·trans (range-denied ls stem (stem-end stem) g o q (stem-order stem)) (
+  λ f ks w k i. sym (same ks w k i) ∙ f ks w k i,
+  λ f ks w k i. same ks w k i ∙ f ks w k i,
+)
+  where
+    same : (ks : List Bytes) → Has-leaves n ks ls → (k : Bytes) → In k ks → within stem (stem-end stem) k ≡ begins stem k
+    same ks w k i = let q = all-in Key (w .keys) i in stem-exactly stem k (q .fits) (q .bytes)
