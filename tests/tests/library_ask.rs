@@ -3,8 +3,10 @@
 use range_filter_tests::answer::Answer;
 use range_filter_tests::examples::IMAGE_A;
 use range_filter_tests::generate::images::{any_image, built, large_images};
-use range_filter_tests::generate::keys::{any_keys, keys_by_node_size};
-use range_filter_tests::generate::questions::{key_near, questions_near};
+use range_filter_tests::generate::keys::{any_keys, ff_keys, keys_by_node_size};
+use range_filter_tests::generate::questions::{
+    add_to_last_byte, key_near, questions_near, stems_of,
+};
 use range_filter_tests::generate::universe::Universe;
 use range_filter_tests::generate::{damaged, every_setting};
 use range_filter_tests::random::Random;
@@ -115,6 +117,28 @@ fn questions_about(keys: &[Vec<u8>]) -> Vec<Question> {
     asked
 }
 
+/// Gives stems that a key begins with or just misses: all of its prefixes, and the key cut
+/// or filled with FF to some lengths with its last byte as it is, one more and one less.
+fn stems_about(key: &[u8]) -> Vec<Question> {
+    let mut asked: Vec<Question> = stems_of(key).collect();
+    for length in [
+        1,
+        key.len() - 1,
+        key.len(),
+        key.len() + 1,
+        MAX_KEY - 1,
+        MAX_KEY,
+    ] {
+        for number in [0x00, 0x01, 0xFF] {
+            let mut stem = key.to_vec();
+            stem.resize(length.min(MAX_KEY), 0xFF);
+            add_to_last_byte(&mut stem, number);
+            asked.push(Question::BeginsWith(stem));
+        }
+    }
+    asked
+}
+
 /// Gives a question of each kind.
 fn one_of_each() -> Vec<Question> {
     vec![
@@ -176,6 +200,27 @@ fn keys_around_every_end_get_the_reference_replies() {
         count += asked.len();
     }
     assert!(count > 50_000, "{count} questions");
+}
+
+#[test]
+fn stems_before_runs_of_ff_get_the_reference_replies() {
+    let mut random = Random::new(73);
+    let mut kinds = [0, 0];
+    for (dense_levels, n) in every_setting() {
+        for _ in 0..LISTS_A_SETTING {
+            let stored = ff_keys(&mut random);
+            let image = built(&stored, dense_levels, n);
+            let leaves = accepted_leaves(&image).expect("a built image is accepted");
+            let ends = leaves.iter().flat_map(|leaf| [lowest(leaf), highest(leaf)]);
+            for key in stored.iter().cloned().chain(ends) {
+                compare_replies(&image, &stems_about(&key));
+            }
+            for leaf in leaves {
+                kinds[usize::from(leaf.exact)] += 1;
+            }
+        }
+    }
+    assert!(kinds.iter().all(|&count| count > 200), "{kinds:?}");
 }
 
 #[test]

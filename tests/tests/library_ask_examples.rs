@@ -3,6 +3,7 @@
 
 use range_filter_tests::answer::Answer;
 use range_filter_tests::examples::{list_van, IMAGE_A};
+use range_filter_tests::generate::every_setting;
 use range_filter_tests::generate::images::built;
 use range_filter_tests::generate::keys::owned;
 use range_filter_tests::reference::replies::NONE;
@@ -109,8 +110,36 @@ fn begins_with_of_list_a() {
     assert_begins(IMAGE_A, b"D", 1);
     assert_begins(IMAGE_A, b"D1", 1);
     assert_begins(IMAGE_A, b"D10", 0);
+    assert_begins(IMAGE_A, b"D1\xFF", 0);
+    assert_begins(IMAGE_A, b"D12\xFF\xFF", 1);
     assert_begins(IMAGE_A, b"Vxyz", 1);
     assert_begins(IMAGE_A, b"W", 0);
+}
+
+#[test]
+fn stem_s017_covers_the_key_s017_ff_01() {
+    let lists = [
+        owned(&[b"S017\xFF\x01", b"S017\xFF\x02"]),
+        owned(&[b"S016", b"S017\xFF\x01", b"S018"]),
+    ];
+    for (dense_levels, n) in every_setting() {
+        for list in &lists {
+            let image = built(list, dense_levels, n);
+            for stem in [b"S".as_slice(), b"S017", b"S017\xFF", b"S017\xFF\x01"] {
+                assert_begins(&image, stem, 1);
+            }
+            assert_begins(&image, b"S015", 0);
+            assert_begins(&image, b"T", 0);
+        }
+    }
+}
+
+#[test]
+fn an_empty_stem_covers_every_key() {
+    let image = built(&owned(&[&[0xFF; 63], &[0xFF; 64]]), 0, 0);
+    assert_begins(&image, b"", 1);
+    assert_begins(&built(&owned(&[b"\x00"]), 0, 0), b"", 1);
+    assert_begins(&built(&[], 0, 0), b"", 0);
 }
 
 #[test]
@@ -125,16 +154,30 @@ fn begins_with_a_full_stem_asks_for_the_stem_alone() {
 fn begins_with_a_stem_of_63_bytes_ends_at_64() {
     let stem = [b'k'; 63];
     let key = |last: u8| [&stem[..], &[last]].concat();
-    let image = built(&[key(b'x'), key(0xFF)], 0, 0);
+    let image = built(&[key(0xFE), key(0xFF)], 0, 0);
     assert_begins(&image, &stem, 1);
+    assert_begins(&image, &key(0xFF), 1);
+    assert_begins(&image, &key(0xFD), 0);
 }
 
 #[test]
-fn begins_with_ends_at_one_ff() {
+fn begins_with_goes_on_behind_one_ff() {
     let image = built(&owned(&[b"a\xFF\xFFb", b"a\xFF\xFFc"]), 0, 0);
-    assert_begins(&image, b"a", 0);
-    assert_begins(&image, b"a\xFF", 0);
+    assert_begins(&image, b"a", 1);
+    assert_begins(&image, b"a\xFF", 1);
     assert_begins(&image, b"a\xFF\xFF", 1);
+    assert_begins(&image, b"a\xFF\xFFa", 0);
+    assert_begins(&image, b"a\xFF\xFF\xFF", 0);
+}
+
+#[test]
+fn suffix_bits_deny_a_stem() {
+    let image = built(&list_van(), 0, 8);
+    assert_begins(&image, b"V", 1);
+    assert_begins(&image, b"VA", 1);
+    assert_begins(&image, b"VA\xFF", 1);
+    assert_begins(&image, b"VB", 0);
+    assert_begins(&image, b"V\xFF", 0);
 }
 
 #[test]

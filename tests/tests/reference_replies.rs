@@ -2,9 +2,10 @@
 //! small universe.
 //!
 //! The lists are grouped by the image they build, and every reply is compared with the
-//! lists of its group alone: a point, range or stem is denied just if no list has such a
-//! key, a count is the most of any list, and a seek gives the least key not below its
-//! start that any list has, with its number in the list. No interval is used.
+//! lists of its group alone: a point or range is denied just if no list has such a key, and
+//! a stem just if no list has a key that begins with it; a count is the most of any list,
+//! and a seek gives the least key not below its start that any list has, with its number in
+//! the list. No interval is used.
 //!
 //! This is exact for questions from the universe though longer keys exist: cutting a byte
 //! of an alphabet of 00, 80 and FF to its high bit and filling with zeros stays in the
@@ -16,12 +17,11 @@
 
 use range_filter_tests::generate::any_settings;
 use range_filter_tests::generate::images::built;
-use range_filter_tests::generate::keys::any_keys;
-use range_filter_tests::generate::questions::question_near;
+use range_filter_tests::generate::keys::{any_keys, ff_keys};
+use range_filter_tests::generate::questions::{question_near, stems_of};
 use range_filter_tests::generate::universe::{List, Universe};
 use range_filter_tests::random::Random;
 use range_filter_tests::reference::check::accepted_leaves;
-use range_filter_tests::reference::keys::MAX_KEY;
 use range_filter_tests::reference::leaves::{is_possible, leaves, lowest, Leaf};
 use range_filter_tests::reference::questions::Question;
 use range_filter_tests::reference::replies::{replies, Reply, NONE};
@@ -61,9 +61,10 @@ fn least_from(group: &[&List], start: &[u8]) -> (u32, Vec<u8>) {
     }
 }
 
-/// Gives the upper bound of the range that a begins-with question names.
-fn last_of(stem: &[u8]) -> Vec<u8> {
-    stem.iter().copied().chain([0xFF]).take(MAX_KEY).collect()
+/// Gives 1 if some list of a group has a key that begins with a stem, else 0.
+fn some_begins(group: &[&List], stem: &[u8]) -> u32 {
+    let mut keys = group.iter().flat_map(|list| list.iter());
+    u32::from(keys.any(|key| key.starts_with(stem)))
 }
 
 /// Gives the reply that the lists of a group call for.
@@ -72,7 +73,7 @@ fn brute_reply(group: &[&List], question: &Question) -> Reply {
     let (number, key) = match question {
         Question::Point(key) => (most(key, key), Vec::new()),
         Question::Range(lower, upper) => (most(lower, upper).min(1), Vec::new()),
-        Question::BeginsWith(stem) => (most(stem, &last_of(stem)).min(1), Vec::new()),
+        Question::BeginsWith(stem) => (some_begins(group, stem), Vec::new()),
         Question::Count(lower, upper) => (most(lower, upper), Vec::new()),
         Question::Seek(start) => least_from(group, start),
     };
@@ -145,17 +146,35 @@ fn replies_over_long_keys_are_attained() {
     }
 }
 
+/// Asserts that none of some questions about a list's keys is denied over its image.
+fn assert_none_denied(random: &mut Random, list: &List, asked: &[Question]) {
+    let (dense_levels, n) = any_settings(random);
+    let image = built(list, dense_levels, n);
+    let leaves = accepted_leaves(&image).expect("a built image is accepted");
+    let replies = replies(&leaves, asked);
+    assert_eq!(replies.len(), asked.len());
+    assert!(replies.iter().all(|reply| reply.number == 1), "{list:?}");
+}
+
 #[test]
 fn keys_of_a_list_are_never_denied() {
     let mut random = Random::new(14);
     for _ in 0..ATTAINED_LISTS {
         let list = any_keys(&mut random);
-        let (dense_levels, n) = any_settings(&mut random);
-        let image = built(&list, dense_levels, n);
-        let leaves = accepted_leaves(&image).expect("a built image is accepted");
         let points: Vec<Question> = list.iter().cloned().map(Question::Point).collect();
-        let replies = replies(&leaves, &points);
-        assert_eq!(replies.len(), list.len());
-        assert!(replies.iter().all(|reply| reply.number == 1), "{list:?}");
+        assert_none_denied(&mut random, &list, &points);
+    }
+}
+
+#[test]
+fn stems_of_a_list_are_never_denied() {
+    let mut random = Random::new(15);
+    for number in 0..ATTAINED_LISTS {
+        let list = match number % 2 {
+            0 => ff_keys(&mut random),
+            _ => any_keys(&mut random),
+        };
+        let stems: Vec<Question> = list.iter().flat_map(|key| stems_of(key)).collect();
+        assert_none_denied(&mut random, &list, &stems);
     }
 }

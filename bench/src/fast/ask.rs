@@ -96,19 +96,11 @@ fn reply(trie: &Trie, question: &Question, replies: &mut Vec<u8>) {
     let number = match letter {
         b'P' => u32::from(trie.has(lower)),
         b'R' => u32::from(trie.meets(lower, upper)),
-        b'B' => u32::from(begins(trie, lower)),
+        b'B' => u32::from(trie.begins(lower)),
         b'C' => trie.count(lower, upper),
         _ => return reply_to_seek(trie, lower, replies),
     };
     replies.extend_from_slice(&reply_head(letter, number, 0));
-}
-
-/// Says whether some leaf has a possible key from a stem to the stem and one FF; a stem of
-/// 64 bytes is the whole range.
-fn begins(trie: &Trie, stem: &[u8]) -> bool {
-    let mut upper = [0xFF; MAX_KEY + 1];
-    upper[..stem.len()].copy_from_slice(stem);
-    trie.meets(stem, &upper[..MAX_KEY.min(stem.len() + 1)])
 }
 
 /// Writes the reply to a seek: the key goes behind room for the head, which is then filled.

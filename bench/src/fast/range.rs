@@ -1,7 +1,8 @@
-//! Points and ranges. A range is decided where its bounds part: no leaf is gone to that is
+//! Points, stems and ranges. A range is decided where its bounds part: no leaf is gone to that is
 //! not on the way of a bound, and no key is made.
 
 use super::trie::{Branch, Trie};
+use range_filter_tests::reference::keys::MAX_KEY;
 use std::cmp::Ordering;
 
 /// Where the ways of two bounds part, with the bytes of both that are left.
@@ -39,6 +40,28 @@ impl Trie<'_> {
             node = child;
         }
         self.is_exact(node)
+    }
+
+    /// Says whether some leaf has a possible key that begins with a stem: all leaves below a
+    /// node do to which the stem leads; of an open leaf on the way the suffix tells.
+    pub fn begins(&self, stem: &[u8]) -> bool {
+        if self.is_empty() {
+            return false;
+        }
+        let mut node = 0;
+        for (level, &label) in stem.iter().enumerate() {
+            let Some(branch) = self.branch(node, label) else {
+                return false;
+            };
+            let Some(child) = self.child(branch) else {
+                let rest = &stem[level + 1..];
+                let mut last = [0xFF; MAX_KEY];
+                last[..rest.len()].copy_from_slice(rest);
+                return self.leaf_meets(branch, rest, &last);
+            };
+            node = child;
+        }
+        true
     }
 
     /// Goes down from the root along two bounds, the lower one first, while their bytes

@@ -44,6 +44,21 @@ pub fn stemmed_keys(random: &mut Random) -> Vec<Vec<u8>> {
     ascending((0..count).map(key).collect())
 }
 
+/// Gives keys with FF bytes behind one stem, and other bytes behind some of these.
+pub fn ff_keys(random: &mut Random) -> Vec<Vec<u8>> {
+    let stem = random.string(b"S0\xFF", 0, MAX_KEY);
+    let mut keys = Vec::new();
+    for _ in 0..1 + random.below(9) {
+        let mut key = stem.clone();
+        let most = *random.pick(&[1, 3, MAX_KEY]);
+        key.resize(stem.len() + 1 + random.below(most), 0xFF);
+        key.extend(random.string(b"\x00\x01\xFE", 0, 2));
+        key.truncate(MAX_KEY);
+        keys.push(key);
+    }
+    ascending(keys)
+}
+
 /// Gives keys of 64 bytes that differ from one of them in one byte.
 pub fn long_keys(random: &mut Random) -> Vec<Vec<u8>> {
     let stem = random.string(b"\x00xy\xFF", MAX_KEY, MAX_KEY);

@@ -30,7 +30,7 @@ pub fn key_near(random: &mut Random, leaves: &[Leaf]) -> Vec<u8> {
 }
 
 /// Adds to the last byte of a key without carrying.
-fn add_to_last_byte(key: &mut [u8], number: u8) {
+pub fn add_to_last_byte(key: &mut [u8], number: u8) {
     if let Some(last) = key.last_mut() {
         *last = last.wrapping_add(number);
     }
@@ -48,6 +48,12 @@ pub fn question_near(random: &mut Random, leaves: &[Leaf]) -> Question {
         3 => Question::Range(lower, upper),
         _ => Question::Count(lower, upper),
     }
+}
+
+/// Gives the begins-with questions for each prefix of a key, the empty one and the key
+/// itself among them.
+pub fn stems_of(key: &[u8]) -> impl Iterator<Item = Question> + '_ {
+    (0..=key.len()).map(|length| Question::BeginsWith(key[..length].to_vec()))
 }
 
 /// Gives so many questions around the ends of the intervals of a built image's leaves.

@@ -83,13 +83,10 @@ fn count(intervals: &[Interval], lower: &[u8], upper: &[u8]) -> u32 {
     intervals.iter().filter(meets).count() as u32
 }
 
-/// Gives the upper bound of a begins-with question: the stem followed by one FF, or a
-/// 64-byte stem itself.
+/// Gives the upper bound of a begins-with question: the stem filled with FF to 64 bytes.
 fn stem_end(stem: &[u8]) -> Vec<u8> {
     let mut end = stem.to_vec();
-    if stem.len() < MAX_KEY {
-        end.push(0xFF);
-    }
+    end.resize(MAX_KEY, 0xFF);
     end
 }
 
