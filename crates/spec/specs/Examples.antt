@@ -1,4 +1,4 @@
--- Document 01, "Examples": the starred ones, as one table of definitions with one theorem. Questions go to the leaves read back from the image.
+-- Document 01, "Examples": the starred ones, and those of order 2 of document 02, as one table of definitions with one theorem. Questions go to the leaves read back from the image.
 use Prim.Native.Nat.{ℕ}
 use mathlib.Core.Path.{_≡_, refl}
 use mathlib.Core.Bool.{true}
@@ -9,7 +9,7 @@ use Rattle.spec.specs.Keys.{within}
 use Rattle.spec.specs.Leaves.{Leaf, leaves}
 use Rattle.spec.specs.Image.{Bodies, bodies, image}
 use Rattle.spec.specs.Nodes.{read-leaves}
-use Rattle.spec.specs.Questions.{point, counted, seek, none, found}
+use Rattle.spec.specs.Questions.{point, counted, seek, begins-with, none, found}
 
 -- ---- the lists
 
@@ -30,6 +30,15 @@ FF = (0xFF ∷ []) ∷ []
 -- the keys FF and FF FF
 abbrev pub FF-FF : List Bytes
 FF-FF = (0xFF ∷ []) ∷ (0xFF ∷ 0xFF ∷ []) ∷ []
+
+-- order 2's key S017 FF 01, and S017 FF 02
+unfoldable pub S017 : List Bytes
+unfolding ascii
+S017 = (ascii "S017" ++ (0xFF ∷ 0x01 ∷ [])) ∷ (ascii "S017" ++ (0xFF ∷ 0x02 ∷ [])) ∷ []
+
+-- the highest two keys of 64 bytes
+abbrev pub FF-64 : List Bytes
+FF-64 = (replicate 63 0xFF ++ (0xFE ∷ [])) ∷ replicate 64 0xFF ∷ []
 
 -- ---- what is computed of a list
 
@@ -69,7 +78,7 @@ cut-keys ls = concat (map (λ l. l .cut) ls)
 
 -- ---- the table
 
--- what is computed, and what document 01 says
+-- what is computed, and what the document says
 pub data Row : Type 0 where
   _is_ : Bytes → Bytes → Row
 
@@ -78,13 +87,13 @@ infix 5 _is_
 abbrev pub computed : Row → Bytes
 computed (a is b) = a
 
--- what document 01 says
+-- what the document says
 abbrev pub said : Row → Bytes
 said (a is b) = b
 
--- the starred examples
+-- the starred examples, and those of order 2
 unfoldable pub table : List Row
-unfolding A VAN bodies-of image-of leaves-read points counted sought-at suffix-of cut-keys ascii
+unfolding A VAN S017 bodies-of image-of leaves-read leaves points counted sought-at begins-with suffix-of cut-keys ascii
 table =
     -- A: SL 44 56 31 32 FF 32, SC 05, SB 15, RS and TS one zero entry each; 110 bytes
     (bodies-of 0 0 A .SL is 0x44 ∷ 0x56 ∷ 0x31 ∷ 0x32 ∷ 0xFF ∷ 0x32 ∷ [])
@@ -129,11 +138,15 @@ table =
     ∷ (points (leaves-read 8 VAN) (ascii "VAX" ∷ ascii "VB" ∷ []) is 1 ∷ 0 ∷ [])
     ∷ (sought-at (leaves-read 8 VAN) (ascii "VB") is [])
     ∷ (sought-at (leaves-read 8 VAN) (ascii "V") is 3 ∷ ascii "VA")
+    -- order 2: the stem S017 has S017 FF 01 behind it, and S018 has not; an empty stem covers every key
+    ∷ (begins-with (leaves-read 0 S017) (ascii "S017") ∷ [] is 1 ∷ [])
+    ∷ (begins-with (leaves-read 0 S017) (ascii "S018") ∷ [] is 0 ∷ [])
+    ∷ (begins-with (leaves 0 FF-64) [] ∷ [] is 1 ∷ [])
     ∷ []
 
 -- Each row's two sides are equal; over the empty list every point is 0, for every key; and the list with VAN has no key from D2a to V.
 pub examples : (map computed table ≡ map said table)
     × ((k : Bytes) → point (leaves-read 0 []) k ≡ 0)
     × (count (within (ascii "D2a") (ascii "V")) VAN ≡ 0)
-unfolding table leaves-read point count within VAN ascii
+unfolding table leaves-read leaves point count within VAN S017 ascii
 examples = (refl, λ k. refl, refl)
