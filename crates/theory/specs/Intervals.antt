@@ -26,7 +26,7 @@ leb-eq a b c d f g = le-or-lt a b (λ h. le-leb a b h ∙ sym (le-leb c d (f h))
 -- ---- one byte
 
 -- filled with zeros, with ones
-fill-order : (k : ℕ) (s : Bits) → (fill false k s ≤ fill true k s) × (fill true k s < 2 ^ k)
+pub fill-order : (k : ℕ) (s : Bits) → (fill false k s ≤ fill true k s) × (fill true k s < 2 ^ k)
 unfolding fill
 fill-order zero s = omega arith
 fill-order (suc k) [] = omega (arith, fill-order k [])
@@ -98,7 +98,8 @@ starts-fill (suc k) (false ∷ s) =
     let e : fill false k s ≡ 0 * 2 ^ k + fill false k s = omega arith in
     starts-fill k s ∙ ap (λ (z : ℕ). eqb z 0 && starts-with [] (drop k s)) e
 
-fill-tight : (k : ℕ) (s : Bits) → k ≤ length s → fill false k s ≡ fill true k s
+-- bits that make up the byte leave nothing to fill
+pub fill-tight : (k : ℕ) (s : Bits) → k ≤ length s → fill false k s ≡ fill true k s
 unfolding fill
 fill-tight zero s h = refl
 fill-tight (suc k) [] h = absurd (omega arith)
@@ -124,7 +125,7 @@ trimmed-nil x t = go (trimmed t) (eqb x 0)
     go (y ∷ ys) false = refl
 
 -- trimmed bytes compare as their first byte and trimmed rest do
-trimmed-below : (x : ℕ) (r : Bytes) (y : ℕ) (t : Bytes) → below (x ∷ r) (trimmed (y ∷ t)) ≡ ltb x y || (eqb x y && below r (trimmed t))
+pub trimmed-below : (x : ℕ) (r : Bytes) (y : ℕ) (t : Bytes) → below (x ∷ r) (trimmed (y ∷ t)) ≡ ltb x y || (eqb x y && below r (trimmed t))
 unfolding trimmed below
 trimmed-below x r y t = go (trimmed t) (eqb y 0) refl
   where
@@ -152,7 +153,8 @@ below-all-ff (suc R) zero r h l b = absurd (omega arith)
 below-all-ff (suc R) (suc N) [] h l b = refl
 below-all-ff (suc R) (suc N) (x ∷ r) h l b = rw (le-ltb 255 x (omega (arith, b .0)), below-all-ff R N r (omega arith) (omega arith) (b .1)) (and-false (eqb 255 x))
 
-combine : (lo hi x : ℕ) (P Q : Bool) → lo ≤ hi → (lo ≢ hi → not P && not Q ≡ true)
+-- a byte x and what is behind it, from a lower to an upper bound: x lies between their first bytes, and what is behind it between theirs, which matters only where the first bytes are the same
+pub combine : (lo hi x : ℕ) (P Q : Bool) → lo ≤ hi → (lo ≢ hi → not P && not Q ≡ true)
     → (leb lo x && leb x hi) && (not P && not Q) ≡ not (ltb x lo || (eqb x lo && P)) && not (ltb hi x || (eqb hi x && Q))
 combine lo hi x P Q o f = le-or-lt lo x (λ a. le-or-lt x hi (λ b. inside a b) (λ b. over b)) under
   where
@@ -270,7 +272,8 @@ bytes-ff : (k : ℕ) → Is-bytes (replicate k 255)
 bytes-ff zero = tt
 bytes-ff (suc k) = (omega arith, bytes-ff k)
 
-bytes-trimmed : (a : Bytes) → Is-bytes a → Is-bytes (trimmed a)
+-- bytes without trailing zeros are bytes, and no more of them
+pub bytes-trimmed : (a : Bytes) → Is-bytes a → Is-bytes (trimmed a)
 unfolding trimmed
 bytes-trimmed [] p = tt
 bytes-trimmed (x ∷ a) p = go (trimmed a) (eqb x 0) (bytes-trimmed a (p .1))
@@ -280,7 +283,7 @@ bytes-trimmed (x ∷ a) p = go (trimmed a) (eqb x 0) (bytes-trimmed a (p .1))
     go [] false q = (p .0, tt)
     go (y ∷ ys) b q = (p .0, q)
 
-trimmed-length : (a : Bytes) → length (trimmed a) ≤ length a
+pub trimmed-length : (a : Bytes) → length (trimmed a) ≤ length a
 unfolding trimmed
 trimmed-length [] = omega arith
 trimmed-length (x ∷ a) = go (trimmed a) (eqb x 0) (trimmed-length a)

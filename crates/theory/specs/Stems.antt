@@ -19,18 +19,16 @@ use Rattle.theory.specs.Intervals.{below-all-ff}
 use Rattle.theory.specs.Choices.{Has-leaves}
 use Rattle.theory.specs.RangeLaws.{range-denied}
 
--- what stands behind a stem
-module _ (stem r : Bytes) where
-  -- is not below the stem,
-  behind-stem : below (stem ++ r) stem ≡ false
-  behind-stem = let e : below (stem ++ r) (stem ++ []) ≡ false = below-append stem r [] ∙ below-nil r in rw (append-nil stem) at e
+-- no bytes are above as many FF bytes
+pub below-ff : (m : ℕ) (r : Bytes) → length r ≤ m → Is-bytes r → below (replicate m 255) r ≡ false
+below-ff m r l b =
+    let f : Bytes = replicate m 255 in
+    let e : take m f ≡ f = take-all m f (omega (arith, length-replicate {A = ℕ} m 255)) in
+    rw e at (below-all-ff m m r (omega arith) l b)
 
-  -- and, where it is no longer than the FF bytes behind the stem, not above the stem's end
-  before-end : (m : ℕ) → length r ≤ m → Is-bytes r → below (stem ++ replicate m 255) (stem ++ r) ≡ false
-  before-end m l b =
-      let f : Bytes = replicate m 255 in
-      let e : take m f ≡ f = take-all m f (omega (arith, length-replicate {A = ℕ} m 255)) in
-      below-append stem f r ∙ (rw e at (below-all-ff m m r (omega arith) l b))
+-- a stem is not above what it begins
+behind-stem : (stem r : Bytes) → below (stem ++ r) stem ≡ false
+behind-stem stem r = let e : below (stem ++ r) (stem ++ []) ≡ false = below-append stem r [] ∙ below-nil r in rw (append-nil stem) at e
 
 -- The range of a stem is the right way round.
 stem-order : (stem : Bytes) → below (stem-end stem) stem ≡ false
@@ -46,7 +44,7 @@ stem-exactly stem k h b = go (begins stem k) refl
         let r : Bytes = drop (length stem) k in
         let s : k ≡ stem ++ r = prefix-append stem k e in
         let low : below k stem ≡ false = ap (λ (z : Bytes). below z stem) s ∙ behind-stem stem r in
-        let high : below (stem-end stem) k ≡ false = ap (below (stem-end stem)) s ∙ before-end stem r (64 - length stem) (omega (arith, length-drop (length stem) k)) (bytes-drop (length stem) k b) in
+        let high : below (stem-end stem) k ≡ false = ap (below (stem-end stem)) s ∙ below-append stem (replicate (64 - length stem) 255) r ∙ below-ff (64 - length stem) r (omega (arith, length-drop (length stem) k)) (bytes-drop (length stem) k b) in
         rw (low, high)
     go false e = rw (append-nil stem) at (outside-prefix stem k [] (replicate (64 - length stem) 255) e)
 
