@@ -1,16 +1,13 @@
 -- What an accepted image's nodes say of its leaf list, by where a key leads: the laws that join the questions' code to their definitions.
 use Prim.Native.Nat.{ℕ, suc, _+_, _-_, _<_, _≤_}
-use mathlib.Core.Path.{_≡_, refl, sym, ap, _∙_}
+use mathlib.Core.Path.{_≡_, ap, _∙_}
 use mathlib.Core.Bool.{Bool, true, false, not, _&&_}
-use mathlib.Core.List.{List, [], _∷_, _++_, append-assoc}
+use mathlib.Core.List.{[], _∷_}
 use native.Mathlib.Omega.{arith}
-use native.Mathlib.Numerals.{add-one}
-use lib.ListN.{length, getD, take, drop, set, replicate}
-use lib.Seq.{take-all, take-suc, set-at, length-take-le}
+use lib.ListN.{length, getD, drop}
 use Rattle.spec.specs.Bytes.{Bytes, Bits, bit}
-use Rattle.spec.specs.Leaves.{Leaf}
 use Rattle.spec.specs.Nodes.{read-leaves}
-use Rattle.spec.specs.Questions.{point, range, counted, begins-with, stem-end}
+use Rattle.spec.specs.Questions.{point, counted}
 use Rattle.theory.specs.Terms.{Is-bytes, Bound}
 use Rattle.image_types.specs.declared.Frame.{Frame}
 use Rattle.image_types.specs.declared.ValuePos.{ValuePos}
@@ -93,22 +90,3 @@ passed-sums s f a k starts sum h p q =
     let n = slots-nothing (nodes s f) 64 0 in
     let w = below-sums (nodes s f) 64 0 0 k (omega arith) h in
     (omega arith, omega (arith, passed-stops s f a k))
-
--- A begins-with question is the range to its stem's end.
-pub stem-range : (ls : List Leaf) (stem : Bytes) → begins-with ls stem ≡ range ls stem (stem-end stem)
-unfolding begins-with
-stem-range ls stem = refl
-
--- the end with all of the stem in it
-pub stem-filled : (stem : Bytes) (i : ℕ) → i ≡ length stem → take i stem ++ replicate (64 - i) 255 ≡ stem-end stem
-stem-filled stem i e = rw (take-all i stem (omega arith), e)
-
--- one byte of it more, in FF bytes
-pub stem-step : (stem end : Bytes) (i : ℕ) → i < length stem → i < 64 → end ≡ take i stem ++ replicate (64 - i) 255 → set end i (getD stem i 0) ≡ take (i + 1) stem ++ replicate (64 - (i + 1)) 255
-stem-step stem end i h l e =
-    let z : 64 - i ≡ suc (64 - (i + 1)) = omega arith in
-    rw (e, z, add-one i) (set-at (take i stem) 255 (replicate (64 - suc i) 255) (getD stem i 0) i (length-take-le i stem (omega arith))
-    ∙ (append-cons (take i stem) (getD stem i 0) (replicate (64 - suc i) 255) ∙ ap (λ (x : Bytes). x ++ replicate (64 - suc i) 255) (sym (take-suc stem i 0 h))))
-  where
-    append-cons : (a : Bytes) (x : ℕ) (b : Bytes) → a ++ x ∷ b ≡ (a ++ (x ∷ [])) ++ b
-    append-cons a x b = sym (append-assoc a (x ∷ []) b)

@@ -7,12 +7,14 @@ pub mod SuffixBytes
 pub mod Answers
 pub mod Followed
 pub mod LowestKeys
+pub mod StemLeaves
 pub mod Next
 pub mod AtLabel
 pub mod Parting
 pub mod Seeks
 pub mod Seeking
 pub mod RangeWays
+pub mod StemWay
 pub mod LeafKeys
 pub mod SlotBits
 pub mod Sought

@@ -39,7 +39,7 @@ trimmed-last (y ∷ xs) x n = rw (trimmed-last xs x n) (some xs)
 -- ---- the bytes of a suffix
 
 -- m bytes are m bytes long
-filled-length : (f : Bool) (m : ℕ) (s : Bits) → length (filled f m s) ≡ m
+pub filled-length : (f : Bool) (m : ℕ) (s : Bits) → length (filled f m s) ≡ m
 unfolding filled
 filled-length f zero s = refl
 filled-length f (suc m) s = ap suc (filled-length f m (drop 8 s))

@@ -60,9 +60,11 @@ behind-nothing none = refl
 behind-nothing (some l) = refl
 
 module _ (s : Bytes) (f : Frame) (a : Accepted s f) where
+  -- an image with leaves has a root, and all its leaves are below it
   pub root-of : 0 < length (read-leaves s) → Root (nodes s f) (read-leaves s)
   root-of h = trie-root (f .width) (read-leaves s) (nodes s f) (a .realizable) (a .well-sized) (a .trie-is) h
 
+  -- one with nodes has leaves
   pub some-leaf : 0 < node-count f → 0 < length (read-leaves s)
   unfolding trie concat
   some-leaf h = go (read-leaves s) (a .trie-is)

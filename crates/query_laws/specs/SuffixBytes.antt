@@ -38,7 +38,7 @@ high-part (suc k) zero (suc n) (x ∷ s) h l = absurd (omega arith)
 high-part (suc k) (suc b) n s h l = ap (λ (z : Bytes). fill true 8 s ∷ z) (high-part k b n (drop 8 s) (omega (arith, length-drop 8 s)) (omega arith))
 
 -- the highest key behind the cut: the suffix filled with ones to 64 bytes in all
-high-filled : (c : ℕ) (s : Bits) → high-rest c s ≡ filled true (64 - c) s
+pub high-filled : (c : ℕ) (s : Bits) → high-rest c s ≡ filled true (64 - c) s
 unfolding high-rest
 high-filled c s = high-part (64 - c) (blocks 8 (length s)) 64 s (omega arith) (omega arith)
 
@@ -55,7 +55,7 @@ low-part (suc k) zero (x ∷ s) h = absurd (omega arith)
 low-part (suc k) (suc b) s h = rw (low-part k b (drop 8 s) (omega (arith, length-drop 8 s)))
 
 -- the lowest: filled with zeros, and those at the end dropped
-low-filled : (c : ℕ) (s : Bits) → low-rest c s ≡ trimmed (filled false (64 - c) s)
+pub low-filled : (c : ℕ) (s : Bits) → low-rest c s ≡ trimmed (filled false (64 - c) s)
 unfolding low-rest
 low-filled c s = low-part (64 - c) (blocks 8 (length s)) s (omega arith)
 
@@ -196,7 +196,8 @@ module _ (s : Bits) (k : Bytes) (d i : ℕ) (lo : d ≤ i) where
   one-less : i < 64 → 64 - i ≡ suc (64 - (i + 1))
   one-less h = omega arith
 
-  next-bits : drop 8 (drop (8 * (i - d)) s) ≡ drop (8 * (i + 1 - d)) s
+  -- the bits of the next byte
+  pub next-bits : drop 8 (drop (8 * (i - d)) s) ≡ drop (8 * (i + 1 - d)) s
   next-bits = let e : 8 * (i - d) + 8 ≡ 8 * (i + 1 - d) = omega arith in drop-drop 8 (8 * (i - d)) s ∙ ap (λ (z : ℕ). drop z s) e
 
   next-byte : i < length k → drop i k ≡ getD k i 0 ∷ drop (i + 1) k

@@ -1,0 +1,262 @@
+-- A stem's way from the root: whether some leaf has a possible key that begins with it is asked of the leaves at or below the node that its first bytes lead to, one byte at a time.
+use Prim.Native.Nat.{ℕ, suc, _+_, _-_, _<_, _≤_}
+use mathlib.Core.Path.{_≡_, refl, sym, ap, ap₂, _∙_}
+use mathlib.Core.Bool.{Bool, true, false, not, _&&_, _||_, true≢false, and-false, or-false}
+use mathlib.Core.List.{List, [], _∷_, _++_, map}
+use mathlib.Core.Option.{Option, none, some}
+use native.Mathlib.Omega.{arith}
+use lib.ListN.{length, getD, take, drop, drop-of-length-le}
+use lib.Dec.{leb, eqb}
+use borrow.Author.Tests.{ne-eqb, leb-true, leb-false}
+use Rattle.spec.specs.Bytes.{Bytes, Bits, any, bit, begins}
+use Rattle.spec.specs.Leaves.{Leaf}
+use Rattle.spec.specs.Nodes.{Group, Branch, to-node, to-leaf, Node, label-of, branches-of, prefix, children, exact-leaf, read-leaves}
+use Rattle.spec.specs.Questions.{begins-with}
+use Rattle.theory.specs.Terms.{Bound}
+use Rattle.theory.specs.LinkedLevels.{Below-label, Ascends}
+use Rattle.image_types.specs.declared.Frame.{Frame}
+use Rattle.image_types.specs.declared.ValuePos.{ValuePos}
+use Rattle.nav_laws.specs.declared.BranchKind.the-variants as Kind
+use Rattle.nav_laws.specs.declared.Found.{Found}
+use Rattle.nav_laws.specs.Accepted.{Accepted, nodes}
+use Rattle.nav_laws.specs.Below.{behind-branches, own-slot, below, On-level, Root, level-left, level-node, level-rising, level-child}
+use Rattle.nav_laws.specs.Counting.{labels-below, below-low, below-high}
+use Rattle.nav_laws.specs.Descent.{child-number, goes-on, ends-at}
+use Rattle.nav_laws.specs.FoundBranch.{node-count, Is-node, Found-branch}
+use Rattle.nav_laws.specs.LabelMaps.{eqb-flip}
+use Rattle.nav_laws.specs.NextLabel.{kind-with, with-absent, with-leaf, with-child}
+use Rattle.nav_laws.specs.Positions.{branches, place, child-at, slot-at}
+use Rattle.nav_laws.specs.Slots.{node-at, slot-number, slot-of, slot-is}
+use Rattle.query_laws.specs.Followed.{node-length}
+use Rattle.query_laws.specs.Next.{below-some, child-from}
+use Rattle.query_laws.specs.Seeking.{first-child}
+use Rattle.query_laws.specs.Seeks.{root-of, some-leaf}
+use Rattle.query_laws.specs.StemLeaves.{agrees, covers, begins-covers}
+use Rattle.query_laws.specs.Steps.{slot-in}
+use Rattle.query_laws.specs.SuffixBytes.{key-next}
+
+-- ---- one byte, over the leaves behind branches
+
+-- some member of two lists, one behind the other
+any-append : {A : Type 0} (p : A → Bool) (xs ys : List A) → any p (xs ++ ys) ≡ any p xs || any p ys
+unfolding any
+any-append p [] ys = refl
+any-append p (x ∷ xs) ys = rw (any-append p xs ys) (go (p x))
+  where
+    go : (b : Bool) → b || (any p xs || any p ys) ≡ (b || any p xs) || any p ys
+    go true = refl
+    go false = refl
+
+-- labels above a label are above lower ones
+label-lower : (x y : ℕ) (es : List Branch) → y ≤ x → Below-label x es → Below-label y es
+label-lower x y [] h r = tt
+label-lower x y (e ∷ es) h r = omega arith
+
+module _ (f : ℕ → Group) (y : ℕ) (k : Bytes) where
+  -- whether a leaf behind the first branch, which leads to node c if it continues, has a possible key that begins with y and k
+  unfoldable covered-at : List Branch → ℕ → Bool
+  unfolding any covers agrees
+  covered-at [] c = false
+  covered-at (to-leaf x s ∷ es) c = eqb x y && agrees s k
+  covered-at (to-node x ∷ es) c = eqb x y && any (covers k) (f c)
+
+  -- an open leaf behind a label
+  leaf-covers : (x : ℕ) (s : Bits) → covers (y ∷ k) (record { cut = x ∷ []; exact = false; suffix = s }) ≡ eqb x y && agrees s k
+  unfolding covers begins agrees
+  leaf-covers x s = rw (eqb-flip y x) (go (eqb x y) k)
+    where
+      go : (b : Bool) (k : Bytes) → (b && begins k []) || ((b && true) && agrees s k) ≡ b && agrees s k
+      go true [] = refl
+      go true (z ∷ k) = refl
+      go false k = refl
+
+  -- a leaf with a label before it
+  prefix-covers : (x : ℕ) (l : Leaf) → covers (y ∷ k) (prefix x l) ≡ eqb x y && covers k l
+  unfolding covers begins
+  prefix-covers x l = rw (eqb-flip y x) (go (eqb x y))
+    where
+      go : (b : Bool) → (b && begins k (l .cut)) || (not (l .exact) && ((b && begins (l .cut) k) && agrees (l .suffix) (drop (length (l .cut)) k)))
+          ≡ b && (begins k (l .cut) || (not (l .exact) && (begins (l .cut) k && agrees (l .suffix) (drop (length (l .cut)) k))))
+      go true = refl
+      go false = and-false (not (l .exact))
+
+  -- all leaves of a group with a label before them
+  group-covers : (x : ℕ) (g : Group) → any (covers (y ∷ k)) (map (prefix x) g) ≡ eqb x y && any (covers k) g
+  unfolding any
+  group-covers x [] = sym (and-false (eqb x y))
+  group-covers x (l ∷ g) = rw (prefix-covers x l, group-covers x g) (go (eqb x y))
+    where
+      go : (b : Bool) → (b && covers k l) || (b && any (covers k) g) ≡ b && (covers k l || any (covers k) g)
+      go true = refl
+      go false = refl
+
+  -- the first branch and those behind it
+  branch-covers : (e : Branch) (es : List Branch) (c : ℕ) (n : ℕ) → n ≡ c + children (e ∷ []) → any (covers (y ∷ k)) (behind-branches f (e ∷ es) c) ≡ covered-at (e ∷ es) c || any (covers (y ∷ k)) (behind-branches f es n)
+  unfolding covered-at behind-branches any children
+  branch-covers (to-leaf x s) es c n h = let z : n ≡ c = omega arith in rw (leaf-covers x s, z)
+  branch-covers (to-node x) es c n h = let z : n ≡ suc c = omega arith in any-append (covers (y ∷ k)) (map (prefix x) (f c)) (behind-branches f es (suc c)) ∙ rw (group-covers x (f c), z)
+
+  -- a branch with another label
+  covered-other : (e : Branch) (es : List Branch) (c : ℕ) → (label-of e ≡ y → ⊥) → covered-at (e ∷ es) c ≡ false
+  unfolding covered-at
+  covered-other (to-leaf x s) es c h = rw (ne-eqb x y h)
+  covered-other (to-node x) es c h = rw (ne-eqb x y h)
+
+  -- no leaf behind higher labels
+  higher-covers : (es : List Branch) (c : ℕ) → Below-label y es → Ascends es → any (covers (y ∷ k)) (behind-branches f es c) ≡ false
+  unfolding behind-branches any
+  higher-covers [] c h r = refl
+  higher-covers (e ∷ es) c h r =
+      branch-covers e es c (c + children (e ∷ [])) refl
+      ∙ rw (covered-other e es c (λ q. omega arith), higher-covers es (c + children (e ∷ [])) (label-lower (label-of e) y es (omega arith) (r .0)) (r .1))
+
+  -- Of the leaves behind branches, those behind the one with the label y count.
+  branches-cover : (es : List Branch) (c : ℕ) → Ascends es → any (covers (y ∷ k)) (behind-branches f es c) ≡ covered-at (drop (labels-below y es) es) (c + children (take (labels-below y es) es))
+  unfolding labels-below covered-at behind-branches any children
+  branches-cover [] c r = refl
+  branches-cover (e ∷ es) c r = branch-covers e es c (c + children (e ∷ [])) refl ∙ go (leb y (label-of e)) refl (branches-cover es (c + children (e ∷ [])) (r .1))
+    where
+      next : (e : Branch) (fs : List Branch) → c + children (e ∷ []) + children fs ≡ c + children (e ∷ fs)
+      next (to-leaf x s) fs = omega arith
+      next (to-node x) fs = omega arith
+
+      go : (b : Bool) → leb y (label-of e) ≡ b
+          → any (covers (y ∷ k)) (behind-branches f es (c + children (e ∷ []))) ≡ covered-at (drop (labels-below y es) es) (c + children (e ∷ []) + children (take (labels-below y es) es))
+          → covered-at (e ∷ es) c || any (covers (y ∷ k)) (behind-branches f es (c + children (e ∷ []))) ≡ covered-at (drop (labels-below y (e ∷ es)) (e ∷ es)) (c + children (take (labels-below y (e ∷ es)) (e ∷ es)))
+      go true p ih =
+          let l = leb-true y (label-of e) p in
+          let z : c + 0 ≡ c = omega arith in
+          rw (below-high y (label-of e) e es refl l, z, higher-covers es (c + children (e ∷ [])) (label-lower (label-of e) y es l (r .0)) (r .1)) (or-false (covered-at (e ∷ es) c))
+      go false p ih =
+          let l = leb-false y (label-of e) p in
+          rw (below-low y (label-of e) e es refl l, covered-other e es c (λ q. omega arith)) (ih ∙ ap (covered-at (drop (labels-below y es) es)) (next e (take (labels-below y es) es)))
+
+  -- no branch with the label
+  covered-absent : (fs : List Branch) (c : ℕ) → kind-with y fs ≡ Kind.Absent → covered-at fs c ≡ false
+  unfolding covered-at goes-on ends-at
+  covered-absent [] c h = refl
+  covered-absent (to-leaf x s ∷ fs) c h = rw (with-absent y (to-leaf x s ∷ fs) h .1)
+  covered-absent (to-node x ∷ fs) c h = rw (with-absent y (to-node x ∷ fs) h .0)
+
+  -- one that ends at an open leaf
+  covered-leaf : (fs : List Branch) (c : ℕ) (slot : Bits) → kind-with y fs ≡ Kind.Leaf → ((x : ℕ) (s : Bits) (rest : List Branch) → fs ≡ to-leaf x s ∷ rest → slot ≡ s) → covered-at fs c ≡ agrees slot k
+  unfolding covered-at goes-on ends-at
+  covered-leaf [] c slot h u = absurd (true≢false (sym (with-leaf y [] h .1)))
+  covered-leaf (to-leaf x s ∷ fs) c slot h u = rw (with-leaf y (to-leaf x s ∷ fs) h .1, u x s fs refl)
+  covered-leaf (to-node x ∷ fs) c slot h u = absurd (true≢false (sym (with-leaf y (to-node x ∷ fs) h .1)))
+
+  -- one that continues
+  covered-child : (fs : List Branch) (c : ℕ) → kind-with y fs ≡ Kind.Child → covered-at fs c ≡ any (covers k) (f c)
+  unfolding covered-at goes-on
+  covered-child [] c h = absurd (true≢false (sym (with-child y [] h)))
+  covered-child (to-leaf x s ∷ fs) c h = absurd (true≢false (sym (with-child y (to-leaf x s ∷ fs) h)))
+  covered-child (to-node x ∷ fs) c h = rw (with-child y (to-node x ∷ fs) h)
+
+-- ---- over the leaves at or below a node
+
+-- an exact leaf at the node itself has no key that goes on
+exact-covers : (o : Option Bits) (y : ℕ) (k : Bytes) → any (covers (y ∷ k)) (exact-leaf o) ≡ false
+unfolding exact-leaf any covers begins
+exact-covers none y k = refl
+exact-covers (some s) y k = refl
+
+-- one byte of a stem
+below-covers : (ns : List Node) (l m : ℕ) → On-level ns (suc l) m → (y : ℕ) (k : Bytes)
+    → any (covers (y ∷ k)) (below ns (suc l) m) ≡ covered-at (below ns l) y k (drop (labels-below y (branches-of (node-at ns m))) (branches-of (node-at ns m))) (child-number ns m (labels-below y (branches-of (node-at ns m))))
+unfolding below
+below-covers ns l m on y k =
+    any-append (covers (y ∷ k)) (exact-leaf (own-slot (node-at ns m))) (behind-branches (below ns l) (branches-of (node-at ns m)) (child-number ns m 0))
+    ∙ ap₂ _||_ (exact-covers (own-slot (node-at ns m)) y k)
+    (rw (child-from ns m (labels-below y (branches-of (node-at ns m)))) at (branches-cover (below ns l) y k (branches-of (node-at ns m)) (child-number ns m 0) (level-rising ns (suc l) m on)))
+
+-- a stem that has ended covers every leaf
+covers-all : (ls : List Leaf) → 0 < length ls → any (covers []) ls ≡ true
+unfolding any covers begins
+covers-all [] h = absurd (omega arith)
+covers-all (l ∷ ls) h = refl
+
+-- ---- from the root
+
+-- The first bytes of a stem, `depth` of them, lead to a node.
+pub record Stem-way (s : Bytes) (f : Frame) (stem : Bytes) (depth node : ℕ) : Type 0 where
+  -- it stands on its level
+  pub level : On-level (nodes s f) (64 - depth) node
+  -- the rest of the stem decides over the leaves at or below it
+  pub covered : begins-with (read-leaves s) stem ≡ bit (any (covers (drop depth stem)) (below (nodes s f) (64 - depth) node))
+
+module _ (s : Bytes) (f : Frame) (a : Accepted s f) (stem : Bytes) where
+  -- an image without nodes has no leaf
+  pub stem-nowhere : Bound stem → node-count f ≡ 0 → begins-with (read-leaves s) stem ≡ 0
+  unfolding any
+  stem-nowhere b z = begins-covers (f .width) (read-leaves s) (a .well-sized) stem b ∙ go (read-leaves s) (root-of s f a)
+    where
+      go : (ls : List Leaf) → (0 < length ls → Root (nodes s f) ls) → bit (any (covers stem) ls) ≡ 0
+      go [] r = refl
+      go (l ∷ ls) r = absurd (omega (arith, level-node (nodes s f) 64 0 (r (omega arith) .on), node-length s f a))
+
+  -- no byte leads to the root
+  pub stem-root : Bound stem → 0 < node-count f → Stem-way s f stem 0 0
+  stem-root b h = let r = root-of s f a (some-leaf s f a h) in record {
+    level = r .on;
+    covered = begins-covers (f .width) (read-leaves s) (a .well-sized) stem b ∙ ap (λ (ls : List Leaf). bit (any (covers stem) ls)) (sym (r .whole));
+  }
+
+  -- the node is one of the image's
+  pub stem-node : (d m : ℕ) → Stem-way s f stem d m → Is-node s f m
+  stem-node d m o = record { accepted = a; inside = omega (arith, level-node (nodes s f) (64 - d) m (o .level), node-length s f a) }
+
+  -- the stem has ended at a node: the leaves at or below it begin with the stem
+  pub stem-ended : (d m : ℕ) → length stem ≤ d → Stem-way s f stem d m → begins-with (read-leaves s) stem ≡ 1
+  stem-ended d m h o =
+      o .covered ∙ ap (λ (k : Bytes). bit (any (covers k) (below (nodes s f) (64 - d) m))) (drop-of-length-le stem {i = d} h)
+      ∙ ap bit (covers-all (below (nodes s f) (64 - d) m) (below-some (nodes s f) (64 - d) m (o .level)))
+
+  -- What the node has at the stem's next byte.
+  module _ (m d : ℕ) (h : d < length stem) (b : Found) (r : Found-branch s f m (getD stem d 0) b) (o : Stem-way s f stem d m) where
+    -- one level less below it
+    one-less : 64 - d ≡ suc (64 - (d + 1))
+    one-less = omega (arith, level-left (nodes s f) (64 - d) m (o .level))
+
+    -- the node on its level
+    on : On-level (nodes s f) (suc (64 - (d + 1))) m
+    on = rw one-less at (o .level)
+
+    -- the branch with that byte decides
+    byte-covers : begins-with (read-leaves s) stem
+        ≡ bit (covered-at (below (nodes s f) (64 - (d + 1))) (getD stem d 0) (drop (d + 1) stem) (drop (place s f m (getD stem d 0)) (branches s f m)) (child-number (nodes s f) m (place s f m (getD stem d 0))))
+    byte-covers =
+        o .covered ∙ ap (λ (k : Bytes). bit (any (covers k) (below (nodes s f) (64 - d) m))) (key-next stem d h)
+        ∙ ap (λ (l : ℕ). bit (any (covers (getD stem d 0 ∷ drop (d + 1) stem)) (below (nodes s f) l m))) one-less
+        ∙ ap bit (below-covers (nodes s f) (64 - (d + 1)) m on (getD stem d 0) (drop (d + 1) stem))
+
+    -- no branch
+    pub stem-none : b .kind ≡ Kind.Absent → begins-with (read-leaves s) stem ≡ 0
+    stem-none k =
+        byte-covers
+        ∙ ap bit (covered-absent (below (nodes s f) (64 - (d + 1))) (getD stem d 0) (drop (d + 1) stem) (drop (place s f m (getD stem d 0)) (branches s f m)) (child-number (nodes s f) m (place s f m (getD stem d 0))) (sym (r .kind-is) ∙ k))
+
+    -- a branch that ends: its open leaf decides, whose slot is one of the leaves
+    pub stem-leaf : (v : ValuePos) → v .0 ≡ slot-at s f m (b .at .0) → b .kind ≡ Kind.Leaf
+        → (v .0 < f .leaves) × (begins-with (read-leaves s) stem ≡ bit (agrees (slot-of (f .width) (nodes s f) (v .0)) (drop (d + 1) stem)))
+    stem-leaf v e k =
+        let y : ℕ = getD stem d 0 in
+        let i : ℕ = place s f m y in
+        let z : v .0 ≡ slot-number (nodes s f) m i = e ∙ r .at-is .slot-is in (
+          omega (arith, z, slot-in (nodes s f) m y (b .kind) (r .kind-is) k, a .writable .leaf-total),
+          byte-covers
+              ∙ ap bit (covered-leaf (below (nodes s f) (64 - (d + 1))) y (drop (d + 1) stem) (drop i (branches s f m)) (child-number (nodes s f) m i) (slot-of (f .width) (nodes s f) (v .0)) (sym (r .kind-is) ∙ k)
+              (λ x t rest q. ap (slot-of (f .width) (nodes s f)) z ∙ slot-is (f .width) (nodes s f) m i x t rest (a .writable .wide) q)),
+        )
+
+    -- a branch that continues
+    pub stem-child : (child : ℕ) → child ≡ child-at s f m (b .at .0) → b .kind ≡ Kind.Child → Stem-way s f stem (d + 1) child
+    stem-child child e k =
+        let y : ℕ = getD stem d 0 in
+        let i : ℕ = place s f m y in
+        let z : child ≡ child-number (nodes s f) m i = e ∙ r .at-is .child-is in
+        let c : kind-with y (drop i (branches s f m)) ≡ Kind.Child = sym (r .kind-is) ∙ k in
+        record {
+          level = rw z (level-child (nodes s f) (64 - (d + 1)) m i on (first-child y (drop i (branches s f m)) c));
+          covered = byte-covers ∙ ap bit (covered-child (below (nodes s f) (64 - (d + 1))) y (drop (d + 1) stem) (drop i (branches s f m)) (child-number (nodes s f) m i) c)
+              ∙ ap (λ (n : ℕ). bit (any (covers (drop (d + 1) stem)) (below (nodes s f) (64 - (d + 1)) n))) (sym z);
+        }
