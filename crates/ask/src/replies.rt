@@ -21,9 +21,9 @@ use query_count::count::count;
 use query_count::levels::level_starts;
 use query_laws::SoughtLeaf;
 use query_point::point::point;
-use query_range::range::begins_with;
 use query_range::range::range;
 use query_seek::seek::seek;
+use query_stem::begins::begins_with;
 
 // The number in the reply to a seek that finds no leaf.
 const NO_LEAF: usize = 0xFFFFFFFF;

@@ -1,9 +1,9 @@
-// Range and begins-with over an accepted image.
+// The range question over an accepted image.
 ghost use mathlib.Core.Path.{_≡_};
 ghost use Prim.Native.Nat.{_≤_};
 ghost use lib.ListN.{length};
 ghost use Rattle.spec.specs.Nodes.{read-leaves};
-ghost use Rattle.spec.specs.Questions.{range, begins-with};
+ghost use Rattle.spec.specs.Questions.{range};
 ghost use Rattle.nav_laws.specs.Accepted.{Accepted};
 use super::together::meets;
 use bits::numbers::one_if;
@@ -18,18 +18,4 @@ pub fn range(image: &[u8], f: Frame, lo: &[u8], hi: &[u8]) -> usize
         return 0;
     }
     one_if(meets(image, f, lo, hi))
-}
-
-// 1 if some leaf has a possible key that begins with the stem, else 0: the range from the stem to the stem filled with FF to 64 bytes.
-pub fn begins_with(image: &[u8], f: Frame, stem: &[u8]) -> usize
-    requires { ⌜ Accepted (now image) f × (length (now stem) ≤ 64) ⌝ }
-    ensures { λ r. ⌜ r ≡ begins-with (read-leaves (now (image .entry))) (now (stem .entry)) ⌝ }
-{
-    let mut end = [255u8; 64];
-    let mut i = 0usize;
-    while i < stem.len() {
-        end[i] = stem[i];
-        i = i + 1;
-    }
-    range(image, f, stem, &end)
 }
