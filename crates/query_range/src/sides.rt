@@ -1,6 +1,8 @@
 // One bound of a range alone: whether a leaf at or below a node, or behind a branch, does not end below the lower bound, or does not start above the upper.
 ghost use mathlib.Core.Path.{_≡_};
+ghost use mathlib.Core.Bool.{_||_};
 ghost use Prim.Native.Nat.{_+_};
+ghost use lib.Dec.{ltb};
 ghost use Rattle.query_laws.specs.RangeWays.{Key-at, Key-branch, group-below, group-behind, left-of, reached-of};
 use bits::numbers::wide;
 use image_types::BitPos;
@@ -70,6 +72,13 @@ pub fn left_behind(
     }
 }
 
+// Whether what a node has first is reached by a bound whatever follows: an exact leaf, or leaves behind a label below the bound's byte y.
+fn reached_first(exact: bool, label: usize, y: usize) -> bool
+    ensures { λ r. ⌜ r ≡ (exact || ltb label y) ⌝ }
+{
+    exact | (label < y)
+}
+
 // Whether a leaf at or below a node, to which the first `depth` bytes of the upper bound lead, does not start above the bound. An exact leaf or a label below the bound's byte decides at once.
 pub fn reached_below(image: &[u8], f: Frame, hi: &[u8], node: NodeNum, depth: usize) -> bool
     requires { ⌜ Key-at (now image) f (now hi) (node .0) depth ⌝ }
@@ -81,7 +90,7 @@ pub fn reached_below(image: &[u8], f: Frame, hi: &[u8], node: NodeNum, depth: us
         let y = wide(hi[d]);
         let first = first_branch(image, f, m);
         let branch = first.branch;
-        if first.exact || branch.label < y {
+        if reached_first(first.exact, branch.label, y) {
             return true;
         }
         d = d + 1;
