@@ -13,6 +13,7 @@ use Rattle.image_types.specs.declared.NodeNum.{NodeNum}
 use Rattle.image_types.specs.declared.ValuePos.{ValuePos}
 use Rattle.nav_laws.specs.declared.BranchKind.the-variants as Kind
 use Rattle.nav_laws.specs.declared.FirstBranch.{FirstBranch}
+use Rattle.nav_laws.specs.declared.Found.{Found}
 use Rattle.nav_laws.specs.declared.LeafEnd.{LeafEnd}
 use Rattle.nav_laws.specs.declared.LeafStop.{LeafStop}
 use Rattle.nav_laws.specs.declared.LeafStop.the-variants.{Nowhere, Exact, Open}
@@ -150,8 +151,8 @@ module _ {s : Bytes} {f : Frame} (a : Accepted s f) {key start : Bytes} (size : 
   start-below h on = record { accepted = a; level = on; key-size = size; leaf-is = rw (same-front key start begins d h) }
 
   -- the first branch of a node on the way with a higher label than the start's byte
-  pub start-behind : {b : NextBranch} → d < length start → length start ≤ 64 → Has-higher (nodes s f) start m d → Branch-from s f m (getD start d 0 + 1) b → First-behind s f (leaf-behind (nodes s f) start m d (getD start d 0 + 1)) key m d b
-  start-behind {b} h short up is =
+  pub start-behind : {at : Found} {b : NextBranch} → d < length start → length start ≤ 64 → Has-higher s f start m d at → Branch-from s f m (getD start d 0 + 1) b → First-behind s f (leaf-behind (nodes s f) start m d (getD start d 0 + 1)) key m d b
+  start-behind {at} {b} h short up is =
       let there : b .kind ≡ Kind.Absent → ⊥ = λ e. up .label-there (sym (is .kind-is) ∙ e) in
       record {
         accepted = a;

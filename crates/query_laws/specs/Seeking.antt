@@ -11,7 +11,7 @@ use lib.Seq.{take-suc}
 use lib.Dec.{eqb}
 use Rattle.spec.specs.Bytes.{Bytes, bit}
 use Rattle.spec.specs.Leaves.{Leaf}
-use Rattle.spec.specs.Nodes.{Branch, to-node, to-leaf, Node, branches-of, read-leaves}
+use Rattle.spec.specs.Nodes.{Branch, to-node, to-leaf, Node, read-leaves}
 use Rattle.image_types.specs.declared.Frame.{Frame}
 use Rattle.image_types.specs.declared.NodeNum.{NodeNum}
 use Rattle.image_types.specs.declared.ValuePos.{ValuePos}
@@ -19,13 +19,12 @@ use Rattle.nav_laws.specs.declared.BranchKind.the-variants as Kind
 use Rattle.nav_laws.specs.declared.Found.{Found}
 use Rattle.nav_laws.specs.Accepted.{Accepted, nodes}
 use Rattle.nav_laws.specs.Below.{from-label, On-level, level-child}
-use Rattle.nav_laws.specs.Counting.{labels-below}
 use Rattle.nav_laws.specs.Descent.{child-number}
 use Rattle.nav_laws.specs.FoundBranch.{node-count, Found-branch, Behind-branch}
 use Rattle.nav_laws.specs.NumberBounds.{slot-range}
 use Rattle.nav_laws.specs.NextLabel.{first-kind, kind-with, is-there, there-not}
 use Rattle.nav_laws.specs.Positions.{branches, place}
-use Rattle.nav_laws.specs.Slots.{node-at, slot-number, slot-of}
+use Rattle.nav_laws.specs.Slots.{slot-number, slot-of}
 use Rattle.query_laws.specs.declared.LastHigher.{LastHigher}
 use Rattle.query_laws.specs.declared.LastHigher.the-variants.{None, At}
 use Rattle.query_laws.specs.declared.WayEnd.{WayEnd}
@@ -44,17 +43,18 @@ use Rattle.query_laws.specs.Summed.{Leading, Summed, leading-root, leadi
 -- the first leaf behind the last higher label: none, or behind the labels of a node above the start's byte at its depth
 abbrev pub higher-leaf : List Node → Bytes → LastHigher → Option Leaf
 higher-leaf ns start None = none
-higher-leaf ns start (At m d) = leaf-behind ns start (m .0) d (getD start d 0 + 1)
+higher-leaf ns start (At m d b) = leaf-behind ns start (m .0) d (getD start d 0 + 1)
 
--- Node m, at depth d of the way, has a label above the start's byte there.
-pub record Has-higher (ns : List Node) (start : Bytes) (m d : ℕ) : Type 0 where
-  pub level : On-level ns (64 - d) m
-  pub label-there : first-kind (drop (labels-below (getD start d 0 + 1) (branches-of (node-at ns m))) (branches-of (node-at ns m))) ≡ Kind.Absent → ⊥
+-- Node m, at depth d of the way, has a label above the start's byte there, and this at the byte itself.
+pub record Has-higher (s : Bytes) (f : Frame) (start : Bytes) (m d : ℕ) (b : Found) : Type 0 where
+  pub level : On-level (nodes s f) (64 - d) m
+  pub label-there : first-kind (drop (place s f m (getD start d 0 + 1)) (branches s f m)) ≡ Kind.Absent → ⊥
+  pub found : Found-branch s f m (getD start d 0) b
 
 -- the node of the last higher label is one of the n that were passed
-abbrev pub Higher-in : List Node → Bytes → ℕ → LastHigher → Type 0
-Higher-in ns start n None = Unit
-Higher-in ns start n (At m d) = (d < n) × Has-higher ns start (m .0) d
+abbrev pub Higher-in : Bytes → Frame → Bytes → ℕ → LastHigher → Type 0
+Higher-in s f start n None = Unit
+Higher-in s f start n (At m d b) = (d < n) × Has-higher s f start (m .0) d b
 
 -- the leaf where the way ends, m the last node and d its depth: the one behind the last higher label; the first at or below the node; the open leaf
 abbrev pub end-leaf : ℕ → List Node → Bytes → WayEnd → LastHigher → ℕ → ℕ → Option Leaf
@@ -80,7 +80,7 @@ pub record Following (s : Bytes) (f : Frame) (start : Bytes) (higher : LastHighe
   -- it stands on its level
   pub level : On-level (nodes s f) (64 - depth) node
   -- the last higher label stands above it
-  pub higher-in : Higher-in (nodes s f) start depth higher
+  pub higher-in : Higher-in s f start depth higher
   -- the leaf that is sought stands at or below it, or else behind the last higher label
   pub leaf-is : next-leaf (read-leaves s) start ≡ next-from (high-passed (length start)) (nodes s f) (64 - depth) node (take depth start) (drop depth start) (higher-leaf (nodes s f) start higher)
 
@@ -89,14 +89,14 @@ pub record Higher-passed (s : Bytes) (f : Frame) (start : Bytes) (m d : ℕ) (be
   -- the leaf behind it is that behind a higher label of the node, or else the one before
   pub leaf-is : higher-at (nodes s f) (64 - (d + 1)) m (take d start) (getD start d 0) (higher-leaf (nodes s f) start before) ≡ higher-leaf (nodes s f) start after
   -- its node stands no deeper
-  pub higher-in : Higher-in (nodes s f) start (d + 1) after
+  pub higher-in : Higher-in s f start (d + 1) after
 
 -- Where following the start has ended.
 pub record Key-followed (s : Bytes) (f : Frame) (start : Bytes) (end : WayEnd) (higher : LastHigher) (node depth sum : ℕ) : Type 0 where
   -- there the leaf that is sought stands
   pub leaf-is : next-leaf (read-leaves s) start ≡ end-leaf (f .width) (nodes s f) start end higher node depth
   pub end-in : End-in (nodes s f) (f .leaves) end node depth
-  pub higher-in : Higher-in (nodes s f) start depth higher
+  pub higher-in : Higher-in s f start depth higher
   -- the start's bound on the level below
   pub sums : Summed s f start node depth sum
 
@@ -114,24 +114,24 @@ first-child y (to-leaf x s ∷ fs) h = absurd (go (eqb x y) h)
 first-child y (to-node x ∷ fs) h = refl
 
 -- with more nodes passed, its node is still one of them
-pub higher-within : (ns : List Node) (start : Bytes) (d n : ℕ) (higher : LastHigher) → d ≤ n → Higher-in ns start d higher → Higher-in ns start n higher
-higher-within ns start d n None l h = tt
-higher-within ns start d n (At m e) l h = (omega (arith, h .0), h .1)
+pub higher-within : (s : Bytes) (f : Frame) (start : Bytes) (d n : ℕ) (higher : LastHigher) → d ≤ n → Higher-in s f start d higher → Higher-in s f start n higher
+higher-within s f start d n None l h = tt
+higher-within s f start d n (At m e b) l h = (omega (arith, h .0), h .1)
 
-module _ (s : Bytes) (f : Frame) (start : Bytes) (m : NodeNum) (d : ℕ) (before : LastHigher) (short : d < 64) (on : On-level (nodes s f) (64 - d) (m .0)) (inside : Higher-in (nodes s f) start d before) where
+module _ (s : Bytes) (f : Frame) (start : Bytes) (m : NodeNum) (d : ℕ) (before : LastHigher) (short : d < 64) (on : On-level (nodes s f) (64 - d) (m .0)) (inside : Higher-in s f start d before) where
   -- The node passed has no label above the start's byte.
   pub higher-same : is-there (first-kind (drop (place s f (m .0) (getD start d 0 + 1)) (branches s f (m .0)))) ≡ false → Higher-passed s f start (m .0) d before before
-  higher-same h = record { leaf-is = higher-kept (nodes s f) (64 - (d + 1)) (m .0) (take d start) (getD start d 0) (higher-leaf (nodes s f) start before) h; higher-in = higher-within (nodes s f) start d (d + 1) before (omega arith) inside }
+  higher-same h = record { leaf-is = higher-kept (nodes s f) (64 - (d + 1)) (m .0) (take d start) (getD start d 0) (higher-leaf (nodes s f) start before) h; higher-in = higher-within s f start d (d + 1) before (omega arith) inside }
 
   -- It has one.
-  pub higher-new : is-there (first-kind (drop (place s f (m .0) (getD start d 0 + 1)) (branches s f (m .0)))) ≡ true → Higher-passed s f start (m .0) d before (At m d)
-  higher-new h =
+  pub higher-new : {b : Found} → Found-branch s f (m .0) (getD start d 0) b → is-there (first-kind (drop (place s f (m .0) (getD start d 0 + 1)) (branches s f (m .0)))) ≡ true → Higher-passed s f start (m .0) d before (At m d b)
+  higher-new found h =
       let z : 64 - d ≡ suc (64 - (d + 1)) = omega arith in
       let e : 64 - (d + 1) ≡ 63 - d = omega arith in
       record {
         leaf-is = higher-taken (nodes s f) (64 - (d + 1)) (m .0) (take d start) (getD start d 0) (higher-leaf (nodes s f) start before) (rw z at on) h
             ∙ ap (λ (l : ℕ). behind-each (take d start) (head-of (from-label (nodes s f) l (m .0) (getD start d 0 + 1)))) e;
-        higher-in = (omega arith, record { level = on; label-there = there-not (first-kind (drop (place s f (m .0) (getD start d 0 + 1)) (branches s f (m .0)))) h });
+        higher-in = (omega arith, record { level = on; label-there = there-not (first-kind (drop (place s f (m .0) (getD start d 0 + 1)) (branches s f (m .0)))) h; found = found });
       }
 
 -- ---- the way

@@ -59,7 +59,7 @@ pub record Passed-higher (s : Bytes) (f : Frame) (start : Bytes) (higher : LastH
   pub short : length start ≤ 64
   pub key-size : length key ≡ 64
   pub begins : Begins-with key start
-  pub inside : Higher-in (nodes s f) start (length start) higher
+  pub inside : Higher-in s f start (length start) higher
 
 -- The start of a seek has been followed this way, and a key of 64 bytes begins with it.
 pub record Way-followed (s : Bytes) (f : Frame) (start : Bytes) (way : Way) (key : Bytes) : Type 0 where

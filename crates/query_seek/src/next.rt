@@ -15,7 +15,7 @@ use super::way::follow_key;
 use bits::copy::write_bytes;
 use bits::numbers::wide;
 use image_types::Frame;
-use nav::branches::next_branch;
+use nav_edges::next_higher;
 use nav_laws::LeafEnd;
 use nav_laws::LeafStop;
 use query_count::levels::AT_ROOT;
@@ -53,8 +53,8 @@ fn leaf_above(image: &[u8], f: Frame, start: &[u8], higher: LastHigher, key: &mu
 {
     match higher {
         LastHigher::None => NO_LEAF,
-        LastHigher::At(node, depth) => {
-            let branch = next_branch(image, f, node, wide(start[depth]) + 1);
+        LastHigher::At(node, depth, found) => {
+            let branch = next_higher(image, f, node, wide(start[depth]), found);
             first_behind(image, f, node, branch, key, depth)
         }
     }

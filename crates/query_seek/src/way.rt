@@ -70,7 +70,7 @@ pub fn follow_key(image: &[u8], f: Frame, start: &[u8]) -> Way
         let y = wide(start[d]);
         let found = find(image, f, m, y);
         if has_higher(image, f, m, y, found) {
-            higher = LastHigher::At(m, d);
+            higher = LastHigher::At(m, d, found);
         }
         let next = child_and_slot(image, f, m, found.at);
         let slot = next.slot;

@@ -7,6 +7,7 @@ use Rattle.query_laws.specs.declared.LastHigher.{LastHigher}
 use Rattle.query_laws.specs.declared.LastHigher.the-variants.{At}
 use mathlib.Core.Path.{sym, subst}
 use Rattle.image_types.specs.declared.NodeNum.{NodeNum}
+use Rattle.nav_laws.specs.declared.Found.{Found}
 use lib.ListN.{length, getD}
 use Prim.Native.Nat.{ℕ, _+_, _-_}
 use native.Mathlib.Omega.{arith}
@@ -18,27 +19,30 @@ use Rattle.query_seek.proofs.next.leaf_above.Tie as tie
 abbrev entered : tie.After-known-told → tie.Start
 entered c = c .before .before .before .before .before .before
 
--- its node and its depth
+-- its node, its depth, and what the node has at the start's byte
 abbrev node : tie.After-known-told → NodeNum
 node c = c .before .higher .given .0 .0
 
 abbrev depth : tie.After-known-told → ℕ
 depth c = c .before .higher .given .0 .1 .0
 
+abbrev at : tie.After-known-told → Found
+at c = c .before .higher .given .0 .1 .1 .0
+
 -- the node stands on its level and has a higher label than the start's byte
-inside : (c : tie.After-known-told) → Higher-in (nodes (entered c .args .image .now) (entered c .args .f)) (entered c .args .start .now) (length (entered c .args .start .now)) (At (node c) (depth c))
-inside c = subst (λ (h : LastHigher). Higher-in (nodes (entered c .args .image .now) (entered c .args .f)) (entered c .args .start .now) (length (entered c .args .start .now)) h) (c .before .higher .given .1) (entered c .pre .inside)
+inside : (c : tie.After-known-told) → Higher-in (entered c .args .image .now) (entered c .args .f) (entered c .args .start .now) (length (entered c .args .start .now)) (At (node c) (depth c) (at c))
+inside c = subst (λ (h : LastHigher). Higher-in (entered c .args .image .now) (entered c .args .f) (entered c .args .start .now) (length (entered c .args .start .now)) h) (c .before .higher .given .1) (entered c .pre .inside)
 
 -- where it is known, from where its first branch with such a label is
-abbrev known : tie.After-next-branch → tie.After-known-told
+abbrev known : tie.After-next-higher → tie.After-known-told
 known c = c .before .before .before
 
 -- the leaf is the first behind that branch
-behind : (c : tie.After-next-branch)
-    → First-behind (entered (known c) .args .image .now) (entered (known c) .args .f) (leaf-behind (nodes (entered (known c) .args .image .now) (entered (known c) .args .f)) (entered (known c) .args .start .now) (node (known c) .0) (depth (known c)) (getD (entered (known c) .args .start .now) (depth (known c)) 0 + 1)) (entered (known c) .args .key .now) (node (known c) .0) (depth (known c)) (c .next-branch .result)
+behind : (c : tie.After-next-higher)
+    → First-behind (entered (known c) .args .image .now) (entered (known c) .args .f) (leaf-behind (nodes (entered (known c) .args .image .now) (entered (known c) .args .f)) (entered (known c) .args .start .now) (node (known c) .0) (depth (known c)) (getD (entered (known c) .args .start .now) (depth (known c)) 0 + 1)) (entered (known c) .args .key .now) (node (known c) .0) (depth (known c)) (c .next-higher .result)
 behind c =
     let p = entered (known c) .pre in
-    start-behind (p .accepted) (p .key-size) (p .begins) (inside (known c) .0) (p .short) (inside (known c) .1) (rw (c .before .wide .ensures .0) at (c .next-branch .ensures))
+    start-behind (p .accepted) (p .key-size) (p .begins) (inside (known c) .0) (p .short) (inside (known c) .1) (rw (c .before .wide .ensures .0) at (c .next-higher .ensures))
 
 enum-told : tie.Need-enum-told
 enum-told c = search needs
@@ -52,14 +56,11 @@ shared-slice-read-wide c = omega (arith, inside (c .before) .0)
 wide-requires : tie.Need-wide-requires
 wide-requires c κs = search needs
 
-add-next-branch : tie.Need-add-next-branch
-add-next-branch c = search needs
-
-next-branch-requires : tie.Need-next-branch-requires
-next-branch-requires c κs =
+next-higher-requires : tie.Need-next-higher-requires
+next-higher-requires c κs =
     let k = c .before .before in
     let s = entered k in
-    (record { accepted = s .pre .accepted; inside = node-in (s .args .image .now) (s .args .f) (s .pre .accepted) (64 - depth k) (node k .0) (inside k .1 .level) }, omega (arith, c .wide .ensures .1))
+    (record { accepted = s .pre .accepted; inside = node-in (s .args .image .now) (s .args .f) (s .pre .accepted) (64 - depth k) (node k .0) (inside k .1 .level) }, c .wide .ensures .1, rw (c .wide .ensures .0) (inside k .1 .found))
 
 first-behind-requires : tie.Need-first-behind-requires
 first-behind-requires c κs = let w = behind (c .before) in (w .accepted, w .branch, w .key-size)
@@ -88,8 +89,7 @@ leaf-above-spec =
     enum-known-higher
     shared-slice-read-wide
     wide-requires
-    add-next-branch
-    next-branch-requires
+    next-higher-requires
     first-behind-requires
     returns
     same-length

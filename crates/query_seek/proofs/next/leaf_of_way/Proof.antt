@@ -39,7 +39,7 @@ leaf-above-requires c κs =
       short = s .pre .short;
       key-size = s .pre .key-size;
       begins = s .pre .begins;
-      inside = higher-within (nodes (s .args .image .now) (s .args .f)) (s .args .start .now) (s .args .way .bound .depth) (length (s .args .start .now)) (s .args .way .higher) (e .sums .depth-in) (e .higher-in);
+      inside = higher-within (s .args .image .now) (s .args .f) (s .args .start .now) (s .args .way .bound .depth) (length (s .args .start .now)) (s .args .way .higher) (e .sums .depth-in) (e .higher-in);
     }
 
 enum-told-2 : tie.Need-enum-told-2

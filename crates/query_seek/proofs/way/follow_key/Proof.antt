@@ -55,7 +55,7 @@ passed c =
     let s = entered l in
     let short : l .loop .bound .depth < 64 = omega (arith, more (c .before .before), s .pre .2) in
     ⊎-elim
-    (λ t. rw (t .1) (higher-new (s .args .image .now) (s .args .f) (s .args .start .now) (l .loop .bound .node) (l .loop .bound .depth) (l .loop .higher) short (l .loop .inv .level) (l .loop .inv .higher-in) (sym (above (c .before)) ∙ t .0 .taken)))
+    (λ t. rw (t .1) (higher-new (s .args .image .now) (s .args .f) (s .args .start .now) (l .loop .bound .node) (l .loop .bound .depth) (l .loop .higher) short (l .loop .inv .level) (l .loop .inv .higher-in) (found (c .before .before)) (sym (above (c .before)) ∙ t .0 .taken)))
     (λ t. rw (t .1) (higher-same (s .args .image .now) (s .args .f) (s .args .start .now) (l .loop .bound .node) (l .loop .bound .depth) (l .loop .higher) short (l .loop .inv .level) (l .loop .inv .higher-in) (sym (above (c .before)) ∙ t .0 .left)))
     (c .if2 .came)
 
