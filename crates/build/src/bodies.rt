@@ -6,7 +6,8 @@ ghost use lib.ListN.{drop};
 ghost use Rattle.bits_laws.specs.Bits.{placed};
 ghost use Rattle.build_laws.specs.BodyChoice.{levels-of};
 ghost use Rattle.build_laws.specs.BodyFilled.{left-flipped};
-ghost use Rattle.build_laws.specs.Plan.{source-at, list-body, plan-counters, Body-room, Laid-out, span-at, body-at, start-at, Writing};
+ghost use Rattle.build_laws.specs.CountPass.{level-counts};
+ghost use Rattle.build_laws.specs.Plan.{source-at, source-counters, counters-at, list-body, Body-room, Laid-out, span-at, body-at, start-at, Writing};
 use build_laws::Body;
 use build_laws::COUNTERS;
 use build_laws::Counters;
@@ -29,7 +30,7 @@ use rank_tables::sample_write::fill_samples;
 use rank_tables_laws::Span;
 
 // Where the body of record i comes from.
-fn source_of(i: usize) -> Source
+pub fn source_of(i: usize) -> Source
     requires { ⌜ i < 12 ⌝ }
     ensures { λ r. ⌜ r ≡ source-at i ⌝ }
 {
@@ -78,20 +79,29 @@ fn levels_of(body: Body, dense: usize) -> Levels
     }
 }
 
-// The counters that say where the levels of a body start.
-fn counters_of(plan: Plan, body: Body) -> Counters
-    ensures { λ r. ⌜ r ≡ plan-counters plan body ⌝ }
+// The counters that say where the levels of a body start, by its source; of a body that no pass fills, any of them.
+pub fn counters_of(
+    source: Source,
+    entries: &Counters,
+    nodes: &Counters,
+    leaves: &Counters,
+) -> Counters
+    ensures { λ r. ⌜ r ≡ source-counters (level-counts (now (entries .entry)) (now (nodes .entry)) (now (leaves .entry))) source ⌝ }
 {
-    match body {
-        Body::Slots => plan.leaves,
-        Body::Entries(kind) => match kind {
-            Kind::DL => plan.nodes,
-            Kind::DC => plan.nodes,
-            Kind::DP => plan.nodes,
-            Kind::SL => plan.entries,
-            Kind::SC => plan.entries,
-            Kind::SB => plan.entries,
+    match source {
+        Source::Keys(body) => match body {
+            Body::Slots => *leaves,
+            Body::Entries(kind) => match kind {
+                Kind::DL => *nodes,
+                Kind::DC => *nodes,
+                Kind::DP => *nodes,
+                Kind::SL => *entries,
+                Kind::SC => *entries,
+                Kind::SB => *entries,
+            },
         },
+        Source::Ranks(_, _) => *leaves,
+        Source::Samples(_) => *leaves,
     }
 }
 
@@ -113,8 +123,8 @@ fn leaves_flipped(body: Body) -> bool
 }
 
 // A body of so many bytes, filled by a pass over the keys, goes to the front of out, and all else stays; an empty one takes no pass.
-fn fill_from_keys(out: &mut [u8], len: usize, list: &[u8], plan: Plan, body: Body)
-    requires { ⌜ Body-room (now list) plan body len (now out) ⌝ }
+fn fill_from_keys(out: &mut [u8], len: usize, list: &[u8], plan: Plan, cnt: &Counters, body: Body)
+    requires { ⌜ Body-room (now list) plan (now cnt) body len (now out) ⌝ }
     ensures { λ _. ⌜ now (out .exit) ≡ list-body (now (list .entry)) plan body ++ drop len (now (out .entry)) ⌝ }
 {
     if len == 0 {
@@ -122,9 +132,8 @@ fn fill_from_keys(out: &mut [u8], len: usize, list: &[u8], plan: Plan, body: Bod
     }
     clear(out, len);
     let levels = levels_of(body, plan.header.dense.levels);
-    let counters = counters_of(plan, body);
     let mut cur = [0u32; COUNTERS];
-    start_levels(&mut cur, &counters, levels.lo);
+    start_levels(&mut cur, cnt, levels.lo);
     let pass = Pass {
         body: body,
         levels: levels,
@@ -150,8 +159,8 @@ fn body_span(plan: Plan, i: usize) -> Span
 }
 
 // The body of record i goes to its place in out, and all else stays. The bodies of the records before it are finished.
-pub fn fill_body(out: &mut [u8], list: &[u8], plan: Plan, i: usize)
-    requires { ⌜ Writing (now list) plan i (now out) ⌝ }
+pub fn fill_body(out: &mut [u8], list: &[u8], plan: Plan, cnt: &Counters, i: usize)
+    requires { ⌜ Writing (now list) plan i (now out) × (now cnt ≡ counters-at (now list) i) ⌝ }
     ensures { λ _. ⌜ now (out .exit) ≡ placed (now (out .entry)) (start-at plan i + 6) (body-at (now (list .entry)) plan i) ⌝ }
 {
     let span = body_span(plan, i);
@@ -159,7 +168,7 @@ pub fn fill_body(out: &mut [u8], list: &[u8], plan: Plan, i: usize)
     let len = span.len;
     let source = source_of(i);
     match source {
-        Source::Keys(body) => fill_from_keys(&mut out[start..], len, list, plan, body),
+        Source::Keys(body) => fill_from_keys(&mut out[start..], len, list, plan, cnt, body),
         Source::Ranks(j, words) => {
             let counted = body_span(plan, j);
             fill_ranks(out, counted, start, len / 4, words)

@@ -7,12 +7,16 @@ ghost use Rattle.spec.specs.Image.{rows, write-records};
 ghost use Rattle.spec.specs.Build.{write-stated};
 ghost use Rattle.bits_laws.specs.Bits.{placed};
 ghost use Rattle.image_types.specs.Outcomes.{outcome};
+ghost use Rattle.build_laws.specs.CountPass.{level-counts, no-counts, list-counts};
 ghost use Rattle.build_laws.specs.RecordsWritten.{record-bytes};
-ghost use Rattle.build_laws.specs.Plan.{Ready, Planned, plan-settings, plan-bodies, body-at, start-at, Writing};
+ghost use Rattle.build_laws.specs.Plan.{Ready, Planned, plan-settings, plan-bodies, counters-at, body-at, start-at, Writing};
 ghost use Rattle.build.specs.Build.{settings-of, image-of};
 use super::Settings;
+use super::bodies::counters_of;
 use super::bodies::fill_body;
+use super::bodies::source_of;
 use build_laws::COUNTERS;
+use build_laws::Counters;
 use build_laws::Plan;
 use build_passes::count::count_levels;
 use build_passes::starts::total;
@@ -34,56 +38,65 @@ const LENGTH_NOT_STATED: u32 = 8;
 // The number of an output that is too short for the image.
 const IMAGE_TOO_LONG: u32 = 7;
 
-// The plan of an accepted list of so many keys: each level's entries, nodes and leaves are counted in one pass, and give the header's counts and the records' starts.
-fn lay_out(list: &[u8], st: Settings, count: usize) -> Plan
-    requires { ⌜ Ready (now list) (settings-of st) × (count ≡ length (keys-of (now list))) ⌝ }
-    ensures { λ r. ⌜ Planned (now (list .entry)) r × (plan-settings r ≡ settings-of st) ⌝ }
+// The plan of an accepted list of so many keys: each level's entries, nodes and leaves are counted from zero in one pass, and give the header's counts and the records' starts.
+fn lay_out(
+    entries: &mut Counters,
+    nodes: &mut Counters,
+    leaves: &mut Counters,
+    list: &[u8],
+    st: Settings,
+    count: usize,
+) -> Plan
+    requires { ⌜ Ready (now list) (settings-of st) × (count ≡ length (keys-of (now list))) × (level-counts (now entries) (now nodes) (now leaves) ≡ no-counts) ⌝ }
+    ensures { λ r. ⌜ Planned (now (list .entry)) r × (plan-settings r ≡ settings-of st) × (level-counts (now (entries .exit)) (now (nodes .exit)) (now (leaves .exit)) ≡ list-counts (keys-of (now (list .entry)))) ⌝ }
 {
-    let mut entries = [0u32; COUNTERS];
-    let mut nodes = [0u32; COUNTERS];
-    let mut leaves = [0u32; COUNTERS];
-    count_levels(&mut entries, &mut nodes, &mut leaves, list);
+    count_levels(entries, nodes, leaves, list);
     let h = Header {
         width: st.width,
         leaves: count,
         dense: Dense {
             levels: st.levels,
-            nodes: total(&nodes, 0, st.levels),
+            nodes: total(nodes, 0, st.levels),
         },
         sparse: Sparse {
-            nodes: total(&nodes, st.levels, MAX_LEVELS),
-            entries: total(&entries, st.levels, MAX_LEVELS),
+            nodes: total(nodes, st.levels, MAX_LEVELS),
+            entries: total(entries, st.levels, MAX_LEVELS),
         },
     };
     Plan {
         header: h,
         starts: record_starts(h),
-        entries: entries,
-        nodes: nodes,
-        leaves: leaves,
     }
 }
 
 // Record i goes to its place in out: its mark, the length of its body, and its body.
-fn write_record(out: &mut [u8], list: &[u8], plan: Plan, i: usize)
-    requires { ⌜ Writing (now list) plan i (now out) ⌝ }
+fn write_record(out: &mut [u8], list: &[u8], plan: Plan, cnt: &Counters, i: usize)
+    requires { ⌜ Writing (now list) plan i (now out) × (now cnt ≡ counters-at (now list) i) ⌝ }
     ensures { λ _. ⌜ now (out .exit) ≡ placed (now (out .entry)) (start-at plan i) (record-bytes i (body-at (now (list .entry)) plan i)) ⌝ }
 {
     let starts = plan.starts;
     let h = plan.header;
     let m = mark(i);
     begin_record(out, starts[i], &m, body_size(h, i));
-    fill_body(out, list, plan, i);
+    fill_body(out, list, plan, cnt, i);
 }
 
-// All records go to out behind the header, one behind the other.
-fn write_records(out: &mut [u8], list: &[u8], plan: Plan)
-    requires { ⌜ Planned (now list) plan × (start-at plan 12 ≤ length (now out)) ⌝ }
+// All records go to out behind the header, one behind the other. The counters are the list's.
+fn write_records(
+    out: &mut [u8],
+    list: &[u8],
+    plan: Plan,
+    entries: &Counters,
+    nodes: &Counters,
+    leaves: &Counters,
+)
+    requires { ⌜ Planned (now list) plan × (start-at plan 12 ≤ length (now out)) × (level-counts (now entries) (now nodes) (now leaves) ≡ list-counts (keys-of (now list))) ⌝ }
     ensures { λ _. ⌜ now (out .exit) ≡ placed (now (out .entry)) 22 (write-records rows (plan-bodies (now (list .entry)) plan)) ⌝ }
 {
     let mut i = 0usize;
     while i < RECORDS {
-        write_record(out, list, plan, i);
+        let cnt = counters_of(source_of(i), entries, nodes, leaves);
+        write_record(out, list, plan, &cnt, i);
         i = i + 1;
     }
 }
@@ -93,7 +106,10 @@ pub fn measure_image(list: &[u8], st: Settings, count: usize) -> usize
     requires { ⌜ Ready (now list) (settings-of st) × (count ≡ length (keys-of (now list))) ⌝ }
     ensures { λ r. ⌜ r ≡ length (image-of (now (list .entry)) (settings-of st)) ⌝ }
 {
-    let plan = lay_out(list, st, count);
+    let mut entries = [0u32; COUNTERS];
+    let mut nodes = [0u32; COUNTERS];
+    let mut leaves = [0u32; COUNTERS];
+    let plan = lay_out(&mut entries, &mut nodes, &mut leaves, list, st, count);
     let starts = plan.starts;
     starts[RECORDS]
 }
@@ -103,7 +119,10 @@ pub fn build_image(list: &[u8], st: Settings, count: usize, stated: u64, out: &m
     requires { ⌜ Ready (now list) (settings-of st) × (count ≡ length (keys-of (now list))) ⌝ }
     ensures { λ r. ⌜ outcome r (now (out .exit)) ≡ write-stated stated (image-of (now (list .entry)) (settings-of st)) (now (out .entry)) ⌝ }
 {
-    let plan = lay_out(list, st, count);
+    let mut entries = [0u32; COUNTERS];
+    let mut nodes = [0u32; COUNTERS];
+    let mut leaves = [0u32; COUNTERS];
+    let plan = lay_out(&mut entries, &mut nodes, &mut leaves, list, st, count);
     let starts = plan.starts;
     let end = starts[RECORDS];
     if stated != (end as u64) {
@@ -114,6 +133,6 @@ pub fn build_image(list: &[u8], st: Settings, count: usize, stated: u64, out: &m
     }
     let h = plan.header;
     write_header(out, h);
-    write_records(out, list, plan);
+    write_records(out, list, plan, &entries, &nodes, &leaves);
     Written::Bytes(end)
 }

@@ -21,12 +21,13 @@ use Rattle.build_laws.specs.Cursors.{sums}
 use Rattle.build_laws.specs.Counters.{Cursors-at}
 use Rattle.build_laws.specs.BytePass.{Byte-state, byte-state}
 use Rattle.build_laws.specs.KeyRecords.{Accepted-list}
+use Rattle.build_laws.specs.CountPass.{list-counts}
 use Rattle.build_laws.specs.Passes.{pass-keys, Pass-room}
 use Rattle.build_laws.specs.BodyChoice.{counters-of, levels-of}
 use Rattle.build_laws.specs.BodyRoom.{counters-few, body-room}
 use Rattle.build_laws.specs.BodyFilled.{left-body, body-filled, left-flipped, flipped-fits, flipped-again, left-whole}
 use Rattle.build_laws.specs.FlippedBits.{flipped}
-use Rattle.build_laws.specs.Plan.{Planned, plan-settings, plan-counters, plan-counted, list-body, body-at, size-at, start-at, span-at, body-size, ends-before, plan-short, entries-few, Laid-out, Body-room, Ranks-of, Samples-of, Gives, Writing, record-room}
+use Rattle.build_laws.specs.Plan.{Planned, plan-settings, source-at, source-counters, keys-counters, counters-at, list-body, body-at, size-at, start-at, span-at, body-size, ends-before, plan-short, entries-few, Laid-out, Body-room, Ranks-of, Samples-of, Gives, Writing, record-room}
 use Rattle.build_laws.specs.declared.Body.{Body}
 use Rattle.build_laws.specs.declared.Levels.{Levels}
 use Rattle.build_laws.specs.declared.Pass.{Pass}
@@ -44,10 +45,10 @@ pub empty-body : (body out : Bytes) → length body ≡ 0 → out ≡ body ++ dr
 empty-body [] out e = refl
 empty-body (x ∷ body) out e = absurd (omega arith)
 
-module _ (list : Bytes) (p : Plan) (w : Planned list p) (b : Body) (cnt : List ℕ) (k : cnt ≡ plan-counters p b) (l : Levels) (e : l ≡ levels-of b (p .header .dense .levels)) where
+module _ (list : Bytes) (p : Plan) (w : Planned list p) (b : Body) (cnt : List ℕ) (k : cnt ≡ counters-of b (keys-of list)) (l : Levels) (e : l ≡ levels-of b (p .header .dense .levels)) where
   -- the counters' sums are small
   pub sums-small : sums cnt (l .lo) counters ≤ counter-max
-  sums-small = subst (λ (c : List ℕ). sums c (l .lo) counters ≤ counter-max) (sym (k ∙ plan-counted list p w b)) (counters-few b (keys-of list) (l .lo) counters (w .ready .built .few) (omega arith))
+  sums-small = subst (λ (c : List ℕ). sums c (l .lo) counters ≤ counter-max) (sym k) (counters-few b (keys-of list) (l .lo) counters (w .ready .built .few) (omega arith))
 
   -- the pass that fills the body
   abbrev body-pass : Levels → Pass
@@ -55,7 +56,7 @@ module _ (list : Bytes) (p : Plan) (w : Planned list p) (b : Body) (cnt : List �
 
   module _ (cur : List ℕ) (wide : length cur ≡ counters) (c : Cursors-at cnt (l .lo) cur) where
     starts : Cursors-at (counters-of b (keys-of list)) (levels-of b (p .header .dense .levels) .lo) cur
-    starts = subst (λ (i : Levels). Cursors-at (counters-of b (keys-of list)) (i .lo) cur) e (subst (λ (x : List ℕ). Cursors-at x (l .lo) cur) (k ∙ plan-counted list p w b) c)
+    starts = subst (λ (i : Levels). Cursors-at (counters-of b (keys-of list)) (i .lo) cur) e (subst (λ (x : List ℕ). Cursors-at x (l .lo) cur) k c)
 
     -- its bytes have room for what the pass writes
     pub pass-room : (size : ℕ) → length (list-body list p b) ≤ size → Pass-room (body-pass l) 0 (keys-of list) size cur
@@ -111,11 +112,15 @@ module _ (list : Bytes) (p : Plan) (i : ℕ) (out : Bytes) (w : Writing list p i
     pub span-within : s .at + s .len ≤ length out
     span-within = omega (arith, at-is, len-is, record-room list p i out w)
 
+    keys-size : (b : Body) → Gives list p i (Keys b) → s .len ≡ length (list-body list p b)
+    keys-size b g = len-is ∙ sym (body-size list p (w .planned) i) ∙ ap length (sym g)
+
     -- what a pass asks
-    pub keys-ask : (b : Body) → Gives list p i (Keys b) → Body-room list p b (s .len) (midOf (s .at) (length out - s .at) out)
-    keys-ask b g = record {
+    pub keys-ask : (b : Body) (cnt : List ℕ) → Gives list p i (Keys b) → source-at i ≡ Keys b → cnt ≡ counters-at list i → Body-room list p cnt b (s .len) (midOf (s .at) (length out - s .at) out)
+    keys-ask b cnt g q k = record {
       planned = w .planned;
-      size = len-is ∙ sym (body-size list p (w .planned) i) ∙ ap length (sym g);
+      counted = k ∙ ap (source-counters (list-counts (keys-of list))) q ∙ keys-counters (keys-of list) b;
+      size = keys-size b g;
       room = omega (arith, ap length (mid-is out (s .at)), length-drop (s .at) out, span-within);
     }
 
@@ -123,7 +128,7 @@ module _ (list : Bytes) (p : Plan) (i : ℕ) (out : Bytes) (w : Writing list p i
     pub keys-leave : (b : Body) → Gives list p i (Keys b) → (ys : Bytes) → ys ≡ list-body list p b ++ drop (s .len) (midOf (s .at) (length out - s .at) out)
         → putMid (s .at) (length out - s .at) out ys ≡ placed out (start-at p i + 6) (body-at list p i)
     keys-leave b g ys f =
-        lent-front out ys (list-body list p b) (s .at) (s .len) (keys-ask b g .size) span-within f ∙ ap₂ (λ (n : ℕ) (x : Bytes). placed out n x) at-is g
+        lent-front out ys (list-body list p b) (s .at) (s .len) (keys-size b g) span-within f ∙ ap₂ (λ (n : ℕ) (x : Bytes). placed out n x) at-is g
 
     module _ (j : ℕ) (t : Span) (f : t ≡ span-at p j) where
       -- the counted body is an earlier record's

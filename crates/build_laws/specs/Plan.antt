@@ -24,7 +24,7 @@ use Rattle.build_laws.specs.Limits.{counters, counter-max}
 use Rattle.build_laws.specs.Cursors.{sums}
 use Rattle.build_laws.specs.KeyRecords.{Records}
 use Rattle.build_laws.specs.KeyBits.{key-bodies}
-use Rattle.build_laws.specs.CountPass.{Level-counts, level-counts, list-counts}
+use Rattle.build_laws.specs.CountPass.{Level-counts, list-counts}
 use Rattle.build_laws.specs.BodyChoice.{body-of, counters-of}
 use Rattle.build_laws.specs.BodyRoom.{counters-few}
 use Rattle.build_laws.specs.ImageRecords.{key-counts, image-is, body-sizes}
@@ -75,7 +75,6 @@ pub record Planned (list : Bytes) (p : Plan) : Type 0 where
   pub ready : Ready list (plan-settings p)  -- the list is accepted, and the settings are in range
   pub counts : plan-counts p ≡ key-counts (plan-settings p) (keys-of list)  -- the header's counts are the list's
   pub starts : p .starts ≡ starts (plan-settings p) (plan-counts p) rows 22  -- the records start as the table says
-  pub counters : level-counts (p .entries) (p .nodes) (p .leaves) ≡ list-counts (keys-of list)  -- the counters are the list's
 
 getD-map : {A B : Type 0} (f : A → B) (l : List A) (i : ℕ) (d : A) → getD (map f l) i (f d) ≡ f (getD l i d)
 getD-map f [] i d = refl
@@ -142,8 +141,8 @@ header-with st leaves dense nodes entries = record {
 }
 
 -- a plan by its values
-abbrev pub plan-with : Header → List ℕ → Level-counts → Plan
-plan-with h s c = record { header = h; starts = s; entries = c .entries; nodes = c .nodes; leaves = c .leaves }
+abbrev pub plan-with : Header → List ℕ → Plan
+plan-with h s = record { header = h; starts = s }
 
 module _ (list : Bytes) (st : Settings) (r : Ready list st) (c : Level-counts) (e : c ≡ list-counts (keys-of list)) where
   -- sums of the counters are small
@@ -172,8 +171,8 @@ module _ (list : Bytes) (st : Settings) (r : Ready list st) (c : Level-counts) (
         ∙ ap (λ (x : Level-counts). counts-of (header-with st (length (keys-of list)) (sums (x .nodes) 0 (st .dense-levels)) (sums (x .nodes) (st .dense-levels) 64) (sums (x .entries) (st .dense-levels) 64))) e
 
     -- and it is the plan of the list's image
-    pub plan-made : (ss : List ℕ) → ss ≡ starts st (counts-of (header-with st count dense nodes entries)) rows 22 → Planned list (plan-with (header-with st count dense nodes entries) ss c)
-    plan-made ss f = record { ready = r; counts = counts-are; starts = f; counters = e }
+    pub plan-made : (ss : List ℕ) → ss ≡ starts st (counts-of (header-with st count dense nodes entries)) rows 22 → Planned list (plan-with (header-with st count dense nodes entries) ss)
+    plan-made ss f = record { ready = r; counts = counts-are; starts = f }
 
 -- ---- bodies that are filled from the keys
 
@@ -181,29 +180,10 @@ module _ (list : Bytes) (st : Settings) (r : Ready list st) (c : Level-counts) (
 abbrev pub list-body : Bytes → Plan → Body → Bytes
 list-body list p b = body-of b (key-bodies (plan-settings p) (keys-of list))
 
--- the counters that say where the levels of a body start
-abbrev pub plan-counters : Plan → Body → List ℕ
-plan-counters p (Entries DL) = p .nodes
-plan-counters p (Entries DC) = p .nodes
-plan-counters p (Entries DP) = p .nodes
-plan-counters p (Entries SL) = p .entries
-plan-counters p (Entries SC) = p .entries
-plan-counters p (Entries SB) = p .entries
-plan-counters p Slots = p .leaves
-
--- they are those of the list
-pub plan-counted : (list : Bytes) (p : Plan) → Planned list p → (b : Body) → plan-counters p b ≡ counters-of b (keys-of list)
-plan-counted list p w (Entries DL) = ap (λ (c : Level-counts). c .nodes) (w .counters)
-plan-counted list p w (Entries DC) = ap (λ (c : Level-counts). c .nodes) (w .counters)
-plan-counted list p w (Entries DP) = ap (λ (c : Level-counts). c .nodes) (w .counters)
-plan-counted list p w (Entries SL) = ap (λ (c : Level-counts). c .entries) (w .counters)
-plan-counted list p w (Entries SC) = ap (λ (c : Level-counts). c .entries) (w .counters)
-plan-counted list p w (Entries SB) = ap (λ (c : Level-counts). c .entries) (w .counters)
-plan-counted list p w Slots = ap (λ (c : Level-counts). c .leaves) (w .counters)
-
 -- a body of so many bytes has room at the front of `out`
-pub record Body-room (list : Bytes) (p : Plan) (b : Body) (len : ℕ) (out : Bytes) : Type 0 where
+pub record Body-room (list : Bytes) (p : Plan) (cnt : List ℕ) (b : Body) (len : ℕ) (out : Bytes) : Type 0 where
   pub planned : Planned list p  -- the plan is the list's
+  pub counted : cnt ≡ counters-of b (keys-of list)  -- the counters are the body's
   pub size : len ≡ length (list-body list p b)  -- the body has so many bytes
   pub room : len ≤ length out  -- they are there
 
@@ -230,6 +210,32 @@ sources =
 -- the source of record i
 abbrev pub source-at : ℕ → Source
 source-at i = getD sources i (Samples 5)
+
+-- the counters that say where the levels of a body start: nodes on dense levels, entries on sparse ones, or leaves; those of a body that no pass fills do not matter
+abbrev pub source-counters : Level-counts → Source → List ℕ
+source-counters c (Keys (Entries DL)) = c .nodes
+source-counters c (Keys (Entries DC)) = c .nodes
+source-counters c (Keys (Entries DP)) = c .nodes
+source-counters c (Keys (Entries SL)) = c .entries
+source-counters c (Keys (Entries SC)) = c .entries
+source-counters c (Keys (Entries SB)) = c .entries
+source-counters c (Keys Slots) = c .leaves
+source-counters c (Ranks j words) = c .leaves
+source-counters c (Samples j) = c .leaves
+
+-- those of a body that a pass fills
+pub keys-counters : (ks : List Bytes) (b : Body) → source-counters (list-counts ks) (Keys b) ≡ counters-of b ks
+keys-counters ks (Entries DL) = refl
+keys-counters ks (Entries DC) = refl
+keys-counters ks (Entries DP) = refl
+keys-counters ks (Entries SL) = refl
+keys-counters ks (Entries SC) = refl
+keys-counters ks (Entries SB) = refl
+keys-counters ks Slots = refl
+
+-- those of record i
+abbrev pub counters-at : Bytes → ℕ → List ℕ
+counters-at list i = source-counters (list-counts (keys-of list)) (source-at i)
 
 -- record i has the ranks of record j's body, for blocks of so many words
 pub record Ranks-of (list : Bytes) (p : Plan) (i j words : ℕ) : Type 0 where

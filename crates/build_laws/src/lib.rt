@@ -79,11 +79,8 @@ pub enum Source {
     Samples(usize),
 }
 
-// What is known of an image before a byte is written: its header, where each record starts and the last one ends, and what is counted on each level.
+// What is known of an image before a byte is written: its header, and where each record starts and the last one ends.
 pub struct Plan {
     pub header: Header,
     pub starts: [usize; STARTS],
-    pub entries: Counters,
-    pub nodes: Counters,
-    pub leaves: Counters,
 }

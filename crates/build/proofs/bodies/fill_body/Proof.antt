@@ -20,18 +20,18 @@ known list p i w h s t e f = subst (Gives list p i) (sym e ∙ f) (sources-give 
 body-span-requires : tie.Need-body-span-requires
 body-span-requires c κs =
     let args = c .before .before .args in
-    let pre = c .before .before .pre in
+    let pre = c .before .before .pre .0 in
     own-laid (args .list .now) (args .plan) (args .i) (args .out .now) (pre) (omega arith)
 
 source-of-requires : tie.Need-source-of-requires
-source-of-requires c κs = search needs
+source-of-requires c κs = c .before .before .before .pre .0 .below
 
 enum-known-source : tie.Need-enum-known-source
 enum-known-source c = search needs
 
 sub-fill-from-keys : tie.Need-sub-fill-from-keys
 sub-fill-from-keys c =
-    let pre = c .before .before .before .before .before .before .before .pre in
+    let pre = c .before .before .before .before .before .before .before .pre .0 in
     let body-span = c .before .before .before .before .body-span in
     let a = c .before .before .before .before .before .before .before .args in
     let w = span-within (a .list .now) (a .plan) (a .i) (a .out .now) (pre) (body-span .result) (body-span .ensures) in
@@ -39,7 +39,7 @@ sub-fill-from-keys c =
 
 part-fill-from-keys-start : tie.Need-part-fill-from-keys-start
 part-fill-from-keys-start c =
-    let pre = c .before .before .before .before .before .before .before .pre in
+    let pre = c .before .before .before .before .before .before .before .pre .0 in
     let body-span = c .before .before .before .before .body-span in
     let a = c .before .before .before .before .before .before .before .args in
     let w = span-within (a .list .now) (a .plan) (a .i) (a .out .now) (pre) (body-span .result) (body-span .ensures) in
@@ -54,9 +54,9 @@ fill-from-keys-requires c κs =
     let source-of = c .before .before .before .before .source-of in
     let source = c .before .before .source in
     let a = c .before .before .before .before .before .before .before .before .args in
-    let pre = c .before .before .before .before .before .before .before .before .pre in
+    let pre = c .before .before .before .before .before .before .before .before .pre .0 in
     let g = known (a .list .now) (a .plan) (a .i) (pre .planned) (pre .below) (source-of .result) (Keys (source .given .0 .0)) (source-of .ensures) (source .given .1) in
-    keys-ask (a .list .now) (a .plan) (a .i) (a .out .now) pre (body-span .result) (body-span .ensures) (source .given .0 .0) g
+    keys-ask (a .list .now) (a .plan) (a .i) (a .out .now) pre (body-span .result) (body-span .ensures) (source .given .0 .0) (a .cnt .now) g (sym (source-of .ensures) ∙ source .given .1) (c .before .before .before .before .before .before .before .before .pre .1)
 
 enum-known-source-2 : tie.Need-enum-known-source-2
 enum-known-source-2 c = search needs
@@ -66,7 +66,7 @@ body-span-requires-2 c κs =
     let source-of = c .before .before .before .source-of in
     let source2 = c .before .source2 in
     let a = c .before .before .before .before .before .before .before .args in
-    let pre = c .before .before .before .before .before .before .before .pre in
+    let pre = c .before .before .before .before .before .before .before .pre .0 in
     let g = known (a .list .now) (a .plan) (a .i) (pre .planned) (pre .below) (source-of .result) (Ranks (source2 .given .0 .0) (source2 .given .0 .1 .0)) (source-of .ensures) (source2 .given .1) in
     earlier-laid (a .list .now) (a .plan) (a .i) (a .out .now) pre (omega arith) (source2 .given .0 .0) (g .before)
 
@@ -77,7 +77,7 @@ fill-ranks-requires c κs =
     let source2 = c .before .before .before .source2 in
     let body-span2 = c .before .body-span2 in
     let a = c .before .before .before .before .before .before .before .before .before .args in
-    let pre = c .before .before .before .before .before .before .before .before .before .pre in
+    let pre = c .before .before .before .before .before .before .before .before .before .pre .0 in
     let g = known (a .list .now) (a .plan) (a .i) (pre .planned) (pre .below) (source-of .result) (Ranks (source2 .given .0 .0) (source2 .given .0 .1 .0)) (source-of .ensures) (source2 .given .1) in
     ranks-ask (a .list .now) (a .plan) (a .i) (a .out .now) pre (body-span .result) (body-span .ensures) (source2 .given .0 .0) (body-span2 .result) (body-span2 .ensures) (source2 .given .0 .1 .0) g
 
@@ -89,7 +89,7 @@ body-span-requires-3 c κs =
     let source-of = c .before .before .before .source-of in
     let source3 = c .before .source3 in
     let a = c .before .before .before .before .before .before .before .args in
-    let pre = c .before .before .before .before .before .before .before .pre in
+    let pre = c .before .before .before .before .before .before .before .pre .0 in
     let g = known (a .list .now) (a .plan) (a .i) (pre .planned) (pre .below) (source-of .result) (Samples (source3 .given .0 .0)) (source-of .ensures) (source3 .given .1) in
     earlier-laid (a .list .now) (a .plan) (a .i) (a .out .now) pre (omega arith) (source3 .given .0 .0) (g .before)
 
@@ -100,7 +100,7 @@ fill-samples-requires c κs =
     let source3 = c .before .before .before .source3 in
     let body-span3 = c .before .body-span3 in
     let a = c .before .before .before .before .before .before .before .before .before .args in
-    let pre = c .before .before .before .before .before .before .before .before .before .pre in
+    let pre = c .before .before .before .before .before .before .before .before .before .pre .0 in
     let g = known (a .list .now) (a .plan) (a .i) (pre .planned) (pre .below) (source-of .result) (Samples (source3 .given .0 .0)) (source-of .ensures) (source3 .given .1) in
     samples-ask (a .list .now) (a .plan) (a .i) (a .out .now) pre (body-span .result) (body-span .ensures) (source3 .given .0 .0) (body-span3 .result) (body-span3 .ensures) g
 
@@ -114,7 +114,7 @@ returns c =
     let source = c .before .before .before .before .before .source in
     let fill-from-keys = c .before .before .fill-from-keys in
     let a = c .before .before .before .before .before .before .before .before .before .before .before .args in
-    let pre = c .before .before .before .before .before .before .before .before .before .before .before .pre in
+    let pre = c .before .before .before .before .before .before .before .before .before .before .before .pre .0 in
     let g = known (a .list .now) (a .plan) (a .i) (pre .planned) (pre .below) (source-of .result) (Keys (source .given .0 .0)) (source-of .ensures) (source .given .1) in
     keys-leave (a .list .now) (a .plan) (a .i) (a .out .now) pre (body-span .result) (body-span .ensures) (source .given .0 .0) g _ (fill-from-keys .ensures)
 
@@ -129,7 +129,7 @@ returns-2 c =
     let body-span2 = c .before .before .before .before .body-span2 in
     let fill-ranks = c .before .before .fill-ranks in
     let a = c .before .before .before .before .before .before .before .before .before .before .before .before .args in
-    let pre = c .before .before .before .before .before .before .before .before .before .before .before .before .pre in
+    let pre = c .before .before .before .before .before .before .before .before .before .before .before .before .pre .0 in
     let g = known (a .list .now) (a .plan) (a .i) (pre .planned) (pre .below) (source-of .result) (Ranks (source2 .given .0 .0) (source2 .given .0 .1 .0)) (source-of .ensures) (source2 .given .1) in
     ranks-leave (a .list .now) (a .plan) (a .i) (a .out .now) pre (body-span .result) (body-span .ensures) (source2 .given .0 .0) (body-span2 .result) (body-span2 .ensures) (source2 .given .0 .1 .0) g _ (fill-ranks .ensures)
 
@@ -144,7 +144,7 @@ returns-3 c =
     let body-span3 = c .before .before .before .before .body-span3 in
     let fill-samples = c .before .before .fill-samples in
     let a = c .before .before .before .before .before .before .before .before .before .before .before .before .args in
-    let pre = c .before .before .before .before .before .before .before .before .before .before .before .before .pre in
+    let pre = c .before .before .before .before .before .before .before .before .before .before .before .before .pre .0 in
     let g = known (a .list .now) (a .plan) (a .i) (pre .planned) (pre .below) (source-of .result) (Samples (source3 .given .0 .0)) (source-of .ensures) (source3 .given .1) in
     samples-leave (a .list .now) (a .plan) (a .i) (a .out .now) pre (body-span .result) (body-span .ensures) (source3 .given .0 .0) (body-span3 .result) (body-span3 .ensures) g _ (fill-samples .ensures)
 

@@ -30,29 +30,23 @@ clear-requires c κs = search needs
 levels-of-requires : tie.Need-levels-of-requires
 levels-of-requires c κs = search needs
 
-counters-of-requires : tie.Need-counters-of-requires
-counters-of-requires c κs = search needs
-
 start-levels-requires : tie.Need-start-levels-requires
 start-levels-requires c κs =
-    let pre = c .before .before .before .before .before .before .before .before .before .before .before .pre in
-    let levels-of = c .before .before .before .levels-of in
-    let counters-of = c .before .before .counters-of in
-    let a = c .before .before .before .before .before .before .before .before .before .before .before .args in
-    (refl, sums-small (a .list .now) (a .plan) (pre .planned) (a .body) (counters-of .result) (counters-of .ensures) (levels-of .result) (levels-of .ensures))
+    let pre = c .before .before .before .before .before .before .before .before .before .pre in
+    let levels-of = c .before .levels-of in
+    let a = c .before .before .before .before .before .before .before .before .before .args in
+    (refl, sums-small (a .list .now) (a .plan) (pre .planned) (a .body) (a .cnt .now) (pre .counted) (levels-of .result) (levels-of .ensures))
 
 write-keys-requires : tie.Need-write-keys-requires
 write-keys-requires c κs =
-    let levels-of-known = c .before .before .before .before .before .before .levels-of in
-    let counters-of-known = c .before .before .before .before .before .counters-of in
-    let a = c .before .before .before .before .before .before .before .before .before .before .before .before .before .before .args in
-    let pre = c .before .before .before .before .before .before .before .before .before .before .before .before .before .before .pre in
-    let cleared = c .before .before .before .before .before .before .before .before .before .clear in
+    let levels-of-known = c .before .before .before .before .levels-of in
+    let a = c .before .before .before .before .before .before .before .before .before .before .before .before .args in
+    let pre = c .before .before .before .before .before .before .before .before .before .before .before .before .pre in
+    let cleared = c .before .before .before .before .before .before .before .clear in
     let starts = c .before .before .start-levels in
-    let counters-of = counters-of-known in
     let levels-of = levels-of-known in (
       (ready-list (a .list .now) (a .plan) (pre .planned), starts .ensures .1, pre .planned .ready .built .width-range),
-      pass-room (a .list .now) (a .plan) (pre .planned) (a .body) (counters-of .result) (counters-of .ensures) (levels-of .result) (levels-of .ensures) (starts .last .0) (starts .ensures .1) (starts .ensures .0)
+      pass-room (a .list .now) (a .plan) (pre .planned) (a .body) (a .cnt .now) (pre .counted) (levels-of .result) (levels-of .ensures) (starts .last .0) (starts .ensures .1) (starts .ensures .0)
           (length (cleared .last .0)) (omega (arith, pre .size, pre .room, cleared .kept .0)),
     )
 
@@ -61,25 +55,24 @@ leaves-flipped-requires c κs = search needs
 
 flip-requires : tie.Need-flip-requires
 flip-requires c κs =
-    let a = c .before .before .before .before .before .before .before .before .before .before .before .before .before .before .before .before .before .before .before .before .args in
-    let pre = c .before .before .before .before .before .before .before .before .before .before .before .before .before .before .before .before .before .before .before .before .pre in
-    flip-room (a .list .now) (a .plan) (pre .planned) (a .body) (length (c .before .before .before .before .before .write-keys .last .0)) (sym (c .before .before .leaves-flipped .ensures) ∙ c .before .if2 .taken) (omega (arith, pre .size, pre .room, c .before .before .before .before .before .before .before .before .before .before .before .before .before .before .before .clear .kept .0, c .before .before .before .before .before .write-keys .kept .0))
+    let a = c .before .before .before .before .before .before .before .before .before .before .before .before .before .before .before .before .before .before .args in
+    let pre = c .before .before .before .before .before .before .before .before .before .before .before .before .before .before .before .before .before .before .pre in
+    flip-room (a .list .now) (a .plan) (pre .planned) (a .body) (length (c .before .before .before .before .before .write-keys .last .0)) (sym (c .before .before .leaves-flipped .ensures) ∙ c .before .if2 .taken) (omega (arith, pre .size, pre .room, c .before .before .before .before .before .before .before .before .before .before .before .before .before .clear .kept .0, c .before .before .before .before .before .write-keys .kept .0))
 
 same-length : tie.Need-same-length
 same-length c = search needs
 
 returns-2 : tie.Need-returns-2
 returns-2 c =
-    let a = c .before .before .before .before .before .before .before .before .before .before .before .before .before .before .before .before .before .before .before .before .before .before .before .args in
-    let pre = c .before .before .before .before .before .before .before .before .before .before .before .before .before .before .before .before .before .before .before .before .before .before .before .pre in
-    let levels-of = c .before .before .before .before .before .before .before .before .before .before .before .before .before .before .before .levels-of in
-    let counters-of = c .before .before .before .before .before .before .before .before .before .before .before .before .before .before .counters-of in
+    let a = c .before .before .before .before .before .before .before .before .before .before .before .before .before .before .before .before .before .before .before .before .before .args in
+    let pre = c .before .before .before .before .before .before .before .before .before .before .before .before .before .before .before .before .before .before .before .before .before .pre in
+    let levels-of = c .before .before .before .before .before .before .before .before .before .before .before .before .before .levels-of in
     let starts = c .before .before .before .before .before .before .before .before .before .before .before .start-levels in
     let written = c .before .before .before .before .before .before .before .before .write-keys in
     body-again (a .list .now) (a .plan) (pre .planned) (a .body) (drop (a .len) (a .out .now)) (written .last .0) _ (sym (c .before .before .before .before .before .leaves-flipped .ensures) ∙ c .before .before .before .before .if2 .taken)
-    (pass-leaves (a .list .now) (a .plan) (pre .planned) (a .body) (counters-of .result) (counters-of .ensures) (levels-of .result) (levels-of .ensures) (starts .last .0) (starts .ensures .1) (starts .ensures .0)
-    (a .len) (drop (a .len) (a .out .now)) _ _ (pre .size) (small-of (written .last .0) (λ i. c .before .before .before .before .before .before .slice-known3 .given i .fits)) (bytes-drop (a .len) (a .out .now) (small-of (a .out .now) (λ i. c .before .before .before .before .before .before .before .before .before .before .before .before .before .before .before .before .before .before .before .before .before .before .slice-known .given i .fits)))
-    (c .before .before .before .before .before .before .before .before .before .before .before .before .before .before .before .before .before .before .clear .ensures) (written .ensures))
+    (pass-leaves (a .list .now) (a .plan) (pre .planned) (a .body) (a .cnt .now) (pre .counted) (levels-of .result) (levels-of .ensures) (starts .last .0) (starts .ensures .1) (starts .ensures .0)
+    (a .len) (drop (a .len) (a .out .now)) _ _ (pre .size) (small-of (written .last .0) (λ i. c .before .before .before .before .before .before .slice-known3 .given i .fits)) (bytes-drop (a .len) (a .out .now) (small-of (a .out .now) (λ i. c .before .before .before .before .before .before .before .before .before .before .before .before .before .before .before .before .before .before .before .before .slice-known .given i .fits)))
+    (c .before .before .before .before .before .before .before .before .before .before .before .before .before .before .before .before .clear .ensures) (written .ensures))
     (c .before .before .flip .ensures)
 
 same-length-2 : tie.Need-same-length-2
@@ -87,16 +80,15 @@ same-length-2 c = search needs
 
 returns-3 : tie.Need-returns-3
 returns-3 c =
-    let a = c .before .before .before .before .before .before .before .before .before .before .before .before .before .before .before .before .before .before .before .args in
-    let pre = c .before .before .before .before .before .before .before .before .before .before .before .before .before .before .before .before .before .before .before .pre in
-    let levels-of = c .before .before .before .before .before .before .before .before .before .before .before .levels-of in
-    let counters-of = c .before .before .before .before .before .before .before .before .before .before .counters-of in
+    let a = c .before .before .before .before .before .before .before .before .before .before .before .before .before .before .before .before .before .args in
+    let pre = c .before .before .before .before .before .before .before .before .before .before .before .before .before .before .before .before .before .pre in
+    let levels-of = c .before .before .before .before .before .before .before .before .before .levels-of in
     let starts = c .before .before .before .before .before .before .before .start-levels in
     let written = c .before .before .before .before .write-keys in
     body-whole (a .list .now) (a .plan) (pre .planned) (a .body) (drop (a .len) (a .out .now)) (written .last .0) (sym (c .before .leaves-flipped .ensures) ∙ c .if2 .left)
-    (pass-leaves (a .list .now) (a .plan) (pre .planned) (a .body) (counters-of .result) (counters-of .ensures) (levels-of .result) (levels-of .ensures) (starts .last .0) (starts .ensures .1) (starts .ensures .0)
-    (a .len) (drop (a .len) (a .out .now)) _ _ (pre .size) (small-of (written .last .0) (λ i. c .before .before .slice-known3 .given i .fits)) (bytes-drop (a .len) (a .out .now) (small-of (a .out .now) (λ i. c .before .before .before .before .before .before .before .before .before .before .before .before .before .before .before .before .before .before .slice-known .given i .fits)))
-    (c .before .before .before .before .before .before .before .before .before .before .before .before .before .before .clear .ensures) (written .ensures))
+    (pass-leaves (a .list .now) (a .plan) (pre .planned) (a .body) (a .cnt .now) (pre .counted) (levels-of .result) (levels-of .ensures) (starts .last .0) (starts .ensures .1) (starts .ensures .0)
+    (a .len) (drop (a .len) (a .out .now)) _ _ (pre .size) (small-of (written .last .0) (λ i. c .before .before .slice-known3 .given i .fits)) (bytes-drop (a .len) (a .out .now) (small-of (a .out .now) (λ i. c .before .before .before .before .before .before .before .before .before .before .before .before .before .before .before .before .slice-known .given i .fits)))
+    (c .before .before .before .before .before .before .before .before .before .before .before .before .clear .ensures) (written .ensures))
 
 pub fill-from-keys-spec : {M : Type 1} → statement M
 fill-from-keys-spec =
@@ -105,7 +97,6 @@ fill-from-keys-spec =
     returns
     clear-requires
     levels-of-requires
-    counters-of-requires
     start-levels-requires
     write-keys-requires
     leaves-flipped-requires

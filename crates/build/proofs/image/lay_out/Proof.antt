@@ -14,7 +14,7 @@ count-levels-requires c κs =
     let pre = c .before .before .before .before .pre in
     let a = c .before .before .before .before .args in
     let b = pre .0 .built in
-    (record { records = pre .0 .records; each = b .keys; up = b .up }, counters-room counter-max (keys-of (a .list .now)) (omega arith) (b .keys) (b .up) (b .few), refl)
+    (record { records = pre .0 .records; each = b .keys; up = b .up }, counters-room counter-max (keys-of (a .list .now)) (omega arith) (b .keys) (b .up) (b .few), pre .2)
 
 total-requires : tie.Need-total-requires
 total-requires c κs =
@@ -63,7 +63,7 @@ returns c =
     let st = settings-of (a .st) in
     let r = pre .0 in
     let counted = c .before .before .before .before .before .before .before .count-levels in
-    (plan-made (a .list .now) st r _ (counted .ensures) (a .count) _ _ _ (pre .1) (total .ensures) (total2 .ensures) (c .before .total3 .ensures) _ (c .record-starts .ensures), refl)
+    (plan-made (a .list .now) st r _ (counted .ensures) (a .count) _ _ _ (pre .1) (total .ensures) (total2 .ensures) (c .before .total3 .ensures) _ (c .record-starts .ensures), refl, counted .ensures)
 
 pub lay-out-spec : {M : Type 1} → statement M
 lay-out-spec =

@@ -1,4 +1,5 @@
 -- The plan's end is the image's length.
+use mathlib.Core.Path.{refl}
 use borrow.Author.Needs.{needs}
 use Rattle.build.specs.Build.{settings-of}
 use Rattle.build.proofs.AnswerLaws.{image-end}
@@ -6,14 +7,16 @@ use Rattle.build.proofs.image.measure_image.Statement.{statement}
 use Rattle.build.proofs.image.measure_image.Tie as tie
 
 lay-out-requires : tie.Need-lay-out-requires
-lay-out-requires c κs = search needs
+lay-out-requires c κs =
+    let pre = c .before .before .before .before .pre in
+    (pre .0, pre .1, refl)
 
 array-read-result : tie.Need-array-read-result
 array-read-result c = search needs
 
 returns : tie.Need-returns
 returns c =
-    let a = c .before .before .before .args in
+    let a = c .before .before .before .before .before .before .args in
     let laid = c .before .lay-out in
     image-end (a .list .now) (laid .result) (laid .ensures .0) (settings-of (a .st)) (laid .ensures .1)
 

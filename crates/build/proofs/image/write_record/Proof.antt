@@ -30,7 +30,7 @@ record-done out o p i at m body len e f h g k =
     ∙ ap₂ (λ (x : Bytes) (n : ℕ). placed out at ((mark-bytes x ++ le32 n) ++ body)) e f
 
 mark-requires : tie.Need-mark-requires
-mark-requires c κs = search needs
+mark-requires c κs = c .before .before .before .before .pre .0 .below
 
 mul-begin-record : tie.Need-mul-begin-record
 mul-begin-record c = search needs
@@ -41,23 +41,23 @@ array-read-begin-record c = search needs
 body-size-requires : tie.Need-body-size-requires
 body-size-requires c κs =
     let args = c .before .before .before .before .before .before .before .args in
-    let pre = c .before .before .before .before .before .before .before .pre in
+    let pre = c .before .before .before .before .before .before .before .pre .0 in
     (plan-short (args .list .now) (args .plan) (pre .planned), pre .below)
 
 begin-record-requires : tie.Need-begin-record-requires
 begin-record-requires c κs =
-    let pre = c .before .before .before .before .before .before .before .before .pre in
+    let pre = c .before .before .before .before .before .before .before .before .pre .0 in
     let a = c .before .before .before .before .before .before .before .before .args in
     omega (arith, record-room (a .list .now) (a .plan) (a .i) (a .out .now) (pre))
 
 fill-body-requires : tie.Need-fill-body-requires
 fill-body-requires c κs =
-    let pre = c .before .before .before .before .before .before .before .before .before .before .before .before .pre in
+    let pre = c .before .before .before .before .before .before .before .before .before .before .before .before .pre .0 in
     let mark = c .before .before .before .before .before .before .before .mark in
     let body-size-known = c .before .before .before .before .body-size in
     let begin-record = c .before .before .before .begin-record in
     let a = c .before .before .before .before .before .before .before .before .before .before .before .before .args in
-    subst (Writing (a .list .now) (a .plan) (a .i)) (sym (begin-record .ensures)) (record-begun (a .list .now) (a .plan) (a .i) (a .out .now) (pre) (mark-bytes (mark .result) ++ le32 (body-size-known .result)) (length-begin (mark .result) (body-size-known .result)))
+    (subst (Writing (a .list .now) (a .plan) (a .i)) (sym (begin-record .ensures)) (record-begun (a .list .now) (a .plan) (a .i) (a .out .now) (pre) (mark-bytes (mark .result) ++ le32 (body-size-known .result)) (length-begin (mark .result) (body-size-known .result))), c .before .before .before .before .before .before .before .before .before .before .before .before .pre .1)
 
 same-length : tie.Need-same-length
 same-length c = search needs
@@ -69,7 +69,7 @@ returns c =
     let begin-record = c .before .before .before .before .before .before .begin-record in
     let fill-body = c .before .before .fill-body in
     let a = c .before .before .before .before .before .before .before .before .before .before .before .before .before .before .before .args in
-    let pre = c .before .before .before .before .before .before .before .before .before .before .before .before .before .before .before .pre in
+    let pre = c .before .before .before .before .before .before .before .before .before .before .before .before .before .before .before .pre .0 in
     let sized : body-size-known .result ≡ length (body-at (a .list .now) (a .plan) (a .i)) = body-size-known .ensures .0 ∙ sym (body-size (a .list .now) (a .plan) (pre .planned) (a .i)) in
     record-done (a .out .now) _ _ (a .i) (start-at (a .plan) (a .i)) _ (body-at (a .list .now) (a .plan) (a .i)) _ (mark .ensures) sized
     (omega (arith, record-room (a .list .now) (a .plan) (a .i) (a .out .now) pre, body-size (a .list .now) (a .plan) (pre .planned) (a .i))) (begin-record .ensures) (fill-body .ensures)
