@@ -1,24 +1,19 @@
--- The bits of a key behind its cut as a number, the first bit lowest; and that setting a number's ones from a bit on sets its bits there. Used by the functions that write suffix slots.
+-- Setting a number's ones from a bit on sets its bits there. Used by the functions that write suffix slots.
 use Prim.Native.Nat.{ℕ, suc, _+_, _*_, _-_, _/_, _%_, _^_, _≤_, _<_}
 use mathlib.Core.Path.{_≡_, refl, sym, ap, ap₂, _∙_}
 use mathlib.Core.Bool.{Bool, true, false}
 use mathlib.Core.List.{[], _∷_}
 use native.Mathlib.Omega.{arith}
-use native.Mathlib.Nat.{mul-mod-left, zero-mul, mul-one, mul-assoc, mul-left-comm, pow-succ', lt-of-lt-of-le}
-use lib.ListN.{length, getD, drop, length-drop, drop-of-length-le}
-use lib.Seq.{drop-nil, getD-drop}
+use native.Mathlib.Nat.{mul-mod-left, zero-mul, mul-one, mul-assoc, mul-left-comm, pow-succ'}
+use lib.ListN.{length, drop, length-drop, drop-of-length-le}
+use lib.Seq.{drop-nil}
 use lib.Dec.{ltb}
-use lib.Pow.{mod-mod-pow, pow-mono}
 use borrow.Author.Tests.{ltb-true, ltb-false}
-use Rattle.spec.specs.Bytes.{Bytes, Bits, low-first, high-first, bits-of}
-use Rattle.spec.specs.Leaves.{bits-behind}
+use Rattle.spec.specs.Bytes.{Bytes, Bits, low-first}
 use Rattle.spec.specs.Image.{positions}
-use Rattle.theory.specs.KeyLeaves.{length-padded}
-use Rattle.bits_laws.specs.Bits.{with-bit, with-ones, with-number, reversed}
-use Rattle.bits_laws.specs.NumberLaws.{with-ones-none, with-ones-twice, with-bit-ones, number-set, or-bits, shifted-high, low-padded, low-drop, low-append, low-lt}
+use Rattle.bits_laws.specs.Bits.{with-bit, with-ones, with-number}
+use Rattle.bits_laws.specs.NumberLaws.{with-ones-none, with-ones-twice, with-bit-ones, number-set, or-bits, shifted-high, low-drop}
 use Rattle.build_laws.specs.Passes.{with-bits}
-
--- ---- a number's ones, set byte by byte
 
 -- a bit that is set at place r of byte q, and the byte's share of the bits behind it
 share-one : (q r : ℕ) (bs : Bits) (s : Bytes) → r < 8 → with-ones (with-bit s (8 * q + r)) q (low-first bs * 2 ^ suc r % 2 ^ 8) ≡ with-ones s q (low-first (true ∷ bs) * 2 ^ r % 2 ^ 8)
@@ -93,37 +88,3 @@ number-bits bs base s h =
     ∙ ap (λ (z : Bits). with-bits (positions (8 * (q + 1 + 1 + 1)) z) (with-ones (with-ones s₁ (q + 1) (low-first bs₁ % 256)) (q + 1 + 1) (low-first bs₂ % 256))) end
     ∙ number-set s s₁ (with-ones s₁ (q + 1) (low-first bs₁ % 256)) _ base (low-first bs) w refl refl (ap (λ (n : ℕ). with-ones s₁ (q + 1) (n % 256)) l₁)
     (ap₂ (λ (k n : ℕ). with-ones (with-ones s₁ (q + 1) (low-first bs₁ % 256)) k (n % 256)) two l₂))
-
--- ---- the number of a slot
-
-bits-first : (xs : Bytes) → low-first (bits-of xs) ≡ reversed (getD xs 0 0) + 256 * low-first (bits-of (drop 1 xs))
-unfolding low-first bits-of high-first
-bits-first [] = refl
-bits-first (x ∷ xs) = low-append (high-first 8 x) (bits-of xs)
-
--- a slot has n bits
-pub length-behind : (n c : ℕ) (k : Bytes) → length (bits-behind n c k) ≡ n
-unfolding bits-behind
-length-behind n c k = length-padded n (bits-of (drop c k))
-
--- numbers with the same 16 low bits have the same n low bits
-same-low : (n x y : ℕ) → n ≤ 16 → x % 2 ^ 16 ≡ y % 2 ^ 16 → x % 2 ^ n ≡ y % 2 ^ n
-same-low n x y h e =
-    let u : (16 - n) + n ≡ 16 = omega arith in
-    let f : (z : ℕ) → z % 2 ^ 16 % 2 ^ n ≡ z % 2 ^ n = λ z. ap (λ (k : ℕ). z % 2 ^ k % 2 ^ n) (sym u) ∙ mod-mod-pow z (16 - n) n in
-    sym (f x) ∙ ap (λ (z : ℕ). z % 2 ^ n) e ∙ f y
-
--- the number of the n bits of a key behind its cut, of at most two bytes
-pub suffix-number : (n c a b : ℕ) (k : Bytes) → n ≤ 16 → a ≡ reversed (getD k c 0) → b ≡ reversed (getD k (c + 1) 0) → (a + 256 * b) % 2 ^ n ≡ low-first (bits-behind n c k)
-unfolding bits-behind
-suffix-number n c a b k h e f =
-    let xs : Bytes = drop c k in
-    let v : c + 0 ≡ c = omega arith in
-    let p : a ≡ reversed (getD xs 0 0) = e ∙ ap (λ (i : ℕ). reversed (getD k i 0)) (sym v) ∙ ap reversed (sym (getD-drop c k 0 0)) in
-    let q : b ≡ reversed (getD (drop 1 xs) 0 0) = f ∙ ap reversed (sym (getD-drop 1 xs 0 0 ∙ getD-drop c k 1 0)) in
-    let w : (a + 256 * b) % 2 ^ 16 ≡ low-first (bits-of xs) % 2 ^ 16 = omega (arith, bits-first xs, bits-first (drop 1 xs)) in
-    same-low n (a + 256 * b) (low-first (bits-of xs)) h w ∙ sym (low-padded n (bits-of xs))
-
--- it has at most 16 bits
-pub suffix-small : (n c : ℕ) (k : Bytes) → n ≤ 16 → low-first (bits-behind n c k) < 65536
-suffix-small n c k h = lt-of-lt-of-le (rw (length-behind n c k) at (low-lt (bits-behind n c k))) (pow-mono h)

@@ -1,14 +1,14 @@
 -- What an accepted image's nodes say of its leaf list, by where a key leads: the laws that join the questions' code to their definitions.
 use Prim.Native.Nat.{ℕ, suc, _+_, _-_, _<_, _≤_}
 use mathlib.Core.Path.{_≡_, ap, _∙_}
-use mathlib.Core.Bool.{Bool, true, false, not, _&&_}
+use mathlib.Core.Bool.{Bool, true, false}
 use mathlib.Core.List.{[], _∷_}
 use native.Mathlib.Omega.{arith}
 use lib.ListN.{length, getD, drop}
 use Rattle.spec.specs.Bytes.{Bytes, Bits, bit}
 use Rattle.spec.specs.Nodes.{read-leaves}
 use Rattle.spec.specs.Questions.{point, counted}
-use Rattle.theory.specs.Terms.{Is-bytes, Bound}
+use Rattle.theory.specs.Terms.{Is-bytes}
 use Rattle.image_types.specs.declared.Frame.{Frame}
 use Rattle.image_types.specs.declared.ValuePos.{ValuePos}
 use Rattle.nav_laws.specs.declared.LeafStop.{LeafStop}
@@ -18,7 +18,7 @@ use Rattle.nav_laws.specs.Descent.{descend, leaves-below, value}
 use Rattle.query_laws.specs.Bounds.{high-passed, low-reached}
 use Rattle.query_laws.specs.Ordered.{passed, reached, counted-is}
 use Rattle.query_laws.specs.LevelSums.{slots-below, slots-nothing, below-sums}
-use Rattle.query_laws.specs.Root.{point-value, point-is, passed-is, reached-is}
+use Rattle.query_laws.specs.Root.{has-suffix, point-is, passed-is, reached-is}
 use Rattle.query_laws.specs.Steps.{stop-of}
 use Rattle.nav_laws.specs.Accepted.{Accepted, nodes}
 
@@ -27,13 +27,10 @@ pub all-small : (k : Bytes) → ((i : ℕ) → getD k i 0 < 256) → Is-bytes k
 all-small [] h = tt
 all-small (x ∷ k) h = (h 0, all-small k (λ i. h (suc i)))
 
--- a key of at most 64 bytes
-pub bound : (k : Bytes) → ((i : ℕ) → getD k i 0 < 256) → length k ≤ 64 → Bound k
-bound k h l = record { fits = l; bytes = all-small k h }
-
 module _ (s : Bytes) (f : Frame) (a : Accepted s f) (k : Bytes) where
-  point-stops : Bound k → point (read-leaves s) k ≡ point-value (f .width) (nodes s f) (length k) (descend (nodes s f) 0 k)
-  point-stops b = point-is (f .width) (f .width) (read-leaves s) (nodes s f) (a .realizable) (a .well-sized) (a .trie-is) (a .writable .wide) k b
+  -- Point: what counts where the key leads, an open leaf if the rest of the key has its suffix.
+  pub point-stops : length k ≤ 64 → point (read-leaves s) k ≡ value true has-suffix (f .width) (nodes s f) (descend (nodes s f) 0 k)
+  point-stops h = point-is (f .width) (f .width) (read-leaves s) (nodes s f) (a .realizable) (a .well-sized) (a .trie-is) (a .writable .wide) k h
 
   passed-stops : passed (read-leaves s) k ≡ leaves-below (nodes s f) 64 0 0 k + value false (high-passed (length k)) (f .width) (nodes s f) (descend (nodes s f) 0 k)
   passed-stops = passed-is (f .width) (f .width) (read-leaves s) (nodes s f) (a .realizable) (a .well-sized) (a .trie-is) (a .writable .wide) k
@@ -42,22 +39,6 @@ module _ (s : Bytes) (f : Frame) (a : Accepted s f) (k : Bytes) where
   reached-stops = reached-is (f .width) (f .width) (read-leaves s) (nodes s f) (a .realizable) (a .well-sized) (a .trie-is) (a .writable .wide) k
 
   module _ (stop : LeafStop) (d : ℕ) (e : descend (nodes s f) 0 k ≡ stop-of stop (drop d k)) where
-    -- nowhere: no leaf has the key
-    pub point-none : Bound k → stop ≡ Nowhere → point (read-leaves s) k ≡ 0
-    unfolding point-value
-    point-none b h = point-stops b ∙ ap (point-value (f .width) (nodes s f) (length k)) e ∙ rw h
-
-    -- an exact leaf has it
-    pub point-exact : Bound k → stop ≡ Exact → point (read-leaves s) k ≡ 1
-    unfolding point-value
-    point-exact b h = point-stops b ∙ ap (point-value (f .width) (nodes s f) (length k)) e ∙ rw h
-
-    -- an open one has it if it lies between its lowest and its highest key
-    pub point-open : Bound k → (v : ValuePos) → stop ≡ Open v
-        → point (read-leaves s) k ≡ bit (low-reached (length k) (slot-of (f .width) (nodes s f) (v .0)) (drop d k) && not (high-passed (length k) (slot-of (f .width) (nodes s f) (v .0)) (drop d k)))
-    unfolding point-value
-    point-open b v h = point-stops b ∙ ap (point-value (f .width) (nodes s f) (length k)) e ∙ rw h
-
     -- What counts where the key leads: nothing; an exact leaf; an open one that passes the test.
     module _ (ends : Bool) (q : Bits → Bytes → Bool) where
       pub value-none : stop ≡ Nowhere → value ends q (f .width) (nodes s f) (descend (nodes s f) 0 k) ≡ 0

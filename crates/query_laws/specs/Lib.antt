@@ -6,6 +6,7 @@ pub mod LevelSums
 pub mod SuffixBytes
 pub mod Answers
 pub mod Followed
+pub mod Points
 pub mod LowestKeys
 pub mod StemLeaves
 pub mod Next
@@ -17,6 +18,7 @@ pub mod RangeWays
 pub mod StemWay
 pub mod LeafKeys
 pub mod SlotBits
+pub mod SuffixBits
 pub mod Sought
 pub mod Summed
 pub mod FirstLeaf

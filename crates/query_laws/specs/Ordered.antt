@@ -69,7 +69,8 @@ counted-is n (l ∷ ls) lo hi a o = go (below hi (lowest l)) refl (below (highes
     go false e true g ih = omega arith
     go false e false g ih = omega (arith, none-passed lo l ls (o .0) (o .1) (a .0) g)
 
-any-bit : {A : Type 0} (p : A → Bool) (xs : List A) → bit (any p xs) ≡ bit (ltb 0 (count p xs))
+-- some member passes a test exactly if their count is not 0
+pub any-bit : {A : Type 0} (p : A → Bool) (xs : List A) → bit (any p xs) ≡ bit (ltb 0 (count p xs))
 unfolding any count
 any-bit p [] = refl
 any-bit p (x ∷ xs) = go (p x) (any-bit p xs)
@@ -82,20 +83,6 @@ any-bit p (x ∷ xs) = go (p x) (any-bit p xs)
 pub range-counted : (ls : List Leaf) (lo hi : Bytes) → range ls lo hi ≡ bit (ltb 0 (counted ls lo hi))
 unfolding range counted
 range-counted ls lo hi = any-bit (meets lo hi) ls
-
--- a possible key of a leaf lies between its lowest and its highest
-possible-meets : {n : ℕ} (l : Leaf) (k : Bytes) → Well-sized n l → Bound k → possible l k ≡ meets k k l
-unfolding meets
-possible-meets l k c b = possible-between l k c (b .bytes) (b .fits)
-
--- Point: the range from the key to itself.
-pub point-range : (n : ℕ) (ls : List Leaf) (k : Bytes) → All-well-sized n ls → Bound k → point ls k ≡ range ls k k
-unfolding point range any
-point-range n ls k o b = ap bit (go ls o)
-  where
-    go : (ls : List Leaf) → All-well-sized n ls → any (λ l. possible l k) ls ≡ any (meets k k) ls
-    go [] o = refl
-    go (l ∷ ls) o = rw (possible-meets l k (o .0) b, go ls (o .1))
 
 -- ---- seek
 

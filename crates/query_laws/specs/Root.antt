@@ -1,15 +1,16 @@
 -- The law of a descent from the root: what an image's nodes say of its leaf list, question by question.
 use Prim.Native.Nat.{ℕ, zero, suc, _+_, _-_, _<_, _≤_}
 use mathlib.Core.Path.{_≡_, refl, sym, ap, _∙_}
-use mathlib.Core.Bool.{Bool, true, false, not, _&&_}
+use mathlib.Core.Bool.{Bool, true, false, cond, not, _&&_, _||_, true≢false}
 use mathlib.Core.List.{List, [], _∷_, _++_}
 use native.Mathlib.Omega.{arith}
-use lib.ListN.{length, take, length-append}
+use lib.ListN.{length, take, drop, length-append}
 use lib.Seq.{take-all}
 use lib.Dec.{ltb}
-use Rattle.spec.specs.Bytes.{Bytes, Bits, bit, count, concat}
+use borrow.Author.Tests.{le-leb}
+use Rattle.spec.specs.Bytes.{Bytes, Bits, bit, count, concat, equal, begins, bits-of, padded, same-bits}
 use Rattle.spec.specs.Keys.{below}
-use Rattle.spec.specs.Leaves.{Leaf, highest, lowest}
+use Rattle.spec.specs.Leaves.{Leaf, bits-behind, possible, highest, lowest}
 use Rattle.spec.specs.Nodes.{Node, node, children, total, children-of}
 use Rattle.spec.specs.Trie.{open-leaves, leaf-count}
 use Rattle.spec.specs.Questions.{point}
@@ -18,14 +19,19 @@ use Rattle.nav_laws.specs.Slots.{leaves-before, slot-number, slot-of}
 use Rattle.nav_laws.specs.Descent.{children-before, child-number, goes-on, ends-at, Stop, miss, at-exact, at-open, descend, leaves-below, between-same, value, level-counted, Stands, stands-next, children-first}
 use Rattle.nav_laws.specs.NumberBounds.{children-up, node-total}
 use Rattle.query_laws.specs.Bounds.{high-passed, low-reached, highest-counts, lowest-counts}
-use Rattle.query_laws.specs.Ordered.{passed, reached, counted-is, range-counted, point-range}
+use Rattle.query_laws.specs.Ordered.{passed, reached, any-bit}
 use Rattle.theory.specs.LeafLists.{Realizable, All-well-sized}
-use Rattle.theory.specs.Terms.{All, Bound}
+use Rattle.theory.specs.Terms.{All}
+use Rattle.theory.specs.Order.{equal-order}
 use Rattle.theory.specs.LevelTrie.{trie}
 use Rattle.theory.specs.NodeBits.{Slots-width}
 use Rattle.theory.specs.Levels.{leaves-in}
 use Rattle.theory.specs.TrieTests.{realizable-trie, Empty-or-valid, empty-list, valid-trie}
 use Rattle.theory.specs.LinkedLevels.{first-width, levels-back, Linked}
+
+and-false : (b : Bool) → b && false ≡ false
+and-false true = refl
+and-false false = refl
 
 -- ---- an image without nodes
 
@@ -120,12 +126,52 @@ unfolding count
 count-same p r [] h = refl
 count-same p r (x ∷ xs) h = rw (h x, count-same p r xs h)
 
--- The answer to a point question where the key leads, a key of n bytes.
-unfoldable pub point-value : ℕ → List Node → ℕ → Stop → ℕ
-unfolding low-reached high-passed slot-of
-point-value w ns n miss = 0
-point-value w ns n at-exact = 1
-point-value w ns n (at-open v r) = bit (low-reached n (slot-of w ns v) r && not (high-passed n (slot-of w ns v) r))
+-- The bits of the rest of a key begin with the suffix, zeros where they have ended.
+unfoldable pub has-suffix : Bits → Bytes → Bool
+unfolding same-bits padded bits-of
+has-suffix s r = same-bits (padded (length s) (bits-of r)) s
+
+-- A leaf counts before a key that it may have, and is not passed by it: of the leaves that count with it, the others count without.
+possible-counts : (l : Leaf) (k : Bytes) → length k ≤ 64 → bit (counts true has-suffix k l) ≡ bit (counts false (λ s r. false) k l) + bit (possible l k)
+unfolding counts possible has-suffix bits-behind
+possible-counts l k h = rw (le-leb (length k) 64 h) (go (l .exact))
+  where
+    exact-leaf : (a b : Bool) → below (l .cut) k ≡ a → equal (l .cut) k ≡ b → bit (a || b) ≡ bit (a || false) + bit b
+    exact-leaf true true p q = absurd (true≢false (sym q ∙ (equal-order (l .cut) k ∙ ap (λ (x : Bool). not (below k (l .cut)) && not x) p ∙ and-false (not (below k (l .cut))))))
+    exact-leaf true false p q = refl
+    exact-leaf false true p q = refl
+    exact-leaf false false p q = refl
+
+    open-leaf : (a b q : Bool) → bit ((a && not b) || (b && q)) ≡ bit ((a && not b) || (b && false)) + bit (b && q)
+    open-leaf true true true = refl
+    open-leaf true true false = refl
+    open-leaf true false q = refl
+    open-leaf false true true = refl
+    open-leaf false true false = refl
+    open-leaf false false q = refl
+
+    go : (e : Bool) → bit (cond e (below (l .cut) k || (true && equal (l .cut) k)) ((below (l .cut) k && not (begins (l .cut) k)) || (begins (l .cut) k && has-suffix (l .suffix) (drop (length (l .cut)) k))))
+        ≡ bit (cond e (below (l .cut) k || (false && equal (l .cut) k)) ((below (l .cut) k && not (begins (l .cut) k)) || (begins (l .cut) k && false)))
+        + bit (cond e (equal (l .cut) k) (begins (l .cut) k && has-suffix (l .suffix) (drop (length (l .cut)) k)))
+    go true = exact-leaf (below (l .cut) k) (equal (l .cut) k) refl refl
+    go false = open-leaf (below (l .cut) k) (begins (l .cut) k) (has-suffix (l .suffix) (drop (length (l .cut)) k))
+
+-- a count by two tests that no member passes both
+count-sum : {A : Type 0} (p q r : A → Bool) (xs : List A) → ((x : A) → bit (p x) ≡ bit (q x) + bit (r x)) → count p xs ≡ count q xs + count r xs
+unfolding count
+count-sum p q r [] h = refl
+count-sum p q r (x ∷ xs) h = go (p x) (q x) (r x) (h x) (count-sum p q r xs h)
+  where
+    go : (a b c : Bool) → bit a ≡ bit b + bit c → count p xs ≡ count q xs + count r xs
+        → cond a (suc (count p xs)) (count p xs) ≡ cond b (suc (count q xs)) (count q xs) + cond c (suc (count r xs)) (count r xs)
+    go true true true e ih = absurd (omega (arith, e))
+    go true true false e ih = omega arith
+    go true false true e ih = omega arith
+    go true false false e ih = absurd (omega (arith, e))
+    go false true true e ih = absurd (omega (arith, e))
+    go false true false e ih = absurd (omega (arith, e))
+    go false false true e ih = absurd (omega (arith, e))
+    go false false false e ih = omega arith
 
 module _ (n w : ℕ) (ls : List Leaf) (ns : List Node) (g : Realizable n ls) (o : All-well-sized n ls) (e : ns ≡ concat (trie ls)) (wide : All (Slots-width w) ns) where
   -- The leaves whose highest key lies below the key.
@@ -138,26 +184,19 @@ module _ (n w : ℕ) (ls : List Leaf) (ns : List Node) (g : Realizable n ls) (o 
   unfolding reached
   reached-is k = count-same (λ l. not (below k (lowest l))) (counts true (low-reached (length k)) k) ls (λ l. lowest-counts l k) ∙ trie-counted n w ls ns g o e wide true (low-reached (length k)) k
 
-  -- The point question, by where the key leads.
-  pub point-is : (k : Bytes) → Bound k → point ls k ≡ point-value w ns (length k) (descend ns 0 k)
-  unfolding point-value value
-  point-is k b =
-      point-range n ls k o b ∙ range-counted ls k k ∙ ap (λ (c : ℕ). bit (ltb 0 c)) (counted-is n ls k k (g .ordered) o)
-      ∙ go (descend ns 0 k) (reached ls k) (passed ls k) (reached-is k) (passed-is k)
+  -- The point question, by where the key leads: 1 at an exact leaf, and at an open one whose suffix the rest of the key has.
+  pub point-is : (k : Bytes) → length k ≤ 64 → point ls k ≡ value true has-suffix w ns (descend ns 0 k)
+  unfolding point value
+  point-is k h =
+      any-bit (λ l. possible l k) ls
+      ∙ go (descend ns 0 k) (count (λ l. possible l k) ls) (sym (count-sum (counts true has-suffix k) (counts false (λ s r. false) k) (λ l. possible l k) ls (λ l. possible-counts l k h)) ∙ trie-counted n w ls ns g o e wide true has-suffix k) (trie-counted n w ls ns g o e wide false (λ s r. false) k)
     where
-      less : (a x y : ℕ) (r p : ℕ) → r ≡ a + x → p ≡ a + y → r - p ≡ x - y
-      less a x y r p u v = omega arith
+      one : (c : ℕ) (b : Bool) → c ≡ bit b → bit (ltb 0 c) ≡ bit b
+      one c true e = rw e
+      one c false e = rw e
 
-      both : (a b : Bool) → bit (ltb 0 (bit a - bit b)) ≡ bit (a && not b)
-      both true true = refl
-      both true false = refl
-      both false true = refl
-      both false false = refl
-
-      go : (s : Stop) (r p : ℕ) → r ≡ leaves-below ns 64 0 0 k + value true (low-reached (length k)) w ns s → p ≡ leaves-below ns 64 0 0 k + value false (high-passed (length k)) w ns s
-          → bit (ltb 0 (r - p)) ≡ point-value w ns (length k) s
-      go miss r p u v = ap (λ (c : ℕ). bit (ltb 0 c)) (less (leaves-below ns 64 0 0 k) 0 0 r p u v)
-      go at-exact r p u v = ap (λ (c : ℕ). bit (ltb 0 c)) (less (leaves-below ns 64 0 0 k) 1 0 r p u v)
-      go (at-open t j) r p u v =
-          ap (λ (c : ℕ). bit (ltb 0 c)) (less (leaves-below ns 64 0 0 k) (bit (low-reached (length k) (slot-of w ns t) j)) (bit (high-passed (length k) (slot-of w ns t) j)) r p u v)
-          ∙ both (low-reached (length k) (slot-of w ns t) j) (high-passed (length k) (slot-of w ns t) j)
+      go : (s : Stop) (c : ℕ) → count (counts false (λ s r. false) k) ls + c ≡ leaves-below ns 64 0 0 k + value true has-suffix w ns s → count (counts false (λ s r. false) k) ls ≡ leaves-below ns 64 0 0 k + value false (λ s r. false) w ns s
+          → bit (ltb 0 c) ≡ value true has-suffix w ns s
+      go miss c u v = one c false (omega (arith, u, v))
+      go at-exact c u v = one c true (omega (arith, u, v))
+      go (at-open t j) c u v = one c (has-suffix (slot-of w ns t) j) (omega (arith, u, v))

@@ -1,14 +1,18 @@
 -- The byte that the bits of a slot make, the first bit highest, from a number whose lowest digits they are.
 use Prim.Native.Nat.{ℕ, zero, suc, _+_, _-_, _*_, _/_, _%_, _^_, _<_, _≤_}
 use mathlib.Core.Path.{_≡_, refl, sym, ap, _∙_}
-use mathlib.Core.Bool.{Bool, true, false}
+use mathlib.Core.Bool.{Bool, true, false, cond, true≢false}
 use mathlib.Core.List.{[], _∷_}
 use native.Mathlib.Omega.{arith}
+use native.Mathlib.Numerals.{add-one}
 use native.Mathlib.Nat.{pow-succ', add-mul, mul-assoc, mul-le-mul-right}
 use lib.ListN.{getD, drop}
 use lib.Seq.{getD-drop}
-use lib.Pow.{pow-pos, pow-add, shr-shr, high}
-use Rattle.spec.specs.Bytes.{Bits, bit, fill, filled}
+use lib.Pow.{pow-pos, pow-add, mod-pow-add, high}
+use borrow.Author.Tests.{eqb-true}
+use lib.Dec.{eqb}
+use Rattle.spec.specs.Bytes.{Bits, bit, low-first, high-first, fill, filled}
+use Rattle.bits_laws.specs.Bits.{reversed}
 use Rattle.bits_laws.specs.CoverLaws.{half-bit}
 use Rattle.theory.specs.Intervals.{bytes-filled}
 
@@ -24,15 +28,37 @@ mirrored-lt (suc k) x =
     let d : x % 2 ≤ 1 = omega arith in
     omega (arith, mul-le-mul-right (2 ^ k) d, pow-succ' 2 k, mirrored-lt k (x / 2))
 
--- eight digits, written out
-pub mirrored-byte : (x : ℕ) → x % 2 * 128 + x / 2 % 2 * 64 + x / 4 % 2 * 32 + x / 8 % 2 * 16 + (x / 16 % 2 * 8 + x / 32 % 2 * 4 + x / 64 % 2 * 2 + x / 128 % 2) ≡ mirrored 8 x
-unfolding mirrored
-mirrored-byte x =
-    rw (shr-shr x 1 1, shr-shr x 2 1, shr-shr x 3 1, shr-shr x 4 1, shr-shr x 5 1, shr-shr x 6 1)
-    (sum (x % 2) (x / 2 % 2) (x / 4 % 2) (x / 8 % 2) (x / 16 % 2) (x / 32 % 2) (x / 64 % 2) (x / 128 % 2))
+-- the bytes from b on, so many of them, have their digits mirrored as a byte's bits in the other order
+abbrev alike : ℕ → ℕ → Bool
+unfolding mirrored low-first high-first
+alike b zero = true
+alike b (suc k) = cond (eqb (mirrored 8 b) (reversed b)) (alike (suc b) k) false
+
+alike-at : (k b i : ℕ) → alike b k ≡ true → i < k → mirrored 8 (b + i) ≡ reversed (b + i)
+unfolding mirrored low-first high-first
+alike-at zero b i t h = absurd (omega arith)
+alike-at (suc k) b i t h = go (eqb (mirrored 8 b) (reversed b)) refl t i h (alike-at k (suc b))
   where
-    sum : (a b c d e f g h : ℕ) → a * 128 + b * 64 + c * 32 + d * 16 + (e * 8 + f * 4 + g * 2 + h) ≡ a * 128 + (b * 64 + (c * 32 + (d * 16 + (e * 8 + (f * 4 + (g * 2 + (h * 1 + 0)))))))
-    sum a b c d e f g h = omega arith
+    go : (v : Bool) → eqb (mirrored 8 b) (reversed b) ≡ v → cond v (alike (suc b) k) false ≡ true → (i : ℕ) → i < suc k
+        → ((i : ℕ) → alike (suc b) k ≡ true → i < k → mirrored 8 (suc b + i) ≡ reversed (suc b + i)) → mirrored 8 (b + i) ≡ reversed (b + i)
+    go false e t i h rest = absurd (true≢false (sym t))
+    go true e t zero h rest = let w : b + 0 ≡ b = omega arith in rw w (eqb-true _ _ e)
+    go true e t (suc i) h rest = let w : b + suc i ≡ suc b + i = omega arith in rw w (rest i t (omega arith))
+
+-- the digits above the k lowest do not count
+mirrored-low : (k x : ℕ) → mirrored k (x % 2 ^ k) ≡ mirrored k x
+unfolding mirrored
+mirrored-low zero x = refl
+mirrored-low (suc k) x =
+    let e : x % 2 ^ suc k ≡ x / 2 % 2 ^ k * 2 + x % 2 = ap (λ (n : ℕ). x % 2 ^ n) (sym (add-one k)) ∙ mod-pow-add x k 1 in
+    let a : x % 2 ^ suc k % 2 ≡ x % 2 = omega (arith, e) in
+    let b : x % 2 ^ suc k / 2 ≡ x / 2 % 2 ^ k = omega (arith, e) in
+    rw (a, b, mirrored-low k (x / 2))
+
+-- the low byte of a number, its bits in the other order
+pub mirrored-reversed : (x : ℕ) → reversed (x % 256) ≡ mirrored 8 x
+unfolding mirrored low-first high-first
+mirrored-reversed x = let w : 0 + x % 256 ≡ x % 256 = omega arith in sym (rw w at (alike-at 256 0 (x % 256) refl (omega arith))) ∙ mirrored-low 8 x
 
 -- a digit d in front of v digits that make m, and u more behind
 in-front : (d m v u : ℕ) → (d * 2 ^ v + m) * 2 ^ u ≡ d * 2 ^ (v + u) + m * 2 ^ u

@@ -1,5 +1,4 @@
 // The point question over an accepted image: where a key leads, and the suffix of the leaf there.
 
 pub mod suffix; // suffix.rt: the suffix of an open leaf against a key
-pub mod descent; // descent.rt: where a key leads from the root
 pub mod point; // point.rt: the point question

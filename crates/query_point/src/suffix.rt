@@ -1,4 +1,4 @@
-// The suffix of an open leaf: its bytes, filled up with ones or zeros, and its highest and lowest keys against a key that begins with the cut key.
+// The suffix of an open leaf against a key that begins with the cut key: its bits, its bytes filled up with ones or zeros, and its highest and lowest keys.
 ghost use mathlib.Core.Path.{_≡_};
 ghost use mathlib.Core.Bool.{Bool, not};
 ghost use Prim.Native.Nat.{ℕ, _+_, _-_, _*_, _/_, _%_, _^_, _≤_, _<_};
@@ -7,21 +7,13 @@ ghost use Rattle.spec.specs.Bytes.{bit, fill};
 ghost use Rattle.nav_laws.specs.Slots.{slot-of};
 ghost use Rattle.query_laws.specs.Bounds.{high-passed, low-reached};
 ghost use Rattle.nav_laws.specs.Accepted.{Accepted, nodes};
-ghost use Rattle.query_laws.specs.SlotBits.{mirrored};
+ghost use Rattle.query_laws.specs.Root.{has-suffix};
 use bits::numbers::read_from;
 use bits::numbers::smaller;
 use bits::numbers::wide;
+use bits::reverse::reversed;
 use image_types::Frame;
 use image_types::ValuePos;
-
-// The eight lowest bits of a number in the opposite order.
-fn reversed(x: u64) -> usize
-    ensures { λ r. ⌜ (r ≡ mirrored 8 x) × (r < 256) ⌝ }
-{
-    let high = x % 2 * 128 + x / 2 % 2 * 64 + x / 4 % 2 * 32 + x / 8 % 2 * 16;
-    let low = x / 16 % 2 * 8 + x / 32 % 2 * 4 + x / 64 % 2 * 2 + x / 128 % 2;
-    (high + low) as usize
-}
 
 // The n highest bits of a byte, and the filling below them.
 fn filled_below(x: usize, n: usize, ones: bool) -> usize
@@ -58,17 +50,29 @@ pub fn suffix_byte(image: &[u8], f: Frame, slot: ValuePos, i: usize, ones: bool)
         return filled_below(0, 0, ones);
     }
     let x = slot_bits(image, f, slot, first);
-    filled_below(reversed(x), smaller(w - first, 8), ones)
+    filled_below(reversed((x % 256) as u8), smaller(w - first, 8), ones)
 }
 
 // Byte i of a key, zero where it has ended.
-fn key_byte(key: &[u8], i: usize) -> usize
+fn key_byte(key: &[u8], i: usize) -> u8
     ensures { λ r. ⌜ r ≡ getD (now (key .entry)) i 0 ⌝ }
 {
     if i < key.len() {
-        return wide(key[i]);
+        return key[i];
     }
     0
+}
+
+// Whether a key has the leaf's suffix behind its first d bytes, which are the cut key: the lowest bits of two numbers, the slot's and that of the key's next two bytes, the first bit lowest.
+pub fn suffix_equals(image: &[u8], f: Frame, slot: ValuePos, key: &[u8], d: usize) -> bool
+    requires { ⌜ Accepted (now image) f × (slot .0 < f .leaves) × (0 < f .width) × (d ≤ length (now key)) ⌝ }
+    ensures { λ r. ⌜ r ≡ has-suffix (slot-of (f .width) (nodes (now (image .entry)) f) (slot .0)) (drop d (now (key .entry))) ⌝ }
+{
+    let x = slot_bits(image, f, slot, 0) as usize;
+    let first = reversed(key_byte(key, d));
+    let second = reversed(key_byte(key, d + 1));
+    let unit = 1usize << f.width;
+    x % unit == (first + 256 * second) % unit
 }
 
 // Whether the leaf's highest key lies below the key, whose first d bytes are the cut key.
@@ -103,7 +107,7 @@ pub fn low_above(image: &[u8], f: Frame, slot: ValuePos, key: &[u8], d: usize) -
             return false;
         }
         let x = suffix_byte(image, f, slot, i - d, false);
-        let y = key_byte(key, i);
+        let y = wide(key_byte(key, i));
         if y < x {
             return true;
         }

@@ -5,7 +5,7 @@ use borrow.Author.Needs.{needs}
 use lib.Pow.{pow-pos}
 use Rattle.bits_laws.specs.Bits.{key, reversed}
 use Rattle.bits_laws.specs.RankLaws.{one-shl}
-use Rattle.build_laws.specs.SuffixLaws.{suffix-number}
+use Rattle.suffix_laws.specs.SuffixNumbers.{suffix-number}
 use Rattle.build_keys.proofs.slots.suffix_number.Statement.{statement}
 use Rattle.build_keys.proofs.slots.suffix_number.Tie as tie
 

@@ -6,7 +6,8 @@ use borrow.Author.Needs.{needs}
 use Rattle.spec.specs.Bytes.{Bits}
 use Rattle.spec.specs.Leaves.{bits-behind}
 use Rattle.bits_laws.specs.Bits.{key, with-number}
-use Rattle.build_laws.specs.SuffixLaws.{number-bits, length-behind, suffix-small}
+use Rattle.suffix_laws.specs.SuffixNumbers.{length-behind, suffix-small}
+use Rattle.build_laws.specs.SuffixLaws.{number-bits}
 use Rattle.build_keys.proofs.slots.write_suffix.Statement.{statement}
 use Rattle.build_keys.proofs.slots.write_suffix.Tie as tie
 

@@ -52,17 +52,20 @@ key-byte-requires : tie.Need-key-byte-requires Inv-loop μ-loop
 key-byte-requires c κs =
     search needs
 
+wide-requires : tie.Need-wide-requires Inv-loop μ-loop
+wide-requires c κs = search needs
+
 returns-2 : tie.Need-returns-2 Inv-loop μ-loop
 returns-2 c =
-    let a = c .before .before .before .before .before .before .before .before .args in
-    let l = c .before .before .before .before .before .loop in
-    l .inv .2 ∙ ap not (low-byte-less (slot-of (a .f .width) (nodes (a .image .now) (a .f)) (a .slot .0)) (a .key .now) (a .d) (l .i) (l .inv .0) (omega arith) (omega (arith, c .before .before .suffix-byte .ensures .0, c .before .key-byte .ensures)))
+    let a = c .before .before .before .before .before .before .before .before .before .args in
+    let l = c .before .before .before .before .before .before .loop in
+    l .inv .2 ∙ ap not (low-byte-less (slot-of (a .f .width) (nodes (a .image .now) (a .f)) (a .slot .0)) (a .key .now) (a .d) (l .i) (l .inv .0) (omega arith) (omega (arith, c .before .before .before .suffix-byte .ensures .0, c .before .before .key-byte .ensures, c .before .wide .ensures .0)))
 
 returns-3 : tie.Need-returns-3 Inv-loop μ-loop
 returns-3 c =
-    let a = c .before .before .before .before .before .before .before .before .before .args in
-    let l = c .before .before .before .before .before .before .loop in
-    l .inv .2 ∙ ap not (low-byte-more (slot-of (a .f .width) (nodes (a .image .now) (a .f)) (a .slot .0)) (a .key .now) (a .d) (l .i) (l .inv .0) (omega arith) (omega (arith, c .before .before .before .suffix-byte .ensures .0, c .before .before .key-byte .ensures)))
+    let a = c .before .before .before .before .before .before .before .before .before .before .args in
+    let l = c .before .before .before .before .before .before .before .loop in
+    l .inv .2 ∙ ap not (low-byte-more (slot-of (a .f .width) (nodes (a .image .now) (a .f)) (a .slot .0)) (a .key .now) (a .d) (l .i) (l .inv .0) (omega arith) (omega (arith, c .before .before .before .before .suffix-byte .ensures .0, c .before .before .before .key-byte .ensures, c .before .before .wide .ensures .0)))
 
 add-i : tie.Need-add-i Inv-loop μ-loop
 add-i c =
@@ -74,9 +77,9 @@ loop-less c =
 
 loop-again : tie.Need-loop-again Inv-loop μ-loop
 loop-again c =
-    let a = c .before .before .before .before .before .before .before .before .before .args in
-    let l = c .before .before .before .before .before .before .loop in
-    (omega arith, omega arith, l .inv .2 ∙ ap not (low-byte-same (slot-of (a .f .width) (nodes (a .image .now) (a .f)) (a .slot .0)) (a .key .now) (a .d) (l .i) (l .inv .0) (omega arith) (omega (arith, c .before .before .before .suffix-byte .ensures .0, c .before .before .key-byte .ensures))))
+    let a = c .before .before .before .before .before .before .before .before .before .before .args in
+    let l = c .before .before .before .before .before .before .before .loop in
+    (omega arith, omega arith, l .inv .2 ∙ ap not (low-byte-same (slot-of (a .f .width) (nodes (a .image .now) (a .f)) (a .slot .0)) (a .key .now) (a .d) (l .i) (l .inv .0) (omega arith) (omega (arith, c .before .before .before .before .suffix-byte .ensures .0, c .before .before .before .key-byte .ensures, c .before .before .wide .ensures .0))))
 
 returns-4 : tie.Need-returns-4 Inv-loop μ-loop
 returns-4 c =
@@ -97,6 +100,7 @@ low-above-spec =
     sub-suffix-byte
     suffix-byte-requires
     key-byte-requires
+    wide-requires
     returns-2
     returns-3
     add-i

@@ -1,5 +1,5 @@
 use Rattle.nav_laws.specs.Accepted.{nodes}
-use Rattle.query_laws.specs.SlotBits.{byte-filled, byte-lt, fill-rest}
+use Rattle.query_laws.specs.SlotBits.{mirrored-reversed, byte-filled, byte-lt, fill-rest}
 use Rattle.query_laws.specs.SuffixBytes.{slot-past}
 use Rattle.nav_laws.specs.Slots.{slot-of}
 use Rattle.spec.specs.Bytes.{Bits, bit}
@@ -31,6 +31,9 @@ returns c =
 slot-bits-requires : tie.Need-slot-bits-requires
 slot-bits-requires c κs = search needs
 
+cast-reversed : tie.Need-cast-reversed
+cast-reversed c = search needs
+
 reversed-requires : tie.Need-reversed-requires
 reversed-requires c κs = search needs
 
@@ -53,7 +56,7 @@ returns-2 c =
     let n = c .before .smaller .result in
     let x = c .before .before .before .slot-bits in
     let r = byte-filled (a .ones) n (drop (8 * a .i) t) (x .result) (omega arith) (λ j l. x .ensures (a .ones) j (omega arith) ∙ ap bit (sym (getD-drop (8 * a .i) t j (a .ones)))) (λ j l k. getD-drop (8 * a .i) t j (a .ones) ∙ past (8 * a .i + j) (omega arith)) in
-    let e = c .filled-below2 .ensures ∙ ap (λ (z : ℕ). z / 2 ^ (8 - n) * 2 ^ (8 - n) + bit (a .ones) * (2 ^ (8 - n) - 1)) (c .before .before .reversed .ensures .0) ∙ r in
+    let e = c .filled-below2 .ensures ∙ ap (λ (z : ℕ). z / 2 ^ (8 - n) * 2 ^ (8 - n) + bit (a .ones) * (2 ^ (8 - n) - 1)) (c .before .before .reversed .ensures .0 ∙ mirrored-reversed (x .result)) ∙ r in
     (e, omega (arith, e, byte-lt (a .ones) (drop (8 * a .i) t)))
 
 pub suffix-byte-spec : {M : Type 1} → statement M
@@ -64,6 +67,7 @@ suffix-byte-spec =
     filled-below-requires
     returns
     slot-bits-requires
+    cast-reversed
     reversed-requires
     sub-smaller
     smaller-requires
