@@ -33,7 +33,8 @@ unfoldable pub low-reached : ℕ → Bits → Bytes → Bool
 unfolding low-rest below
 low-reached n s r = not (below r (low-rest (n - length r) s))
 
-and-false : (b : Bool) → b && false ≡ false
+-- a test and one that never passes
+pub and-false : (b : Bool) → b && false ≡ false
 and-false true = refl
 and-false false = refl
 

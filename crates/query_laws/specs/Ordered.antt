@@ -9,11 +9,10 @@ use lib.Dec.{ltb}
 use borrow.Author.Tests.{lt-ltb}
 use Rattle.spec.specs.Bytes.{Bytes, bit, any, count}
 use Rattle.spec.specs.Keys.{below}
-use Rattle.spec.specs.Leaves.{Leaf, possible, highest, lowest}
-use Rattle.spec.specs.Questions.{meets, point, range, counted, seek, seek-from, Sought, none as none-found, found, greater}
-use Rattle.theory.specs.Terms.{Bound}
+use Rattle.spec.specs.Leaves.{Leaf, highest, lowest}
+use Rattle.spec.specs.Questions.{meets, range, counted, seek, seek-from, Sought, none as none-found, found, greater}
 use Rattle.theory.specs.Choices.{possible-split}
-use Rattle.theory.specs.Intervals.{possible-between, lowest-possible, highest-possible}
+use Rattle.theory.specs.Intervals.{lowest-possible, highest-possible}
 use Rattle.theory.specs.LeafLists.{Ordered, Before-all, before-below, Possible-key, Well-sized, All-well-sized}
 use Rattle.theory.specs.Order.{below-asym, below-le-lt, below-lt-le}
 

@@ -18,7 +18,7 @@ use Rattle.nav_laws.specs.Counting.{labels-below, counts}
 use Rattle.nav_laws.specs.Slots.{leaves-before, slot-number, slot-of}
 use Rattle.nav_laws.specs.Descent.{children-before, child-number, goes-on, ends-at, Stop, miss, at-exact, at-open, descend, leaves-below, between-same, value, level-counted, Stands, stands-next, children-first}
 use Rattle.nav_laws.specs.NumberBounds.{children-up, node-total}
-use Rattle.query_laws.specs.Bounds.{high-passed, low-reached, highest-counts, lowest-counts}
+use Rattle.query_laws.specs.Bounds.{and-false, high-passed, low-reached, highest-counts, lowest-counts}
 use Rattle.query_laws.specs.Ordered.{passed, reached, any-bit}
 use Rattle.theory.specs.LeafLists.{Realizable, All-well-sized}
 use Rattle.theory.specs.Terms.{All}
@@ -28,10 +28,6 @@ use Rattle.theory.specs.NodeBits.{Slots-width}
 use Rattle.theory.specs.Levels.{leaves-in}
 use Rattle.theory.specs.TrieTests.{realizable-trie, Empty-or-valid, empty-list, valid-trie}
 use Rattle.theory.specs.LinkedLevels.{first-width, levels-back, Linked}
-
-and-false : (b : Bool) → b && false ≡ false
-and-false true = refl
-and-false false = refl
 
 -- ---- an image without nodes
 
@@ -131,7 +127,7 @@ unfoldable pub has-suffix : Bits → Bytes → Bool
 unfolding same-bits padded bits-of
 has-suffix s r = same-bits (padded (length s) (bits-of r)) s
 
--- A leaf counts before a key that it may have, and is not passed by it: of the leaves that count with it, the others count without.
+-- The leaves that count before the key or hold it are those that count before it, and those that have it among their possible keys.
 possible-counts : (l : Leaf) (k : Bytes) → length k ≤ 64 → bit (counts true has-suffix k l) ≡ bit (counts false (λ s r. false) k l) + bit (possible l k)
 unfolding counts possible has-suffix bits-behind
 possible-counts l k h = rw (le-leb (length k) 64 h) (go (l .exact))
