@@ -8,7 +8,7 @@ use lib.ListN.{length, getD, drop}
 use Rattle.spec.specs.Bytes.{Bytes, Bits, bit}
 use Rattle.spec.specs.Nodes.{read-leaves}
 use Rattle.spec.specs.Questions.{point, counted}
-use Rattle.theory.specs.Terms.{Is-bytes}
+use Rattle.theory.specs.Terms.{Is-bytes, Bound}
 use Rattle.image_types.specs.declared.Frame.{Frame}
 use Rattle.image_types.specs.declared.ValuePos.{ValuePos}
 use Rattle.nav_laws.specs.declared.LeafStop.{LeafStop}
@@ -26,6 +26,10 @@ use Rattle.nav_laws.specs.Accepted.{Accepted, nodes}
 pub all-small : (k : Bytes) → ((i : ℕ) → getD k i 0 < 256) → Is-bytes k
 all-small [] h = tt
 all-small (x ∷ k) h = (h 0, all-small k (λ i. h (suc i)))
+
+-- a key of at most 64 bytes
+pub bound : (k : Bytes) → ((i : ℕ) → getD k i 0 < 256) → length k ≤ 64 → Bound k
+bound k h l = record { fits = l; bytes = all-small k h }
 
 module _ (s : Bytes) (f : Frame) (a : Accepted s f) (k : Bytes) where
   -- Point: what counts where the key leads, an open leaf if the rest of the key has its suffix.
