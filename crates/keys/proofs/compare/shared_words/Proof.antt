@@ -1,5 +1,5 @@
-use mathlib.Core.Path.{_≡_, refl, sym, ap, _∙_}
-use Prim.Native.Nat.{ℕ, _-_, _≤_}
+use mathlib.Core.Path.{_≡_, refl, sym}
+use Prim.Native.Nat.{_-_, _≤_}
 use Rattle.keys.proofs.PrefixLaws.{take-fewer, word-shared, word-differs}
 use Rattle.bits_laws.specs.ValueLaws.{Small}
 use native.Mathlib.Omega.{arith}

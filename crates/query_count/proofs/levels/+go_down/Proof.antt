@@ -2,7 +2,7 @@
 use Rattle.query_laws.specs.Summed.{rest-few, rest-node, rest-leaves}
 use Rattle.query_count.specs.declared.levels.LevelSum.{LevelSum}
 use Rattle.query_count.specs.Levels.{Down-to, Gone-down, down-none, down-next, down-full, down-again, gone-again}
-use Prim.Native.Nat.{ℕ, _+_, _-_, _*_, _<_, _≤_}
+use Prim.Native.Nat.{ℕ, _+_, _-_, _<_}
 use mathlib.Core.Path.{_≡_, refl, subst}
 use native.Mathlib.Omega.{arith}
 use borrow.Fn.Kinds.{In}
