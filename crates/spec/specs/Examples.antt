@@ -1,4 +1,4 @@
--- Document 01, "Examples": the starred ones, and those of order 2 of document 02, as one table of definitions with one theorem. Questions go to the leaves read back from the image.
+-- Document 01, "Examples": the starred ones, and those of orders 2 and 3 of document 02, as one table of definitions with one theorem. Questions go to the leaves read back from the image.
 use Prim.Native.Nat.{ℕ}
 use mathlib.Core.Path.{_≡_, refl}
 use mathlib.Core.Bool.{true}
@@ -9,6 +9,7 @@ use Rattle.spec.specs.Keys.{within}
 use Rattle.spec.specs.Leaves.{Leaf, leaves}
 use Rattle.spec.specs.Image.{Bodies, bodies, image}
 use Rattle.spec.specs.Nodes.{read-leaves}
+use Rattle.spec.specs.Rules.{no-nodes, rule-number, rule}
 use Rattle.spec.specs.Questions.{point, counted, seek, begins-with, none, found}
 
 -- ---- the lists
@@ -62,6 +63,11 @@ unfoldable pub points : List Leaf → List Bytes → List ℕ
 unfolding point
 points ls ks = map (point ls) ks
 
+-- the rules behind them
+unfoldable pub rules : List Leaf → List Bytes → List ℕ
+unfolding rule
+rules ls ks = map (λ k. rule-number (rule ls k)) ks
+
 -- a seek's number and key, or nothing
 unfoldable pub sought-at : List Leaf → Bytes → Bytes
 unfolding seek
@@ -91,9 +97,9 @@ computed (a is b) = a
 abbrev pub said : Row → Bytes
 said (a is b) = b
 
--- the starred examples, and those of order 2
+-- the starred examples, and those of orders 2 and 3
 unfoldable pub table : List Row
-unfolding A VAN S017 bodies-of image-of leaves-read leaves points counted sought-at begins-with suffix-of cut-keys ascii
+unfolding A VAN S017 bodies-of image-of leaves-read leaves points rules counted sought-at begins-with suffix-of cut-keys ascii
 table =
     -- A: SL 44 56 31 32 FF 32, SC 05, SB 15, RS and TS one zero entry each; 110 bytes
     (bodies-of 0 0 A .SL is 0x44 ∷ 0x56 ∷ 0x31 ∷ 0x32 ∷ 0xFF ∷ 0x32 ∷ [])
@@ -142,11 +148,16 @@ table =
     ∷ (begins-with (leaves-read 0 S017) (ascii "S017") ∷ [] is 1 ∷ [])
     ∷ (begins-with (leaves-read 0 S017) (ascii "S018") ∷ [] is 0 ∷ [])
     ∷ (begins-with (leaves 0 FF-64) [] ∷ [] is 1 ∷ [])
+    -- order 3, rules behind points: A, D1 3, D10 1, D 2, D2x 4, empty 2, and D1 FF 1, since the extra FF is no label; D1, D12, D2, VAN, n 8, VAX 4, VB 5; FF and FF FF, FF 3, FF FF 4, FF FE 1
+    ∷ (rules (leaves-read 0 A) (ascii "D1" ∷ ascii "D10" ∷ ascii "D" ∷ ascii "D2x" ∷ [] ∷ (ascii "D1" ++ (0xFF ∷ [])) ∷ []) is 3 ∷ 1 ∷ 2 ∷ 4 ∷ 2 ∷ 1 ∷ [])
+    ∷ (rules (leaves-read 8 VAN) (ascii "VAX" ∷ ascii "VB" ∷ []) is 4 ∷ 5 ∷ [])
+    ∷ (rules (leaves-read 0 FF-FF) ((0xFF ∷ []) ∷ (0xFF ∷ 0xFF ∷ []) ∷ (0xFF ∷ 0xFE ∷ []) ∷ []) is 3 ∷ 4 ∷ 1 ∷ [])
     ∷ []
 
--- Each row's two sides are equal; over the empty list every point is 0, for every key; and the list with VAN has no key from D2a to V.
+-- Each row's two sides are equal; over the empty list every point is 0, by rule 6, for every key; and the list with VAN has no key from D2a to V.
 pub examples : (map computed table ≡ map said table)
     × ((k : Bytes) → point (leaves-read 0 []) k ≡ 0)
+    × ((k : Bytes) → rule (leaves-read 0 []) k ≡ no-nodes)
     × (count (within (ascii "D2a") (ascii "V")) VAN ≡ 0)
-unfolding table leaves-read leaves point count within VAN S017 ascii
-examples = (refl, λ k. refl, refl)
+unfolding table leaves-read leaves point rule count within VAN S017 ascii
+examples = (refl, λ k. refl, λ k. refl, refl)

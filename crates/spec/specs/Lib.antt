@@ -4,6 +4,7 @@ pub mod Leaves
 pub mod Image
 pub mod Frame
 pub mod Nodes
+pub mod Rules
 pub mod Questions
 pub mod Answer
 pub mod Build

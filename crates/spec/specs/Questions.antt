@@ -8,6 +8,7 @@ use lib.Dec.{ltb, eqb}
 use Rattle.spec.specs.Bytes.{Bytes, any, count, concat, letter, bit, le32, from32}
 use Rattle.spec.specs.Keys.{below}
 use Rattle.spec.specs.Leaves.{Leaf, possible, lowest, highest}
+use Rattle.spec.specs.Rules.{rule, rule-number}
 
 -- point, seek, begins-with; range and count, lower then upper bound
 pub data Question : Type 0 where
@@ -82,10 +83,10 @@ unfolding keyless
 sought none = keyless (letter "S") 0xFFFFFFFF
 sought (found i k) = record { letter = letter "S"; number = i; key = k }
 
--- the reply to a question, with the question's second letter
+-- the reply to a question, with the question's second letter; by order 3 a point's key is one byte, the number of the rule behind the reply
 unfoldable pub reply : List Leaf → Question → Reply
-unfolding keyless sought point seek begins-with range counted
-reply ls (QP k) = keyless (letter "P") (point ls k)
+unfolding keyless sought point rule seek begins-with range counted
+reply ls (QP k) = record { letter = letter "P"; number = point ls k; key = rule-number (rule ls k) ∷ [] }
 reply ls (QS start) = sought (seek ls start)
 reply ls (QB stem) = keyless (letter "B") (begins-with ls stem)
 reply ls (QR lo hi) = keyless (letter "R") (range ls lo hi)
