@@ -14,6 +14,7 @@ use Rattle.spec.specs.Bytes.{Bytes, any, bit, concat, le32, from32, ascii}
 use Rattle.spec.specs.Keys.{below}
 use Rattle.spec.specs.Leaves.{Leaf, possible, lowest, highest}
 use Rattle.spec.specs.Nodes.{read-leaves}
+use Rattle.spec.specs.Rules.{Rule, rule, rule-number}
 use Rattle.spec.specs.Questions.{Sought, point, range, stem-end, begins-with, counted, meets, greater, seek, seek-from, found, Question, QP, QS, QB, QR, QC, Reply, keyless, sought, reply, reply-bytes, replies, read-reply, reply-at, Parsed-questions, refused, taken, parse-questions, questions-of}
 use Rattle.spec.specs.Answer.{Outcome, refuse, success, write}
 use Rattle.spec.specs.Check.{verdict}
@@ -23,6 +24,7 @@ use Rattle.spec.specs.Print.{longest-input, decimal, listing, print}
 use Rattle.theory.specs.Terms.{Is-bytes, Bound, Proper, All, Walk-correct, Taken}
 use Rattle.theory.specs.Lists.{count-bound, bytes-append, bytes-le32}
 use Rattle.theory.specs.LeafLists.{All-well-sized}
+use Rattle.theory.specs.Rules.{rule-number-range}
 use Rattle.theory.specs.SeekLaws.{sought-possible}
 use Rattle.theory.specs.OutcomeLaws.{success-answer, no-written, write-fits, write-short}
 use Rattle.theory.specs.Frame.{from32-le32}
@@ -90,9 +92,13 @@ bytes-reply r h q = (omega arith, (omega arith, (h, bytes-append (le32 (r .numbe
 no-key : Bound []
 no-key = record { fits = omega arith; bytes = tt }
 
+-- a point's key is one byte
+rule-key : (r : Rule) → Bound (rule-number r ∷ [])
+rule-key r = record { fits = omega arith; bytes = (omega (arith, rule-number-range r .1), tt) }
+
 bytes-reply-to : (n : ℕ) (ls : List Leaf) → All-well-sized n ls → (q : Question) → Proper q → Is-bytes (reply-bytes (reply ls q))
 unfolding reply keyless sought seek
-bytes-reply-to n ls o (QP k) p = bytes-reply (reply ls (QP k)) (omega arith) no-key
+bytes-reply-to n ls o (QP k) p = bytes-reply (reply ls (QP k)) (omega arith) (rule-key (rule ls k))
 bytes-reply-to n ls o (QB stem) p = bytes-reply (reply ls (QB stem)) (omega arith) no-key
 bytes-reply-to n ls o (QR lo hi) p = bytes-reply (reply ls (QR lo hi)) (omega arith) no-key
 bytes-reply-to n ls o (QC lo hi) p = bytes-reply (reply ls (QC lo hi)) (omega arith) no-key

@@ -13,6 +13,7 @@ use Rattle.spec.specs.Leaves.{Leaf, leaves}
 use Rattle.spec.specs.Image.{Settings, image}
 use Rattle.spec.specs.Frame.{read-settings}
 use Rattle.spec.specs.Nodes.{read-leaves}
+use Rattle.spec.specs.Rules.{Rule, rule-number, applies, rule}
 use Rattle.spec.specs.Questions.{point, range, begins-with, counted, seek, Sought, found, Question, QP, QS, QB, QR, QC, Reply, keyless, sought, reply, replies, reply-at, questions-of, question-at}
 use Rattle.spec.specs.Answer.{success, Outcome}
 use Rattle.spec.specs.Build.{in-range, build}
@@ -23,6 +24,7 @@ use Rattle.theory.specs.Lists.{all-at}
 use Rattle.theory.specs.LeafLists.{leaf-equal}
 use Rattle.theory.specs.Choices.{Has-leaves, has-leaves-exactly, has-leaves-length}
 use Rattle.theory.specs.RangeLaws.{Count-correct, point-denied, range-denied, count-correct}
+use Rattle.theory.specs.Rules.{one-rule, point-rule, rule-number-injective}
 use Rattle.theory.specs.Stems.{begins-denied}
 use Rattle.theory.specs.SeekLaws.{Seek-correct, seek-none, seek-found}
 use Rattle.theory.specs.ReadBack.{read-back, settings-back}
@@ -112,8 +114,12 @@ none-is (found j r) h = (
 -- ---- the reply to each question
 
 reply-point : (ls : List Leaf) (k : Bytes) → reply ls (QP k) .number ≡ point ls k
-unfolding reply keyless
+unfolding reply
 reply-point ls k = refl
+
+reply-rule : (ls : List Leaf) (k : Bytes) → reply ls (QP k) .key ≡ rule-number (rule ls k) ∷ []
+unfolding reply
+reply-rule ls k = refl
 
 reply-range : (ls : List Leaf) (lo hi : Bytes) → reply ls (QR lo hi) .number ≡ range ls lo hi
 unfolding reply keyless
@@ -278,6 +284,18 @@ module _ (b : Bytes) (o : Accept.Image-of-leaves b) where
     number-on : (i : ℕ) (q : Question) → question-at file i ≡ some q → reply-at i (ask b file out .final) .number ≡ reply (o .leaves) q .number
     number-on i q e = ap (λ (r : Reply). r .number) (reply-on i q e)
 
+    -- a point's key is the byte of one rule exactly
+    rule-on : (i : ℕ) (k : Bytes) → question-at file i ≡ some (QP k) → reply-at i (ask b file out .final) .key ≡ rule-number (rule (o .leaves) k) ∷ []
+    rule-on i k e = ap (λ (r : Reply). r .key) (reply-on i (QP k) e) ∙ reply-rule (o .leaves) k
+
+    rule-exactly : (k : Bytes) (r : Rule) → (rule-number (rule (o .leaves) k) ∷ [] ≡ rule-number r ∷ []) ↔ (applies (read-leaves b) k r ≡ true)
+    rule-exactly k r =
+        let w = one-rule (o .leaves) (o .fits .realizable) (o .fits .well-sized) k r in
+        rw (leaves-are b o) (
+          λ h. w .1 (rule-number-injective (rule (o .leaves) k) r (cc)),
+          λ h. ap (λ (r : Rule). rule-number r ∷ []) (w .0 h),
+        )
+
     sought-on : (i : ℕ) (start : Bytes) → question-at file i ≡ some (QS start) → reply-at i (ask b file out .final) ≡ sought (seek (o .leaves) start)
     sought-on i start e = reply-on i (QS start) e ∙ reply-seek (o .leaves) start
 
@@ -285,6 +303,12 @@ module _ (b : Bytes) (o : Accept.Image-of-leaves b) where
     replies-valid = record {
       key = λ i k e.
           rw (number-on i (QP k) e ∙ reply-point (o .leaves) k) (Iff·trans (point-denied (o .leaves) k (o .fits .realizable) (o .fits .well-sized) (proper i (QP k) e)) (every (λ ks. In k ks → ⊥)));
+      decided = λ i k e. (
+        rule (o .leaves) k,
+        rule-on i k e,
+        number-on i (QP k) e ∙ reply-point (o .leaves) k ∙ point-rule (o .leaves) (o .fits .realizable) (o .fits .well-sized) k (proper i (QP k) e .fits),
+      );
+      rule = λ i k e r. rw (rule-on i k e) (rule-exactly k r);
       range = λ i lo hi e.
           let p = proper i (QR lo hi) e in
           rw (number-on i (QR lo hi) e ∙ reply-range (o .leaves) lo hi)

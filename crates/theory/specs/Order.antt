@@ -3,7 +3,7 @@
 use Prim.Native.Nat.{ℕ, _<_, _≤_, suc}
 use mathlib.Core.Path.{_≡_, refl, sym, ap, ap₂, _∙_}
 use mathlib.Core.Bool.{Bool, true, false, not, _&&_, _||_, true≢false, cond, and-false}
-use mathlib.Core.List.{[], _∷_, _++_}
+use mathlib.Core.List.{[], _∷_, _++_, append-assoc}
 use mathlib.Core.Logic.{_⊎_, inl, inr, ⊎-elim}
 use native.Mathlib.Omega.{arith}
 use lib.Dec.{ltb, eqb}
@@ -206,6 +206,46 @@ pub begins-append : (c r : Bytes) → begins c (c ++ r) ≡ true
 unfolding begins
 begins-append [] r = refl
 begins-append (x ∷ c) r = rw (eq-eqb x x refl, begins-append c r)
+
+-- what begins the beginning of a key begins the key
+pub begins-through : (a b c : Bytes) → begins a b ≡ true → begins b c ≡ true → begins a c ≡ true
+begins-through a b c p q =
+    let u : Bytes = drop (length a) b in
+    let v : Bytes = drop (length b) c in
+    let e : c ≡ a ++ (u ++ v) = prefix-append b c q ∙ ap (λ (z : Bytes). z ++ v) (prefix-append a b p) ∙ append-assoc a u v in
+    rw e (begins-append a (u ++ v))
+
+-- two keys that begin each other are one
+pub begins-antisym : (a b : Bytes) → begins a b ≡ true → begins b a ≡ true → a ≡ b
+unfolding begins
+begins-antisym [] [] p q = refl
+begins-antisym [] (y ∷ b) p q = absurd (true≢false (sym q))
+begins-antisym (x ∷ a) [] p q = absurd (true≢false (sym p))
+begins-antisym (x ∷ a) (y ∷ b) p q =
+    let u = and-both (eqb x y) (begins a b) p in
+    let v = and-both (eqb y x) (begins b a) q in
+    ap₂ _∷_ (eqb-true x y (u .0)) (begins-antisym a b (u .1) (v .1))
+
+-- of two prefixes of a key one begins the other
+pub begins-either : (a b k : Bytes) → begins a k ≡ true → begins b k ≡ true → (begins a b ≡ true) ⊎ (begins b a ≡ true)
+unfolding begins
+begins-either [] b k p q = inl refl
+begins-either (x ∷ a) [] k p q = inr refl
+begins-either (x ∷ a) (y ∷ b) [] p q = absurd (true≢false (sym p))
+begins-either (x ∷ a) (y ∷ b) (z ∷ k) p q =
+    let u = and-both (eqb x z) (begins a k) p in
+    let v = and-both (eqb y z) (begins b k) q in
+    let e : x ≡ y = eqb-true x z (u .0) ∙ sym (eqb-true y z (v .0)) in
+    ⊎-elim (λ h. inl (rw (eq-eqb x y e) h)) (λ h. inr (rw (eq-eqb y x (sym e)) h)) (begins-either a b k (u .1) (v .1))
+
+-- what begins a key and one more byte begins the key, or begins with all of both
+pub begins-one-more : (a k : Bytes) (y : ℕ) → begins a (k ++ (y ∷ [])) ≡ true → (begins a k ≡ true) ⊎ (begins (k ++ (y ∷ [])) a ≡ true)
+unfolding begins
+begins-one-more [] k y h = inl refl
+begins-one-more (x ∷ a) [] y h = inr (rw (eq-eqb y x (sym (eqb-true x y (and-both (eqb x y) (begins a []) h .0)))))
+begins-one-more (x ∷ a) (z ∷ k) y h =
+    let u = and-both (eqb x z) (begins a (k ++ (y ∷ []))) h in
+    ⊎-elim (λ b. inl (rw (u .0) b)) (λ b. inr (rw (eq-eqb z x (sym (eqb-true x z (u .0)))) b)) (begins-one-more a k y (u .1))
 
 -- a key that c does not begin is outside any interval of keys that it begins
 pub outside-prefix : (c k t u : Bytes) → begins c k ≡ false → not (below k (c ++ t)) && not (below (c ++ u) k) ≡ false
