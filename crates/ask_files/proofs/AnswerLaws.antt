@@ -1,12 +1,15 @@
 -- A question that was matched: its keys as they are lent, and the reply by value that its number makes. The functions that answer a question of a file rest on it.
 use mathlib.Core.Path.{_≡_, sym, ap, ap₂, subst, _∙_}
-use mathlib.Core.List.{List, []}
+use mathlib.Core.List.{List, [], _∷_}
 use Prim.Native.Nat.{ℕ, _+_, _≤_}
 use native.Mathlib.Omega.{arith}
 use lib.ListN.{length, take}
 use Rattle.spec.specs.Bytes.{Bytes}
 use Rattle.spec.specs.Leaves.{Leaf}
-use Rattle.spec.specs.Questions.{QS, Reply, point, begins-with, range, counted, reply, reply-bytes, replies, questions-of}
+use Rattle.spec.specs.Rules.{rule, rule-number, rule-says}
+use Rattle.spec.specs.Questions.{QP, QS, Reply, point, begins-with, range, counted, reply, reply-bytes, replies, questions-of}
+use Rattle.theory.specs.LeafLists.{Realizable, All-well-sized}
+use Rattle.theory.specs.Rules.{point-rule}
 use Rattle.bits_laws.specs.Bits.{placed}
 use Rattle.bits_laws.specs.Bits.{key}
 use Rattle.ask_laws.specs.AskedAt.{Followed}
@@ -21,13 +24,13 @@ use Rattle.ask_files.proofs.PlacedLaws.{key-length}
 pub inside-keyless : (file : Bytes) {q x : QuestionAt} → q ≡ x → Inside file q → Inside file x
 inside-keyless file h i = subst (Inside file) h i
 
--- a question that is no seek
-abbrev pub Not-seek : QuestionAt → Type 0
-Not-seek (Point a n) = Unit
-Not-seek (Seek a n) = ⊥
-Not-seek (Begins a n) = Unit
-Not-seek (Range a n b m) = Unit
-Not-seek (Count a n b m) = Unit
+-- a question whose reply has no key: neither a point nor a seek
+abbrev pub Keyless : QuestionAt → Type 0
+Keyless (Point a n) = ⊥
+Keyless (Seek a n) = ⊥
+Keyless (Begins a n) = Unit
+Keyless (Range a n b m) = Unit
+Keyless (Count a n b m) = Unit
 
 -- a reply without a key, whatever the buffer holds
 module _ (a : Answered) (buffer : Bytes) (none : a .n ≡ 0) where
@@ -48,8 +51,13 @@ module _ (ls : List Leaf) (file : Bytes) where
 
   -- the reply to each kind of question, with its keys as they are lent
   module _ (a n : ℕ) (k : Bytes) (lent : k ≡ key file a n) where
-    pub point-keyless : (x : ℕ) → x ≡ point ls k → answer 80 x [] ≡ reply ls (question-of file (Point a n))
-    point-keyless x h = ap (λ (m : ℕ). answer 80 m []) (h ∙ ap (point ls) lent) ∙ sym (point-reply ls (key file a n))
+    -- A reply by value is a point's, if its number is what the key's rule says and the byte at the front of its buffer is the rule's number.
+    pub point-answered : {w : ℕ} → Realizable w ls → All-well-sized w ls → length k ≤ 64 → (r : Answered) (buffer : Bytes)
+        → r .letter ≡ 80 → r .number ≡ rule-says (rule ls k) → r .n ≡ 1 → take 1 buffer ≡ rule-number (rule ls k) ∷ [] → reply-of r buffer ≡ reply ls (question-of file (Point a n))
+    point-answered g o short r buffer letter number one byte =
+        let key-is : take (r .n) buffer ≡ rule-number (rule ls k) ∷ [] = ap (λ (m : ℕ). take m buffer) one ∙ byte in
+        let number-is : r .number ≡ point ls k = number ∙ sym (point-rule ls g o k short) in
+        (λ i. answer (letter i) (number-is i) (key-is i)) ∙ sym (point-reply ls k) ∙ ap (λ (z : Bytes). reply ls (QP z)) lent
 
     pub begins-keyless : (x : ℕ) → x ≡ begins-with ls k → answer 66 x [] ≡ reply ls (question-of file (Begins a n))
     begins-keyless x h = ap (λ (m : ℕ). answer 66 m []) (h ∙ ap (begins-with ls) lent) ∙ sym (begins-reply ls (key file a n))
@@ -64,17 +72,21 @@ module _ (ls : List Leaf) (file : Bytes) where
       pub count-keyless : (x : ℕ) → x ≡ counted ls k l → answer 67 x [] ≡ reply ls (question-of file (Count a n b m))
       count-keyless x h = ap (λ (i : ℕ). answer 67 i []) (h ∙ ap₂ (counted ls) lent lent-too) ∙ sym (count-reply ls (key file a n) (key file b m))
 
-  -- only a seek's reply has a key
-  keyless : (q : QuestionAt) → Not-seek q → length (reply ls (question-of file q) .key) ≡ 0
-  keyless (Point a n) t = ap (λ r. length (r .key)) (point-reply ls (key file a n))
+  -- a reply of such a kind has no key
+  keyless : (q : QuestionAt) → Keyless q → length (reply ls (question-of file q) .key) ≡ 0
+  keyless (Point a n) t = absurd t
   keyless (Seek a n) t = absurd t
   keyless (Begins a n) t = ap (λ r. length (r .key)) (begins-reply ls (key file a n))
   keyless (Range a n b m) t = ap (λ r. length (r .key)) (range-reply ls (key file a n) (key file b m))
   keyless (Count a n b m) t = ap (λ r. length (r .key)) (count-reply ls (key file a n) (key file b m))
 
   -- the same of a question that was matched
-  pub keyless-keyless : {q x : QuestionAt} → q ≡ x → Not-seek x → 0 ≡ length (reply ls (question-of file q) .key)
+  pub keyless-keyless : {q x : QuestionAt} → q ≡ x → Keyless x → 0 ≡ length (reply ls (question-of file q) .key)
   keyless-keyless {q} {x} h t = sym (ap (λ (z : QuestionAt). length (reply ls (question-of file z) .key)) h ∙ keyless x t)
+
+  -- The key of a point's reply is one byte.
+  pub point-length : {q : QuestionAt} {a n : ℕ} → q ≡ Point a n → 1 ≡ length (reply ls (question-of file q) .key)
+  point-length {q} {a} {n} h = sym (ap (λ (z : QuestionAt). length (reply ls (question-of file z) .key)) h ∙ ap (λ r. length (r .key)) (point-reply ls (key file a n)))
 
 -- ask's second pass with replies by value: room for the next one, and the buffer with it
 module _ (ls : List Leaf) (file out : Bytes) (room : length (replies ls (questions-of file)) ≤ length out) (at to : ℕ) (new : Bytes) (p : Replied ls file out at to new) (next : ℕ) (q : QuestionAt) (w : Followed file at (question-of file q) next) (a : Answered) (buffer : Bytes) (s : Sized a buffer) (e : reply-of a buffer ≡ reply ls (question-of file q)) where

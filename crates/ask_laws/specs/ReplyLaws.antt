@@ -7,6 +7,7 @@ use lib.ListN.{length, take, drop, length-append, length-drop}
 use lib.Seq.{length-take-le, take-all, take-at, drop-at, take-append-seam, drop-append-seam, drop-drop, take-add}
 use Rattle.spec.specs.Bytes.{Bytes, concat, le32}
 use Rattle.spec.specs.Leaves.{Leaf}
+use Rattle.spec.specs.Rules.{rule, rule-number}
 use Rattle.spec.specs.Questions.{Question, QP, QS, QB, QR, QC, Reply, keyless, sought, none, found, point, seek, begins-with, range, counted, reply, reply-bytes, replies, taken, parse-questions, questions-of}
 use Rattle.bits_laws.specs.Bits.{placed}
 use Rattle.ask_laws.specs.FileLaws.{questions-from, Taken-from, taken-start, taken-end, few-questions, questions-are}
@@ -19,8 +20,9 @@ answer letter number key = record { letter = letter; number = number; key = key 
 -- ---- the reply to each kind of question
 
 module _ (ls : List Leaf) where
-  pub point-reply : (k : Bytes) → reply ls (QP k) ≡ answer 80 (point ls k) []
-  unfolding reply keyless
+  -- a point's key is one byte, the number of the rule behind the reply
+  pub point-reply : (k : Bytes) → reply ls (QP k) ≡ answer 80 (point ls k) (rule-number (rule ls k) ∷ [])
+  unfolding reply
   point-reply k = refl
 
   pub begins-reply : (stem : Bytes) → reply ls (QB stem) ≡ answer 66 (begins-with ls stem) []
