@@ -235,14 +235,14 @@ pub record Demand-2 : Type 0 where
 pub record Replies-correct (b file final : Bytes) : Type 0 where
   -- "a key or range is denied exactly when none of the lists that build the image holds it"
   pub key : (i : ℕ) (k : Bytes) → question-at file i ≡ some (QP k) → (reply-at i final .number ≡ 0) ↔ No-list-holds b k
-  -- Order 3: "The reply's key field, empty so far, holds one byte", the number of a rule; what the rule says is the reply's number, so that it is 1 exactly with 3 and 4;
-  pub decided : (i : ℕ) (k : Bytes) → question-at file i ≡ some (QP k) → (r : Rule) × (reply-at i final .key ≡ rule-number r ∷ []) × (reply-at i final .number ≡ rule-says r)
-  -- of the six rules, over the image's leaves, that one applies to the key, and no other.
-  pub rule : (i : ℕ) (k : Bytes) → question-at file i ≡ some (QP k) → (r : Rule) → (reply-at i final .key ≡ rule-number r ∷ []) ↔ (applies (read-leaves b) k r ≡ true)
   -- "or has a key in it";
   pub range : (i : ℕ) (lo hi : Bytes) → question-at file i ≡ some (QR lo hi) → (reply-at i final .number ≡ 0) ↔ No-list-has b lo hi
   -- Order 2: "a stem is denied exactly if no list with that image has a key beginning so";
   pub stem : (i : ℕ) (stem : Bytes) → question-at file i ≡ some (QB stem) → (reply-at i final .number ≡ 0) ↔ No-list-begins b stem
+  -- Order 3: "The reply's key field, empty so far, holds one byte", the number of a rule; what the rule says is the reply's number, so that it is 1 exactly with 3 and 4;
+  pub decided : (i : ℕ) (k : Bytes) → question-at file i ≡ some (QP k) → (r : Rule) × (reply-at i final .key ≡ rule-number r ∷ []) × (reply-at i final .number ≡ rule-says r)
+  -- of the six rules, over the image's leaves, that one applies to the key, and no other;
+  pub rule : (i : ℕ) (k : Bytes) → question-at file i ≡ some (QP k) → (r : Rule) → (reply-at i final .key ≡ rule-number r ∷ []) ↔ (applies (read-leaves b) k r ≡ true)
   -- "a count is the number of keys that some such list has in the range, and no such list has more, or over two fewer";
   pub count : (i : ℕ) (lo hi : Bytes) → question-at file i ≡ some (QC lo hi) → Count b lo hi (reply-at i final .number)
   -- "a seek gives none exactly when no such list holds a key at or after its start",

@@ -303,12 +303,6 @@ module _ (b : Bytes) (o : Accept.Image-of-leaves b) where
     replies-valid = record {
       key = λ i k e.
           rw (number-on i (QP k) e ∙ reply-point (o .leaves) k) (Iff·trans (point-denied (o .leaves) k (o .fits .realizable) (o .fits .well-sized) (proper i (QP k) e)) (every (λ ks. In k ks → ⊥)));
-      decided = λ i k e. (
-        rule (o .leaves) k,
-        rule-on i k e,
-        number-on i (QP k) e ∙ reply-point (o .leaves) k ∙ point-rule (o .leaves) (o .fits .realizable) (o .fits .well-sized) k (proper i (QP k) e .fits),
-      );
-      rule = λ i k e r. rw (rule-on i k e) (rule-exactly k r);
       range = λ i lo hi e.
           let p = proper i (QR lo hi) e in
           rw (number-on i (QR lo hi) e ∙ reply-range (o .leaves) lo hi)
@@ -316,6 +310,12 @@ module _ (b : Bytes) (o : Accept.Image-of-leaves b) where
       stem = λ i stem e.
           rw (number-on i (QB stem) e ∙ reply-stem (o .leaves) stem)
           (Iff·trans (begins-denied (o .leaves) stem (o .fits .realizable) (o .fits .well-sized) (proper i (QB stem) e)) (every (λ ks. (k : Bytes) → In k ks → begins stem k ≡ false)));
+      decided = λ i k e. (
+        rule (o .leaves) k,
+        rule-on i k e,
+        number-on i (QP k) e ∙ reply-point (o .leaves) k ∙ point-rule (o .leaves) (o .fits .realizable) (o .fits .well-sized) k (proper i (QP k) e .fits),
+      );
+      rule = λ i k e r. rw (rule-on i k e) (rule-exactly k r);
       count = λ i lo hi e.
           let p = proper i (QC lo hi) e in
           rw (number-on i (QC lo hi) e ∙ reply-count (o .leaves) lo hi) (count-lists lo hi (counted (o .leaves) lo hi) (count-correct (o .leaves) lo hi (o .fits .realizable) (o .fits .well-sized) (p .lower) (p .order)));
