@@ -5,7 +5,8 @@
 //! lists of its group alone: a point or range is denied just if no list has such a key, and
 //! a stem just if no list has a key that begins with it; a count is the most of any list,
 //! and a seek gives the least key not below its start that any list has, with its number in
-//! the list. No interval is used.
+//! the list. No interval is used. The rule behind a point's reply is the one whose sentence
+//! holds of the key.
 //!
 //! This is exact for questions from the universe though longer keys exist: cutting a byte
 //! of an alphabet of 00, 80 and FF to its high bit and filling with zeros stays in the
@@ -25,6 +26,7 @@ use range_filter_tests::reference::check::accepted_leaves;
 use range_filter_tests::reference::leaves::{is_possible, leaves, lowest, Leaf};
 use range_filter_tests::reference::questions::Question;
 use range_filter_tests::reference::replies::{replies, Reply, NONE};
+use range_filter_tests::reference::rule_sentences::rules;
 use std::collections::HashMap;
 
 const WIDTHS: [u64; 5] = [0, 1, 8, 9, 16];
@@ -67,11 +69,18 @@ fn some_begins(group: &[&List], stem: &[u8]) -> u32 {
     u32::from(keys.any(|key| key.starts_with(stem)))
 }
 
-/// Gives the reply that the lists of a group call for.
-fn brute_reply(group: &[&List], question: &Question) -> Reply {
+/// Gives the numbers of the rules whose sentences hold of a key over leaves: one byte, if one
+/// rule does.
+fn rule_bytes(leaves: &[Leaf], key: &[u8]) -> Vec<u8> {
+    let rules = rules(leaves, key);
+    rules.into_iter().map(|rule| rule.number()).collect()
+}
+
+/// Gives the reply that the lists of a group, which all have these leaves, call for.
+fn brute_reply(group: &[&List], leaves: &[Leaf], question: &Question) -> Reply {
     let most = |lower: &[u8], upper: &[u8]| most_in_range(group, lower, upper);
     let (number, key) = match question {
-        Question::Point(key) => (most(key, key), Vec::new()),
+        Question::Point(key) => (most(key, key), rule_bytes(leaves, key)),
         Question::Range(lower, upper) => (most(lower, upper).min(1), Vec::new()),
         Question::BeginsWith(stem) => (some_begins(group, stem), Vec::new()),
         Question::Count(lower, upper) => (most(lower, upper), Vec::new()),
@@ -91,7 +100,7 @@ fn compare_universe(universe: &Universe, dense_levels: u64) {
             let leaves = accepted_leaves(&image).expect("a built image is accepted");
             let replies = replies(&leaves, &universe.questions);
             for (question, reply) in universe.questions.iter().zip(replies) {
-                let brute = brute_reply(&group, question);
+                let brute = brute_reply(&group, &leaves, question);
                 assert_eq!(reply, brute, "{question:?} over {:?}", group[0]);
             }
         }
@@ -140,7 +149,7 @@ fn replies_over_long_keys_are_attained() {
             let question = question_near(&mut random, &leaves);
             let fullest = fullest_list(&list, &leaves, question.keys()[0]);
             assert_eq!(built(&fullest, dense_levels, n), image);
-            let brute = brute_reply(&[&fullest, &list], &question);
+            let brute = brute_reply(&[&fullest, &list], &leaves, &question);
             assert_eq!(replies(&leaves, &[question]), [brute], "{list:?}");
         }
     }

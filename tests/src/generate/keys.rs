@@ -16,6 +16,11 @@ pub fn ascending(mut keys: Vec<Vec<u8>>) -> Vec<Vec<u8>> {
     keys
 }
 
+/// Gives no keys.
+pub fn no_keys(_: &mut Random) -> Vec<Vec<u8>> {
+    Vec::new()
+}
+
 /// Gives short keys over a small alphabet, so that many begin others.
 pub fn short_keys(random: &mut Random) -> Vec<Vec<u8>> {
     let count = random.below(13);
@@ -53,6 +58,20 @@ pub fn ff_keys(random: &mut Random) -> Vec<Vec<u8>> {
         let most = *random.pick(&[1, 3, MAX_KEY]);
         key.resize(stem.len() + 1 + random.below(most), 0xFF);
         key.extend(random.string(b"\x00\x01\xFE", 0, 2));
+        key.truncate(MAX_KEY);
+        keys.push(key);
+    }
+    ascending(keys)
+}
+
+/// Gives keys most of which go on from another one, by FF or another byte, so that most
+/// nodes are exact leaves, with and without a branch FF.
+pub fn growing_keys(random: &mut Random) -> Vec<Vec<u8>> {
+    let length = *random.pick(&[1, 1, 2, MAX_KEY - 3]);
+    let mut keys = vec![random.string(b"\x00g\xFF", length, length)];
+    for _ in 0..random.below(12) {
+        let mut key = random.pick(&keys).clone();
+        key.extend(random.string(b"\x00g\xFE\xFF", 1, 2));
         key.truncate(MAX_KEY);
         keys.push(key);
     }

@@ -1,4 +1,5 @@
-//! Questions whose keys lie around the ends of leaves' intervals.
+//! Questions whose keys lie around the ends of leaves' intervals, and keys behind their cut
+//! keys.
 
 use crate::random::Random;
 use crate::reference::check::accepted_leaves;
@@ -54,6 +55,29 @@ pub fn question_near(random: &mut Random, leaves: &[Leaf]) -> Question {
 /// itself among them.
 pub fn stems_of(key: &[u8]) -> impl Iterator<Item = Question> + '_ {
     (0..=key.len()).map(|length| Question::BeginsWith(key[..length].to_vec()))
+}
+
+/// Gives keys to ask for by points: some that have no regard to the leaves, the empty key
+/// among them; and each leaf's lowest and highest key, its cut key and the cut key less its
+/// last byte, these two as they are and followed by FF, by two FF, by 00 and by any byte.
+pub fn keys_about(random: &mut Random, leaves: &[Leaf]) -> Vec<Vec<u8>> {
+    let mut keys = vec![
+        Vec::new(),
+        vec![0xFF],
+        random.bytes(1, 3),
+        random.bytes(1, MAX_KEY),
+    ];
+    for leaf in leaves {
+        keys.extend([lowest(leaf), highest(leaf)]);
+        let shorter = &leaf.cut_key[..leaf.cut_key.len() - 1];
+        for start in [shorter, &leaf.cut_key] {
+            let any = [random.byte()];
+            let behind = [b"".as_slice(), b"\xFF", b"\xFF\xFF", b"\x00", &any];
+            keys.extend(behind.map(|bytes| [start, bytes].concat()));
+        }
+    }
+    keys.retain(|key| key.len() <= MAX_KEY);
+    keys
 }
 
 /// Gives so many questions around the ends of the intervals of a built image's leaves.

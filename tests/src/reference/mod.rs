@@ -13,6 +13,8 @@ pub mod print;
 pub mod questions;
 pub mod rebuild;
 pub mod replies;
+pub mod rule_sentences;
+pub mod rules;
 pub mod tables;
 pub mod trie;
 pub mod walk;

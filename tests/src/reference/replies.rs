@@ -1,9 +1,12 @@
-//! Replies over an image, by looking at every one of its leaves.
+//! Replies over an image, by looking at every one of its leaves; the rule behind a point's
+//! reply is found in their trie.
 
 use super::check::accepted_leaves;
 use super::keys::{write_key, MAX_KEY};
 use super::leaves::{highest, is_possible, lowest, Leaf};
 use super::questions::{parse, Question};
+use super::rules::rule;
+use super::trie::{trie, Trie};
 use crate::answer::{put, Answer};
 
 /// The number of a seek that finds no leaf.
@@ -12,7 +15,11 @@ pub const NONE: u32 = 0xFFFF_FFFF;
 /// The bytes of a reply before its key.
 pub const REPLY_HEAD: usize = 8;
 
-/// A reply: the question's second letter, a number and a key.
+/// The bytes of a point's reply, whose key has one byte.
+pub const POINT_REPLY: usize = REPLY_HEAD + 1;
+
+/// A reply: the question's second letter, a number and a key. A point's key is the number of
+/// the rule behind the reply; of the others only a seek that finds a leaf has a key.
 #[derive(Clone, Debug, PartialEq, Eq)]
 pub struct Reply {
     pub letter: u8,
@@ -20,9 +27,16 @@ pub struct Reply {
     pub key: Vec<u8>,
 }
 
-/// A leaf with the lowest and the highest of its possible keys.
-struct Interval<'a> {
-    leaf: &'a Leaf,
+/// What replies are worked out from: the leaves in key order, the interval of each one's
+/// possible keys, and their trie.
+struct Filter<'a> {
+    leaves: &'a [Leaf],
+    intervals: Vec<Interval>,
+    trie: Trie<'a>,
+}
+
+/// The lowest and the highest of a leaf's possible keys.
+struct Interval {
     lowest: Vec<u8>,
     highest: Vec<u8>,
 }
@@ -44,24 +58,27 @@ fn reply_bytes(image: &[u8], questions: &[u8]) -> Result<Vec<u8>, u32> {
 /// Gives the replies to questions over leaves in key order.
 pub fn replies(leaves: &[Leaf], questions: &[Question]) -> Vec<Reply> {
     let interval = |leaf| Interval {
-        leaf,
         lowest: lowest(leaf),
         highest: highest(leaf),
     };
-    let intervals: Vec<Interval> = leaves.iter().map(interval).collect();
+    let filter = Filter {
+        leaves,
+        intervals: leaves.iter().map(interval).collect(),
+        trie: trie(leaves),
+    };
     let asked = questions.iter();
-    asked.map(|question| reply(&intervals, question)).collect()
+    asked.map(|question| reply(&filter, question)).collect()
 }
 
 /// Gives the reply to one question.
-fn reply(intervals: &[Interval], question: &Question) -> Reply {
-    let count = |lower: &[u8], upper: &[u8]| count(intervals, lower, upper);
+fn reply(filter: &Filter, question: &Question) -> Reply {
+    let count = |lower: &[u8], upper: &[u8]| count(&filter.intervals, lower, upper);
     let (number, key) = match question {
-        Question::Point(key) => (point(intervals, key), Vec::new()),
+        Question::Point(key) => point(filter, key),
         Question::Range(lower, upper) => (count(lower, upper).min(1), Vec::new()),
         Question::BeginsWith(stem) => (count(stem, &stem_end(stem)).min(1), Vec::new()),
         Question::Count(lower, upper) => (count(lower, upper), Vec::new()),
-        Question::Seek(start) => seek(intervals, start),
+        Question::Seek(start) => seek(&filter.intervals, start),
     };
     Reply {
         letter: question.letter(),
@@ -70,10 +87,12 @@ fn reply(intervals: &[Interval], question: &Question) -> Reply {
     }
 }
 
-/// Gives 1 if some leaf has the key among its possible keys, else 0.
-fn point(intervals: &[Interval], key: &[u8]) -> u32 {
-    let mut leaves = intervals.iter().map(|interval| interval.leaf);
-    u32::from(leaves.any(|leaf| is_possible(leaf, key)))
+/// Gives 1 if some leaf has the key among its possible keys, else 0, and the number of the
+/// rule as a key of one byte. Neither is worked out from the other.
+fn point(filter: &Filter, key: &[u8]) -> (u32, Vec<u8>) {
+    let is_held = filter.leaves.iter().any(|leaf| is_possible(leaf, key));
+    let rule = rule(filter.leaves, &filter.trie, key);
+    (u32::from(is_held), vec![rule.number()])
 }
 
 /// Counts the leaves with a possible key in a range. The possible keys are an interval

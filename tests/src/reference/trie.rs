@@ -18,9 +18,17 @@ pub struct Node {
     pub branches: Vec<Branch>,
 }
 
-/// Gives the nodes, which are the proper prefixes of cut keys, in level order.
+/// The nodes by their prefixes, each behind its level, so that they stand in level order.
+pub type Trie<'a> = BTreeMap<(usize, &'a [u8]), Node>;
+
+/// Gives the nodes in level order.
 pub fn nodes(leaves: &[Leaf]) -> Vec<Node> {
-    let mut nodes: BTreeMap<(usize, &[u8]), Node> = BTreeMap::new();
+    trie(leaves).into_values().collect()
+}
+
+/// Gives the trie, whose nodes are the proper prefixes of cut keys.
+pub fn trie(leaves: &[Leaf]) -> Trie<'_> {
+    let mut nodes = Trie::new();
     for (number, leaf) in leaves.iter().enumerate() {
         for (level, &label) in leaf.cut_key.iter().enumerate() {
             let node = nodes.entry((level, &leaf.cut_key[..level])).or_default();
@@ -35,7 +43,7 @@ pub fn nodes(leaves: &[Leaf]) -> Vec<Node> {
             node.exact = Some(number);
         }
     }
-    nodes.into_values().collect()
+    nodes
 }
 
 /// Adds a branch unless the cut key before goes through the same branch; cut keys come
