@@ -1,8 +1,8 @@
-//! Document 01's examples and refusals of ask, with values written by hand; the reference
-//! and the proved library both have to give them.
+//! Examples of ask from document 01 and from orders 2 and 3 of document 02, and refusals,
+//! with values written by hand; the reference and the proved library both have to give them.
 
 use range_filter_tests::answer::Answer;
-use range_filter_tests::examples::{list_van, IMAGE_A};
+use range_filter_tests::examples::{list_a, list_van, IMAGE_A};
 use range_filter_tests::generate::every_setting;
 use range_filter_tests::generate::images::built;
 use range_filter_tests::generate::keys::owned;
@@ -44,9 +44,9 @@ fn reply(letter: u8, number: u32, key: &[u8]) -> Vec<u8> {
     [&head, &number.to_le_bytes()[..], &[key.len() as u8], key].concat()
 }
 
-/// Asserts the reply to a point question.
-fn assert_point(image: &[u8], key: &[u8], number: u32) {
-    assert_replies(image, &one_key(b"QP", key), &reply(b'P', number, b""));
+/// Asserts the reply to a point question, and the rule behind it.
+fn assert_point(image: &[u8], key: &[u8], number: u32, rule: u8) {
+    assert_replies(image, &one_key(b"QP", key), &reply(b'P', number, &[rule]));
 }
 
 /// Asserts the reply to a count question.
@@ -73,11 +73,22 @@ fn assert_seek(image: &[u8], start: &[u8], number: u32, key: &[u8]) {
 
 #[test]
 fn points_of_list_a() {
-    assert_point(IMAGE_A, b"D1", 1);
-    assert_point(IMAGE_A, b"D10", 0);
-    assert_point(IMAGE_A, b"D", 0);
-    assert_point(IMAGE_A, b"D2x", 1);
-    assert_point(IMAGE_A, b"", 0);
+    for dense_levels in 0..=4 {
+        let image = built(&list_a(), dense_levels, 0);
+        assert_point(&image, b"D1", 1, 3);
+        assert_point(&image, b"D10", 0, 1);
+        assert_point(&image, b"D", 0, 2);
+        assert_point(&image, b"D2x", 1, 4);
+        assert_point(&image, b"", 0, 2);
+        assert_point(&image, b"D1\xFF", 0, 1);
+    }
+}
+
+#[test]
+fn reply_to_a_point_has_nine_bytes() {
+    assert_replies(IMAGE_A, b"QP\x02D1", b"ANP\x01\x00\x00\x00\x01\x03");
+    assert_replies(IMAGE_A, b"QP\x03D1\xFF", b"ANP\x00\x00\x00\x00\x01\x01");
+    assert_replies(IMAGE_A, b"QP\x00", b"ANP\x00\x00\x00\x00\x01\x02");
 }
 
 #[test]
@@ -183,18 +194,85 @@ fn suffix_bits_deny_a_stem() {
 #[test]
 fn suffix_of_van_decides() {
     let image = built(&list_van(), 0, 8);
-    assert_point(&image, b"VAX", 1);
-    assert_point(&image, b"VB", 0);
+    assert_point(&image, b"VAX", 1, 4);
+    assert_point(&image, b"VB", 0, 5);
     assert_seek(&image, b"VB", NONE, b"");
     assert_seek(&image, b"V", 3, b"VA");
 }
 
 #[test]
+fn suffix_of_van_is_the_rule() {
+    for dense_levels in 0..=4 {
+        let image = built(&list_van(), dense_levels, 8);
+        assert_point(&image, b"VAX", 1, 4);
+        assert_point(&image, b"VA", 1, 4);
+        assert_point(&image, b"VB", 0, 5);
+        assert_point(&image, b"V", 0, 5);
+        assert_point(&image, b"D1", 1, 3);
+        assert_point(&image, b"D1\xFF", 0, 1);
+        assert_point(&image, b"W", 0, 1);
+        assert_point(&image, b"", 0, 2);
+    }
+}
+
+#[test]
+fn points_of_ff_and_ff_ff() {
+    for dense_levels in 0..=4 {
+        let image = built(&owned(&[b"\xFF", b"\xFF\xFF"]), dense_levels, 0);
+        assert_point(&image, b"\xFF", 1, 3);
+        assert_point(&image, b"\xFF\xFF", 1, 4);
+        assert_point(&image, b"\xFF\xFE", 0, 1);
+        assert_point(&image, b"\xFF\xFF\xFF", 1, 4);
+        assert_point(&image, b"\xFE", 0, 1);
+        assert_point(&image, b"", 0, 2);
+    }
+}
+
+#[test]
+fn ff_behind_an_exact_leaf_is_no_branch_unless_a_key_has_it() {
+    let lists: [(&[&[u8]], _); 4] = [
+        (&[b"D1", b"D12"], (0, 1)),
+        (&[b"D1", b"D12", b"D1\xFF"], (1, 4)),
+        (&[b"D1", b"D12", b"D1\xFFa", b"D1\xFFb"], (0, 2)),
+        (&[b"D1", b"D1\xFF", b"D1\xFFa"], (1, 3)),
+    ];
+    for (dense_levels, n) in every_setting() {
+        for (list, (number, rule)) in lists {
+            let image = built(&owned(list), dense_levels, n);
+            assert_point(&image, b"D1\xFF", number, rule);
+            assert_point(&image, b"D1\xFE", 0, 1);
+            assert_point(&image, b"D1", 1, 3);
+        }
+    }
+}
+
+#[test]
+fn past_an_exact_leaf_a_key_takes_the_branch_or_misses_it() {
+    let list = owned(&[b"D1", b"D12", b"D1\xFF", b"D1\xFFa"]);
+    for dense_levels in 0..=4 {
+        let image = built(&list, dense_levels, 0);
+        assert_point(&image, b"D12", 1, 4);
+        assert_point(&image, b"D12\xFF", 1, 4);
+        assert_point(&image, b"D1\xFFab", 1, 4);
+        assert_point(&image, b"D11", 0, 1);
+        assert_point(&image, b"D1\xFF\xFF", 0, 1);
+        assert_point(&image, b"D1\xFFb", 0, 1);
+    }
+}
+
+#[test]
+fn points_of_the_empty_image_are_decided_by_no_nodes() {
+    for (dense_levels, n) in every_setting() {
+        let image = built(&[], dense_levels, n);
+        for key in [b"".as_slice(), b"\x00", b"D1", b"\xFF", &[0xFF; 64]] {
+            assert_point(&image, key, 0, 6);
+        }
+    }
+}
+
+#[test]
 fn empty_image_has_no_key() {
     let image = built(&[], 0, 0);
-    for key in [b"".as_slice(), b"\x00", b"D1", &[0xFF; 64]] {
-        assert_point(&image, key, 0);
-    }
     assert_seek(&image, b"", NONE, b"");
     assert_range(&image, b"", &[0xFF; 64], 0);
     assert_count(&image, b"", &[0xFF; 64], 0);
@@ -204,7 +282,7 @@ fn empty_image_has_no_key() {
 #[test]
 fn empty_key_is_a_key_like_another() {
     let image = built(&owned(&[b"b\x01", b"c"]), 0, 8);
-    assert_point(&image, b"", 0);
+    assert_point(&image, b"", 0, 2);
     assert_range(&image, b"", b"", 0);
     assert_seek(&image, b"", 0, b"b\x01");
 }
@@ -217,7 +295,7 @@ fn several_questions_have_their_replies_in_order() {
         two_keys(b"QC", b"", b"Z"),
     ]
     .concat();
-    let replies = b"ANP\x01\x00\x00\x00\x00ANS\x02\x00\x00\x00\x03D2aANC\x04\x00\x00\x00\x00";
+    let replies = b"ANP\x01\x00\x00\x00\x01\x03ANS\x02\x00\x00\x00\x03D2aANC\x04\x00\x00\x00\x00";
     assert_replies(IMAGE_A, &file, replies);
 }
 
@@ -231,7 +309,7 @@ fn empty_file_has_no_replies() {
 fn question_behind_1024_others_is_refused_with_24() {
     let question = one_key(b"QP", b"D1");
     let file = question.repeat(1_024);
-    assert_replies(IMAGE_A, &file, &reply(b'P', 1, b"").repeat(1_024));
+    assert_replies(IMAGE_A, &file, &reply(b'P', 1, b"\x03").repeat(1_024));
     assert_refused(&[&file[..], &question].concat(), 24);
     let mut stray = [&file[..], &[0]].concat();
     assert_refused(&stray, 24);
@@ -268,7 +346,7 @@ fn question_lengths_over_64_are_refused_with_22() {
     ] {
         assert_refused(file, 22);
     }
-    assert_point(IMAGE_A, &[b'V'; 64], 1);
+    assert_point(IMAGE_A, &[b'V'; 64], 1, 4);
 }
 
 #[test]

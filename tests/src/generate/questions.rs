@@ -57,16 +57,13 @@ pub fn stems_of(key: &[u8]) -> impl Iterator<Item = Question> + '_ {
     (0..=key.len()).map(|length| Question::BeginsWith(key[..length].to_vec()))
 }
 
-/// Gives keys to ask for by points: some that have no regard to the leaves, the empty key
-/// among them; and each leaf's lowest and highest key, its cut key and the cut key less its
-/// last byte, these two as they are and followed by FF, by two FF, by 00 and by any byte.
+/// Gives keys to ask for by points: the empty key and any others, more of them where there
+/// are no leaves; and each leaf's lowest and highest key, its cut key and the cut key less
+/// its last byte, these two as they are and followed by FF, by two FF, by 00 and by any byte.
 pub fn keys_about(random: &mut Random, leaves: &[Leaf]) -> Vec<Vec<u8>> {
-    let mut keys = vec![
-        Vec::new(),
-        vec![0xFF],
-        random.bytes(1, 3),
-        random.bytes(1, MAX_KEY),
-    ];
+    let others = if leaves.is_empty() { 40 } else { 3 };
+    let mut keys = vec![Vec::new(), random.bytes(1, MAX_KEY)];
+    keys.extend((0..others).map(|_| random.string(b"\x00g\xFF", 1, 3)));
     for leaf in leaves {
         keys.extend([lowest(leaf), highest(leaf)]);
         let shorter = &leaf.cut_key[..leaf.cut_key.len() - 1];
