@@ -8,14 +8,16 @@ use range_filter_tests::answer::Answer;
 use range_filter_tests::compare::{self, Case};
 use range_filter_tests::generate::images::{any_image, built, large_images, small_frame, CHANGES};
 use range_filter_tests::generate::keys::{
-    any_keys, ascending, keys_by_node_size, many_keys, many_mixed_keys,
+    any_keys, ascending, ff_keys, growing_keys, keys_by_node_size, many_keys, many_mixed_keys,
+    no_keys,
 };
-use range_filter_tests::generate::questions::{key_near, questions_near};
+use range_filter_tests::generate::questions::{key_near, keys_about, questions_near};
 use range_filter_tests::generate::{any_settings, damaged};
 use range_filter_tests::random::Random;
 use range_filter_tests::reference::check::accepted_leaves;
 use range_filter_tests::reference::keys::{self, MAX_KEYS};
 use range_filter_tests::reference::questions::{write, Question, MAX_QUESTIONS};
+use range_filter_tests::reference::replies::POINT_REPLY;
 use range_filter_tests::reference::walk::RECORD_BYTES;
 use range_filter_tests::tally::{judge_changed_images, Tally};
 
@@ -211,6 +213,21 @@ fn questions_are_replied_to_alike() {
         tally.note(compare_ask(&image, &file, ROOM).number());
     }
     assert_eq!(tally.numbers(), [0, 21, 22, 23, 25]);
+}
+
+#[test]
+fn points_of_every_rule_are_replied_to_alike() {
+    let mut random = Random::new(25);
+    for _ in 0..QUESTION_FILES {
+        let list = random.pick(&[any_keys, ff_keys, growing_keys, no_keys])(&mut random);
+        let (dense_levels, n) = any_settings(&mut random);
+        let image = built(&list, dense_levels, n);
+        let leaves = accepted_leaves(&image).expect("a built image is accepted");
+        let keys = keys_about(&mut random, &leaves).into_iter();
+        let asked: Vec<Question> = keys.take(MAX_QUESTIONS).map(Question::Point).collect();
+        let length = asked.len() * POINT_REPLY;
+        assert_eq!(compare_ask(&image, &write(&asked), ROOM).length(), length);
+    }
 }
 
 #[test]

@@ -5,7 +5,8 @@ use super::trie::Trie;
 use range_filter_tests::answer::Answer;
 use range_filter_tests::reference::keys::MAX_KEY;
 use range_filter_tests::reference::questions::MAX_QUESTIONS;
-use range_filter_tests::reference::replies::{NONE, REPLY_HEAD};
+use range_filter_tests::reference::replies::{NONE, POINT_REPLY, REPLY_HEAD};
+use range_filter_tests::reference::rules::Rule;
 
 /// A question by the second letter of its mark, with its key or bounds; the upper
 /// bound is empty where there is none.
@@ -94,13 +95,21 @@ fn reply(trie: &Trie, question: &Question, replies: &mut Vec<u8>) {
         upper,
     } = *question;
     let number = match letter {
-        b'P' => u32::from(trie.has(lower)),
+        b'P' => return replies.extend_from_slice(&point_reply(trie.rule(lower))),
         b'R' => u32::from(trie.meets(lower, upper)),
         b'B' => u32::from(trie.begins(lower)),
         b'C' => trie.count(lower, upper),
         _ => return reply_to_seek(trie, lower, replies),
     };
     replies.extend_from_slice(&reply_head(letter, number, 0));
+}
+
+/// Gives the reply to a point that a rule decides: the rule's number is its key.
+fn point_reply(rule: Rule) -> [u8; POINT_REPLY] {
+    let is_held = matches!(rule, Rule::ExactLeaf | Rule::SuffixEqual);
+    let mut reply = [rule.number(); POINT_REPLY];
+    reply[..REPLY_HEAD].copy_from_slice(&reply_head(b'P', is_held.into(), 1));
+    reply
 }
 
 /// Writes the reply to a seek: the key goes behind room for the head, which is then filled.

@@ -3,6 +3,7 @@
 
 use super::trie::{Branch, Trie};
 use range_filter_tests::reference::keys::MAX_KEY;
+use range_filter_tests::reference::rules::Rule;
 use std::cmp::Ordering;
 
 /// Where the ways of two bounds part, with the bytes of both that are left.
@@ -24,22 +25,28 @@ pub enum Parting<'k> {
 }
 
 impl Trie<'_> {
-    /// Says whether some leaf has a key among its possible keys.
-    pub fn has(&self, key: &[u8]) -> bool {
+    /// Gives the rule that decides a key: where its way from the root ends, and how.
+    pub fn rule(&self, key: &[u8]) -> Rule {
         if self.is_empty() {
-            return false;
+            return Rule::NoNodes;
         }
         let mut node = 0;
         for (level, &label) in key.iter().enumerate() {
             let Some(branch) = self.branch(node, label) else {
-                return false;
+                return Rule::BranchMissing;
             };
             let Some(child) = self.child(branch) else {
-                return self.compare_leaf(branch, &key[level + 1..]).is_eq();
+                return match self.compare_leaf(branch, &key[level + 1..]) {
+                    Ordering::Equal => Rule::SuffixEqual,
+                    _ => Rule::SuffixOther,
+                };
             };
             node = child;
         }
-        self.is_exact(node)
+        match self.is_exact(node) {
+            true => Rule::ExactLeaf,
+            false => Rule::KeyEnded,
+        }
     }
 
     /// Says whether some leaf has a possible key that begins with a stem: all leaves below a
