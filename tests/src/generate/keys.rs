@@ -16,11 +16,6 @@ pub fn ascending(mut keys: Vec<Vec<u8>>) -> Vec<Vec<u8>> {
     keys
 }
 
-/// Gives no keys.
-pub fn no_keys(_: &mut Random) -> Vec<Vec<u8>> {
-    Vec::new()
-}
-
 /// Gives short keys over a small alphabet, so that many begin others.
 pub fn short_keys(random: &mut Random) -> Vec<Vec<u8>> {
     let count = random.below(13);
@@ -114,10 +109,17 @@ pub fn any_keys(random: &mut Random) -> Vec<Vec<u8>> {
         extreme_keys,
         wide_keys,
         stemmed_keys,
+        ff_keys,
+        growing_keys,
         long_keys,
         nested_keys,
     ];
     random.pick(&kinds)(random)
+}
+
+/// Gives no keys.
+pub fn no_keys(_: &mut Random) -> Vec<Vec<u8>> {
+    Vec::new()
 }
 
 /// Gives so many keys of one length over any bytes, in pairs that differ in the last byte,
