@@ -25,6 +25,7 @@ use Rattle.query_laws.specs.Root.{first-below, first-next, first-up, lev
 use Rattle.query_laws.specs.LevelSums.{slots-below, slots-on, slots-off, below-sums, between-nowhere}
 use Rattle.query_laws.specs.Steps.{stop-of, exact-stop, goes-there, descend-none, descend-open, descend-on, descend-end, descend-nowhere, below-nowhere, slot-in}
 use Rattle.query_laws.specs.SuffixBytes.{key-next}
+use Rattle.query_laws.specs.Leads.{Byte-leads, Leads, along}
 
 -- A key has led to this leaf, with so many of its bytes passed.
 pub record Stopped (s : Bytes) (f : Frame) (key : Bytes) (stop : LeafStop) (depth : ℕ) : Type 0 where
@@ -156,3 +157,7 @@ module _ (s : Bytes) (f : Frame) (a : Accepted s f) (key : Bytes) where
     -- the key has led to an open leaf
     pub way-leaf : (v : ValuePos) → v .0 ≡ slot-at s f m (b .at .0) → b .kind ≡ Leaf → On-way s f key d m → Stopped s f key (Open v) (d + 1)
     way-leaf v e k o = stopped-open m d (b .kind) h (r .kind-is) v (e ∙ r .at-is .slot-is) k (o .leads)
+
+  -- The node to which the first bytes of the key lead is on its way.
+  pub leads-way : {d m : ℕ} → Leads s f key d m → On-way s f key d m
+  leads-way l = along (On-way s f key) way-root (λ d m c o b. way-child m d (b .here .more) (b .branch) (b .here .found) c (b .child-is) (b .continues) o) l

@@ -5,6 +5,7 @@ pub mod Steps
 pub mod LevelSums
 pub mod SuffixBytes
 pub mod Answers
+pub mod Leads
 pub mod Followed
 pub mod Points
 pub mod LowestKeys

@@ -1,4 +1,5 @@
 // The point question over an accepted image: where a key leads, and the suffix of the leaf there.
 
+pub mod follow; // follow.rt: where the bytes of a key lead
 pub mod suffix; // suffix.rt: the suffix of an open leaf against a key
 pub mod point; // point.rt: the point question
