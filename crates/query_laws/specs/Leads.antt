@@ -1,8 +1,13 @@
 -- Where the first bytes of a key lead from the root, one branch a byte: what the descent that all questions share promises. What a question says of this is said by its own laws, which go along the way.
-use Prim.Native.Nat.{ℕ, _+_, _<_}
+use Prim.Native.Nat.{ℕ, zero, suc, _+_, _<_, _≤_}
 use mathlib.Core.Path.{_≡_, refl}
+use mathlib.Core.Bool.{Bool, true, false, cond}
+use mathlib.Core.List.{[], _∷_}
+use native.Mathlib.Omega.{arith}
 use lib.ListN.{length, getD}
-use Rattle.spec.specs.Bytes.{Bytes}
+use lib.Dec.{eqb}
+use borrow.Author.Tests.{eqb-true}
+use Rattle.spec.specs.Bytes.{Bytes, shared}
 use Rattle.image_types.specs.declared.Frame.{Frame}
 use Rattle.nav_laws.specs.declared.BranchKind.the-variants as Kind
 use Rattle.nav_laws.specs.declared.Found.{Found}
@@ -60,3 +65,51 @@ Leads-to s f key n End.NoNodes = node-count f ≡ 0
 Leads-to s f key n End.NoBranch = Branch-missing s f key n
 Leads-to s f key n (End.Node m) = Leads s f key n (m .0)
 Leads-to s f key n (End.Leaf m p d) = Leaf-behind s f key n (m .0) (p .0) d
+
+-- ---- two keys along the bytes that they share
+
+-- a byte of the shared prefix stands in both keys
+pub shared-byte : (p q : Bytes) (i : ℕ) → i < shared p q → (i < length p) × (i < length q) × (getD p i 0 ≡ getD q i 0)
+unfolding shared
+shared-byte [] q i h = absurd (omega arith)
+shared-byte (x ∷ p) [] i h = absurd (omega arith)
+shared-byte (x ∷ p) (y ∷ q) i h = go (eqb x y) refl (shared-byte p q) i h
+  where
+    go : (b : Bool) → eqb x y ≡ b → ((j : ℕ) → j < shared p q → (j < length p) × (j < length q) × (getD p j 0 ≡ getD q j 0))
+        → (i : ℕ) → i < cond b (suc (shared p q)) 0 → (i < suc (length p)) × (i < suc (length q)) × (getD (x ∷ p) i 0 ≡ getD (y ∷ q) i 0)
+    go true e r zero h = (omega arith, omega arith, eqb-true x y e)
+    go true e r (suc i) h = let t = r i (omega arith) in (omega arith, omega arith, t .2)
+    go false e r i h = absurd (omega arith)
+
+module _ (s : Bytes) (f : Frame) (lo hi : Bytes) where
+  byte-shared : (d m : ℕ) (b : Found) → d < shared lo hi → At-byte s f lo d m b → At-byte s f hi d m b
+  byte-shared d m b h t = let q = shared-byte lo hi d h in record { more = q .1; found = rw (q .2) at (t .found) }
+
+  leads-shared : {d m : ℕ} → d ≤ shared lo hi → Leads s f lo d m → Leads s f hi d m
+  leads-shared h (root z) = root z
+  leads-shared h (next {d} {m} {c} l b) =
+      next (leads-shared (omega arith) l) (record { branch = b .branch; here = byte-shared d m (b .branch) (omega arith) (b .here); continues = b .continues; child-is = b .child-is })
+
+  -- Where the bytes that two keys share lead the one, they lead the other.
+  pub ends-shared : (n : ℕ) (end : KeyEnd) → n ≤ shared lo hi → Leads-to s f lo n end → Leads-to s f hi n end
+  ends-shared n End.NoNodes h t = t
+  ends-shared n End.NoBranch h t = record {
+    depth = t .depth;
+    node = t .node;
+    leads = leads-shared (omega (arith, t .inside)) (t .leads);
+    inside = t .inside;
+    branch = t .branch;
+    here = byte-shared (t .depth) (t .node) (t .branch) (omega (arith, t .inside)) (t .here);
+    absent = t .absent;
+  }
+  ends-shared n (End.Node m) h t = leads-shared h t
+  ends-shared n (End.Leaf m p d) h t = record {
+    depth = t .depth;
+    passed = t .passed;
+    leads = leads-shared (omega (arith, t .inside)) (t .leads);
+    inside = t .inside;
+    branch = t .branch;
+    here = byte-shared (t .depth) (m .0) (t .branch) (omega (arith, t .inside)) (t .here);
+    ends = t .ends;
+    at-is = t .at-is;
+  }
