@@ -5,7 +5,7 @@ use mathlib.Core.Bool.{Bool, true, false}
 use mathlib.Core.List.{[], _∷_}
 use native.Mathlib.Omega.{arith}
 use lib.ListN.{length, getD, drop}
-use Rattle.spec.specs.Bytes.{Bytes, Bits, bit}
+use Rattle.spec.specs.Bytes.{Bytes, Bits, count, bit}
 use Rattle.spec.specs.Nodes.{read-leaves}
 use Rattle.spec.specs.Questions.{point, counted}
 use Rattle.theory.specs.Terms.{Is-bytes, Bound}
@@ -18,7 +18,7 @@ use Rattle.nav_laws.specs.Descent.{descend, leaves-below, value}
 use Rattle.query_laws.specs.Bounds.{high-passed, low-reached}
 use Rattle.query_laws.specs.Ordered.{passed, reached, counted-is}
 use Rattle.query_laws.specs.LevelSums.{slots-below, slots-nothing, below-sums}
-use Rattle.query_laws.specs.Root.{has-suffix, point-is, passed-is, reached-is}
+use Rattle.query_laws.specs.Root.{has-suffix, leads-to-leaf, point-is, led-is, passed-is, reached-is}
 use Rattle.query_laws.specs.Steps.{stop-of}
 use Rattle.nav_laws.specs.Accepted.{Accepted, nodes}
 
@@ -35,6 +35,10 @@ module _ (s : Bytes) (f : Frame) (a : Accepted s f) (k : Bytes) where
   -- Point: what counts where the key leads, an open leaf if the rest of the key has its suffix.
   pub point-stops : length k ≤ 64 → point (read-leaves s) k ≡ value true has-suffix (f .width) (nodes s f) (descend (nodes s f) 0 k)
   point-stops h = point-is (f .width) (f .width) (read-leaves s) (nodes s f) (a .realizable) (a .well-sized) (a .trie-is) (a .writable .wide) k h
+
+  -- The leaves to which a key leads: what counts there.
+  pub led-stops : (ends : Bool) (q : Bits → Bytes → Bool) → count (leads-to-leaf ends q k) (read-leaves s) ≡ value ends q (f .width) (nodes s f) (descend (nodes s f) 0 k)
+  led-stops ends q = led-is (f .width) (f .width) (read-leaves s) (nodes s f) (a .realizable) (a .well-sized) (a .trie-is) (a .writable .wide) ends q k
 
   passed-stops : passed (read-leaves s) k ≡ leaves-below (nodes s f) 64 0 0 k + value false (high-passed (length k)) (f .width) (nodes s f) (descend (nodes s f) 0 k)
   passed-stops = passed-is (f .width) (f .width) (read-leaves s) (nodes s f) (a .realizable) (a .well-sized) (a .trie-is) (a .writable .wide) k

@@ -17,6 +17,7 @@ pub mod Seeks
 pub mod Seeking
 pub mod RangeWays
 pub mod StemWay
+pub mod Rules
 pub mod LeafKeys
 pub mod SlotBits
 pub mod SuffixBits

@@ -127,6 +127,32 @@ unfoldable pub has-suffix : Bits → Bytes → Bool
 unfolding same-bits padded bits-of
 has-suffix s r = same-bits (padded (length s) (bits-of r)) s
 
+-- The key leads to the leaf: it is the cut key of an exact leaf, which counts if `ends` says so; or an open leaf's cut key begins it, and the suffix passes the test q against the rest of the key.
+unfoldable pub leads-to-leaf : Bool → (Bits → Bytes → Bool) → Bytes → Leaf → Bool
+unfolding equal begins
+leads-to-leaf ends q k l = cond (l .exact) (ends && equal (l .cut) k) (begins (l .cut) k && q (l .suffix) (drop (length (l .cut)) k))
+
+-- The leaves that count before the key by `ends` and q are those that lie before it whatever these say, and those to which it leads.
+leaf-counts : (ends : Bool) (q : Bits → Bytes → Bool) (l : Leaf) (k : Bytes) → bit (counts ends q k l) ≡ bit (counts false (λ s r. false) k l) + bit (leads-to-leaf ends q k l)
+unfolding counts leads-to-leaf
+leaf-counts ends q l k = go (l .exact)
+  where
+    exact-leaf : (a b e : Bool) → below (l .cut) k ≡ a → equal (l .cut) k ≡ b → bit (a || (e && b)) ≡ bit (a || false) + bit (e && b)
+    exact-leaf true true e p q = absurd (true≢false (sym q ∙ (equal-order (l .cut) k ∙ ap (λ (x : Bool). not (below k (l .cut)) && not x) p ∙ and-false (not (below k (l .cut))))))
+    exact-leaf true false e p q = rw (and-false e)
+    exact-leaf false b e p q = omega arith
+
+    open-leaf : (a b c : Bool) → bit ((a && not b) || (b && c)) ≡ bit ((a && not b) || (b && false)) + bit (b && c)
+    open-leaf a true c = rw (and-false a) (omega arith)
+    open-leaf true false c = refl
+    open-leaf false false c = refl
+
+    go : (e : Bool) → bit (cond e (below (l .cut) k || (ends && equal (l .cut) k)) ((below (l .cut) k && not (begins (l .cut) k)) || (begins (l .cut) k && q (l .suffix) (drop (length (l .cut)) k))))
+        ≡ bit (cond e (below (l .cut) k || (false && equal (l .cut) k)) ((below (l .cut) k && not (begins (l .cut) k)) || (begins (l .cut) k && false)))
+        + bit (cond e (ends && equal (l .cut) k) (begins (l .cut) k && q (l .suffix) (drop (length (l .cut)) k)))
+    go true = exact-leaf (below (l .cut) k) (equal (l .cut) k) ends refl refl
+    go false = open-leaf (below (l .cut) k) (begins (l .cut) k) (q (l .suffix) (drop (length (l .cut)) k))
+
 -- The leaves that count before the key or hold it are those that count before it, and those that have it among their possible keys.
 possible-counts : (l : Leaf) (k : Bytes) → length k ≤ 64 → bit (counts true has-suffix k l) ≡ bit (counts false (λ s r. false) k l) + bit (possible l k)
 unfolding counts possible has-suffix bits-behind
@@ -196,3 +222,17 @@ module _ (n w : ℕ) (ls : List Leaf) (ns : List Node) (g : Realizable n ls) (o 
       go miss c u v = one c false (omega (arith, u, v))
       go at-exact c u v = one c true (omega (arith, u, v))
       go (at-open t j) c u v = one c (has-suffix (slot-of w ns t) j) (omega (arith, u, v))
+
+  -- The leaves to which a key leads, by where it leads from the root: one or none.
+  pub led-is : (ends : Bool) (q : Bits → Bytes → Bool) (k : Bytes) → count (leads-to-leaf ends q k) ls ≡ value ends q w ns (descend ns 0 k)
+  unfolding value
+  led-is ends q k =
+      go (descend ns 0 k)
+      (sym (count-sum (counts ends q k) (counts false (λ s r. false) k) (leads-to-leaf ends q k) ls (λ l. leaf-counts ends q l k)) ∙ trie-counted n w ls ns g o e wide ends q k)
+      (trie-counted n w ls ns g o e wide false (λ s r. false) k)
+    where
+      go : (s : Stop) → count (counts false (λ s r. false) k) ls + count (leads-to-leaf ends q k) ls ≡ leaves-below ns 64 0 0 k + value ends q w ns s
+          → count (counts false (λ s r. false) k) ls ≡ leaves-below ns 64 0 0 k + value false (λ s r. false) w ns s → count (leads-to-leaf ends q k) ls ≡ value ends q w ns s
+      go miss u v = omega (arith, u, v)
+      go at-exact u v = omega (arith, u, v)
+      go (at-open t j) u v = omega (arith, u, v)

@@ -98,7 +98,7 @@ agreed (suc k) m s (y ∷ r) b e =
 -- ---- prefixes
 
 -- what begins the beginning of a key begins the key
-begins-through : (a b c : Bytes) → begins a b ≡ true → begins b c ≡ true → begins a c ≡ true
+pub begins-through : (a b c : Bytes) → begins a b ≡ true → begins b c ≡ true → begins a c ≡ true
 begins-through a b c p q =
     let u : Bytes = drop (length a) b in
     let v : Bytes = drop (length b) c in

@@ -1,0 +1,267 @@
+-- The rule behind a point's reply, by where the bytes of a key lead from the root: the rule that the end of the descent names is the one that applies to the key among the leaves.
+use Prim.Native.Nat.{ℕ, zero, suc, _+_, _<_}
+use mathlib.Core.Path.{_≡_, refl, sym, ap, _∙_}
+use mathlib.Core.Bool.{Bool, true, false, cond, not, _&&_, _||_, true≢false, and-false}
+use mathlib.Core.List.{List, [], _∷_, _++_, append-nil}
+use native.Mathlib.Omega.{arith}
+use lib.ListN.{length, drop}
+use lib.Dec.{eqb}
+use borrow.Author.Tests.{not-true}
+use Rattle.spec.specs.Bytes.{Bytes, Bits, any, count, bit, equal, begins}
+use Rattle.spec.specs.Leaves.{Leaf, others, bits-behind}
+use Rattle.spec.specs.Nodes.{is-exact, read-leaves}
+use Rattle.spec.specs.Questions.{begins-with}
+use Rattle.spec.specs.Rules.{leads-to-node, leads-to-exact, leads-to-open, same-suffix, branch-missing, key-ended, at-exact-leaf, suffix-equal, suffix-other, no-nodes, applies, rule}
+use Rattle.spec.specs.Rules as spec
+use Rattle.theory.specs.Terms.{Bound}
+use Rattle.theory.specs.Lists.{and-both, or-both-false, all-in, any-in, any-none, any-false, in-any, any-count, count-any, in-map, in-filter}
+use Rattle.theory.specs.Order.{equal-true, equal-comm, begins-append}
+use Rattle.theory.specs.LeafLists.{Realizable, All-well-sized, Shortest, cut-key}
+use Rattle.image_types.specs.declared.Frame.{Frame}
+use Rattle.image_types.specs.declared.ValuePos.{ValuePos}
+use Rattle.nav_laws.specs.declared.LeafStop.the-variants.{Nowhere, Exact, Open}
+use Rattle.nav_laws.specs.Accepted.{Accepted, nodes}
+use Rattle.nav_laws.specs.Below.{level-node}
+use Rattle.nav_laws.specs.FoundBranch.{node-count}
+use Rattle.nav_laws.specs.Positions.{slot-at}
+use Rattle.nav_laws.specs.Slots.{node-at, slot-of}
+use Rattle.query_laws.specs.declared.Rule.{Rule}
+use Rattle.query_laws.specs.declared.Rule.the-variants as Named
+use Rattle.query_laws.specs.Root.{count-same, has-suffix, leads-to-leaf}
+use Rattle.query_laws.specs.Answers.{led-stops, value-none, value-exact, value-open}
+use Rattle.query_laws.specs.Leads.{Leads, along, Branch-missing, Leaf-behind}
+use Rattle.query_laws.specs.Steps.{exact-stop}
+use Rattle.query_laws.specs.Followed.{Stopped, node-length, stopped-end, way-none, way-leaf, leads-way}
+use Rattle.query_laws.specs.Seeks.{root-of, some-leaf}
+use Rattle.query_laws.specs.StemLeaves.{covers, agrees, begins-covers, begins-through}
+use Rattle.query_laws.specs.StemWay.{Stem-way, stem-root, stem-ended, stem-none, stem-child}
+
+-- the rule of order 3 that a descent names
+abbrev pub rule-of : Rule → spec.Rule
+rule-of Named.BranchMissing = branch-missing
+rule-of Named.KeyEnded = key-ended
+rule-of Named.ExactLeaf = at-exact-leaf
+rule-of Named.SuffixEqual = suffix-equal
+rule-of Named.SuffixOther = suffix-other
+rule-of Named.NoNodes = no-nodes
+
+-- ---- tests over lists, and prefixes
+
+-- a test that one member passes, or none
+any-counted : {A : Type 0} (p : A → Bool) (xs : List A) (b : Bool) → count p xs ≡ bit b → any p xs ≡ b
+any-counted p xs true h = count-any p xs (omega arith)
+any-counted p xs false h = go (any p xs) refl
+  where
+    go : (c : Bool) → any p xs ≡ c → any p xs ≡ false
+    go true e = absurd (omega (arith, any-count p xs e))
+    go false e = e
+
+-- a bit that is 1
+bit-true : (b : Bool) → bit b ≡ 1 → b ≡ true
+bit-true true h = refl
+bit-true false h = absurd (omega arith)
+
+-- a bit that is 0
+bit-false : (b : Bool) → bit b ≡ 0 → b ≡ false
+bit-false true h = absurd (omega arith)
+bit-false false h = refl
+
+-- two keys that begin each other are equal
+begins-both : (a b : Bytes) → begins a b ≡ true → begins b a ≡ true → equal a b ≡ true
+unfolding begins equal
+begins-both [] [] p q = refl
+begins-both [] (y ∷ b) p q = absurd (true≢false (sym q))
+begins-both (x ∷ a) [] p q = absurd (true≢false (sym p))
+begins-both (x ∷ a) (y ∷ b) p q =
+    let u = and-both (eqb x y) (begins a b) p in
+    let v = and-both (eqb y x) (begins b a) q in
+    rw (u .0, begins-both a b (u .1) (v .1))
+
+-- equal keys begin each other
+equal-begins : (a b : Bytes) → equal a b ≡ true → begins a b ≡ true
+equal-begins a b h = let e : b ≡ a ++ [] = sym (equal-true a b h) ∙ sym (append-nil a) in rw e (begins-append a [])
+
+-- a leaf's cut key goes on behind these bytes
+abbrev goes-behind : Bytes → Leaf → Bool
+goes-behind k l = begins k (l .cut) && not (equal k (l .cut))
+
+module _ (k c d : Bytes) (p : begins c k ≡ true) (alone : equal c d ≡ false → begins c d ≡ false) where
+  -- a cut key c begins k, and another, d, would begin with k and be longer: then c begins d too
+  not-longer : (b : Bool) → equal c d ≡ b → begins k d ≡ true → equal k d ≡ false → true ≡ false
+  not-longer true e q r = let z : d ≡ c = sym (equal-true c d e) in sym (begins-both k d q (rw z p)) ∙ r
+  not-longer false e q r = sym (begins-through c k d p q) ∙ alone e
+
+  -- Where c begins k, and begins d only if it is d, d does not go on behind k.
+  not-behind : begins k d && not (equal k d) ≡ false
+  not-behind = go (begins k d) (equal k d) refl refl
+    where
+      go : (b e : Bool) → begins k d ≡ b → equal k d ≡ e → b && not e ≡ false
+      go true true q r = refl
+      go true false q r = not-longer (equal c d) refl q r
+      go false e q r = refl
+
+-- ---- what the leaves say of a key
+
+-- Whether the key leads to an exact leaf, to an open one, to one whose suffix it has, and to one whose suffix it does not have.
+record Told (ls : List Leaf) (k : Bytes) (exact opened same other : Bool) : Type 0 where
+  exact-is : leads-to-exact ls k ≡ exact
+  open-is : any (leads-to-open k) ls ≡ opened
+  same-is : applies ls k suffix-equal ≡ same
+  other-is : applies ls k suffix-other ≡ other
+
+module _ (ls : List Leaf) (k : Bytes) where
+  -- By the number of leaves to which the key leads, for every test of exact and open leaves.
+  told : (r : Bool → (Bits → Bytes → Bool) → Bool) → ((ends : Bool) (q : Bits → Bytes → Bool) → count (leads-to-leaf ends q k) ls ≡ bit (r ends q))
+      → Told ls k (r true (λ s t. false)) (r false (λ s t. true)) (r false has-suffix) (r false (λ s t. not (has-suffix s t)))
+  unfolding leads-to-exact leads-to-open same-suffix applies leads-to-leaf has-suffix bits-behind
+  told r c = record {
+    exact-is = one (λ l. l .exact && equal (l .cut) k) true (λ s t. false) (λ l. exact-leaf (l .exact) (equal (l .cut) k) (begins (l .cut) k));
+    open-is = one (leads-to-open k) false (λ s t. true) (λ l. open-leaf (l .exact) (begins (l .cut) k));
+    same-is = one (λ l. leads-to-open k l && same-suffix k l) false has-suffix (λ l. tested (l .exact) (begins (l .cut) k) (has-suffix (l .suffix) (drop (length (l .cut)) k)));
+    other-is = one (λ l. leads-to-open k l && not (same-suffix k l)) false (λ s t. not (has-suffix s t)) (λ l. tested (l .exact) (begins (l .cut) k) (not (has-suffix (l .suffix) (drop (length (l .cut)) k))));
+  }
+    where
+      one : (p : Leaf → Bool) (ends : Bool) (q : Bits → Bytes → Bool) → ((l : Leaf) → p l ≡ leads-to-leaf ends q k l) → any p ls ≡ r ends q
+      one p ends q h = any-counted p ls (r ends q) (count-same p (leads-to-leaf ends q k) ls h ∙ c ends q)
+
+      exact-leaf : (e a b : Bool) → e && a ≡ cond e (true && a) (b && false)
+      exact-leaf true a b = refl
+      exact-leaf false a b = sym (and-false b)
+
+      open-leaf : (e b : Bool) → not e && b ≡ cond e false (b && true)
+      open-leaf true b = refl
+      open-leaf false true = refl
+      open-leaf false false = refl
+
+      tested : (e b c : Bool) → (not e && b) && c ≡ cond e false (b && c)
+      tested true b c = refl
+      tested false b c = refl
+
+  -- The rule by these, and by whether the key leads to a node.
+  rule-told : {exact opened same other : Bool} (node : Bool) → leads-to-node ls [] ≡ true → leads-to-node ls k ≡ node → Told ls k exact opened same other
+      → rule ls k ≡ cond (node && not exact) key-ended (cond exact at-exact-leaf (cond same suffix-equal (cond other suffix-other branch-missing)))
+  unfolding rule applies
+  rule-told node h e t = rw (h, e, t .exact-is, t .same-is, t .other-is)
+
+  -- The key leads to a node if some leaf has a possible key that begins with it, and the key leads to no leaf.
+  covered-node : {same other : Bool} → any (covers k) ls ≡ true → Told ls k false false same other → leads-to-node ls k ≡ true
+  unfolding leads-to-node leads-to-exact leads-to-open covers
+  covered-node h t =
+      let m = any-in (covers k) ls h in
+      let c : Bytes = m .0 .cut in
+      in-any (goes-behind k) (m .1)
+      (rw (equal-comm k c)
+      (go (m .0 .exact) (begins k c) (begins c k) (equal c k) (agrees (m .0 .suffix) (drop (length c) k)) (m .2) (any-none (λ l. l .exact && equal (l .cut) k) (t .exact-is) (m .1)) (any-none (leads-to-open k) (t .open-is) (m .1)) (equal-begins c k)))
+    where
+      go : (x b c e g : Bool) → b || (not x && (c && g)) ≡ true → x && e ≡ false → not x && c ≡ false → (e ≡ true → c ≡ true) → b && not e ≡ true
+      go true true c true g h p q r = absurd (true≢false p)
+      go true true c false g h p q r = refl
+      go true false c e g h p q r = absurd (true≢false (sym h))
+      go false b true e g h p q r = absurd (true≢false q)
+      go false true false true g h p q r = absurd (true≢false (sym (r refl)))
+      go false true false false g h p q r = refl
+      go false false false e g h p q r = absurd (true≢false (sym h))
+
+  -- It leads to none if no leaf has such a key.
+  uncovered-node : any (covers k) ls ≡ false → leads-to-node ls k ≡ false
+  unfolding leads-to-node covers
+  uncovered-node h =
+      any-false (goes-behind k) ls
+      (λ l i. rw (or-both-false (begins k (l .cut)) (not (l .exact) && (begins (l .cut) k && agrees (l .suffix) (drop (length (l .cut)) k))) (any-none (covers k) h i) .0))
+
+  -- Nor where it leads to an open leaf: no cut key goes on behind that of an open leaf.
+  open-node : {n : ℕ} → Realizable n ls → any (leads-to-open k) ls ≡ true → leads-to-node ls k ≡ false
+  unfolding leads-to-node leads-to-open others
+  open-node {n} g h =
+      let m = any-in (leads-to-open k) ls h in
+      let o = and-both (not (m .0 .exact)) (begins (m .0 .cut) k) (m .2) in
+      let kind = all-in (Shortest n ls) (g .shortest) (m .1) .kind ∙ not-true (m .0 .exact) (o .0) in
+      any-false (goes-behind k) ls (λ l i. not-behind k (m .0 .cut) (l .cut) (o .1) (λ q. any-none (begins (m .0 .cut)) kind (in-filter (λ c. not (equal (m .0 .cut) c)) (in-map cut-key i) (rw q refl))))
+
+-- the empty key leads to the root, if there is a leaf
+root-node : (n : ℕ) (ls : List Leaf) → All-well-sized n ls → 0 < length ls → leads-to-node ls [] ≡ true
+unfolding leads-to-node any begins equal
+root-node n [] o h = absurd (omega arith)
+root-node n (l ∷ ls) o h = rw (behind (l .cut) (o .0 .key .least))
+  where
+    behind : (c : Bytes) → 0 < length c → equal [] c ≡ false
+    behind [] h = absurd (omega arith)
+    behind (x ∷ c) h = refl
+
+-- no leaf, no node
+rule-nothing : (ls : List Leaf) (k : Bytes) → length ls ≡ 0 → rule ls k ≡ no-nodes
+unfolding rule applies leads-to-node any
+rule-nothing [] k h = refl
+rule-nothing (l ∷ ls) k h = absurd (omega arith)
+
+-- ---- where the key leads in an accepted image
+
+module _ (s : Bytes) (f : Frame) (a : Accepted s f) (key : Bytes) where
+  -- an image without nodes has no leaf
+  pub rule-nowhere : node-count f ≡ 0 → rule (read-leaves s) key ≡ no-nodes
+  rule-nowhere z = rule-nothing (read-leaves s) key (go (length (read-leaves s)) refl)
+    where
+      go : (n : ℕ) → length (read-leaves s) ≡ n → length (read-leaves s) ≡ 0
+      go zero e = e
+      go (suc n) e = absurd (omega (arith, level-node (nodes s f) 64 0 (root-of s f a (omega arith) .on), node-length s f a))
+
+  -- what the leaves say of a key that leads to none
+  told-none : (d : ℕ) → Stopped s f key Nowhere d → Told (read-leaves s) key false false false false
+  told-none d t = told (read-leaves s) key (λ ends q. false) (λ ends q. led-stops s f a key ends q ∙ value-none s f a key Nowhere d (t .leads) ends q refl)
+
+  -- of one that leads to an exact leaf
+  told-exact : (d : ℕ) → Stopped s f key Exact d → Told (read-leaves s) key true false false false
+  told-exact d t = told (read-leaves s) key (λ ends q. ends) (λ ends q. led-stops s f a key ends q ∙ value-exact s f a key Exact d (t .leads) ends q refl)
+
+  -- of one that leads to an open leaf
+  told-open : (d : ℕ) (v : ValuePos) → Stopped s f key (Open v) d
+      → Told (read-leaves s) key false true (has-suffix (slot-of (f .width) (nodes s f) (v .0)) (drop d key)) (not (has-suffix (slot-of (f .width) (nodes s f) (v .0)) (drop d key)))
+  told-open d v t = told (read-leaves s) key (λ ends q. q (slot-of (f .width) (nodes s f) (v .0)) (drop d key)) (λ ends q. led-stops s f a key ends q ∙ value-open s f a key (Open v) d (t .leads) ends q v refl)
+
+  -- where bytes of the key lead to a node, the empty key leads to the root
+  root-there : {d m : ℕ} → Leads s f key d m → leads-to-node (read-leaves s) [] ≡ true
+  root-there l = root-node (f .width) (read-leaves s) (a .well-sized) (some-leaf s f a (omega (arith, leads-way s f a key l .node-in)))
+
+  -- The key leads to an open leaf, whose slot is one of the leaves: its suffix decides.
+  pub rule-leaf : {n m p d : ℕ} → Leaf-behind s f key n m p d
+      → (slot-at s f m p < f .leaves) × (rule (read-leaves s) key ≡ cond (has-suffix (slot-of (f .width) (nodes s f) (slot-at s f m p)) (drop d key)) suffix-equal suffix-other)
+  rule-leaf {m = m} {p = p} l =
+      let v : ValuePos = record { 0 = slot-at s f m p } in
+      let t = way-leaf s f a key m (l .depth) (l .here .more) (l .branch) (l .here .found) v (ap (slot-at s f m) (l .at-is)) (l .ends) (leads-way s f a key (l .leads)) in
+      let h : Bool = has-suffix (slot-of (f .width) (nodes s f) (v .0)) (drop (l .depth + 1) key) in
+      let u = told-open (l .depth + 1) v t in (
+        t .leaf-in v refl,
+        rule-told (read-leaves s) key false (root-there (l .leads)) (open-node (read-leaves s) key (a .realizable) (u .open-is)) u ∙ rw (l .passed) (go h),
+      )
+    where
+      go : (h : Bool) → cond h suffix-equal (cond (not h) suffix-other branch-missing) ≡ cond h suffix-equal suffix-other
+      go true = refl
+      go false = refl
+
+  module _ (b : Bound key) where
+    -- the first bytes of the key, as of a stem
+    stem-way : {d m : ℕ} → Leads s f key d m → Stem-way s f key d m
+    stem-way l = along (Stem-way s f key) (stem-root s f a key b) (λ d m c o n. stem-child s f a key m d (n .here .more) (n .branch) (n .here .found) o c (n .child-is) (n .continues)) l
+
+    -- some leaf has a possible key that begins with the key, or none has
+    covered-by : (n : ℕ) → begins-with (read-leaves s) key ≡ n → bit (any (covers key) (read-leaves s)) ≡ n
+    covered-by n h = sym (begins-covers (f .width) (read-leaves s) (a .well-sized) key b) ∙ h
+
+    -- A branch is missing.
+    pub rule-missing : {n : ℕ} → Branch-missing s f key n → rule (read-leaves s) key ≡ branch-missing
+    rule-missing l =
+        let t = way-none s f a key (l .node) (l .depth) (l .here .more) (l .branch) (l .here .found) (l .absent) (leads-way s f a key (l .leads)) in
+        let c = covered-by 0 (stem-none s f a key (l .node) (l .depth) (l .here .more) (l .branch) (l .here .found) (stem-way (l .leads)) (l .absent)) in
+        rule-told (read-leaves s) key false (root-there (l .leads)) (uncovered-node (read-leaves s) key (bit-false (any (covers key) (read-leaves s)) c)) (told-none (l .depth + 1) t)
+
+    -- The key ends at a node: whether the node is an exact leaf decides.
+    pub rule-node : {m : ℕ} → Leads s f key (length key) m → rule (read-leaves s) key ≡ cond (is-exact (node-at (nodes s f) m)) at-exact-leaf key-ended
+    rule-node {m} l =
+        go (is-exact (node-at (nodes s f) m)) (stopped-end s f a key (length key) m (exact-stop (is-exact (node-at (nodes s f) m))) refl refl (leads-way s f a key l .leads))
+      where
+        go : (x : Bool) → Stopped s f key (exact-stop x) (length key) → rule (read-leaves s) key ≡ cond x at-exact-leaf key-ended
+        go true t = rule-told (read-leaves s) key (leads-to-node (read-leaves s) key) (root-there l) refl (told-exact (length key) t) ∙ rw (and-false (leads-to-node (read-leaves s) key))
+        go false t =
+            let u = told-none (length key) t in
+            let c = covered-by 1 (stem-ended s f a key (length key) m (omega arith) (stem-way l)) in
+            rule-told (read-leaves s) key true (root-there l) (covered-node (read-leaves s) key (bit-true (any (covers key) (read-leaves s)) c) u) u
