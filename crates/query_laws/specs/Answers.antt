@@ -7,7 +7,7 @@ use native.Mathlib.Omega.{arith}
 use lib.ListN.{length, getD, drop}
 use Rattle.spec.specs.Bytes.{Bytes, Bits, count, bit}
 use Rattle.spec.specs.Nodes.{read-leaves}
-use Rattle.spec.specs.Questions.{point, counted}
+use Rattle.spec.specs.Questions.{counted}
 use Rattle.theory.specs.Terms.{Is-bytes, Bound}
 use Rattle.image_types.specs.declared.Frame.{Frame}
 use Rattle.image_types.specs.declared.ValuePos.{ValuePos}
@@ -18,7 +18,7 @@ use Rattle.nav_laws.specs.Descent.{descend, leaves-below, value}
 use Rattle.query_laws.specs.Bounds.{high-passed, low-reached}
 use Rattle.query_laws.specs.Ordered.{passed, reached, counted-is}
 use Rattle.query_laws.specs.LevelSums.{slots-below, slots-nothing, below-sums}
-use Rattle.query_laws.specs.Root.{has-suffix, leads-to-leaf, point-is, led-is, passed-is, reached-is}
+use Rattle.query_laws.specs.Root.{leads-to-leaf, led-is, passed-is, reached-is}
 use Rattle.query_laws.specs.Steps.{stop-of}
 use Rattle.nav_laws.specs.Accepted.{Accepted, nodes}
 
@@ -32,10 +32,6 @@ pub bound : (k : Bytes) → ((i : ℕ) → getD k i 0 < 256) → length k ≤ 64
 bound k h l = record { fits = l; bytes = all-small k h }
 
 module _ (s : Bytes) (f : Frame) (a : Accepted s f) (k : Bytes) where
-  -- Point: what counts where the key leads, an open leaf if the rest of the key has its suffix.
-  pub point-stops : length k ≤ 64 → point (read-leaves s) k ≡ value true has-suffix (f .width) (nodes s f) (descend (nodes s f) 0 k)
-  point-stops h = point-is (f .width) (f .width) (read-leaves s) (nodes s f) (a .realizable) (a .well-sized) (a .trie-is) (a .writable .wide) k h
-
   -- The leaves to which a key leads: what counts there.
   pub led-stops : (ends : Bool) (q : Bits → Bytes → Bool) → count (leads-to-leaf ends q k) (read-leaves s) ≡ value ends q (f .width) (nodes s f) (descend (nodes s f) 0 k)
   led-stops ends q = led-is (f .width) (f .width) (read-leaves s) (nodes s f) (a .realizable) (a .well-sized) (a .trie-is) (a .writable .wide) ends q k

@@ -25,7 +25,7 @@ use Rattle.query_laws.specs.Root.{first-below, first-next, first-up, lev
 use Rattle.query_laws.specs.LevelSums.{slots-below, slots-on, slots-off, below-sums, between-nowhere}
 use Rattle.query_laws.specs.Steps.{stop-of, exact-stop, goes-there, descend-none, descend-open, descend-on, descend-end, descend-nowhere, below-nowhere, slot-in}
 use Rattle.query_laws.specs.SuffixBytes.{key-next}
-use Rattle.query_laws.specs.Leads.{Byte-leads, Leads, along}
+use Rattle.query_laws.specs.Leads.{Leads, along}
 
 -- A key has led to this leaf, with so many of its bytes passed.
 pub record Stopped (s : Bytes) (f : Frame) (key : Bytes) (stop : LeafStop) (depth : ℕ) : Type 0 where

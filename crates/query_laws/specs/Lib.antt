@@ -7,7 +7,6 @@ pub mod SuffixBytes
 pub mod Answers
 pub mod Leads
 pub mod Followed
-pub mod Points
 pub mod LowestKeys
 pub mod StemLeaves
 pub mod Next

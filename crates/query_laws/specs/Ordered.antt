@@ -69,7 +69,7 @@ counted-is n (l ∷ ls) lo hi a o = go (below hi (lowest l)) refl (below (highes
     go false e false g ih = omega (arith, none-passed lo l ls (o .0) (o .1) (a .0) g)
 
 -- some member passes a test exactly if their count is not 0
-pub any-bit : {A : Type 0} (p : A → Bool) (xs : List A) → bit (any p xs) ≡ bit (ltb 0 (count p xs))
+any-bit : {A : Type 0} (p : A → Bool) (xs : List A) → bit (any p xs) ≡ bit (ltb 0 (count p xs))
 unfolding any count
 any-bit p [] = refl
 any-bit p (x ∷ xs) = go (p x) (any-bit p xs)

@@ -6,20 +6,17 @@ use mathlib.Core.List.{List, [], _∷_, _++_}
 use native.Mathlib.Omega.{arith}
 use lib.ListN.{length, take, drop, length-append}
 use lib.Seq.{take-all}
-use lib.Dec.{ltb}
-use borrow.Author.Tests.{le-leb}
 use Rattle.spec.specs.Bytes.{Bytes, Bits, bit, count, concat, equal, begins, bits-of, padded, same-bits}
 use Rattle.spec.specs.Keys.{below}
-use Rattle.spec.specs.Leaves.{Leaf, bits-behind, possible, highest, lowest}
-use Rattle.spec.specs.Nodes.{Node, node, children, total, children-of}
+use Rattle.spec.specs.Leaves.{Leaf, highest, lowest}
+use Rattle.spec.specs.Nodes.{Node, children, total, children-of}
 use Rattle.spec.specs.Trie.{open-leaves, leaf-count}
-use Rattle.spec.specs.Questions.{point}
 use Rattle.nav_laws.specs.Counting.{labels-below, counts}
-use Rattle.nav_laws.specs.Slots.{leaves-before, slot-number, slot-of}
+use Rattle.nav_laws.specs.Slots.{leaves-before, slot-number}
 use Rattle.nav_laws.specs.Descent.{children-before, child-number, goes-on, ends-at, Stop, miss, at-exact, at-open, descend, leaves-below, between-same, value, level-counted, Stands, stands-next, children-first}
 use Rattle.nav_laws.specs.NumberBounds.{children-up, node-total}
 use Rattle.query_laws.specs.Bounds.{and-false, high-passed, low-reached, highest-counts, lowest-counts}
-use Rattle.query_laws.specs.Ordered.{passed, reached, any-bit}
+use Rattle.query_laws.specs.Ordered.{passed, reached}
 use Rattle.theory.specs.LeafLists.{Realizable, All-well-sized}
 use Rattle.theory.specs.Terms.{All}
 use Rattle.theory.specs.Order.{equal-order}
@@ -153,31 +150,6 @@ leaf-counts ends q l k = go (l .exact)
     go true = exact-leaf (below (l .cut) k) (equal (l .cut) k) ends refl refl
     go false = open-leaf (below (l .cut) k) (begins (l .cut) k) (q (l .suffix) (drop (length (l .cut)) k))
 
--- The leaves that count before the key or hold it are those that count before it, and those that have it among their possible keys.
-possible-counts : (l : Leaf) (k : Bytes) → length k ≤ 64 → bit (counts true has-suffix k l) ≡ bit (counts false (λ s r. false) k l) + bit (possible l k)
-unfolding counts possible has-suffix bits-behind
-possible-counts l k h = rw (le-leb (length k) 64 h) (go (l .exact))
-  where
-    exact-leaf : (a b : Bool) → below (l .cut) k ≡ a → equal (l .cut) k ≡ b → bit (a || b) ≡ bit (a || false) + bit b
-    exact-leaf true true p q = absurd (true≢false (sym q ∙ (equal-order (l .cut) k ∙ ap (λ (x : Bool). not (below k (l .cut)) && not x) p ∙ and-false (not (below k (l .cut))))))
-    exact-leaf true false p q = refl
-    exact-leaf false true p q = refl
-    exact-leaf false false p q = refl
-
-    open-leaf : (a b q : Bool) → bit ((a && not b) || (b && q)) ≡ bit ((a && not b) || (b && false)) + bit (b && q)
-    open-leaf true true true = refl
-    open-leaf true true false = refl
-    open-leaf true false q = refl
-    open-leaf false true true = refl
-    open-leaf false true false = refl
-    open-leaf false false q = refl
-
-    go : (e : Bool) → bit (cond e (below (l .cut) k || (true && equal (l .cut) k)) ((below (l .cut) k && not (begins (l .cut) k)) || (begins (l .cut) k && has-suffix (l .suffix) (drop (length (l .cut)) k))))
-        ≡ bit (cond e (below (l .cut) k || (false && equal (l .cut) k)) ((below (l .cut) k && not (begins (l .cut) k)) || (begins (l .cut) k && false)))
-        + bit (cond e (equal (l .cut) k) (begins (l .cut) k && has-suffix (l .suffix) (drop (length (l .cut)) k)))
-    go true = exact-leaf (below (l .cut) k) (equal (l .cut) k) refl refl
-    go false = open-leaf (below (l .cut) k) (begins (l .cut) k) (has-suffix (l .suffix) (drop (length (l .cut)) k))
-
 -- a count by two tests that no member passes both
 count-sum : {A : Type 0} (p q r : A → Bool) (xs : List A) → ((x : A) → bit (p x) ≡ bit (q x) + bit (r x)) → count p xs ≡ count q xs + count r xs
 unfolding count
@@ -205,23 +177,6 @@ module _ (n w : ℕ) (ls : List Leaf) (ns : List Node) (g : Realizable n ls) (o 
   pub reached-is : (k : Bytes) → reached ls k ≡ leaves-below ns 64 0 0 k + value true (low-reached (length k)) w ns (descend ns 0 k)
   unfolding reached
   reached-is k = count-same (λ l. not (below k (lowest l))) (counts true (low-reached (length k)) k) ls (λ l. lowest-counts l k) ∙ trie-counted n w ls ns g o e wide true (low-reached (length k)) k
-
-  -- The point question, by where the key leads: 1 at an exact leaf, and at an open one whose suffix the rest of the key has.
-  pub point-is : (k : Bytes) → length k ≤ 64 → point ls k ≡ value true has-suffix w ns (descend ns 0 k)
-  unfolding point value
-  point-is k h =
-      any-bit (λ l. possible l k) ls
-      ∙ go (descend ns 0 k) (count (λ l. possible l k) ls) (sym (count-sum (counts true has-suffix k) (counts false (λ s r. false) k) (λ l. possible l k) ls (λ l. possible-counts l k h)) ∙ trie-counted n w ls ns g o e wide true has-suffix k) (trie-counted n w ls ns g o e wide false (λ s r. false) k)
-    where
-      one : (c : ℕ) (b : Bool) → c ≡ bit b → bit (ltb 0 c) ≡ bit b
-      one c true e = rw e
-      one c false e = rw e
-
-      go : (s : Stop) (c : ℕ) → count (counts false (λ s r. false) k) ls + c ≡ leaves-below ns 64 0 0 k + value true has-suffix w ns s → count (counts false (λ s r. false) k) ls ≡ leaves-below ns 64 0 0 k + value false (λ s r. false) w ns s
-          → bit (ltb 0 c) ≡ value true has-suffix w ns s
-      go miss c u v = one c false (omega (arith, u, v))
-      go at-exact c u v = one c true (omega (arith, u, v))
-      go (at-open t j) c u v = one c (has-suffix (slot-of w ns t) j) (omega (arith, u, v))
 
   -- The leaves to which a key leads, by where it leads from the root: one or none.
   pub led-is : (ends : Bool) (q : Bits → Bytes → Bool) (k : Bytes) → count (leads-to-leaf ends q k) ls ≡ value ends q w ns (descend ns 0 k)

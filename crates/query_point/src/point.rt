@@ -1,25 +1,25 @@
-// The point question over an accepted image.
+// The point question over an accepted image: the rule behind its reply, and what the rule says.
 ghost use mathlib.Core.Path.{_≡_};
+ghost use mathlib.Core.Bool.{cond};
 ghost use Prim.Native.Nat.{_<_, _≤_};
 ghost use lib.ListN.{length, drop};
-ghost use Rattle.spec.specs.Nodes.{read-leaves};
-ghost use Rattle.spec.specs.Questions.{point};
-ghost use Rattle.nav_laws.specs.Slots.{slot-of};
+ghost use Rattle.spec.specs.Nodes.{is-exact, read-leaves};
+ghost use Rattle.spec.specs.Rules.{key-ended, at-exact-leaf, suffix-equal, suffix-other, rule-number, rule, rule-says};
+ghost use Rattle.nav_laws.specs.Slots.{node-at, slot-of};
 ghost use Rattle.nav_laws.specs.Accepted.{Accepted, nodes};
 ghost use Rattle.nav_laws.specs.Positions.{slot-at};
-ghost use Rattle.nav_laws.specs.FoundBranch.{Is-position};
+ghost use Rattle.nav_laws.specs.FoundBranch.{Is-node, Is-position};
 ghost use Rattle.query_laws.specs.Root.{has-suffix};
+ghost use Rattle.query_laws.specs.Rules.{rule-of};
+use super::follow::follow;
 use super::suffix::suffix_equals;
-use bits::numbers::one_if;
-use bits::numbers::wide;
 use image_types::BitPos;
 use image_types::Frame;
 use image_types::NodeNum;
-use nav::behind::child;
 use nav::behind::slot;
-use nav::branches::find;
 use nav::nodes::is_exact;
-use nav_laws::BranchKind;
+use query_laws::KeyEnd;
+use query_laws::Rule;
 
 // Whether a key, whose first d bytes lead to the open leaf behind a branch, has the leaf's suffix. No slot is looked up where slots have no bits.
 fn leaf_has(image: &[u8], f: Frame, m: NodeNum, at: BitPos, key: &[u8], d: usize) -> bool
@@ -32,31 +32,66 @@ fn leaf_has(image: &[u8], f: Frame, m: NodeNum, at: BitPos, key: &[u8], d: usize
     suffix_equals(image, f, slot(image, f, m, at), key, d)
 }
 
-// 1 if some leaf has the key among its possible keys, else 0. One label search a level.
-pub fn point(image: &[u8], f: Frame, key: &[u8]) -> usize
-    requires { ⌜ Accepted (now image) f × (length (now key) ≤ 64) ⌝ }
-    ensures { λ r. ⌜ r ≡ point (read-leaves (now (image .entry))) (now (key .entry)) ⌝ }
+// The rule of a key that ends at a node: the node is an exact leaf, or it is none.
+fn node_rule(image: &[u8], f: Frame, m: NodeNum) -> Rule
+    requires { ⌜ Is-node (now image) f (m .0) ⌝ }
+    ensures { λ r. ⌜ rule-of r ≡ cond (is-exact (node-at (nodes (now (image .entry)) f) (m .0))) at-exact-leaf key-ended ⌝ }
 {
-    if f.dense.nodes + f.sparse.nodes == 0 {
-        return 0;
+    if is_exact(image, f, m) {
+        return Rule::ExactLeaf;
     }
-    let mut node = NodeNum(0);
-    let mut depth = 0usize;
-    while depth < key.len() {
-        let found = find(image, f, node, wide(key[depth]));
-        depth = depth + 1;
-        let kind = found.kind;
-        match kind {
-            BranchKind::Absent => {
-                return 0;
-            }
-            BranchKind::Leaf => {
-                return one_if(leaf_has(image, f, node, found.at, key, depth));
-            }
-            BranchKind::Child => {
-                node = child(image, f, node, found.at);
-            }
-        }
+    Rule::KeyEnded
+}
+
+// The rule of a key whose first d bytes lead to the open leaf behind a branch: the key has the leaf's suffix, or another.
+fn leaf_rule(image: &[u8], f: Frame, m: NodeNum, at: BitPos, key: &[u8], d: usize) -> Rule
+    requires { ⌜ Is-position (now image) f (m .0) (at .0) × (slot-at (now image) f (m .0) (at .0) < f .leaves) × (d ≤ length (now key)) ⌝ }
+    ensures { λ r. ⌜ rule-of r ≡ cond (has-suffix (slot-of (f .width) (nodes (now (image .entry)) f) (slot-at (now (image .entry)) f (m .0) (at .0))) (drop d (now (key .entry)))) suffix-equal suffix-other ⌝ }
+{
+    if leaf_has(image, f, m, at, key, d) {
+        return Rule::SuffixEqual;
     }
-    one_if(is_exact(image, f, node))
+    Rule::SuffixOther
+}
+
+// The rule behind the point question's reply to a key, by where the key leads from the root: one label search a level, and one look at the node or the leaf there.
+pub fn descend(image: &[u8], f: Frame, key: &[u8]) -> Rule
+    requires { ⌜ Accepted (now image) f × (length (now key) ≤ 64) ⌝ }
+    ensures { λ r. ⌜ rule-of r ≡ rule (read-leaves (now (image .entry))) (now (key .entry)) ⌝ }
+{
+    let end = follow(image, f, key, key.len());
+    match end {
+        KeyEnd::NoNodes => Rule::NoNodes,
+        KeyEnd::NoBranch => Rule::BranchMissing,
+        KeyEnd::Node(node) => node_rule(image, f, node),
+        KeyEnd::Leaf(node, at, depth) => leaf_rule(image, f, node, at, key, depth),
+    }
+}
+
+// The number of a rule, the key byte of a point's reply.
+pub fn rule_number(rule: Rule) -> u8
+    ensures { λ r. ⌜ r ≡ rule-number (rule-of rule) ⌝ }
+{
+    match rule {
+        Rule::BranchMissing => 1,
+        Rule::KeyEnded => 2,
+        Rule::ExactLeaf => 3,
+        Rule::SuffixEqual => 4,
+        Rule::SuffixOther => 5,
+        Rule::NoNodes => 6,
+    }
+}
+
+// What a rule says of the key, the number of a point's reply: 1 if some leaf has the key among its possible keys, else 0.
+pub fn rule_says(rule: Rule) -> usize
+    ensures { λ r. ⌜ r ≡ rule-says (rule-of rule) ⌝ }
+{
+    match rule {
+        Rule::BranchMissing => 0,
+        Rule::KeyEnded => 0,
+        Rule::ExactLeaf => 1,
+        Rule::SuffixEqual => 1,
+        Rule::SuffixOther => 0,
+        Rule::NoNodes => 0,
+    }
 }
