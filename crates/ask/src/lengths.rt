@@ -10,6 +10,7 @@ ghost use Rattle.query_laws.specs.Summed.{level-starts};
 ghost use Rattle.ask_laws.specs.FileLaws.{Taken-from};
 ghost use Rattle.ask_files.specs.Questions.{Inside, question-of};
 ghost use Rattle.ask.specs.Replies.{file-replies};
+use super::replies::POINT_KEY;
 use super::replies::seek_reply;
 use ask_files::file::QuestionAt;
 use ask_files::file::key_at;
@@ -19,7 +20,7 @@ use image_types::Frame;
 use keys::MAX_KEY_BYTES;
 use query_count::levels::level_starts;
 
-// The length of the key in the reply to a question. Only a seek's reply has one, so no other question is answered for it. `starts` is the sum of slot numbers for the empty key.
+// The length of the key in the reply to a question. A point's has one byte and a seek's varies, so that only a seek is answered for it; other replies have none. `starts` is the sum of slot numbers for the empty key.
 fn key_length(image: &[u8], f: Frame, starts: usize, file: &[u8], question: QuestionAt) -> usize
     requires { ⌜ Accepted (now image) f × (starts ≡ level-starts (now image) f) × Inside (now file) question ⌝ }
     ensures { λ r. ⌜ (r ≡ length (reply (read-leaves (now (image .entry))) (question-of (now (file .entry)) question) .key)) × (r ≤ 64) ⌝ }
@@ -30,7 +31,7 @@ fn key_length(image: &[u8], f: Frame, starts: usize, file: &[u8], question: Ques
             let a = seek_reply(image, f, starts, key_at(file, at, n), &mut key);
             a.n
         }
-        QuestionAt::Point(_, _) => 0,
+        QuestionAt::Point(_, _) => POINT_KEY,
         QuestionAt::Begins(_, _) => 0,
         QuestionAt::Range(_, _, _, _) => 0,
         QuestionAt::Count(_, _, _, _) => 0,

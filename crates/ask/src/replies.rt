@@ -3,7 +3,7 @@ ghost use mathlib.Core.Path.{_≡_};
 ghost use Prim.Native.Nat.{_≤_};
 ghost use lib.ListN.{length};
 ghost use Rattle.spec.specs.Nodes.{read-leaves};
-ghost use Rattle.spec.specs.Questions.{QS, reply};
+ghost use Rattle.spec.specs.Questions.{QP, QS, reply};
 ghost use Rattle.nav_laws.specs.Accepted.{Accepted};
 ghost use Rattle.query_laws.specs.Summed.{level-starts};
 ghost use Rattle.ask_laws.specs.FileLaws.{Taken-from};
@@ -20,10 +20,29 @@ use keys::MAX_KEY_BYTES;
 use query_count::count::count;
 use query_count::levels::level_starts;
 use query_laws::SoughtLeaf;
-use query_point::point::point;
+use query_point::point::descend;
+use query_point::point::rule_number;
+use query_point::point::rule_says;
 use query_range::range::range;
 use query_seek::seek::seek;
 use query_stem::begins::begins_with;
+
+// The bytes of the key in a point's reply: the number of the rule behind it.
+pub const POINT_KEY: usize = 1;
+
+// The reply to a point: the number that the rule behind it says, and the rule's own number as its key.
+fn point_reply(image: &[u8], f: Frame, point: &[u8], key: &mut [u8]) -> Answered
+    requires { ⌜ Accepted (now image) f × (length (now point) ≤ 64) × (length (now key) ≡ 64) ⌝ }
+    ensures { λ r. ⌜ Sized r (now (key .exit)) × (reply-of r (now (key .exit)) ≡ reply (read-leaves (now (image .entry))) (QP (now (point .entry)))) ⌝ }
+{
+    let rule = descend(image, f, point);
+    key[0] = rule_number(rule);
+    Answered {
+        letter: b'P',
+        number: rule_says(rule),
+        n: POINT_KEY,
+    }
+}
 
 // The number in the reply to a seek that finds no leaf.
 const NO_LEAF: usize = 0xFFFFFFFF;
@@ -58,10 +77,7 @@ fn reply_to(
     ensures { λ r. ⌜ Sized r (now (key .exit)) × (reply-of r (now (key .exit)) ≡ reply (read-leaves (now (image .entry))) (question-of (now (file .entry)) question)) ⌝ }
 {
     match question {
-        QuestionAt::Point(at, n) => {
-            let number = point(image, f, key_at(file, at, n));
-            keyless(b'P', number)
-        }
+        QuestionAt::Point(at, n) => point_reply(image, f, key_at(file, at, n), key),
         QuestionAt::Seek(at, n) => seek_reply(image, f, starts, key_at(file, at, n), key),
         QuestionAt::Begins(at, n) => {
             let number = begins_with(image, f, key_at(file, at, n));

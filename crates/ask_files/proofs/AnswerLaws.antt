@@ -21,8 +21,8 @@ use Rattle.ask_files.specs.declared.reply.Answered.{Answered}
 use Rattle.ask_files.proofs.PlacedLaws.{key-length}
 
 -- what is known of a question, after a match
-pub inside-keyless : (file : Bytes) {q x : QuestionAt} → q ≡ x → Inside file q → Inside file x
-inside-keyless file h i = subst (Inside file) h i
+pub inside-matched : (file : Bytes) {q x : QuestionAt} → q ≡ x → Inside file q → Inside file x
+inside-matched file h i = subst (Inside file) h i
 
 -- a question whose reply has no key: neither a point nor a seek
 abbrev pub Keyless : QuestionAt → Type 0
@@ -40,10 +40,18 @@ module _ (a : Answered) (buffer : Bytes) (none : a .n ≡ 0) where
   pub keyless-of : {letter number : ℕ} → reply-of a [] ≡ answer letter number [] → reply-of a buffer ≡ answer letter number []
   keyless-of e = ap (λ (n : ℕ). answer (a .letter) (a .number) (take n buffer)) none ∙ sym (ap (λ (n : ℕ). answer (a .letter) (a .number) (take n [])) none) ∙ e
 
+-- A reply by value is a point's, if its number is what the key's rule says and the byte at the front of its buffer is the rule's number.
+pub point-answered : {w : ℕ} (ls : List Leaf) → Realizable w ls → All-well-sized w ls → (k : Bytes) → length k ≤ 64 → (a : Answered) (buffer : Bytes)
+    → a .letter ≡ 80 → a .number ≡ rule-says (rule ls k) → a .n ≡ 1 → take 1 buffer ≡ rule-number (rule ls k) ∷ [] → reply-of a buffer ≡ reply ls (QP k)
+point-answered ls g o k short a buffer letter number one byte =
+    let key-is : take (a .n) buffer ≡ rule-number (rule ls k) ∷ [] = ap (λ (m : ℕ). take m buffer) one ∙ byte in
+    let number-is : a .number ≡ point ls k = number ∙ sym (point-rule ls g o k short) in
+    (λ i. answer (letter i) (number-is i) (key-is i)) ∙ sym (point-reply ls k)
+
 module _ (ls : List Leaf) (file : Bytes) where
   -- the reply to a question, after a match
-  pub reply-keyless : {q x : QuestionAt} → q ≡ x → reply ls (question-of file x) ≡ reply ls (question-of file q)
-  reply-keyless h = ap (λ (z : QuestionAt). reply ls (question-of file z)) (sym h)
+  pub reply-matched : {q x : QuestionAt} → q ≡ x → reply ls (question-of file x) ≡ reply ls (question-of file q)
+  reply-matched h = ap (λ (z : QuestionAt). reply ls (question-of file z)) (sym h)
 
   -- the length of its key
   pub reply-key : (a : Answered) (buffer : Bytes) (q : QuestionAt) → Sized a buffer → reply-of a buffer ≡ reply ls (question-of file q) → a .n ≡ length (reply ls (question-of file q) .key)
@@ -51,19 +59,14 @@ module _ (ls : List Leaf) (file : Bytes) where
 
   -- the reply to each kind of question, with its keys as they are lent
   module _ (a n : ℕ) (k : Bytes) (lent : k ≡ key file a n) where
-    -- A reply by value is a point's, if its number is what the key's rule says and the byte at the front of its buffer is the rule's number.
-    pub point-answered : {w : ℕ} → Realizable w ls → All-well-sized w ls → length k ≤ 64 → (r : Answered) (buffer : Bytes)
-        → r .letter ≡ 80 → r .number ≡ rule-says (rule ls k) → r .n ≡ 1 → take 1 buffer ≡ rule-number (rule ls k) ∷ [] → reply-of r buffer ≡ reply ls (question-of file (Point a n))
-    point-answered g o short r buffer letter number one byte =
-        let key-is : take (r .n) buffer ≡ rule-number (rule ls k) ∷ [] = ap (λ (m : ℕ). take m buffer) one ∙ byte in
-        let number-is : r .number ≡ point ls k = number ∙ sym (point-rule ls g o k short) in
-        (λ i. answer (letter i) (number-is i) (key-is i)) ∙ sym (point-reply ls k) ∙ ap (λ (z : Bytes). reply ls (QP z)) lent
+    pub point-matched : reply ls (QP k) ≡ reply ls (question-of file (Point a n))
+    point-matched = ap (λ (z : Bytes). reply ls (QP z)) lent
 
     pub begins-keyless : (x : ℕ) → x ≡ begins-with ls k → answer 66 x [] ≡ reply ls (question-of file (Begins a n))
     begins-keyless x h = ap (λ (m : ℕ). answer 66 m []) (h ∙ ap (begins-with ls) lent) ∙ sym (begins-reply ls (key file a n))
 
-    pub seek-keyless : reply ls (QS k) ≡ reply ls (question-of file (Seek a n))
-    seek-keyless = ap (λ (z : Bytes). reply ls (QS z)) lent
+    pub seek-matched : reply ls (QS k) ≡ reply ls (question-of file (Seek a n))
+    seek-matched = ap (λ (z : Bytes). reply ls (QS z)) lent
 
     module _ (b m : ℕ) (l : Bytes) (lent-too : l ≡ key file b m) where
       pub range-keyless : (x : ℕ) → x ≡ range ls k l → answer 82 x [] ≡ reply ls (question-of file (Range a n b m))
@@ -81,8 +84,8 @@ module _ (ls : List Leaf) (file : Bytes) where
   keyless (Count a n b m) t = ap (λ r. length (r .key)) (count-reply ls (key file a n) (key file b m))
 
   -- the same of a question that was matched
-  pub keyless-keyless : {q x : QuestionAt} → q ≡ x → Keyless x → 0 ≡ length (reply ls (question-of file q) .key)
-  keyless-keyless {q} {x} h t = sym (ap (λ (z : QuestionAt). length (reply ls (question-of file z) .key)) h ∙ keyless x t)
+  pub keyless-matched : {q x : QuestionAt} → q ≡ x → Keyless x → 0 ≡ length (reply ls (question-of file q) .key)
+  keyless-matched {q} {x} h t = sym (ap (λ (z : QuestionAt). length (reply ls (question-of file z) .key)) h ∙ keyless x t)
 
   -- The key of a point's reply is one byte.
   pub point-length : {q : QuestionAt} {a n : ℕ} → q ≡ Point a n → 1 ≡ length (reply ls (question-of file q) .key)
