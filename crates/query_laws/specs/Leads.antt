@@ -6,7 +6,7 @@ use mathlib.Core.List.{[], _∷_}
 use native.Mathlib.Omega.{arith}
 use lib.ListN.{length, getD}
 use lib.Dec.{eqb}
-use borrow.Author.Tests.{eqb-true}
+use borrow.Author.Tests.{eqb-true, eqb-false}
 use Rattle.spec.specs.Bytes.{Bytes, shared}
 use Rattle.image_types.specs.declared.Frame.{Frame}
 use Rattle.nav_laws.specs.declared.BranchKind.the-variants as Kind
@@ -80,6 +80,18 @@ shared-byte (x ∷ p) (y ∷ q) i h = go (eqb x y) refl (shared-byte p q) i h
     go true e r zero h = (omega arith, omega arith, eqb-true x y e)
     go true e r (suc i) h = let t = r i (omega arith) in (omega arith, omega arith, t .2)
     go false e r i h = absurd (omega arith)
+
+-- behind the shared prefix, where both keys go on, their bytes differ
+pub shared-parts : (p q : Bytes) → shared p q < length p → shared p q < length q → getD p (shared p q) 0 ≡ getD q (shared p q) 0 → ⊥
+unfolding shared
+shared-parts [] q h g e = omega arith
+shared-parts (x ∷ p) [] h g e = omega arith
+shared-parts (x ∷ p) (y ∷ q) h g e = go (eqb x y) refl (shared-parts p q) h g e
+  where
+    go : (b : Bool) → eqb x y ≡ b → (shared p q < length p → shared p q < length q → getD p (shared p q) 0 ≡ getD q (shared p q) 0 → ⊥)
+        → cond b (suc (shared p q)) 0 < suc (length p) → cond b (suc (shared p q)) 0 < suc (length q) → getD (x ∷ p) (cond b (suc (shared p q)) 0) 0 ≡ getD (y ∷ q) (cond b (suc (shared p q)) 0) 0 → ⊥
+    go true c r h g e = r (omega arith) (omega arith) e
+    go false c r h g e = eqb-false x y c e
 
 module _ (s : Bytes) (f : Frame) (lo hi : Bytes) where
   byte-shared : (d m : ℕ) (b : Found) → d < shared lo hi → At-byte s f lo d m b → At-byte s f hi d m b

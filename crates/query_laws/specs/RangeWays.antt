@@ -1,13 +1,13 @@
 -- A range over an accepted image, bound by bound: what the bytes passed so far leave of it, one law for each step of the ways along the bounds.
 use Prim.Native.Nat.{ℕ, suc, _+_, _-_, _<_, _≤_}
 use mathlib.Core.Path.{_≡_, refl, sym, ap, ap₂, _∙_}
-use mathlib.Core.Bool.{Bool, true, false, not, _||_}
+use mathlib.Core.Bool.{Bool, true, false, not, _||_, _&&_}
 use mathlib.Core.List.{List, [], _∷_}
 use native.Mathlib.Omega.{arith}
 use lib.ListN.{length, getD, drop, drop-of-length-le}
 use lib.Dec.{ltb}
 use borrow.Author.Tests.{ltb-true, ltb-false, lt-ltb, le-ltb}
-use Rattle.spec.specs.Bytes.{Bytes, bit, any, count}
+use Rattle.spec.specs.Bytes.{Bytes, bit, any, count, shared}
 use Rattle.spec.specs.Keys as keys
 use Rattle.spec.specs.Leaves.{Leaf, highest, lowest}
 use Rattle.spec.specs.Nodes.{Group, is-exact, read-leaves}
@@ -15,6 +15,7 @@ use Rattle.spec.specs.Questions.{range}
 use Rattle.image_types.specs.declared.Frame.{Frame}
 use Rattle.nav_laws.specs.declared.BranchKind.{BranchKind}
 use Rattle.nav_laws.specs.declared.BranchKind.the-variants.{Absent, Leaf as Ends, Child}
+use Rattle.nav_laws.specs.declared.Found.{Found}
 use Rattle.nav_laws.specs.Accepted.{Accepted, nodes}
 use Rattle.nav_laws.specs.Below.{below, On-level, Root, level-child, level-node, level-left, level-branch}
 use Rattle.nav_laws.specs.Counting.{counts}
@@ -22,16 +23,17 @@ use Rattle.nav_laws.specs.FoundBranch.{node-count, Is-node}
 use Rattle.nav_laws.specs.NextBranch.{Next-branch}
 use Rattle.nav_laws.specs.NextLabel.{first-kind, kind-with, is-there}
 use Rattle.nav_laws.specs.PathSteps.{node-in}
-use Rattle.nav_laws.specs.Positions.{branches, place, child-at, slot-at, Branch-at}
+use Rattle.nav_laws.specs.Positions.{branches, place, child-at, slot-at, Within, Branch-at}
 use Rattle.nav_laws.specs.Slots.{node-at, slot-of}
 use Rattle.query_laws.specs.AtLabel.{at-label, size-from, at-absent, at-open, at-child}
 use Rattle.query_laws.specs.Bounds.{high-passed, low-reached, highest-counts, lowest-counts}
 use Rattle.query_laws.specs.Ordered.{passed, reached, counted-is, range-counted}
-use Rattle.query_laws.specs.Parting.{some-left, some-reached, some-met, left-none, reached-none, left-open, reached-open, ahead-none, named-place, named-kind, ahead-lower, ahead-upto, ahead-higher, left-higher, left-same, reached-end, reached-exact, reached-lower, reached-same, met-same, met-past, met-above, met-between, met-parted, left-end, met-end}
+use Rattle.query_laws.specs.Parting.{some-left, some-reached, some-met, left-none, reached-none, left-open, reached-open, ahead-none, named-place, named-kind, ahead-lower, ahead-upto, ahead-higher, left-higher, left-same, reached-end, reached-exact, reached-lower, reached-same, met-none, met-open, met-same, met-past, met-above, met-between, met-parted, left-end, met-end}
 use Rattle.query_laws.specs.Root.{count-same}
 use Rattle.query_laws.specs.Seeking.{first-child}
 use Rattle.query_laws.specs.Seeks.{root-of, some-leaf}
 use Rattle.query_laws.specs.Followed.{node-length}
+use Rattle.query_laws.specs.Leads.{At-byte, Leads, along, Branch-missing, Leaf-behind, shared-byte}
 use Rattle.query_laws.specs.Steps.{slot-in}
 use Rattle.query_laws.specs.SuffixBytes.{key-next}
 
@@ -69,6 +71,25 @@ reached-of hi d g = some-reached (low-reached (length hi)) (drop d hi) g
 -- whether one does neither, lo not above hi
 abbrev pub met-of : Bytes → Bytes → ℕ → Group → Bool
 met-of lo hi d g = some-met (high-passed (length lo)) (low-reached (length hi)) (drop d lo) (drop d hi) g
+
+-- whether an open leaf, whose cut key is the first d bytes of both bounds, does neither
+abbrev pub open-between : Bytes → Frame → Bytes → Bytes → ℕ → ℕ → Bool
+open-between s f lo hi slot d =
+    not (high-passed (length lo) (slot-of (f .width) (nodes s f) slot) (drop d lo)) && low-reached (length hi) (slot-of (f .width) (nodes s f) slot) (drop d hi)
+
+-- The first d bytes of both bounds lead to node m, and the leaves at or below it decide the range.
+pub record Both-at (s : Bytes) (f : Frame) (lo hi : Bytes) (m d : ℕ) : Type 0 where
+  pub lower : Key-at s f lo m d
+  pub upper : Key-at s f hi m d
+  pub decides : range (read-leaves s) lo hi ≡ bit (met-of lo hi d (group-below s f m d))
+
+-- The first d bytes of both bounds are the cut key of the open leaf behind the branch of node m at position p, and this leaf decides the range.
+pub record Both-leaf (s : Bytes) (f : Frame) (lo hi : Bytes) (m p d : ℕ) : Type 0 where
+  pub within : Within s f m p
+  pub slot-in : slot-at s f m p < f .leaves
+  pub lo-in : d ≤ length lo
+  pub hi-in : d ≤ length hi
+  pub decides : range (read-leaves s) lo hi ≡ bit (open-between s f lo hi (slot-at s f m p) d)
 
 -- no leaf is reached where there is none
 pub reached-empty : (key : Bytes) (d : ℕ) (g : Group) → g ≡ [] → reached-of key d g ≡ false
@@ -293,3 +314,56 @@ module _ (s : Bytes) (f : Frame) (a : Accepted s f) where
   -- No byte of a key leads to the root.
   pub key-root : 0 < node-count f → (key : Bytes) → length key ≤ 64 → Key-at s f key 0 0
   key-root h key l = record { accepted = a; short = l; depth-in = omega arith; level = root-of s f a (some-leaf s f a h) .on }
+
+-- ---- along the bytes that both bounds share
+
+module _ {s : Bytes} {f : Frame} {lo hi : Bytes} {m d : ℕ} (both : Both-at s f lo hi m d) (h : d < shared lo hi) {b : Found} (t : At-byte s f lo d m b) where
+  -- the branch with the next byte
+  both-branch : Key-branch s f lo m d (b .kind) (b .at .0)
+  both-branch = record { from = both .lower; more = t .more; kind-is = t .found .kind-is; at-is = t .found .at-is }
+
+  -- the upper bound has the byte too
+  both-more : d < length hi
+  both-more = shared-byte lo hi d h .1
+
+  -- the leaves behind the branch decide
+  both-behind : (g : Group) → group-behind s f lo m d ≡ g → range (read-leaves s) lo hi ≡ bit (met-of lo hi (d + 1) g)
+  both-behind g e = both .decides ∙ ap bit (met-on (both .lower) (both .upper) (t .more) both-more (shared-byte lo hi d h .2) ∙ ap (met-of lo hi (d + 1)) e)
+
+  -- those at or below a child, to which both go on
+  both-child : (c : ℕ) → c ≡ child-at s f m (b .at .0) → b .kind ≡ Child → Both-at s f lo hi c (d + 1)
+  both-child c e k = record {
+    lower = child-key both-branch c e k;
+    upper = record { accepted = both .upper .accepted; short = both .upper .short; depth-in = omega (arith, both-more); level = child-level both-branch c e k };
+    decides = both-behind (group-below s f c (d + 1)) (behind-child both-branch c e k);
+  }
+
+  -- an open leaf
+  both-open : b .kind ≡ Ends → Both-leaf s f lo hi m (b .at .0) (d + 1)
+  both-open k = let slot = slot-at s f m (b .at .0) in let bits = slot-of (f .width) (nodes s f) slot in record {
+    within = t .found .at-is .within;
+    slot-in = open-in both-branch slot refl k;
+    lo-in = omega (arith, t .more);
+    hi-in = omega (arith, both-more);
+    decides = both-behind (record { cut = []; exact = false; suffix = bits } ∷ []) (behind-open both-branch slot refl k) ∙ ap bit (met-open (high-passed (length lo)) (low-reached (length hi)) (drop (d + 1) lo) (drop (d + 1) hi) bits);
+  }
+
+  -- none
+  both-absent : b .kind ≡ Absent → range (read-leaves s) lo hi ≡ 0
+  both-absent k = both-behind [] (behind-absent both-branch k) ∙ ap bit (met-none (high-passed (length lo)) (low-reached (length hi)) (drop (d + 1) lo) (drop (d + 1) hi))
+
+module _ (s : Bytes) (f : Frame) (lo hi : Bytes) (a : Accepted s f) (lo-short : length lo ≤ 64) (hi-short : length hi ≤ 64) where
+  -- The bytes lead to a node: the leaves at or below it decide.
+  pub range-node : {d m : ℕ} → d ≤ shared lo hi → Leads s f lo d m → Both-at s f lo hi m d
+  range-node h l = along (λ d m. d ≤ shared lo hi → Both-at s f lo hi m d) start (λ d m c r b q. both-child (r (omega arith)) (omega arith) (b .here) c (b .child-is) (b .continues)) l h
+    where
+      start : 0 < node-count f → 0 ≤ shared lo hi → Both-at s f lo hi 0 0
+      start z q = record { lower = key-root s f a z lo lo-short; upper = key-root s f a z hi hi-short; decides = range-root s f a z lo hi }
+
+  -- They lead to a node that has no branch with the next of them: no leaf is in the range.
+  pub range-absent : {n : ℕ} → n ≤ shared lo hi → Branch-missing s f lo n → range (read-leaves s) lo hi ≡ 0
+  range-absent h t = both-absent (range-node (omega (arith, t .inside)) (t .leads)) (omega (arith, t .inside)) (t .here) (t .absent)
+
+  -- They lead to an open leaf, which decides.
+  pub range-leaf : {n m p d : ℕ} → n ≤ shared lo hi → Leaf-behind s f lo n m p d → Both-leaf s f lo hi m p d
+  range-leaf h t = rw (t .passed, t .at-is) (both-open (range-node (omega (arith, t .inside)) (t .leads)) (omega (arith, t .inside)) (t .here) (t .ends))
