@@ -81,17 +81,19 @@ shared-byte (x ∷ p) (y ∷ q) i h = go (eqb x y) refl (shared-byte p q) i h
     go true e r (suc i) h = let t = r i (omega arith) in (omega arith, omega arith, t .2)
     go false e r i h = absurd (omega arith)
 
--- behind the shared prefix, where both keys go on, their bytes differ
-pub shared-parts : (p q : Bytes) → shared p q < length p → shared p q < length q → getD p (shared p q) 0 ≡ getD q (shared p q) 0 → ⊥
+-- where both keys go on behind the shared prefix, their next bytes differ
+pub shared-parts : (p q : Bytes) (i : ℕ) → i ≡ shared p q → i < length p → i < length q → getD p i 0 ≡ getD q i 0 → ⊥
 unfolding shared
-shared-parts [] q h g e = omega arith
-shared-parts (x ∷ p) [] h g e = omega arith
-shared-parts (x ∷ p) (y ∷ q) h g e = go (eqb x y) refl (shared-parts p q) h g e
+shared-parts [] q i e h g same = omega arith
+shared-parts (x ∷ p) [] i e h g same = omega arith
+shared-parts (x ∷ p) (y ∷ q) i e h g same = go (eqb x y) refl (shared-parts p q) i e h g same
   where
-    go : (b : Bool) → eqb x y ≡ b → (shared p q < length p → shared p q < length q → getD p (shared p q) 0 ≡ getD q (shared p q) 0 → ⊥)
-        → cond b (suc (shared p q)) 0 < suc (length p) → cond b (suc (shared p q)) 0 < suc (length q) → getD (x ∷ p) (cond b (suc (shared p q)) 0) 0 ≡ getD (y ∷ q) (cond b (suc (shared p q)) 0) 0 → ⊥
-    go true c r h g e = r (omega arith) (omega arith) e
-    go false c r h g e = eqb-false x y c e
+    go : (b : Bool) → eqb x y ≡ b → ((j : ℕ) → j ≡ shared p q → j < length p → j < length q → getD p j 0 ≡ getD q j 0 → ⊥)
+        → (i : ℕ) → i ≡ cond b (suc (shared p q)) 0 → i < suc (length p) → i < suc (length q) → getD (x ∷ p) i 0 ≡ getD (y ∷ q) i 0 → ⊥
+    go true c r zero e h g same = omega arith
+    go true c r (suc i) e h g same = r i (omega arith) (omega arith) (omega arith) same
+    go false c r zero e h g same = eqb-false x y c same
+    go false c r (suc i) e h g same = omega arith
 
 module _ (s : Bytes) (f : Frame) (lo hi : Bytes) where
   byte-shared : (d m : ℕ) (b : Found) → d < shared lo hi → At-byte s f lo d m b → At-byte s f hi d m b

@@ -1,4 +1,4 @@
--- A range over an accepted image, bound by bound: what the bytes passed so far leave of it, one law for each step of the ways along the bounds.
+-- A range over an accepted image, bound by bound: what the bytes passed so far leave of it, one law for each step of the ways along the bounds, and one for each end of the way along the bytes that both share.
 use Prim.Native.Nat.{ℕ, suc, _+_, _-_, _<_, _≤_}
 use mathlib.Core.Path.{_≡_, refl, sym, ap, ap₂, _∙_}
 use mathlib.Core.Bool.{Bool, true, false, not, _||_, _&&_}
@@ -102,11 +102,11 @@ module _ {s : Bytes} {f : Frame} {key : Bytes} {m d : ℕ} {kind : BranchKind} {
   level-more = omega (arith, b .more, b .from .short)
 
   -- no leaf
-  pub behind-absent : kind ≡ Absent → group-behind s f key m d ≡ []
+  behind-absent : kind ≡ Absent → group-behind s f key m d ≡ []
   behind-absent h = at-absent (nodes s f) (64 - (d + 1)) m (getD key d 0) kind (b .kind-is) h
 
   -- an open leaf, whose slot is one of the leaves
-  pub behind-open : (slot : ℕ) → slot ≡ slot-at s f m p → kind ≡ Ends → group-behind s f key m d ≡ record { cut = []; exact = false; suffix = slot-of (f .width) (nodes s f) slot } ∷ []
+  behind-open : (slot : ℕ) → slot ≡ slot-at s f m p → kind ≡ Ends → group-behind s f key m d ≡ record { cut = []; exact = false; suffix = slot-of (f .width) (nodes s f) slot } ∷ []
   behind-open slot e h =
       rw (e ∙ b .at-is .slot-is) (at-open (nodes s f) (64 - (d + 1)) m (getD key d 0) kind (b .kind-is) (f .width) (b .from .accepted .writable .wide) h)
 
@@ -114,10 +114,10 @@ module _ {s : Bytes} {f : Frame} {key : Bytes} {m d : ℕ} {kind : BranchKind} {
   open-in slot e h = omega (arith, e, b .at-is .slot-is, slot-in (nodes s f) m (getD key d 0) kind (b .kind-is) h, b .from .accepted .writable .leaf-total)
 
   -- the leaves at or below a child, which stands on its level
-  pub behind-child : (c : ℕ) → c ≡ child-at s f m p → kind ≡ Child → group-behind s f key m d ≡ group-below s f c (d + 1)
+  behind-child : (c : ℕ) → c ≡ child-at s f m p → kind ≡ Child → group-behind s f key m d ≡ group-below s f c (d + 1)
   behind-child c e h = rw (e ∙ b .at-is .child-is) (at-child (nodes s f) (64 - (d + 1)) m (getD key d 0) kind (b .kind-is) h)
 
-  pub child-level : (c : ℕ) → c ≡ child-at s f m p → kind ≡ Child → On-level (nodes s f) (64 - (d + 1)) c
+  child-level : (c : ℕ) → c ≡ child-at s f m p → kind ≡ Child → On-level (nodes s f) (64 - (d + 1)) c
   child-level c e h =
       rw (e ∙ b .at-is .child-is) (level-child (nodes s f) (64 - (d + 1)) m (place s f m (getD key d 0)) (rw level-more at (b .from .level)) (first-child (getD key d 0) (drop (place s f m (getD key d 0)) (branches s f m)) (sym (b .kind-is) ∙ h)))
 
@@ -255,7 +255,7 @@ module _ {s : Bytes} {f : Frame} {lo hi : Bytes} {m d : ℕ} (n : Key-at s f lo 
       met-bytes = met-byte ∙ rw (key-next hi d further)
 
       -- Both go on with the same byte.
-      pub met-on : getD lo d 0 ≡ getD hi d 0 → met-of lo hi d (group-below s f m d) ≡ met-of lo hi (d + 1) (group-behind s f lo m d)
+      met-on : getD lo d 0 ≡ getD hi d 0 → met-of lo hi d (group-below s f m d) ≡ met-of lo hi (d + 1) (group-behind s f lo m d)
       met-on e =
           met-bytes
           ∙ rw (← e) (met-same (nodes s f) (64 - (d + 1)) m (on n more) (high-passed (length lo)) (low-reached (length hi)) (drop (d + 1) lo) (drop (d + 1) hi) (getD lo d 0))
@@ -295,7 +295,7 @@ module _ (s : Bytes) (f : Frame) (a : Accepted s f) where
       go false e = le-ltb 0 (r - p) (omega (arith, ltb-false p r e))
 
   -- Over the leaves of an image with nodes, those at or below its root.
-  pub range-root : 0 < node-count f → (lo hi : Bytes) → range (read-leaves s) lo hi ≡ bit (met-of lo hi 0 (group-below s f 0 0))
+  range-root : 0 < node-count f → (lo hi : Bytes) → range (read-leaves s) lo hi ≡ bit (met-of lo hi 0 (group-below s f 0 0))
   unfolding some-met
   range-root h lo hi =
       range-counted (read-leaves s) lo hi ∙ ap (λ (c : ℕ). bit (ltb 0 c)) (counted-is (f .width) (read-leaves s) lo hi (a .realizable .ordered) (a .well-sized))
@@ -312,7 +312,7 @@ module _ (s : Bytes) (f : Frame) (a : Accepted s f) where
       go (l ∷ ls) r = absurd (omega (arith, level-node (nodes s f) 64 0 (r (omega arith) .on), node-length s f a))
 
   -- No byte of a key leads to the root.
-  pub key-root : 0 < node-count f → (key : Bytes) → length key ≤ 64 → Key-at s f key 0 0
+  key-root : 0 < node-count f → (key : Bytes) → length key ≤ 64 → Key-at s f key 0 0
   key-root h key l = record { accepted = a; short = l; depth-in = omega arith; level = root-of s f a (some-leaf s f a h) .on }
 
 -- ---- along the bytes that both bounds share

@@ -1,21 +1,14 @@
--- A range where its bounds part, by what is known of each bound alone, and behind a branch that both go on with.
+-- A range where its bounds part, by what is known of each bound alone.
 use Prim.Native.Nat.{ℕ, _+_, _-_, _<_}
 use mathlib.Core.Path.{_≡_, refl, sym, ap, _∙_}
 use mathlib.Core.Bool.{Bool, true, false, not, _||_}
 use mathlib.Core.List.{[]}
-use lib.ListN.{length, getD, drop}
+use lib.ListN.{length, getD}
 use Rattle.spec.specs.Bytes.{Bytes}
 use Rattle.image_types.specs.declared.Frame.{Frame}
-use Rattle.nav_laws.specs.declared.BranchKind.{BranchKind}
-use Rattle.nav_laws.specs.declared.BranchKind.the-variants.{Absent, Leaf as Ends, Child}
 use Rattle.nav_laws.specs.Accepted.{nodes}
-use Rattle.nav_laws.specs.Positions.{child-at, slot-at}
-use Rattle.nav_laws.specs.Slots.{slot-of}
 use Rattle.query_laws.specs.AtLabel.{size-from}
-use Rattle.query_laws.specs.Bounds.{high-passed, low-reached}
-use Rattle.query_laws.specs.Parting.{met-none, met-open}
-use Rattle.query_laws.specs.RangeWays.{Key-at, Key-branch, group-below, group-behind, left-of, reached-of, met-of, reached-empty, behind-absent, behind-open, behind-child, met-apart}
-use Rattle.query_range.specs.RangeContracts.{open-between}
+use Rattle.query_laws.specs.RangeWays.{Key-at, group-below, group-behind, left-of, reached-of, met-of, reached-empty, met-apart}
 
 -- a truth value from its opposite
 pub from-not : (b : Bool) → not b ≡ true → b ≡ false
@@ -44,16 +37,3 @@ module _ {s : Bytes} {f : Frame} {lo hi : Bytes} {m d : ℕ} (n : Key-at s f lo 
   -- none is: the upper bound decides
   pub apart-upper : left-of lo (d + 1) (group-behind s f lo m d) ≡ false → met-of lo hi d (group-below s f m d) ≡ reached-of hi (d + 1) (group-behind s f hi m d)
   apart-upper e = met-apart n u more further none ∙ ap (λ (b : Bool). b || reached-of hi (d + 1) (group-behind s f hi m d)) e
-
-module _ {s : Bytes} {f : Frame} {lo : Bytes} {m d : ℕ} {kind : BranchKind} {p : ℕ} (b : Key-branch s f lo m d kind p) (hi : Bytes) where
-  -- no branch has the byte as its label
-  pub met-nothing : kind ≡ Absent → met-of lo hi (d + 1) (group-behind s f lo m d) ≡ false
-  met-nothing h = rw (behind-absent b h) (met-none (high-passed (length lo)) (low-reached (length hi)) (drop (d + 1) lo) (drop (d + 1) hi))
-
-  -- the branch ends at an open leaf
-  pub met-leaf : (slot : ℕ) → slot ≡ slot-at s f m p → kind ≡ Ends → met-of lo hi (d + 1) (group-behind s f lo m d) ≡ open-between s f lo hi slot (d + 1)
-  met-leaf slot e h = rw (behind-open b slot e h) (met-open (high-passed (length lo)) (low-reached (length hi)) (drop (d + 1) lo) (drop (d + 1) hi) (slot-of (f .width) (nodes s f) slot))
-
-  -- it continues
-  pub met-child : (c : ℕ) → c ≡ child-at s f m p → kind ≡ Child → met-of lo hi (d + 1) (group-behind s f lo m d) ≡ met-of lo hi (d + 1) (group-below s f c (d + 1))
-  met-child c e h = rw (behind-child b c e h)

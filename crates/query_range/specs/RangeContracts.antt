@@ -1,13 +1,10 @@
--- What the functions along both bounds of a range ask and give.
+-- What the functions along both bounds of a range ask.
 use Prim.Native.Nat.{ℕ, _<_, _≤_}
 use mathlib.Core.Path.{_≡_}
-use mathlib.Core.Bool.{Bool, not, _&&_}
-use lib.ListN.{length, getD, drop}
+use lib.ListN.{length, getD}
 use Rattle.spec.specs.Bytes.{Bytes}
 use Rattle.image_types.specs.declared.Frame.{Frame}
-use Rattle.nav_laws.specs.Accepted.{Accepted, nodes}
-use Rattle.nav_laws.specs.Slots.{slot-of}
-use Rattle.query_laws.specs.Bounds.{high-passed, low-reached}
+use Rattle.nav_laws.specs.Accepted.{Accepted}
 use Rattle.query_laws.specs.RangeWays.{Key-at}
 
 -- The slot of an open leaf whose cut key is the first d bytes of both bounds.
@@ -18,11 +15,6 @@ pub record Open-between (s : Bytes) (f : Frame) (lo hi : Bytes) (slot d : ℕ) :
   pub hi-in : d ≤ length hi
   pub lo-short : length lo ≤ 64
   pub hi-short : length hi ≤ 64
-
--- whether that leaf neither ends below the lower bound nor starts above the upper
-abbrev pub open-between : Bytes → Frame → Bytes → Bytes → ℕ → ℕ → Bool
-open-between s f lo hi slot d =
-    not (high-passed (length lo) (slot-of (f .width) (nodes s f) slot) (drop d lo)) && low-reached (length hi) (slot-of (f .width) (nodes s f) slot) (drop d hi)
 
 -- Both bounds lead to node m with their first d bytes, and go on with different ones.
 pub record Parted (s : Bytes) (f : Frame) (lo hi : Bytes) (m d : ℕ) : Type 0 where

@@ -14,8 +14,5 @@ pub fn range(image: &[u8], f: Frame, lo: &[u8], hi: &[u8]) -> usize
     requires { ⌜ Accepted (now image) f × (length (now lo) ≤ 64) × (length (now hi) ≤ 64) ⌝ }
     ensures { λ r. ⌜ r ≡ range (read-leaves (now (image .entry))) (now (lo .entry)) (now (hi .entry)) ⌝ }
 {
-    if f.dense.nodes + f.sparse.nodes == 0 {
-        return 0;
-    }
     one_if(meets(image, f, lo, hi))
 }

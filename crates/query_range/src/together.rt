@@ -1,11 +1,13 @@
 // The way along both bounds of a range, as far as their bytes are equal, and the node where they part.
 ghost use mathlib.Core.Path.{_≡_};
-ghost use Prim.Native.Nat.{_≤_, _<_};
+ghost use Prim.Native.Nat.{_≤_};
 ghost use lib.ListN.{length};
+ghost use Rattle.spec.specs.Bytes.{bit, shared};
+ghost use Rattle.spec.specs.Nodes.{read-leaves};
+ghost use Rattle.spec.specs.Questions.{range};
 ghost use Rattle.nav_laws.specs.Accepted.{Accepted};
-ghost use Rattle.nav_laws.specs.FoundBranch.{node-count};
-ghost use Rattle.query_laws.specs.RangeWays.{group-below, met-of};
-ghost use Rattle.query_range.specs.RangeContracts.{Open-between, open-between, Parted};
+ghost use Rattle.query_laws.specs.RangeWays.{Both-at, group-below, met-of, open-between};
+ghost use Rattle.query_range.specs.RangeContracts.{Open-between, Parted};
 use super::sides::Branch;
 use super::sides::left_behind;
 use super::sides::reached_behind;
@@ -14,12 +16,13 @@ use bits::numbers::wide;
 use image_types::Frame;
 use image_types::NodeNum;
 use image_types::ValuePos;
-use nav::behind::child;
+use keys::compare::shared;
 use nav::behind::slot;
 use nav::branches::find;
 use nav::branches::is_there;
 use nav_edges::next_higher;
-use nav_laws::BranchKind;
+use query_laws::KeyEnd;
+use query_point::follow::follow;
 use query_point::suffix::high_below;
 use query_point::suffix::low_above;
 
@@ -67,35 +70,38 @@ fn apart(image: &[u8], f: Frame, lo: &[u8], hi: &[u8], node: NodeNum, depth: usi
     reached_behind(image, f, hi, node, depth, upper)
 }
 
-// Whether some leaf has a possible key from lo to hi, from the root of an image with nodes on.
-pub fn meets(image: &[u8], f: Frame, lo: &[u8], hi: &[u8]) -> bool
-    requires { ⌜ Accepted (now image) f × (0 < node-count f) × (length (now lo) ≤ 64) × (length (now hi) ≤ 64) ⌝ }
-    ensures { λ r. ⌜ r ≡ met-of (now (lo .entry)) (now (hi .entry)) 0 (group-below (now (image .entry)) f 0 0) ⌝ }
+// The range at the node to which all bytes that the bounds share lead, so that one of the bounds ends there or they part: where the lower ends the upper decides, and where only the upper ends the lower lies above it.
+fn at_node(image: &[u8], f: Frame, lo: &[u8], hi: &[u8], node: NodeNum, depth: usize) -> bool
+    requires { ⌜ Both-at (now image) f (now lo) (now hi) (node .0) depth × (depth ≡ shared (now lo) (now hi)) ⌝ }
+    ensures { λ r. ⌜ r ≡ met-of (now (lo .entry)) (now (hi .entry)) depth (group-below (now (image .entry)) f (node .0) depth) ⌝ }
 {
-    let mut m = NodeNum(0);
-    let mut d = 0usize;
-    while d < lo.len() {
-        if d >= hi.len() {
-            return false;
-        }
-        let y = wide(lo[d]);
-        if y != wide(hi[d]) {
-            return apart(image, f, lo, hi, m, d);
-        }
-        let found = find(image, f, m, y);
-        d = d + 1;
-        let kind = found.kind;
-        match kind {
-            BranchKind::Absent => {
-                return false;
-            }
-            BranchKind::Leaf => {
-                return open_between(image, f, lo, hi, slot(image, f, m, found.at), d);
-            }
-            BranchKind::Child => {
-                m = child(image, f, m, found.at);
-            }
-        }
+    if depth == lo.len() {
+        return reached_below(image, f, hi, node, depth);
     }
-    reached_below(image, f, hi, m, d)
+    if depth == hi.len() {
+        return false;
+    }
+    apart(image, f, lo, hi, node, depth)
+}
+
+// Whether some leaf has a possible key from lo to hi, by where the bytes that the bounds share lead from the root.
+pub fn meets(image: &[u8], f: Frame, lo: &[u8], hi: &[u8]) -> bool
+    requires { ⌜ Accepted (now image) f × (length (now lo) ≤ 64) × (length (now hi) ≤ 64) ⌝ }
+    ensures { λ r. ⌜ range (read-leaves (now (image .entry))) (now (lo .entry)) (now (hi .entry)) ≡ bit r ⌝ }
+{
+    let n = shared(lo, hi);
+    let end = follow(image, f, lo, n);
+    match end {
+        KeyEnd::NoNodes => false,
+        KeyEnd::NoBranch => false,
+        KeyEnd::Node(node) => at_node(image, f, lo, hi, node, n),
+        KeyEnd::Leaf(node, at, depth) => open_between(
+            image,
+            f,
+            lo,
+            hi,
+            slot(image, f, node, at),
+            depth,
+        ),
+    }
 }
