@@ -1,3 +1,4 @@
+use borrow.Author.Needs.{needs}
 use Rattle.query_laws.specs.Leads.{shared-parts}
 use Rattle.query_laws.specs.RangeWays.{met-stop, met-ended}
 use lib.ListN.{length}
@@ -16,7 +17,7 @@ more : (c : tie.Else1) → entered c .args .depth < length (entered c .args .lo 
 more c = omega (arith, c .if1 .left, entered c .pre .0 .lower .depth-in)
 
 reached-below-requires : tie.Need-reached-below-requires
-reached-below-requires c κs = c .before .before .before .before .pre .0 .upper
+reached-below-requires c κs = search needs
 
 returns : tie.Need-returns
 returns c =
