@@ -70,7 +70,7 @@ fn apart(image: &[u8], f: Frame, lo: &[u8], hi: &[u8], node: NodeNum, depth: usi
     reached_behind(image, f, hi, node, depth, upper)
 }
 
-// The range at the node to which all bytes that the bounds share lead, so that one of the bounds ends there or they part: where the lower ends the upper decides, and where only the upper ends the lower lies above it.
+// The range at the node to which all bytes that the bounds share lead. Where the lower bound ends there, the upper decides; where only the upper ends, the lower lies above it and no leaf is in the range; else the bounds part.
 fn at_node(image: &[u8], f: Frame, lo: &[u8], hi: &[u8], node: NodeNum, depth: usize) -> bool
     requires { ⌜ Both-at (now image) f (now lo) (now hi) (node .0) depth × (depth ≡ shared (now lo) (now hi)) ⌝ }
     ensures { λ r. ⌜ r ≡ met-of (now (lo .entry)) (now (hi .entry)) depth (group-below (now (image .entry)) f (node .0) depth) ⌝ }
