@@ -20,12 +20,12 @@ use Rattle.nav_laws.specs.NextLabel.{kind-with}
 use Rattle.nav_laws.specs.NumberBounds.{child-in, child-range}
 use Rattle.nav_laws.specs.Accepted.{Accepted, nodes, dense-nodes, sparse-nodes}
 use Rattle.nav_laws.specs.Positions.{branches, place, child-at, slot-at}
-use Rattle.nav_laws.specs.FoundBranch.{node-count, Found-branch}
+use Rattle.nav_laws.specs.FoundBranch.{node-count, Is-position, Found-branch}
 use Rattle.query_laws.specs.Root.{first-below, first-next, first-up, levels-end}
 use Rattle.query_laws.specs.LevelSums.{slots-below, slots-on, slots-off, below-sums, between-nowhere}
 use Rattle.query_laws.specs.Steps.{stop-of, exact-stop, goes-there, descend-none, descend-open, descend-on, descend-end, descend-nowhere, below-nowhere, slot-in}
 use Rattle.query_laws.specs.SuffixBytes.{key-next}
-use Rattle.query_laws.specs.Leads.{Leads, along}
+use Rattle.query_laws.specs.Leads.{Leads, along, Leaf-behind}
 
 -- A key has led to this leaf, with so many of its bytes passed.
 pub record Stopped (s : Bytes) (f : Frame) (key : Bytes) (stop : LeafStop) (depth : ℕ) : Type 0 where
@@ -46,6 +46,15 @@ pub record On-way (s : Bytes) (f : Frame) (key : Bytes) (depth node : ℕ) : Typ
   pub leads : descend (nodes s f) 0 key ≡ descend (nodes s f) node (drop depth key)
   -- the levels below it end with the 64th
   pub levels-in : node-count f ≤ first-below (nodes s f) (64 - depth) node
+
+-- The first bytes of a key, d of them, lead to the open leaf behind the branch of node m at position p.
+pub record Leaf-reached (s : Bytes) (f : Frame) (key : Bytes) (m p d : ℕ) : Type 0 where
+  -- the position is one of the node's kind
+  pub position : Is-position s f m p
+  -- the leaf's slot is one of the leaves
+  pub slot-inside : slot-at s f m p < f .leaves
+  -- no more bytes are passed than the key has
+  pub depth-in : d ≤ length key
 
 -- one level fewer
 pub level-next : (d : ℕ) → 64 - d - 1 ≡ 64 - (d + 1)
@@ -161,3 +170,11 @@ module _ (s : Bytes) (f : Frame) (a : Accepted s f) (key : Bytes) where
   -- The node to which the first bytes of the key lead is on its way.
   pub leads-way : {d m : ℕ} → Leads s f key d m → On-way s f key d m
   leads-way l = along (On-way s f key) way-root (λ d m c o b. way-child m d (b .here .more) (b .branch) (b .here .found) c (b .child-is) (b .continues) o) l
+
+  -- Where the first bytes of the key lead to an open leaf, its branch stands at a position of the node and its slot is one of the leaves.
+  pub leaf-reached : {n m p d : ℕ} → Leaf-behind s f key n m p d → Leaf-reached s f key m p d
+  leaf-reached {m = m} t = let r = t .here .found in record {
+    position = record { accepted = a; within = rw (t .at-is) (r .at-is .within) };
+    slot-inside = omega (arith, ap (slot-at s f m) (t .at-is), r .at-is .slot-is, slot-in (nodes s f) m (getD key (t .depth) 0) (t .branch .kind) (r .kind-is) (t .ends), a .writable .leaf-total);
+    depth-in = omega (arith, t .passed, t .here .more);
+  }

@@ -15,24 +15,23 @@ use Rattle.spec.specs.Questions.{begins-with}
 use Rattle.theory.specs.Terms.{Bound}
 use Rattle.theory.specs.LinkedLevels.{Below-label, Ascends}
 use Rattle.image_types.specs.declared.Frame.{Frame}
-use Rattle.image_types.specs.declared.ValuePos.{ValuePos}
 use Rattle.nav_laws.specs.declared.BranchKind.the-variants as Kind
 use Rattle.nav_laws.specs.declared.Found.{Found}
 use Rattle.nav_laws.specs.Accepted.{Accepted, nodes}
 use Rattle.nav_laws.specs.Below.{behind-branches, own-slot, below, On-level, Root, level-left, level-node, level-rising, level-child}
 use Rattle.nav_laws.specs.Counting.{labels-below, below-low, below-high}
 use Rattle.nav_laws.specs.Descent.{child-number, goes-on, ends-at}
-use Rattle.nav_laws.specs.FoundBranch.{node-count, Is-node, Found-branch}
+use Rattle.nav_laws.specs.FoundBranch.{node-count}
 use Rattle.nav_laws.specs.LabelMaps.{eqb-flip}
 use Rattle.nav_laws.specs.NextLabel.{kind-with, with-absent, with-leaf, with-child}
 use Rattle.nav_laws.specs.Positions.{branches, place, child-at, slot-at}
 use Rattle.nav_laws.specs.Slots.{node-at, slot-number, slot-of, slot-is}
 use Rattle.query_laws.specs.Followed.{node-length}
+use Rattle.query_laws.specs.Leads.{At-byte, Leads, along, Branch-missing, Leaf-behind}
 use Rattle.query_laws.specs.Next.{below-some, child-from}
 use Rattle.query_laws.specs.Seeking.{first-child}
 use Rattle.query_laws.specs.Seeks.{root-of, some-leaf}
 use Rattle.query_laws.specs.StemLeaves.{agrees, covers, begins-covers}
-use Rattle.query_laws.specs.Steps.{slot-in}
 use Rattle.query_laws.specs.SuffixBytes.{key-next}
 
 -- ---- one byte, over the leaves behind branches
@@ -185,34 +184,8 @@ pub record Stem-way (s : Bytes) (f : Frame) (stem : Bytes) (depth node : ℕ) : 
   pub covered : begins-with (read-leaves s) stem ≡ bit (any (covers (drop depth stem)) (below (nodes s f) (64 - depth) node))
 
 module _ (s : Bytes) (f : Frame) (a : Accepted s f) (stem : Bytes) where
-  -- an image without nodes has no leaf
-  pub stem-nowhere : Bound stem → node-count f ≡ 0 → begins-with (read-leaves s) stem ≡ 0
-  unfolding any
-  stem-nowhere b z = begins-covers (f .width) (read-leaves s) (a .well-sized) stem b ∙ go (read-leaves s) (root-of s f a)
-    where
-      go : (ls : List Leaf) → (0 < length ls → Root (nodes s f) ls) → bit (any (covers stem) ls) ≡ 0
-      go [] r = refl
-      go (l ∷ ls) r = absurd (omega (arith, level-node (nodes s f) 64 0 (r (omega arith) .on), node-length s f a))
-
-  -- no byte leads to the root
-  pub stem-root : Bound stem → 0 < node-count f → Stem-way s f stem 0 0
-  stem-root b h = let r = root-of s f a (some-leaf s f a h) in record {
-    level = r .on;
-    covered = begins-covers (f .width) (read-leaves s) (a .well-sized) stem b ∙ ap (λ (ls : List Leaf). bit (any (covers stem) ls)) (sym (r .whole));
-  }
-
-  -- the node is one of the image's
-  pub stem-node : (d m : ℕ) → Stem-way s f stem d m → Is-node s f m
-  stem-node d m o = record { accepted = a; inside = omega (arith, level-node (nodes s f) (64 - d) m (o .level), node-length s f a) }
-
-  -- the stem has ended at a node: the leaves at or below it begin with the stem
-  pub stem-ended : (d m : ℕ) → length stem ≤ d → Stem-way s f stem d m → begins-with (read-leaves s) stem ≡ 1
-  stem-ended d m h o =
-      o .covered ∙ ap (λ (k : Bytes). bit (any (covers k) (below (nodes s f) (64 - d) m))) (drop-of-length-le stem {i = d} h)
-      ∙ ap bit (covers-all (below (nodes s f) (64 - d) m) (below-some (nodes s f) (64 - d) m (o .level)))
-
   -- What the node has at the stem's next byte.
-  module _ (m d : ℕ) (h : d < length stem) (b : Found) (r : Found-branch s f m (getD stem d 0) b) (o : Stem-way s f stem d m) where
+  module _ (m d : ℕ) (b : Found) (here : At-byte s f stem d m b) (o : Stem-way s f stem d m) where
     -- one level less below it
     one-less : 64 - d ≡ suc (64 - (d + 1))
     one-less = omega (arith, level-left (nodes s f) (64 - d) m (o .level))
@@ -225,38 +198,72 @@ module _ (s : Bytes) (f : Frame) (a : Accepted s f) (stem : Bytes) where
     byte-covers : begins-with (read-leaves s) stem
         ≡ bit (covered-at (below (nodes s f) (64 - (d + 1))) (getD stem d 0) (drop (d + 1) stem) (drop (place s f m (getD stem d 0)) (branches s f m)) (child-number (nodes s f) m (place s f m (getD stem d 0))))
     byte-covers =
-        o .covered ∙ ap (λ (k : Bytes). bit (any (covers k) (below (nodes s f) (64 - d) m))) (key-next stem d h)
+        o .covered ∙ ap (λ (k : Bytes). bit (any (covers k) (below (nodes s f) (64 - d) m))) (key-next stem d (here .more))
         ∙ ap (λ (l : ℕ). bit (any (covers (getD stem d 0 ∷ drop (d + 1) stem)) (below (nodes s f) l m))) one-less
         ∙ ap bit (below-covers (nodes s f) (64 - (d + 1)) m on (getD stem d 0) (drop (d + 1) stem))
 
     -- no branch
-    pub stem-none : b .kind ≡ Kind.Absent → begins-with (read-leaves s) stem ≡ 0
-    stem-none k =
+    none-covers : b .kind ≡ Kind.Absent → begins-with (read-leaves s) stem ≡ 0
+    none-covers k =
         byte-covers
-        ∙ ap bit (covered-absent (below (nodes s f) (64 - (d + 1))) (getD stem d 0) (drop (d + 1) stem) (drop (place s f m (getD stem d 0)) (branches s f m)) (child-number (nodes s f) m (place s f m (getD stem d 0))) (sym (r .kind-is) ∙ k))
+        ∙ ap bit (covered-absent (below (nodes s f) (64 - (d + 1))) (getD stem d 0) (drop (d + 1) stem) (drop (place s f m (getD stem d 0)) (branches s f m)) (child-number (nodes s f) m (place s f m (getD stem d 0))) (sym (here .found .kind-is) ∙ k))
 
-    -- a branch that ends: its open leaf decides, whose slot is one of the leaves
-    pub stem-leaf : (v : ValuePos) → v .0 ≡ slot-at s f m (b .at .0) → b .kind ≡ Kind.Leaf
-        → (v .0 < f .leaves) × (begins-with (read-leaves s) stem ≡ bit (agrees (slot-of (f .width) (nodes s f) (v .0)) (drop (d + 1) stem)))
-    stem-leaf v e k =
+    -- a branch that ends: its open leaf decides
+    open-covers : (v : ℕ) → v ≡ slot-at s f m (b .at .0) → b .kind ≡ Kind.Leaf → begins-with (read-leaves s) stem ≡ bit (agrees (slot-of (f .width) (nodes s f) v) (drop (d + 1) stem))
+    open-covers v e k =
         let y : ℕ = getD stem d 0 in
         let i : ℕ = place s f m y in
-        let z : v .0 ≡ slot-number (nodes s f) m i = e ∙ r .at-is .slot-is in (
-          omega (arith, z, slot-in (nodes s f) m y (b .kind) (r .kind-is) k, a .writable .leaf-total),
-          byte-covers
-              ∙ ap bit (covered-leaf (below (nodes s f) (64 - (d + 1))) y (drop (d + 1) stem) (drop i (branches s f m)) (child-number (nodes s f) m i) (slot-of (f .width) (nodes s f) (v .0)) (sym (r .kind-is) ∙ k)
-              (λ x t rest q. ap (slot-of (f .width) (nodes s f)) z ∙ slot-is (f .width) (nodes s f) m i x t rest (a .writable .wide) q)),
-        )
+        let z : v ≡ slot-number (nodes s f) m i = e ∙ here .found .at-is .slot-is in
+        byte-covers
+        ∙ ap bit (covered-leaf (below (nodes s f) (64 - (d + 1))) y (drop (d + 1) stem) (drop i (branches s f m)) (child-number (nodes s f) m i) (slot-of (f .width) (nodes s f) v) (sym (here .found .kind-is) ∙ k)
+        (λ x t rest q. ap (slot-of (f .width) (nodes s f)) z ∙ slot-is (f .width) (nodes s f) m i x t rest (a .writable .wide) q))
 
     -- a branch that continues
-    pub stem-child : (child : ℕ) → child ≡ child-at s f m (b .at .0) → b .kind ≡ Kind.Child → Stem-way s f stem (d + 1) child
+    stem-child : (child : ℕ) → child ≡ child-at s f m (b .at .0) → b .kind ≡ Kind.Child → Stem-way s f stem (d + 1) child
     stem-child child e k =
         let y : ℕ = getD stem d 0 in
         let i : ℕ = place s f m y in
-        let z : child ≡ child-number (nodes s f) m i = e ∙ r .at-is .child-is in
-        let c : kind-with y (drop i (branches s f m)) ≡ Kind.Child = sym (r .kind-is) ∙ k in
+        let z : child ≡ child-number (nodes s f) m i = e ∙ here .found .at-is .child-is in
+        let c : kind-with y (drop i (branches s f m)) ≡ Kind.Child = sym (here .found .kind-is) ∙ k in
         record {
           level = rw z (level-child (nodes s f) (64 - (d + 1)) m i on (first-child y (drop i (branches s f m)) c));
           covered = byte-covers ∙ ap bit (covered-child (below (nodes s f) (64 - (d + 1))) y (drop (d + 1) stem) (drop i (branches s f m)) (child-number (nodes s f) m i) c)
               ∙ ap (λ (n : ℕ). bit (any (covers (drop (d + 1) stem)) (below (nodes s f) (64 - (d + 1)) n))) (sym z);
         }
+
+module _ (s : Bytes) (f : Frame) (a : Accepted s f) (stem : Bytes) (b : Bound stem) where
+  -- no byte leads to the root
+  stem-root : 0 < node-count f → Stem-way s f stem 0 0
+  stem-root h = let r = root-of s f a (some-leaf s f a h) in record {
+    level = r .on;
+    covered = begins-covers (f .width) (read-leaves s) (a .well-sized) stem b ∙ ap (λ (ls : List Leaf). bit (any (covers stem) ls)) (sym (r .whole));
+  }
+
+  -- The node to which the first bytes of a stem lead is on its way.
+  pub stem-way : {d m : ℕ} → Leads s f stem d m → Stem-way s f stem d m
+  stem-way l = along (Stem-way s f stem) stem-root (λ d m c o y. stem-child s f a stem m d (y .branch) (y .here) o c (y .child-is) (y .continues)) l
+
+  -- An image without nodes has no key that begins with a stem.
+  pub stem-nowhere : node-count f ≡ 0 → begins-with (read-leaves s) stem ≡ 0
+  unfolding any
+  stem-nowhere z = begins-covers (f .width) (read-leaves s) (a .well-sized) stem b ∙ go (read-leaves s) (root-of s f a)
+    where
+      go : (ls : List Leaf) → (0 < length ls → Root (nodes s f) ls) → bit (any (covers stem) ls) ≡ 0
+      go [] r = refl
+      go (l ∷ ls) r = absurd (omega (arith, level-node (nodes s f) 64 0 (r (omega arith) .on), node-length s f a))
+
+  -- A stem that leads to a node without a branch for its next byte begins no key.
+  pub stem-none : {n : ℕ} → Branch-missing s f stem n → begins-with (read-leaves s) stem ≡ 0
+  stem-none t = none-covers s f a stem (t .node) (t .depth) (t .branch) (t .here) (stem-way (t .leads)) (t .absent)
+
+  -- A stem that ends at a node begins the keys of all leaves at or below it, and there is one.
+  pub stem-ended : {m : ℕ} → Leads s f stem (length stem) m → begins-with (read-leaves s) stem ≡ 1
+  stem-ended {m} l =
+      let n : ℕ = length stem in
+      let o = stem-way l in
+      o .covered ∙ ap (λ (k : Bytes). bit (any (covers k) (below (nodes s f) (64 - n) m))) (drop-of-length-le stem {i = n} (omega arith))
+      ∙ ap bit (covers-all (below (nodes s f) (64 - n) m) (below-some (nodes s f) (64 - n) m (o .level)))
+
+  -- Where a stem leads to an open leaf, the leaf's suffix decides.
+  pub stem-leaf : {n m p d : ℕ} → Leaf-behind s f stem n m p d → (v : ℕ) → v ≡ slot-at s f m p → begins-with (read-leaves s) stem ≡ bit (agrees (slot-of (f .width) (nodes s f) v) (drop d stem))
+  stem-leaf {m = m} t v e = rw (t .passed) (open-covers s f a stem m (t .depth) (t .branch) (t .here) (stem-way (t .leads)) v (e ∙ ap (slot-at s f m) (t .at-is)) (t .ends))

@@ -1,142 +1,115 @@
 use borrow.Author.Needs.{needs}
-use Rattle.nav_laws.specs.FoundBranch.{Found-branch}
+use Rattle.image_types.specs.declared.BitPos.{BitPos}
+use Rattle.image_types.specs.declared.NodeNum.{NodeNum}
+use Rattle.query_laws.specs.declared.KeyEnd.{KeyEnd}
 use Rattle.query_laws.specs.Answers.{bound}
-use Rattle.query_laws.specs.StemWay.{Stem-way, stem-nowhere, stem-root, stem-node, stem-ended, stem-none, stem-leaf, stem-child}
+use Rattle.query_laws.specs.Followed.{Leaf-reached, leaf-reached}
+use Rattle.query_laws.specs.Leads.{Leaf-behind, Leads-to}
+use Rattle.query_laws.specs.StemWay.{stem-nowhere, stem-none, stem-ended, stem-leaf}
 use lib.ListN.{length, getD}
-use Prim.Native.Nat.{_-_, _<_, _≤_}
+use Prim.Native.Nat.{ℕ, _<_}
 use native.Mathlib.Omega.{arith}
-use mathlib.Core.Path.{sym, _∙_}
+use mathlib.Core.Path.{_≡_, sym, _∙_}
 use Rattle.query_stem.proofs.begins.begins_with.Statement.{statement}
 use Rattle.query_stem.proofs.begins.begins_with.Tie as tie
 
-abbrev Inv-loop : tie.InvT-loop
-Inv-loop image f stem node₀ depth₀ node depth = (depth ≤ length stem) × Stem-way image f stem depth (node .0)
+-- where the function was entered, from where the stem has been followed
+abbrev entered : tie.After-follow → tie.Start
+entered d = d .before .before .before
 
-abbrev μ-loop : tie.MeasureT-loop
-μ-loop image f stem node₀ depth₀ node depth = length stem - depth
+-- the stem is one of bytes
+small : (d : tie.After-follow) (i : ℕ) → getD (entered d .args .stem .now) i 0 < 256
+small d i = omega (arith, d .before .shared-slice-known2 .given i)
 
--- where the function was entered, from the head of the loop
-abbrev entered : tie.At-loop Inv-loop μ-loop → tie.Start Inv-loop μ-loop
-entered l = l .before .before .before .before .before
+-- where the stem leads, by the end that is known of it
+led : (d : tie.After-follow) (end : KeyEnd) → d .follow .result ≡ end → Leads-to (entered d .args .image .now) (entered d .args .f) (entered d .args .stem .now) (length (entered d .args .stem .now)) end
+led d end e = rw e at (d .follow .ensures)
 
--- the head of the loop, from where the branch at the next byte is found
-abbrev head : tie.After-find Inv-loop μ-loop → tie.At-loop Inv-loop μ-loop
-head c = c .before .before .before .before
+-- where the stem has been followed, from where it is known to lead to an open leaf
+abbrev followed : tie.After-known-told → tie.After-follow
+followed k = k .before .before .before
 
--- a byte of the stem is left
-more : (c : tie.After-find Inv-loop μ-loop) → head c .loop .depth < length (entered (head c) .args .stem .now)
-more c = c .before .before .before .loop-test .taken
+-- the node whose branch ends there
+abbrev node : tie.After-known-told → NodeNum
+node k = k .before .node .given .0 .0
 
--- what the node has at that byte
-found : (c : tie.After-find Inv-loop μ-loop) → Found-branch (entered (head c) .args .image .now) (entered (head c) .args .f) (head c .loop .node .0) (getD (entered (head c) .args .stem .now) (head c .loop .depth) 0) (c .find .result)
-found c = rw (c .before .wide .ensures .0) at (c .find .ensures)
+-- the branch's position
+abbrev at : tie.After-known-told → BitPos
+at k = k .before .node .given .0 .1 .0
 
-add-if1 : tie.Need-add-if1 Inv-loop μ-loop
-add-if1 c =
-    let p = c .before .before .before .pre .0 in
-    omega (arith, p .dense-size, p .sparse-size, p .writable .few-dense, p .writable .few-sparse)
+-- the bytes that are passed
+abbrev depth : tie.After-known-told → ℕ
+depth k = k .before .node .given .0 .1 .1 .0
 
-returns : tie.Need-returns Inv-loop μ-loop
-returns c =
-    let s = c .before .before .before .before in
-    sym (stem-nowhere (s .args .image .now) (s .args .f) (s .pre .0) (s .args .stem .now) (bound (s .args .stem .now) (λ i. omega (arith, c .before .before .shared-slice-known2 .given i)) (s .pre .1)) (c .if1 .taken))
+-- the stem leads to that leaf
+behind : (k : tie.After-known-told) → let s = entered (followed k) in Leaf-behind (s .args .image .now) (s .args .f) (s .args .stem .now) (length (s .args .stem .now)) (node k .0) (at k .0) (depth k)
+behind k = led (followed k) _ (k .before .node .given .1)
 
-loop-holds : tie.Need-loop-holds Inv-loop μ-loop
-loop-holds c =
-    let s = c .before .before .before .before in
-    (omega arith, stem-root (s .args .image .now) (s .args .f) (s .pre .0) (s .args .stem .now) (bound (s .args .stem .now) (λ i. omega (arith, c .before .before .shared-slice-known2 .given i)) (s .pre .1)) (omega (arith, c .if1 .left)))
+-- what holds of it: its position, its slot and its depth
+reached : (k : tie.After-known-told) → let s = entered (followed k) in Leaf-reached (s .args .image .now) (s .args .f) (s .args .stem .now) (node k .0) (at k .0) (depth k)
+reached k = let s = entered (followed k) in leaf-reached (s .args .image .now) (s .args .f) (s .pre .0) (s .args .stem .now) (behind k)
 
-shared-slice-read-wide : tie.Need-shared-slice-read-wide Inv-loop μ-loop
-shared-slice-read-wide c = search needs
+follow-requires : tie.Need-follow-requires
+follow-requires c κs = (c .before .before .pre .0, omega arith)
 
-wide-requires : tie.Need-wide-requires Inv-loop μ-loop
-wide-requires c κs = search needs
-
-find-requires : tie.Need-find-requires Inv-loop μ-loop
-find-requires c κs =
-    let l = c .before .before .before in
-    let s = entered l in
-    (stem-node (s .args .image .now) (s .args .f) (s .pre .0) (s .args .stem .now) (l .loop .depth) (l .loop .node .0) (l .loop .inv .1), c .wide .ensures .1)
-
-add-depth : tie.Need-add-depth Inv-loop μ-loop
-add-depth c = search needs
-
-enum-told : tie.Need-enum-told Inv-loop μ-loop
+enum-told : tie.Need-enum-told
 enum-told c = search needs
 
-returns-2 : tie.Need-returns-2 Inv-loop μ-loop
-returns-2 c =
-    let b = c .before .before in
-    let l = head b in
-    let s = entered l in
-    sym (stem-none (s .args .image .now) (s .args .f) (s .pre .0) (s .args .stem .now) (l .loop .node .0) (l .loop .depth) (more b) (b .find .result) (found b) (l .loop .inv .1) (c .enum-told .given .1))
-
-enum-told-2 : tie.Need-enum-told-2 Inv-loop μ-loop
+enum-told-2 : tie.Need-enum-told-2
 enum-told-2 c = search needs
 
-slot-requires : tie.Need-slot-requires Inv-loop μ-loop
-slot-requires c κs = search needs
-
-suffix-agrees-requires : tie.Need-suffix-agrees-requires Inv-loop μ-loop
-suffix-agrees-requires c κs =
-    let b = c .before .before .before in
-    let l = head b in
-    let s = entered l in
-    let v = stem-leaf (s .args .image .now) (s .args .f) (s .pre .0) (s .args .stem .now) (l .loop .node .0) (l .loop .depth) (more b) (b .find .result) (found b) (l .loop .inv .1) (c .slot .result) (c .slot .ensures) (c .before .enum-told2 .given .1) in
-    (s .pre .0, v .0, omega (arith, more b), s .pre .1)
-
-returns-3 : tie.Need-returns-3 Inv-loop μ-loop
-returns-3 c =
-    let d = c .before in
-    let b = d .before .before .before in
-    let l = head b in
-    let s = entered l in
-    let v = stem-leaf (s .args .image .now) (s .args .f) (s .pre .0) (s .args .stem .now) (l .loop .node .0) (l .loop .depth) (more b) (b .find .result) (found b) (l .loop .inv .1) (d .slot .result) (d .slot .ensures) (d .before .enum-told2 .given .1) in
-    c .suffix-agrees .ensures ∙ sym (v .1)
-
-enum-told-3 : tie.Need-enum-told-3 Inv-loop μ-loop
+enum-told-3 : tie.Need-enum-told-3
 enum-told-3 c = search needs
 
-child-requires : tie.Need-child-requires Inv-loop μ-loop
-child-requires c κs = search needs
+enum-known-node : tie.Need-enum-known-node
+enum-known-node c = search needs
 
-loop-less : tie.Need-loop-less Inv-loop μ-loop
-loop-less c = search needs
+slot-requires : tie.Need-slot-requires
+slot-requires c κs = reached c .position
 
-loop-again : tie.Need-loop-again Inv-loop μ-loop
-loop-again c =
-    let b = c .before .before .before in
-    let l = head b in
-    let s = entered l in
-    (omega (arith, more b), stem-child (s .args .image .now) (s .args .f) (s .pre .0) (s .args .stem .now) (l .loop .node .0) (l .loop .depth) (more b) (b .find .result) (found b) (l .loop .inv .1) (c .child .result .0) (c .child .ensures) (c .before .enum-told3 .given .1))
+suffix-agrees-requires : tie.Need-suffix-agrees-requires
+suffix-agrees-requires c κs =
+    let k = c .before in
+    let p = entered (followed k) .pre in
+    (p .0, omega (arith, c .slot .ensures, reached k .slot-inside), reached k .depth-in, p .1)
 
-returns-4 : tie.Need-returns-4 Inv-loop μ-loop
+returns : tie.Need-returns
+returns c =
+    let d = c .before .before in
+    let s = entered d in
+    sym (stem-nowhere (s .args .image .now) (s .args .f) (s .pre .0) (s .args .stem .now) (bound (s .args .stem .now) (small d) (s .pre .1)) (led d _ (c .enum-told .given .1)))
+
+returns-2 : tie.Need-returns-2
+returns-2 c =
+    let d = c .before .before in
+    let s = entered d in
+    sym (stem-none (s .args .image .now) (s .args .f) (s .pre .0) (s .args .stem .now) (bound (s .args .stem .now) (small d) (s .pre .1)) (led d _ (c .enum-told2 .given .1)))
+
+returns-3 : tie.Need-returns-3
+returns-3 c =
+    let d = c .before .before in
+    let s = entered d in
+    sym (stem-ended (s .args .image .now) (s .args .f) (s .pre .0) (s .args .stem .now) (bound (s .args .stem .now) (small d) (s .pre .1)) (led d _ (c .enum-told3 .given .1)))
+
+returns-4 : tie.Need-returns-4
 returns-4 c =
-    let l = c .before in
-    let s = entered l in
-    sym (stem-ended (s .args .image .now) (s .args .f) (s .pre .0) (s .args .stem .now) (l .loop .depth) (l .loop .node .0) (omega arith) (l .loop .inv .1))
+    let k = c .before .before in
+    let d = followed k in
+    let s = entered d in
+    c .suffix-agrees .ensures ∙ sym (stem-leaf (s .args .image .now) (s .args .f) (s .pre .0) (s .args .stem .now) (bound (s .args .stem .now) (small d) (s .pre .1)) (behind k) (c .before .slot .result .0) (c .before .slot .ensures))
 
 pub begins-with-spec : {M : Type 1} → statement M
 begins-with-spec =
     tie.close
     (tie.spec
-    Inv-loop
-    μ-loop
-    add-if1
-    returns
-    loop-holds
-    shared-slice-read-wide
-    wide-requires
-    find-requires
-    add-depth
+    follow-requires
     enum-told
-    returns-2
     enum-told-2
+    enum-told-3
+    enum-known-node
     slot-requires
     suffix-agrees-requires
+    returns
+    returns-2
     returns-3
-    enum-told-3
-    child-requires
-    loop-less
-    loop-again
     returns-4)
