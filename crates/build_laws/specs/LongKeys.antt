@@ -6,9 +6,10 @@ use mathlib.Core.List.{List, [], _∷_, _++_}
 use native.Mathlib.Omega.{arith}
 use lib.ListN.{length}
 use lib.Dec.{leb, ltb, eqb}
-use borrow.Author.Tests.{le-ltb}
-use Rattle.spec.specs.Bytes.{Bytes}
+use borrow.Author.Tests.{leb-true, le-leb, lt-leb, le-ltb}
+use Rattle.spec.specs.Bytes.{Bytes, all}
 use Rattle.spec.specs.Keys.{keys-of}
+use Rattle.theory.specs.Lists.{and-both}
 use Rattle.theory.specs.Neighbours.{next-shared}
 use Rattle.build_laws.specs.LevelEntries.{pred}
 use Rattle.build_laws.specs.NeighbourLeaves.{cut-length}
@@ -23,9 +24,8 @@ use Rattle.build_laws.specs.declared.Levels.{Levels}
 use Rattle.build_laws.specs.declared.Kind.the-variants.{DP}
 
 -- every key has at least n bytes
-abbrev pub Long : ℕ → List Bytes → Type 0
-Long n [] = Unit
-Long n (k ∷ ks) = (n ≤ length k) × Long n ks
+abbrev pub all-long : ℕ → List Bytes → Bool
+all-long n ks = all (λ k. leb n (length k)) ks
 
 -- ---- no exact leaf
 
@@ -59,10 +59,12 @@ none-key lo hi p q k h =
     go false b = tt
 
 -- the entries of long keys
-none-keys : (lo hi p : ℕ) (ks : List Bytes) → Long hi ks → No-exact (all-entries lo hi p ks)
-unfolding emissions
+none-keys : (lo hi p : ℕ) (ks : List Bytes) → all-long hi ks ≡ true → No-exact (all-entries lo hi p ks)
+unfolding emissions all
 none-keys lo hi p [] h = tt
-none-keys lo hi p (k ∷ ks) h = none-append (key-entries lo hi p (next-shared k ks) k) _ (none-key lo hi p (next-shared k ks) k (h .0)) (none-keys lo hi (suc (next-shared k ks)) ks (h .1))
+none-keys lo hi p (k ∷ ks) h =
+    let b = and-both (leb hi (length k)) (all-long hi ks) h in
+    none-append (key-entries lo hi p (next-shared k ks) k) _ (none-key lo hi p (next-shared k ks) k (leb-true hi (length k) (b .0))) (none-keys lo hi (suc (next-shared k ks)) ks (b .1))
 
 -- entries none of which is an exact leaf set no bit
 none-set : (es : List (Emission Entry)) (s : Byte-state) → No-exact es → write-entries DP es s .bytes ≡ s .bytes
@@ -71,20 +73,20 @@ none-set [] s h = refl
 none-set (emission d e ∷ es) s h = none-set es (write-entry DP (emission d e) s) (h .1) ∙ rw (h .0)
 
 -- The pass of D-IsPrefixKey over keys that reach over its levels leaves the bytes as they are.
-pub long-unset : (l : Levels) (ks : List Bytes) (s : Byte-state) → Long (l .hi) ks → pass-keys (entries-pass DP l) 0 ks s .bytes ≡ s .bytes
+pub long-unset : (l : Levels) (ks : List Bytes) (s : Byte-state) → all-long (l .hi) ks ≡ true → pass-keys (entries-pass DP l) 0 ks s .bytes ≡ s .bytes
 long-unset l ks s h = none-set (all-entries (l .lo) (l .hi) 0 ks) s (none-keys (l .lo) (l .hi) 0 ks h)
 
 -- ---- the lengths of a list's keys, record by record
 
--- what holds between two records: if the keys left are long, all are
+-- what holds between two records: all keys are long exactly if those left are
 pub record Long-left (s : Bytes) (n at : ℕ) : Type 0 where
   pub ks : List Bytes
   pub records : Records s at ks  -- these keys are left
-  pub all : Long n ks → Long n (keys-of s)
+  pub decides : all-long n (keys-of s) ≡ all-long n ks
 
 -- the start of the list
 pub long-start : (s : Bytes) (n : ℕ) → Accepted-list s → Long-left s n 0
-long-start s n a = record { ks = keys-of s; records = a .records; all = λ h. h }
+long-start s n a = record { ks = keys-of s; records = a .records; decides = refl }
 
 module _ (s : Bytes) (n at : ℕ) (f : Long-left s n at) where
   -- a record stands at `at`
@@ -95,18 +97,29 @@ module _ (s : Bytes) (n at : ℕ) (f : Long-left s n at) where
       go [] r = absurd (omega arith)
       go (k ∷ ks) r = r .0
 
+  -- its key is short
+  pub long-short : at < length s → key-size s at < n → all-long n (keys-of s) ≡ false
+  unfolding all
+  long-short h m = go (f .ks) (f .records) (f .decides)
+    where
+      go : (ks : List Bytes) → Records s at ks → all-long n (keys-of s) ≡ all-long n ks → all-long n (keys-of s) ≡ false
+      go [] r g = absurd (omega arith)
+      go (k ∷ ks) r g = g ∙ rw (lt-leb n (length k) (omega (arith, ap length (r .3), key-length s (at + 3) (key-size s at) (r .0))))
+
   -- its key is long
   pub long-next : at < length s → n ≤ key-size s at → Long-left s n (record-end s at)
-  long-next h m = go (f .ks) (f .records) (f .all)
+  unfolding all
+  long-next h m = go (f .ks) (f .records) (f .decides)
     where
-      go : (ks : List Bytes) → Records s at ks → (Long n ks → Long n (keys-of s)) → Long-left s n (record-end s at)
+      go : (ks : List Bytes) → Records s at ks → all-long n (keys-of s) ≡ all-long n ks → Long-left s n (record-end s at)
       go [] r g = absurd (omega arith)
-      go (k ∷ ks) r g = record { ks = ks; records = r .4; all = λ z. g (omega (arith, ap length (r .3), key-length s (at + 3) (key-size s at) (r .0)), z) }
+      go (k ∷ ks) r g = record { ks = ks; records = r .4; decides = g ∙ rw (le-leb n (length k) (omega (arith, ap length (r .3), key-length s (at + 3) (key-size s at) (r .0)))) }
 
   -- the end of the list
-  pub long-done : length s ≤ at → Long n (keys-of s)
-  long-done h = go (f .ks) (f .records) (f .all)
+  pub long-done : length s ≤ at → all-long n (keys-of s) ≡ true
+  unfolding all
+  long-done h = go (f .ks) (f .records) (f .decides)
     where
-      go : (ks : List Bytes) → Records s at ks → (Long n ks → Long n (keys-of s)) → Long n (keys-of s)
-      go [] r g = g tt
+      go : (ks : List Bytes) → Records s at ks → all-long n (keys-of s) ≡ all-long n ks → all-long n (keys-of s) ≡ true
+      go [] r g = g
       go (k ∷ ks) r g = absurd (omega (arith, r .0))

@@ -4,8 +4,7 @@ ghost use Prim.Native.Nat.{_+_, _≤_, _<_};
 ghost use lib.ListN.{length};
 ghost use Rattle.spec.specs.Keys.{keys-of};
 ghost use Rattle.build_laws.specs.KeyRecords.{record-end, Accepted-list, Whole-records, shared-behind, key-at};
-ghost use Rattle.build_laws.specs.LongKeys.{Long};
-ghost use mathlib.Core.Bool.{true};
+ghost use Rattle.build_laws.specs.LongKeys.{all-long};
 use super::BEFORE_KEY;
 use bits::numbers::wide;
 use build_laws::Key;
@@ -43,7 +42,7 @@ pub fn read_key(s: &[u8], at: usize, first: usize) -> Key
 // Whether all keys of the list have at least n bytes, by the lengths of the records alone.
 pub fn all_long(s: &[u8], n: usize) -> bool
     requires { ⌜ Accepted-list (now s) ⌝ }
-    ensures { λ r. ⌜ (r ≡ true → Long n (keys-of (now (s .entry)))) ⌝ }
+    ensures { λ r. ⌜ r ≡ all-long n (keys-of (now (s .entry))) ⌝ }
 {
     let mut at = 0usize;
     while at < s.len() {

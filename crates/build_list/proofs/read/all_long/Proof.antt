@@ -1,11 +1,10 @@
--- If the keys of the records left are long, all are.
+-- All keys are long exactly if those of the records left are.
 use Prim.Native.Nat.{ℕ, _+_, _-_}
 use mathlib.Core.Path.{sym, subst}
-use mathlib.Core.Bool.{true≢false}
 use native.Mathlib.Omega.{arith}
 use borrow.Author.Needs.{needs}
 use lib.ListN.{length}
-use Rattle.build_laws.specs.LongKeys.{Long-left, long-start, long-here, long-next, long-done}
+use Rattle.build_laws.specs.LongKeys.{Long-left, long-start, long-here, long-short, long-next, long-done}
 use Rattle.build_list.proofs.read.all_long.Statement.{statement}
 use Rattle.build_list.proofs.read.all_long.Tie as tie
 
@@ -36,7 +35,10 @@ wide-requires : tie.Need-wide-requires Inv-loop μ-loop
 wide-requires c κs = search needs
 
 returns : tie.Need-returns Inv-loop μ-loop
-returns c = λ e. absurd (true≢false (sym e))
+returns c =
+    let a = c .before .before .before .before .before .before .args in
+    let l = c .before .before .before .before .loop in
+    sym (long-short (a .s .now) (a .n) (l .at) (l .inv) (c .before .before .before .loop-test .taken) (omega (arith, c .before .wide .ensures .0, c .if1 .taken)))
 
 add-at : tie.Need-add-at Inv-loop μ-loop
 add-at c =
@@ -68,7 +70,7 @@ loop-again c =
     subst (λ (i : ℕ). Long-left (a .s .now) (a .n) (l .at + 3 + i)) (sym size) h
 
 returns-2 : tie.Need-returns-2 Inv-loop μ-loop
-returns-2 c = λ e. long-done (c .before .before .before .args .s .now) (c .before .before .before .args .n) (c .before .loop .at) (c .before .loop .inv) (c .loop-test .left)
+returns-2 c = sym (long-done (c .before .before .before .args .s .now) (c .before .before .before .args .n) (c .before .loop .at) (c .before .loop .inv) (c .loop-test .left))
 
 pub all-long-spec : {M : Type 1} → statement M
 all-long-spec =

@@ -1,5 +1,5 @@
 -- Long keys set no bit.
-use mathlib.Core.Path.{sym, ap}
+use mathlib.Core.Path.{sym, ap, _∙_}
 use Rattle.spec.specs.Keys.{keys-of}
 use Rattle.build_laws.specs.BytePass.{Byte-state, byte-state}
 use Rattle.build_laws.specs.LongKeys.{long-unset}
@@ -13,7 +13,7 @@ all-long-requires c κs = search needs
 returns : tie.Need-returns
 returns c =
     let a = c .before .before .before .before .args in
-    sym (long-unset (a .l) (keys-of (a .s .now)) (byte-state (a .out .now) (a .cur .now)) (c .before .all-long .ensures (c .if1 .taken)))
+    sym (long-unset (a .l) (keys-of (a .s .now)) (byte-state (a .out .now) (a .cur .now)) (sym (c .before .all-long .ensures) ∙ c .if1 .taken))
 
 fill-exact-cells-requires : tie.Need-fill-exact-cells-requires
 fill-exact-cells-requires c κs = search needs
