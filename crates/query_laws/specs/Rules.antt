@@ -13,10 +13,10 @@ use Rattle.spec.specs.Nodes.{is-exact, read-leaves}
 use Rattle.spec.specs.Questions.{begins-with}
 use Rattle.spec.specs.Rules.{leads-to-node, leads-to-exact, leads-to-open, same-suffix, branch-missing, key-ended, at-exact-leaf, suffix-equal, suffix-other, no-nodes, applies, rule}
 use Rattle.spec.specs.Rules as spec
-use Rattle.theory.specs.Terms.{Bound}
+use Rattle.theory.specs.Terms.{In, here, Bound}
 use Rattle.theory.specs.Lists.{and-both, or-both-false, all-in, any-in, any-none, any-false, in-any, any-count, count-any, in-map, in-filter}
 use Rattle.theory.specs.Order.{equal-true, equal-comm, begins-append}
-use Rattle.theory.specs.LeafLists.{Realizable, All-well-sized, Shortest, cut-key}
+use Rattle.theory.specs.Rules.{root-there, applies-rule, else-missing}
 use Rattle.image_types.specs.declared.Frame.{Frame}
 use Rattle.image_types.specs.declared.ValuePos.{ValuePos}
 use Rattle.nav_laws.specs.declared.LeafStop.the-variants.{Nowhere, Exact, Open}
@@ -33,8 +33,8 @@ use Rattle.query_laws.specs.Leads.{Leads, along, Branch-missing, Leaf-be
 use Rattle.query_laws.specs.Steps.{exact-stop}
 use Rattle.query_laws.specs.Followed.{Stopped, node-length, stopped-end, way-none, way-leaf, leads-way}
 use Rattle.query_laws.specs.Seeks.{root-of, some-leaf}
-use Rattle.query_laws.specs.StemLeaves.{covers, agrees, begins-covers, begins-through}
-use Rattle.query_laws.specs.StemWay.{Stem-way, stem-root, stem-ended, stem-none, stem-child}
+use Rattle.query_laws.specs.StemLeaves.{covers, agrees, begins-covers}
+use Rattle.query_laws.specs.StemWay.{stem-ended, stem-none}
 
 -- the rule of order 3 that a descent names
 abbrev pub rule-of : Rule → spec.Rule
@@ -66,39 +66,9 @@ bit-false : (b : Bool) → bit b ≡ 0 → b ≡ false
 bit-false true h = absurd (omega arith)
 bit-false false h = refl
 
--- two keys that begin each other are equal
-begins-both : (a b : Bytes) → begins a b ≡ true → begins b a ≡ true → equal a b ≡ true
-unfolding begins equal
-begins-both [] [] p q = refl
-begins-both [] (y ∷ b) p q = absurd (true≢false (sym q))
-begins-both (x ∷ a) [] p q = absurd (true≢false (sym p))
-begins-both (x ∷ a) (y ∷ b) p q =
-    let u = and-both (eqb x y) (begins a b) p in
-    let v = and-both (eqb y x) (begins b a) q in
-    rw (u .0, begins-both a b (u .1) (v .1))
-
 -- equal keys begin each other
 equal-begins : (a b : Bytes) → equal a b ≡ true → begins a b ≡ true
 equal-begins a b h = let e : b ≡ a ++ [] = sym (equal-true a b h) ∙ sym (append-nil a) in rw e (begins-append a [])
-
--- a leaf's cut key goes on behind these bytes
-abbrev goes-behind : Bytes → Leaf → Bool
-goes-behind k l = begins k (l .cut) && not (equal k (l .cut))
-
-module _ (k c d : Bytes) (p : begins c k ≡ true) (alone : equal c d ≡ false → begins c d ≡ false) where
-  -- a cut key c begins k, and another, d, would begin with k and be longer: then c begins d too
-  not-longer : (b : Bool) → equal c d ≡ b → begins k d ≡ true → equal k d ≡ false → true ≡ false
-  not-longer true e q r = let z : d ≡ c = sym (equal-true c d e) in sym (begins-both k d q (rw z p)) ∙ r
-  not-longer false e q r = sym (begins-through c k d p q) ∙ alone e
-
-  -- Where c begins k, and begins d only if it is d, d does not go on behind k.
-  not-behind : begins k d && not (equal k d) ≡ false
-  not-behind = go (begins k d) (equal k d) refl refl
-    where
-      go : (b e : Bool) → begins k d ≡ b → equal k d ≡ e → b && not e ≡ false
-      go true true q r = refl
-      go true false q r = not-longer (equal c d) refl q r
-      go false e q r = refl
 
 -- ---- what the leaves say of a key
 
@@ -137,19 +107,13 @@ module _ (ls : List Leaf) (k : Bytes) where
       tested true b c = refl
       tested false b c = refl
 
-  -- The rule by these, and by whether the key leads to a node.
-  rule-told : {exact opened same other : Bool} (node : Bool) → leads-to-node ls [] ≡ true → leads-to-node ls k ≡ node → Told ls k exact opened same other
-      → rule ls k ≡ cond (node && not exact) key-ended (cond exact at-exact-leaf (cond same suffix-equal (cond other suffix-other branch-missing)))
-  unfolding rule applies
-  rule-told node h e t = rw (h, e, t .exact-is, t .same-is, t .other-is)
-
   -- The key leads to a node if some leaf has a possible key that begins with it, and the key leads to no leaf.
   covered-node : {same other : Bool} → any (covers k) ls ≡ true → Told ls k false false same other → leads-to-node ls k ≡ true
   unfolding leads-to-node leads-to-exact leads-to-open covers
   covered-node h t =
       let m = any-in (covers k) ls h in
       let c : Bytes = m .0 .cut in
-      in-any (goes-behind k) (m .1)
+      in-any (λ l. begins k (l .cut) && not (equal k (l .cut))) (m .1)
       (rw (equal-comm k c)
       (go (m .0 .exact) (begins k c) (begins c k) (equal c k) (agrees (m .0 .suffix) (drop (length c) k)) (m .2) (any-none (λ l. l .exact && equal (l .cut) k) (t .exact-is) (m .1)) (any-none (leads-to-open k) (t .open-is) (m .1)) (equal-begins c k)))
     where
@@ -166,27 +130,13 @@ module _ (ls : List Leaf) (k : Bytes) where
   uncovered-node : any (covers k) ls ≡ false → leads-to-node ls k ≡ false
   unfolding leads-to-node covers
   uncovered-node h =
-      any-false (goes-behind k) ls
+      any-false (λ l. begins k (l .cut) && not (equal k (l .cut))) ls
       (λ l i. rw (or-both-false (begins k (l .cut)) (not (l .exact) && (begins (l .cut) k && agrees (l .suffix) (drop (length (l .cut)) k))) (any-none (covers k) h i) .0))
 
-  -- Nor where it leads to an open leaf: no cut key goes on behind that of an open leaf.
-  open-node : {n : ℕ} → Realizable n ls → any (leads-to-open k) ls ≡ true → leads-to-node ls k ≡ false
-  unfolding leads-to-node leads-to-open others
-  open-node {n} g h =
-      let m = any-in (leads-to-open k) ls h in
-      let o = and-both (not (m .0 .exact)) (begins (m .0 .cut) k) (m .2) in
-      let kind = all-in (Shortest n ls) (g .shortest) (m .1) .kind ∙ not-true (m .0 .exact) (o .0) in
-      any-false (goes-behind k) ls (λ l i. not-behind k (m .0 .cut) (l .cut) (o .1) (λ q. any-none (begins (m .0 .cut)) kind (in-filter (λ c. not (equal (m .0 .cut) c)) (in-map cut-key i) (rw q refl))))
-
--- the empty key leads to the root, if there is a leaf
-root-node : (n : ℕ) (ls : List Leaf) → All-well-sized n ls → 0 < length ls → leads-to-node ls [] ≡ true
-unfolding leads-to-node any begins equal
-root-node n [] o h = absurd (omega arith)
-root-node n (l ∷ ls) o h = rw (behind (l .cut) (o .0 .key .least))
-  where
-    behind : (c : Bytes) → 0 < length c → equal [] c ≡ false
-    behind [] h = absurd (omega arith)
-    behind (x ∷ c) h = refl
+-- a member of a list that has some
+some-in : (ls : List Leaf) → 0 < length ls → (l : Leaf) × In l ls
+some-in [] h = absurd (omega arith)
+some-in (l ∷ ls) h = (l, here)
 
 -- no leaf, no node
 rule-nothing : (ls : List Leaf) (k : Bytes) → length ls ≡ 0 → rule ls k ≡ no-nodes
@@ -218,9 +168,9 @@ module _ (s : Bytes) (f : Frame) (a : Accepted s f) (key : Bytes) where
       → Told (read-leaves s) key false true (has-suffix (slot-of (f .width) (nodes s f) (v .0)) (drop d key)) (not (has-suffix (slot-of (f .width) (nodes s f) (v .0)) (drop d key)))
   told-open d v t = told (read-leaves s) key (λ ends q. q (slot-of (f .width) (nodes s f) (v .0)) (drop d key)) (λ ends q. led-stops s f a key ends q ∙ value-open s f a key (Open v) d (t .leads) ends q v refl)
 
-  -- where bytes of the key lead to a node, the empty key leads to the root
-  root-there : {d m : ℕ} → Leads s f key d m → leads-to-node (read-leaves s) [] ≡ true
-  root-there l = root-node (f .width) (read-leaves s) (a .well-sized) (some-leaf s f a (omega (arith, leads-way s f a key l .node-in)))
+  -- a rule that applies among the image's leaves is the key's
+  the-rule : (r : spec.Rule) → applies (read-leaves s) key r ≡ true → rule (read-leaves s) key ≡ r
+  the-rule = applies-rule (read-leaves s) (a .realizable) (a .well-sized) key
 
   -- The key leads to an open leaf, whose slot is one of the leaves: its suffix decides.
   pub rule-leaf : {n m p d : ℕ} → Leaf-behind s f key n m p d
@@ -228,40 +178,36 @@ module _ (s : Bytes) (f : Frame) (a : Accepted s f) (key : Bytes) where
   rule-leaf {m = m} {p = p} l =
       let v : ValuePos = record { 0 = slot-at s f m p } in
       let t = way-leaf s f a key m (l .depth) (l .here .more) (l .branch) (l .here .found) v (ap (slot-at s f m) (l .at-is)) (l .ends) (leads-way s f a key (l .leads)) in
-      let h : Bool = has-suffix (slot-of (f .width) (nodes s f) (v .0)) (drop (l .depth + 1) key) in
-      let u = told-open (l .depth + 1) v t in (
-        t .leaf-in v refl,
-        rule-told (read-leaves s) key false (root-there (l .leads)) (open-node (read-leaves s) key (a .realizable) (u .open-is)) u ∙ rw (l .passed) (go h),
-      )
+      (t .leaf-in v refl, rw (l .passed) (go (has-suffix (slot-of (f .width) (nodes s f) (v .0)) (drop (l .depth + 1) key)) (told-open (l .depth + 1) v t)))
     where
-      go : (h : Bool) → cond h suffix-equal (cond (not h) suffix-other branch-missing) ≡ cond h suffix-equal suffix-other
-      go true = refl
-      go false = refl
+      go : (h : Bool) → Told (read-leaves s) key false true h (not h) → rule (read-leaves s) key ≡ cond h suffix-equal suffix-other
+      go true u = the-rule suffix-equal (u .same-is)
+      go false u = the-rule suffix-other (u .other-is)
 
   module _ (b : Bound key) where
-    -- the first bytes of the key, as of a stem
-    stem-way : {d m : ℕ} → Leads s f key d m → Stem-way s f key d m
-    stem-way l = along (Stem-way s f key) (stem-root s f a key b) (λ d m c o n. stem-child s f a key m d (n .here .more) (n .branch) (n .here .found) o c (n .child-is) (n .continues)) l
-
     -- some leaf has a possible key that begins with the key, or none has
     covered-by : (n : ℕ) → begins-with (read-leaves s) key ≡ n → bit (any (covers key) (read-leaves s)) ≡ n
     covered-by n h = sym (begins-covers (f .width) (read-leaves s) (a .well-sized) key b) ∙ h
 
     -- A branch is missing.
     pub rule-missing : {n : ℕ} → Branch-missing s f key n → rule (read-leaves s) key ≡ branch-missing
+    unfolding applies
     rule-missing l =
-        let t = way-none s f a key (l .node) (l .depth) (l .here .more) (l .branch) (l .here .found) (l .absent) (leads-way s f a key (l .leads)) in
-        let c = covered-by 0 (stem-none s f a key (l .node) (l .depth) (l .here .more) (l .branch) (l .here .found) (stem-way (l .leads)) (l .absent)) in
-        rule-told (read-leaves s) key false (root-there (l .leads)) (uncovered-node (read-leaves s) key (bit-false (any (covers key) (read-leaves s)) c)) (told-none (l .depth + 1) t)
+        let o = leads-way s f a key (l .leads) in
+        let u = told-none (l .depth + 1) (way-none s f a key (l .node) (l .depth) (l .here .more) (l .branch) (l .here .found) (l .absent) o) in
+        let c = uncovered-node (read-leaves s) key (bit-false (any (covers key) (read-leaves s)) (covered-by 0 (stem-none s f a key b l))) in
+        let m = some-in (read-leaves s) (some-leaf s f a (omega (arith, o .node-in))) in
+        the-rule branch-missing (else-missing (read-leaves s) (a .realizable) (a .well-sized) key (root-there (read-leaves s) (a .realizable) (a .well-sized) key (m .1)) (rw c) (u .exact-is) (u .same-is) (u .other-is))
 
     -- The key ends at a node: whether the node is an exact leaf decides.
     pub rule-node : {m : ℕ} → Leads s f key (length key) m → rule (read-leaves s) key ≡ cond (is-exact (node-at (nodes s f) m)) at-exact-leaf key-ended
+    unfolding applies
     rule-node {m} l =
         go (is-exact (node-at (nodes s f) m)) (stopped-end s f a key (length key) m (exact-stop (is-exact (node-at (nodes s f) m))) refl refl (leads-way s f a key l .leads))
       where
         go : (x : Bool) → Stopped s f key (exact-stop x) (length key) → rule (read-leaves s) key ≡ cond x at-exact-leaf key-ended
-        go true t = rule-told (read-leaves s) key (leads-to-node (read-leaves s) key) (root-there l) refl (told-exact (length key) t) ∙ rw (and-false (leads-to-node (read-leaves s) key))
+        go true t = the-rule at-exact-leaf (told-exact (length key) t .exact-is)
         go false t =
             let u = told-none (length key) t in
-            let c = covered-by 1 (stem-ended s f a key (length key) m (omega arith) (stem-way l)) in
-            rule-told (read-leaves s) key true (root-there l) (covered-node (read-leaves s) key (bit-true (any (covers key) (read-leaves s)) c) u) u
+            let c = covered-node (read-leaves s) key (bit-true (any (covers key) (read-leaves s)) (covered-by 1 (stem-ended s f a key b l))) u in
+            the-rule key-ended (rw (c, u .exact-is))

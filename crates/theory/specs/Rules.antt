@@ -219,8 +219,8 @@ longer-than-empty [] h = absurd (omega arith)
 longer-than-empty (x ∷ c) h = refl
 
 module _ {n : ℕ} (ls : List Leaf) (g : Realizable n ls) (o : All-well-sized n ls) (k : Bytes) where
-  -- where there is a leaf, there is a root
-  root-there : {l : Leaf} → In l ls → applies ls k no-nodes ≡ false
+  -- Where there is a leaf, there is a root, and rule 6 does not apply.
+  pub root-there : {l : Leaf} → In l ls → applies ls k no-nodes ≡ false
   unfolding applies begins
   root-there {l} i = rw (node-exactly ls [] .1 (record { leaf = l; member = i; begun = refl; longer = longer-than-empty (l .cut) (all-in (Well-sized n) o i .key .least) }))
 
@@ -286,8 +286,8 @@ module _ {n : ℕ} (ls : List Leaf) (g : Realizable n ls) (o : All-well-sized n 
         refuted (applies ls k suffix-other) (λ e. missed-not-open ls g w (suffix-other-exactly .0 e .0)),
       )
 
-  -- a key to which no other rule applies misses a branch
-  else-missing : applies ls k no-nodes ≡ false → applies ls k key-ended ≡ false → applies ls k at-exact-leaf ≡ false → applies ls k suffix-equal ≡ false → applies ls k suffix-other ≡ false
+  -- A key to which no other rule applies misses a branch.
+  pub else-missing : applies ls k no-nodes ≡ false → applies ls k key-ended ≡ false → applies ls k at-exact-leaf ≡ false → applies ls k suffix-equal ≡ false → applies ls k suffix-other ≡ false
       → applies ls k branch-missing ≡ true
   unfolding applies
   else-missing a b c d e = ⊎-elim node (λ s. ⊎-elim open-leaf (λ h. h) s) (leads-somewhere ls g [] k (node-exactly ls [] .0 (not-false _ a)))
