@@ -32,15 +32,15 @@ fn leaf_has(image: &[u8], f: Frame, m: NodeNum, at: BitPos, key: &[u8], d: usize
     suffix_equals(image, f, slot(image, f, m, at), key, d)
 }
 
-// The rule of a key that ends at a node: the node is an exact leaf, or it is none.
+// The rule of a key that ends at a node: the node is no exact leaf, or it is one.
 fn node_rule(image: &[u8], f: Frame, m: NodeNum) -> Rule
     requires { ⌜ Is-node (now image) f (m .0) ⌝ }
     ensures { λ r. ⌜ rule-of r ≡ cond (is-exact (node-at (nodes (now (image .entry)) f) (m .0))) at-exact-leaf key-ended ⌝ }
 {
-    if is_exact(image, f, m) {
-        return Rule::ExactLeaf;
+    if !is_exact(image, f, m) {
+        return Rule::KeyEnded;
     }
-    Rule::KeyEnded
+    Rule::ExactLeaf
 }
 
 // The rule of a key whose first d bytes lead to the open leaf behind a branch: the key has the leaf's suffix, or another.
