@@ -1,12 +1,9 @@
 -- What the functions of two bounds ask and give: the way that two keys share, the bound of each from where they part, and what counts where it leads.
-use Prim.Native.Nat.{ℕ, zero, suc, _+_, _-_, _<_, _≤_}
+use Prim.Native.Nat.{ℕ, _+_, _-_, _<_, _≤_}
 use mathlib.Core.Path.{_≡_, refl, sym, ap, _∙_}
-use mathlib.Core.Bool.{Bool, true, false, cond}
-use mathlib.Core.List.{[], _∷_}
+use mathlib.Core.Bool.{Bool, true, false}
 use native.Mathlib.Omega.{arith}
 use lib.ListN.{length, getD, drop}
-use lib.Dec.{eqb}
-use borrow.Author.Tests.{eqb-true}
 use Rattle.spec.specs.Bytes.{Bytes, bit, shared}
 use Rattle.spec.specs.Nodes.{is-exact, read-leaves}
 use Rattle.spec.specs.Questions.{counted}
@@ -22,9 +19,10 @@ use Rattle.nav_laws.specs.Slots.{node-at, slot-number, slot-of}
 use Rattle.nav_laws.specs.Descent.{child-number}
 use Rattle.nav_laws.specs.NextLabel.{kind-with}
 use Rattle.nav_laws.specs.Positions.{branches, place, child-at, slot-at}
-use Rattle.nav_laws.specs.FoundBranch.{node-count, Found-branch, Behind-branch}
+use Rattle.nav_laws.specs.FoundBranch.{node-count, Is-position, Found-branch, Behind-branch}
 use Rattle.query_laws.specs.Bounds.{high-passed, low-reached}
 use Rattle.query_laws.specs.LevelSums.{slots-below}
+use Rattle.query_laws.specs.Leads.{Leads, Branch-missing, Leaf-behind, along, shared-byte}
 use Rattle.query_laws.specs.Steps.{exact-stop}
 use Rattle.query_laws.specs.Followed.{Stopped, stopped-nowhere, sum-nowhere}
 use Rattle.query_laws.specs.Summed.{Leading, Ended, passed-there, reached-there, end-unpassed, leading-root, leading-on, ended-none, ended-leaf, ended-end}
@@ -66,26 +64,28 @@ pub record Parted (s : Bytes) (f : Frame) (lo hi : Bytes) (node depth : ℕ) : T
   pub upper : Leading s f hi node depth above
 
 -- Both keys have led to the same leaf or nowhere, by the same branch, so that their sums are the same.
-pub record Same-end (s : Bytes) (f : Frame) (lo hi : Bytes) (end : KeyEnd) (depth : ℕ) : Type 0 where
+pub record Same-stop (s : Bytes) (f : Frame) (lo hi : Bytes) (stop : LeafStop) (depth : ℕ) : Type 0 where
   pub sums : slots-below (nodes s f) 64 0 lo ≡ slots-below (nodes s f) 64 0 hi
-  pub lower : Key-ended s f lo end depth
-  pub upper : Key-ended s f hi end depth
+  pub lower : Stopped s f lo stop depth
+  pub upper : Stopped s f hi stop depth
 
--- what is known where the shared bytes lead, by where that is
-abbrev pub Parts : Bytes → Frame → Bytes → Bytes → ℕ → KeyEnd → Type 0
-Parts s f lo hi depth End.Nowhere = Same-end s f lo hi End.Nowhere depth
-Parts s f lo hi depth (End.Node m) = Parted s f lo hi (m .0) depth
-Parts s f lo hi depth (End.Leaf v) = Same-end s f lo hi (End.Leaf v) depth
+-- Two keys have a cut key of d bytes at their front.
+pub record Cut-shared (lo hi : Bytes) (d : ℕ) : Type 0 where
+  pub lo-short : length lo ≤ 64
+  pub hi-short : length hi ≤ 64
+  pub lo-in : d ≤ length lo
+  pub hi-in : d ≤ length hi
 
--- the ways part at a node
-pub parts-node : (s : Bytes) (f : Frame) (lo hi : Bytes) (depth : ℕ) (end : KeyEnd) (m : NodeNum) → end ≡ End.Node m → Parts s f lo hi depth end → Parted s f lo hi (m .0) depth
-parts-node s f lo hi depth end m e o = rw e at o
+-- how many leaves lie between two keys that lead to the same open leaf, with slot v, behind d bytes: 1 if hi has reached it and lo has not passed it
+abbrev pub leaf-between : Bytes → Frame → Bytes → Bytes → ℕ → ℕ → ℕ
+leaf-between s f lo hi v d = bit (low-reached (length hi) (slot-of (f .width) (nodes s f) v) (drop d hi)) - bit (high-passed (length lo) (slot-of (f .width) (nodes s f) v) (drop d lo))
 
--- elsewhere both end
-pub parts-same : (s : Bytes) (f : Frame) (lo hi : Bytes) (depth : ℕ) (end : KeyEnd) → ((m : NodeNum) → end ≡ End.Node m → ⊥) → Parts s f lo hi depth end → Same-end s f lo hi end depth
-parts-same s f lo hi depth End.Nowhere h o = o
-parts-same s f lo hi depth (End.Node m) h o = absurd (h m refl)
-parts-same s f lo hi depth (End.Leaf v) h o = o
+-- The bytes that two keys share lead both to the open leaf behind the branch of node m at position p, d bytes down.
+pub record Leaf-shared (s : Bytes) (f : Frame) (lo hi : Bytes) (m p d : ℕ) : Type 0 where
+  pub position : Is-position s f m p
+  pub slot-in : slot-at s f m p < f .leaves
+  pub cut : Cut-shared lo hi d
+  pub count-is : counted (read-leaves s) lo hi ≡ leaf-between s f lo hi (slot-at s f m p) d
 
 -- ---- the bound of a key
 
@@ -165,86 +165,92 @@ module _ (s : Bytes) (f : Frame) (key : Bytes) (end : KeyEnd) (depth : ℕ) (o :
   pub reached-leaf : (v : ValuePos) → end ≡ End.Leaf v → reached-there s f key ≡ bit (low-reached (length key) (slot-of (f .width) (nodes s f) (v .0)) (drop depth key))
   reached-leaf v e = value-open s f (o .accepted) key (leaf-of s f end) depth (o .stop-is .leads) true (low-reached (length key)) v (ap (leaf-of s f) e)
 
--- ---- bytes of the shared prefix
-
--- a byte of the shared prefix stands in both keys
-pub shared-byte : (p q : Bytes) (i : ℕ) → i < shared p q → (i < length p) × (i < length q) × (getD p i 0 ≡ getD q i 0)
-unfolding shared
-shared-byte [] q i h = absurd (omega arith)
-shared-byte (x ∷ p) [] i h = absurd (omega arith)
-shared-byte (x ∷ p) (y ∷ q) i h = go (eqb x y) refl (shared-byte p q) i h
-  where
-    go : (b : Bool) → eqb x y ≡ b → ((j : ℕ) → j < shared p q → (j < length p) × (j < length q) × (getD p j 0 ≡ getD q j 0))
-        → (i : ℕ) → i < cond b (suc (shared p q)) 0 → (i < suc (length p)) × (i < suc (length q)) × (getD (x ∷ p) i 0 ≡ getD (y ∷ q) i 0)
-    go true e r zero h = (omega arith, omega arith, eqb-true x y e)
-    go true e r (suc i) h = let t = r i (omega arith) in (omega arith, omega arith, t .2)
-    go false e r i h = absurd (omega arith)
-
--- ---- one level of the shared way
+-- ---- along the way that two keys share
 
 module _ (s : Bytes) (f : Frame) (a : Accepted s f) (lo hi : Bytes) (g : length lo ≤ 64) (h : length hi ≤ 64) where
-  -- an image without nodes
-  pub parts-nowhere : node-count f ≡ 0 → Same-end s f lo hi End.Nowhere 0
-  parts-nowhere z = record {
-    sums = sum-nowhere s f a lo g z ∙ sym (sum-nowhere s f a hi h z);
-    lower = record { accepted = a; short = g; stop-is = stopped-nowhere s f a lo z; inside = λ m q. let n : _≡_ {A = ℕ} 0 1 = cc in absurd (omega arith) };
-    upper = record { accepted = a; short = h; stop-is = stopped-nowhere s f a hi z; inside = λ m q. let n : _≡_ {A = ℕ} 0 1 = cc in absurd (omega arith) };
-  }
-
   -- no byte is passed
-  pub parted-root : 0 < node-count f → Parted s f lo hi 0 0
+  parted-root : 0 < node-count f → Parted s f lo hi 0 0
   parted-root n = record { accepted = a; lo-short = g; hi-short = h; above = 0; lower = leading-root s f a lo n; upper = leading-root s f a hi n }
 
-module _ (s : Bytes) (f : Frame) (lo hi : Bytes) (m d : ℕ) (o : Parted s f lo hi m d) (within : d < shared lo hi) (b : Found) (t : Found-branch s f m (getD lo d 0) b) where
-  -- the child behind the branch of the shared byte, and its slot
-  abbrev child : ℕ
-  child = child-number (nodes s f) m (place s f m (getD lo d 0))
+  -- what a node has at the next byte that both keys share
+  module _ (m d : ℕ) (o : Parted s f lo hi m d) (within : d < shared lo hi) (b : Found) (t : Found-branch s f m (getD lo d 0) b) where
+    -- the child behind the branch of the shared byte, and its slot
+    abbrev child : ℕ
+    child = child-number (nodes s f) m (place s f m (getD lo d 0))
 
-  abbrev slot : ℕ
-  slot = slot-number (nodes s f) m (place s f m (getD lo d 0))
+    abbrev slot : ℕ
+    slot = slot-number (nodes s f) m (place s f m (getD lo d 0))
 
-  same : getD lo d 0 ≡ getD hi d 0
-  same = shared-byte lo hi d within .2
+    same : getD lo d 0 ≡ getD hi d 0
+    same = shared-byte lo hi d within .2
 
-  upper-kind : b .kind ≡ kind-with (getD hi d 0) (drop (place s f m (getD hi d 0)) (branches s f m))
-  upper-kind = rw same at (t .kind-is)
+    upper-kind : b .kind ≡ kind-with (getD hi d 0) (drop (place s f m (getD hi d 0)) (branches s f m))
+    upper-kind = rw same at (t .kind-is)
 
-  upper-child : child ≡ child-number (nodes s f) m (place s f m (getD hi d 0))
-  upper-child = ap (λ (y : ℕ). child-number (nodes s f) m (place s f m y)) same
+    upper-child : child ≡ child-number (nodes s f) m (place s f m (getD hi d 0))
+    upper-child = ap (λ (y : ℕ). child-number (nodes s f) m (place s f m y)) same
 
-  upper-slot : slot ≡ slot-number (nodes s f) m (place s f m (getD hi d 0))
-  upper-slot = ap (λ (y : ℕ). slot-number (nodes s f) m (place s f m y)) same
+    upper-slot : slot ≡ slot-number (nodes s f) m (place s f m (getD hi d 0))
+    upper-slot = ap (λ (y : ℕ). slot-number (nodes s f) m (place s f m y)) same
 
-  -- a branch that continues: both keys go on, with the same sum
-  pub parted-next : b .kind ≡ Child → (c : ℕ) → c ≡ child-at s f m (b .at .0) → Parted s f lo hi c (d + 1)
-  parted-next k c e = let z : c ≡ child = e ∙ t .at-is .child-is in rw z (record {
-    accepted = o .accepted;
-    lo-short = o .lo-short;
-    hi-short = o .hi-short;
-    above = o .above + slot;
-    lower = leading-on s f (o .accepted) lo m d (o .above) (o .lower) (b .kind) child slot (shared-byte lo hi d within .0) (o .lo-short) (t .kind-is) refl refl k;
-    upper = leading-on s f (o .accepted) hi m d (o .above) (o .upper) (b .kind) child slot (shared-byte lo hi d within .1) (o .hi-short) upper-kind upper-child upper-slot k;
-  })
+    -- a branch that continues: both keys go on, with the same sum
+    parted-next : b .kind ≡ Child → (c : ℕ) → c ≡ child-at s f m (b .at .0) → Parted s f lo hi c (d + 1)
+    parted-next k c e = let z : c ≡ child = e ∙ t .at-is .child-is in rw z (record {
+      accepted = a;
+      lo-short = g;
+      hi-short = h;
+      above = o .above + slot;
+      lower = leading-on s f a lo m d (o .above) (o .lower) (b .kind) child slot (shared-byte lo hi d within .0) g (t .kind-is) refl refl k;
+      upper = leading-on s f a hi m d (o .above) (o .upper) (b .kind) child slot (shared-byte lo hi d within .1) h upper-kind upper-child upper-slot k;
+    })
 
-  -- one that ends, or none: both keys end there
-  same-end : (end : KeyEnd) → ((n : NodeNum) → end ≡ End.Node n → ⊥) → Ended s f lo (leaf-of s f end) child (d + 1) (o .above + slot) → Ended s f hi (leaf-of s f end) child (d + 1) (o .above + slot) → Same-end s f lo hi end (d + 1)
-  same-end end n x y = record {
-    sums = x .sums ∙ sym (y .sums);
-    lower = record { accepted = o .accepted; short = o .lo-short; stop-is = x .stop-is; inside = λ m q. absurd (n m q) };
-    upper = record { accepted = o .accepted; short = o .hi-short; stop-is = y .stop-is; inside = λ m q. absurd (n m q) };
-  }
+    -- no branch: both keys lead nowhere
+    same-none : b .kind ≡ Absent → Same-stop s f lo hi Nowhere (d + 1)
+    same-none k =
+        let x = ended-none s f a lo m d (o .above) (o .lower) (b .kind) child slot (shared-byte lo hi d within .0) g (t .kind-is) refl refl k in
+        let y = ended-none s f a hi m d (o .above) (o .upper) (b .kind) child slot (shared-byte lo hi d within .1) h upper-kind upper-child upper-slot k in
+        record { sums = x .sums ∙ sym (y .sums); lower = x .stop-is; upper = y .stop-is }
 
-  -- none
-  pub same-none : b .kind ≡ Absent → Same-end s f lo hi End.Nowhere (d + 1)
-  same-none k = same-end End.Nowhere (λ n q. let z : _≡_ {A = ℕ} 0 1 = cc in omega arith)
-      (ended-none s f (o .accepted) lo m d (o .above) (o .lower) (b .kind) child slot (shared-byte lo hi d within .0) (o .lo-short) (t .kind-is) refl refl k)
-      (ended-none s f (o .accepted) hi m d (o .above) (o .upper) (b .kind) child slot (shared-byte lo hi d within .1) (o .hi-short) upper-kind upper-child upper-slot k)
+    -- a branch that ends: both keys lead to its open leaf
+    same-leaf : b .kind ≡ Leaf → (v : ValuePos) → v .0 ≡ slot-at s f m (b .at .0) → Same-stop s f lo hi (Open v) (d + 1)
+    same-leaf k v e =
+        let x = ended-leaf s f a lo m d (o .above) (o .lower) (b .kind) child slot (shared-byte lo hi d within .0) g (t .kind-is) refl refl k v (e ∙ t .at-is .slot-is) in
+        let y = ended-leaf s f a hi m d (o .above) (o .upper) (b .kind) child slot (shared-byte lo hi d within .1) h upper-kind upper-child upper-slot k v (e ∙ t .at-is .slot-is) in
+        record { sums = x .sums ∙ sym (y .sums); lower = x .stop-is; upper = y .stop-is }
 
-  -- an open leaf
-  pub same-leaf : b .kind ≡ Leaf → (v : ValuePos) → v .0 ≡ slot-at s f m (b .at .0) → Same-end s f lo hi (End.Leaf v) (d + 1)
-  same-leaf k v e = same-end (End.Leaf v) (λ n q. let z : _≡_ {A = ℕ} 0 1 = cc in omega arith)
-      (ended-leaf s f (o .accepted) lo m d (o .above) (o .lower) (b .kind) child slot (shared-byte lo hi d within .0) (o .lo-short) (t .kind-is) refl refl k v (e ∙ t .at-is .slot-is))
-      (ended-leaf s f (o .accepted) hi m d (o .above) (o .upper) (b .kind) child slot (shared-byte lo hi d within .1) (o .hi-short) upper-kind upper-child upper-slot k v (e ∙ t .at-is .slot-is))
+  -- The node to which bytes that both keys share lead has the same sum above it for both.
+  pub leads-parted : {d m : ℕ} → Leads s f lo d m → d ≤ shared lo hi → Parted s f lo hi m d
+  leads-parted l = along (λ (d m : ℕ). d ≤ shared lo hi → Parted s f lo hi m d) (λ n q. parted-root n)
+      (λ d m c o b q. parted-next m d (o (omega arith)) (omega arith) (b .branch) (b .here .found) (b .continues) c (b .child-is)) l
+
+  -- By the same sums: what hi has reached where both keys lead, less what lo has passed there.
+  count-same : (stop : LeafStop) (d : ℕ) → Same-stop s f lo hi stop d → (u v : ℕ) → u ≡ passed-there s f lo → v ≡ reached-there s f hi → counted (read-leaves s) lo hi ≡ v - u
+  count-same stop d t u v p q = omega (arith, count-bounds s f a lo hi g h (slots-below (nodes s f) 64 0 lo) (slots-below (nodes s f) 64 0 hi) u v refl refl p q, t .sums)
+
+  -- Where both keys lead nowhere, no leaf lies between them.
+  none-between : (d : ℕ) → Same-stop s f lo hi Nowhere d → counted (read-leaves s) lo hi ≡ 0
+  none-between d t = count-same Nowhere d t 0 0 (sym (value-none s f a lo Nowhere d (t .lower .leads) false (high-passed (length lo)) refl)) (sym (value-none s f a hi Nowhere d (t .upper .leads) true (low-reached (length hi)) refl))
+
+  -- An image without nodes has no leaf between two keys.
+  pub count-nowhere : node-count f ≡ 0 → counted (read-leaves s) lo hi ≡ 0
+  count-nowhere z = none-between 0 (record { sums = sum-nowhere s f a lo g z ∙ sym (sum-nowhere s f a hi h z); lower = stopped-nowhere s f a lo z; upper = stopped-nowhere s f a hi z })
+
+  -- Nor has one in which a node on the shared way has no branch with the next shared byte.
+  pub count-absent : Branch-missing s f lo (shared lo hi) → counted (read-leaves s) lo hi ≡ 0
+  count-absent t = none-between (t .depth + 1) (same-none (t .node) (t .depth) (leads-parted (t .leads) (omega (arith, t .inside))) (t .inside) (t .branch) (t .here .found) (t .absent))
+
+  -- Where the shared way ends at an open leaf, that leaf alone can lie between the keys.
+  pub count-shared : (m p d : ℕ) → Leaf-behind s f lo (shared lo hi) m p d → Leaf-shared s f lo hi m p d
+  count-shared m p d t =
+      let v : ValuePos = record { 0 = slot-at s f m p } in
+      let x = same-leaf m (t .depth) (leads-parted (t .leads) (omega (arith, t .inside))) (t .inside) (t .branch) (t .here .found) (t .ends) v (ap (slot-at s f m) (t .at-is)) in
+      let y : Same-stop s f lo hi (Open v) d = rw (t .passed) x in
+      record {
+        position = record { accepted = a; within = rw (t .at-is) (t .here .found .at-is .within) };
+        slot-in = y .lower .leaf-in v refl;
+        cut = record { lo-short = g; hi-short = h; lo-in = y .lower .depth-in; hi-in = y .upper .depth-in };
+        count-is = count-same (Open v) d y _ _ (sym (value-open s f a lo (Open v) d (y .lower .leads) false (high-passed (length lo)) v refl)) (sym (value-open s f a hi (Open v) d (y .upper .leads) true (low-reached (length hi)) v refl));
+      }
 
 -- ---- one level of a bound
 
@@ -286,11 +292,6 @@ module _ (s : Bytes) (f : Frame) (a : Accepted s f) (key : Bytes) (short : lengt
     }
 
 -- ---- counts
-
--- Both keys have led to the same leaf or nowhere: what counts there is left.
-pub count-same : (s : Bytes) (f : Frame) (lo hi : Bytes) (end : KeyEnd) (depth : ℕ) → Same-end s f lo hi end depth → (u v : ℕ) → u ≡ passed-there s f lo → v ≡ reached-there s f hi → counted (read-leaves s) lo hi ≡ v - u
-count-same s f lo hi end depth o u v p q =
-    omega (arith, count-bounds s f (o .lower .accepted) lo hi (o .lower .short) (o .upper .short) (slots-below (nodes s f) 64 0 lo) (slots-below (nodes s f) 64 0 hi) u v refl refl p q, o .sums)
 
 -- Two bounds from where the keys part: their sums, as far as they differ, and what counts where each key leads.
 pub count-parted : (s : Bytes) (f : Frame) (lo hi : Bytes) (above : ℕ) (a b : Bound) → Accepted s f → length lo ≤ 64 → length hi ≤ 64 → Bound-ended s f lo above a → Bound-ended s f hi above b → (r : BoundSums) → Sums-apart s f (a .level) (b .level) r

@@ -1,20 +1,15 @@
 // The bound of a key from where its way parts from another's: the sum of its slot numbers level by level, and what counts where the key leads.
 ghost use mathlib.Core.Path.{_≡_};
 ghost use Prim.Native.Nat.{ℕ, _+_, _≤_};
-ghost use lib.ListN.{length};
-ghost use Rattle.nav_laws.specs.Accepted.{Accepted};
 ghost use Rattle.query_laws.specs.Summed.{Leading, passed-there, reached-there};
-ghost use Rattle.query_count.specs.Bounds.{Parts, Leads-on, Bound-ended, Key-ended};
+ghost use Rattle.query_count.specs.Bounds.{Leads-on, Bound-ended, Key-ended};
 use super::levels::LevelSum;
 use bits::numbers::one_if;
 use bits::numbers::wide;
 use image_types::Frame;
 use image_types::NodeNum;
 use image_types::ValuePos;
-use keys::compare::shared;
-use nav::behind::child;
 use nav::behind::child_and_slot;
-use nav::behind::slot;
 use nav::branches::find;
 use nav::nodes::is_exact;
 use nav_laws::BranchKind;
@@ -28,54 +23,14 @@ pub enum KeyEnd {
     Leaf(ValuePos),
 }
 
-// Where the bytes that two keys share lead, and how many of them are passed.
-pub struct Fork {
-    pub end: KeyEnd,
-    pub depth: usize,
-}
-
 // The bound of a key that has ended, behind its last branch, and where the key leads.
 pub struct Bound {
     pub level: LevelSum,
     pub end: KeyEnd,
 }
 
-// From the root as far as the bytes of both keys are the same, one label search a level: no leaf there lies between the two bounds, so none is counted.
-pub fn shared_way(image: &[u8], f: Frame, lo: &[u8], hi: &[u8]) -> Fork
-    requires { ⌜ Accepted (now image) f × (length (now lo) ≤ 64) × (length (now hi) ≤ 64) ⌝ }
-    ensures { λ r. ⌜ Parts (now (image .entry)) f (now (lo .entry)) (now (hi .entry)) (r .depth) (r .end) ⌝ }
-{
-    let mut node = NodeNum(0);
-    let mut depth = 0usize;
-    if f.dense.nodes + f.sparse.nodes == 0 {
-        let end = KeyEnd::Nowhere;
-        return Fork { end, depth };
-    }
-    let n = shared(lo, hi);
-    while depth < n {
-        let found = find(image, f, node, wide(lo[depth]));
-        depth = depth + 1;
-        let kind = found.kind;
-        match kind {
-            BranchKind::Absent => {
-                let end = KeyEnd::Nowhere;
-                return Fork { end, depth };
-            }
-            BranchKind::Leaf => {
-                let end = KeyEnd::Leaf(slot(image, f, node, found.at));
-                return Fork { end, depth };
-            }
-            BranchKind::Child => {
-                node = child(image, f, node, found.at);
-            }
-        }
-    }
-    let end = KeyEnd::Node(node);
-    Fork { end, depth }
-}
-
 // The bound of a key, from a node to which its first bytes lead: each level adds the slot number at the branch of the next byte.
-pub fn follow(image: &[u8], f: Frame, key: &[u8], from: LevelSum) -> Bound
+pub fn bound_from(image: &[u8], f: Frame, key: &[u8], from: LevelSum) -> Bound
     requires { ⌜ Leads-on (now image) f (now key) from ⌝ }
     ensures { λ r. ⌜ ((above : ℕ) → Leading (now (image .entry)) f (now (key .entry)) (from .node .0) (from .depth) (above + from .sum) → Bound-ended (now (image .entry)) f (now (key .entry)) above r) ⌝ }
 {

@@ -1,27 +1,63 @@
 use borrow.Author.Needs.{needs}
-use Rattle.query_count.specs.Bounds.{Same-end, parts-node, parts-same, passed-nowhere, reached-nowhere, count-same}
+use Rattle.query_count.specs.Bounds.{Leaf-shared, leads-parted, leaf-between, count-nowhere, count-absent, count-shared}
+use Rattle.query_laws.specs.Leads.{Leads-to}
+use Rattle.query_laws.specs.declared.KeyEnd.{KeyEnd}
+use Rattle.query_laws.specs.declared.KeyEnd.the-variants as End
+use Rattle.image_types.specs.declared.BitPos.{BitPos}
+use Rattle.image_types.specs.declared.NodeNum.{NodeNum}
+use Rattle.spec.specs.Bytes.{shared}
+use Rattle.theory.specs.Order.{shared-le}
 use Prim.Native.Nat.{ℕ}
-use mathlib.Core.Path.{_≡_, refl, sym, _∙_}
+use mathlib.Core.Path.{_≡_, refl, sym, ap, subst, _∙_}
 use native.Mathlib.Omega.{arith}
 use Rattle.query_count.proofs.count.count.Statement.{statement}
 use Rattle.query_count.proofs.count.count.Tie as tie
 
--- where the function was entered, from where the shared way ends
-abbrev entered : tie.After-shared-way → tie.Start
-entered c = c .before .before .before .before
+-- where the function was entered, from where the descent ends
+abbrev entered : tie.After-follow → tie.Start
+entered c = c .before .before .before .before .before
 
--- both keys lead to the same open leaf
-same-leaf : (c : tie.After-enum-told2) → let k = c .before .before in Same-end (entered k .args .image .now) (entered k .args .f) (entered k .args .lo .now) (entered k .args .hi .now) (k .shared-way .result .end) (k .shared-way .result .depth)
-same-leaf c =
-    let k = c .before .before in
+-- where the bytes that both keys share lead the lower one
+led : (c : tie.After-follow) (end : KeyEnd) → c .follow .result ≡ end → Leads-to (entered c .args .image .now) (entered c .args .f) (entered c .args .lo .now) (c .before .shared .result) end
+led c end e = subst (λ (x : KeyEnd). Leads-to (entered c .args .image .now) (entered c .args .f) (entered c .args .lo .now) (c .before .shared .result) x) e (c .follow .ensures)
+
+shared-led : (c : tie.After-follow) (end : KeyEnd) → c .follow .result ≡ end → Leads-to (entered c .args .image .now) (entered c .args .f) (entered c .args .lo .now) (shared (entered c .args .lo .now) (entered c .args .hi .now)) end
+shared-led c end e = subst (λ (n : ℕ). Leads-to (entered c .args .image .now) (entered c .args .f) (entered c .args .lo .now) n end) (c .before .shared .ensures) (led c end e)
+
+-- the node and the position of the branch behind which both keys lead to an open leaf, and the bytes that are passed
+abbrev node : tie.After-known-told2 → NodeNum
+node c = c .before .end2 .given .0 .0
+
+abbrev at : tie.After-known-told2 → BitPos
+at c = c .before .end2 .given .0 .1 .0
+
+abbrev depth : tie.After-known-told2 → ℕ
+depth c = c .before .end2 .given .0 .1 .1 .0
+
+-- where the descent ended, from where it is known to end there
+abbrev follows : tie.After-known-told2 → tie.After-follow
+follows c = c .before .before .before
+
+-- the open leaf
+leaf : (c : tie.After-known-told2) → Leaf-shared (entered (follows c) .args .image .now) (entered (follows c) .args .f) (entered (follows c) .args .lo .now) (entered (follows c) .args .hi .now) (node c .0) (at c .0) (depth c)
+leaf c =
+    let k = follows c in
     let s = entered k in
-    parts-same (s .args .image .now) (s .args .f) (s .args .lo .now) (s .args .hi .now) (k .shared-way .result .depth) (k .shared-way .result .end) (λ m q. let e = c .enum-told2 .given .1 in let z : _≡_ {A = ℕ} 0 1 = cc in omega arith) (k .shared-way .ensures)
+    count-shared (s .args .image .now) (s .args .f) (s .pre .0) (s .args .lo .now) (s .args .hi .now) (s .pre .1) (s .pre .2) (node c .0) (at c .0) (depth c) (shared-led k (End.Leaf (node c) (at c) (depth c)) (c .before .end2 .given .1))
 
-shared-way-requires : tie.Need-shared-way-requires
-shared-way-requires c κs = search needs
+shared-requires : tie.Need-shared-requires
+shared-requires c κs = search needs
+
+follow-requires : tie.Need-follow-requires
+follow-requires c κs =
+    let s = c .before .before .before .before in
+    (s .pre .0, omega (arith, c .shared .ensures, shared-le (s .args .lo .now) (s .args .hi .now)))
 
 enum-told : tie.Need-enum-told
 enum-told c = search needs
+
+enum-told-2 : tie.Need-enum-told-2
+enum-told-2 c = search needs
 
 enum-known-end : tie.Need-enum-known-end
 enum-known-end c = search needs
@@ -30,51 +66,55 @@ count-apart-requires : tie.Need-count-apart-requires
 count-apart-requires c κs =
     let k = c .before .before .before in
     let s = entered k in
-    (parts-node (s .args .image .now) (s .args .f) (s .args .lo .now) (s .args .hi .now) (k .shared-way .result .depth) (k .shared-way .result .end) (c .before .end .given .0 .0) (c .before .end .given .1) (k .shared-way .ensures), refl)
+    let m : NodeNum = c .before .end .given .0 .0 in
+    (leads-parted (s .args .image .now) (s .args .f) (s .pre .0) (s .args .lo .now) (s .args .hi .now) (s .pre .1) (s .pre .2) (led k (End.Node m) (c .before .end .given .1)) (omega (arith, k .before .shared .ensures)), refl)
 
-enum-told-2 : tie.Need-enum-told-2
-enum-told-2 c = search needs
+enum-known-end-2 : tie.Need-enum-known-end-2
+enum-known-end-2 c = search needs
 
-passed-at-requires : tie.Need-passed-at-requires
-passed-at-requires c κs = same-leaf c .lower
+slot-requires : tie.Need-slot-requires
+slot-requires c κs = leaf c .position
 
-reached-at-requires : tie.Need-reached-at-requires
-reached-at-requires c κs = same-leaf (c .before) .upper
-
-difference-requires : tie.Need-difference-requires
-difference-requires c κs = search needs
+count-leaf-requires : tie.Need-count-leaf-requires
+count-leaf-requires c κs =
+    let l = leaf (c .before) in
+    (l .position .accepted, omega (arith, l .slot-in, c .slot .ensures), l .cut)
 
 returns : tie.Need-returns
 returns c =
     let k = c .before .before in
     let s = entered k in
-    let e = c .enum-told .given .1 in
-    let o = parts-same (s .args .image .now) (s .args .f) (s .args .lo .now) (s .args .hi .now) (k .shared-way .result .depth) (k .shared-way .result .end) (λ m q. let z : _≡_ {A = ℕ} 0 1 = cc in omega arith) (k .shared-way .ensures) in
-    sym (count-same (s .args .image .now) (s .args .f) (s .args .lo .now) (s .args .hi .now) (k .shared-way .result .end) (k .shared-way .result .depth) o 0 0 (sym (passed-nowhere (s .args .image .now) (s .args .f) (s .args .lo .now) (k .shared-way .result .end) (k .shared-way .result .depth) (o .lower) e)) (sym (reached-nowhere (s .args .image .now) (s .args .f) (s .args .hi .now) (k .shared-way .result .end) (k .shared-way .result .depth) (o .upper) e)))
+    sym (count-nowhere (s .args .image .now) (s .args .f) (s .pre .0) (s .args .lo .now) (s .args .hi .now) (s .pre .1) (s .pre .2) (shared-led k End.NoNodes (c .enum-told .given .1)))
 
 returns-2 : tie.Need-returns-2
-returns-2 c = c .count-apart .ensures
+returns-2 c =
+    let k = c .before .before in
+    let s = entered k in
+    sym (count-absent (s .args .image .now) (s .args .f) (s .pre .0) (s .args .lo .now) (s .args .hi .now) (s .pre .1) (s .pre .2) (shared-led k End.NoBranch (c .enum-told2 .given .1)))
 
 returns-3 : tie.Need-returns-3
-returns-3 c =
-    let u = c .before .before in
-    let k = u .before .before .before in
-    let s = entered k in
-    c .difference .ensures
-    ∙ sym (count-same (s .args .image .now) (s .args .f) (s .args .lo .now) (s .args .hi .now) (k .shared-way .result .end) (k .shared-way .result .depth) (same-leaf (u .before)) (u .passed-at .result) (c .before .reached-at .result) (u .passed-at .ensures .0) (c .before .reached-at .ensures .0))
+returns-3 c = search needs
+
+returns-4 : tie.Need-returns-4
+returns-4 c =
+    let t = c .before .before in
+    let a = entered (follows t) .args in
+    c .count-leaf .ensures ∙ ap (λ (v : ℕ). leaf-between (a .image .now) (a .f) (a .lo .now) (a .hi .now) v (depth t)) (c .before .slot .ensures) ∙ sym (leaf t .count-is)
 
 pub count-spec : {M : Type 1} → statement M
 count-spec =
     tie.close
     (tie.spec
-    shared-way-requires
+    shared-requires
+    follow-requires
     enum-told
+    enum-told-2
     enum-known-end
     count-apart-requires
-    enum-told-2
-    passed-at-requires
-    reached-at-requires
-    difference-requires
+    enum-known-end-2
+    slot-requires
+    count-leaf-requires
     returns
     returns-2
-    returns-3)
+    returns-3
+    returns-4)

@@ -4,26 +4,26 @@ use mathlib.Core.Path.{sym, _∙_}
 use Rattle.query_count.proofs.count.count_apart.Statement.{statement}
 use Rattle.query_count.proofs.count.count_apart.Tie as tie
 
--- where the function was entered, from where both keys are followed
-abbrev entered : tie.After-follow2 → tie.Start
+-- where the function was entered, from where both keys have ended
+abbrev entered : tie.After-bound-from2 → tie.Start
 entered c = c .before .before .before .before .before
 
 -- the lower bound
-lower : (c : tie.After-follow2) → Bound-ended (entered c .args .image .now) (entered c .args .f) (entered c .args .lo .now) (entered c .pre .0 .above) (c .before .follow .result)
-lower c = let s = entered c in c .before .follow .ensures (s .pre .0 .above) (lower-leads (s .args .image .now) (s .args .f) (s .args .lo .now) (s .args .hi .now) (s .args .fork) (s .pre .0) (s .pre .1))
+lower : (c : tie.After-bound-from2) → Bound-ended (entered c .args .image .now) (entered c .args .f) (entered c .args .lo .now) (entered c .pre .0 .above) (c .before .bound-from .result)
+lower c = let s = entered c in c .before .bound-from .ensures (s .pre .0 .above) (lower-leads (s .args .image .now) (s .args .f) (s .args .lo .now) (s .args .hi .now) (s .args .fork) (s .pre .0) (s .pre .1))
 
 -- the upper one
-upper : (c : tie.After-follow2) → Bound-ended (entered c .args .image .now) (entered c .args .f) (entered c .args .hi .now) (entered c .pre .0 .above) (c .follow2 .result)
-upper c = let s = entered c in c .follow2 .ensures (s .pre .0 .above) (upper-leads (s .args .image .now) (s .args .f) (s .args .lo .now) (s .args .hi .now) (s .args .fork) (s .pre .0) (s .pre .1))
+upper : (c : tie.After-bound-from2) → Bound-ended (entered c .args .image .now) (entered c .args .f) (entered c .args .hi .now) (entered c .pre .0 .above) (c .bound-from2 .result)
+upper c = let s = entered c in c .bound-from2 .ensures (s .pre .0 .above) (upper-leads (s .args .image .now) (s .args .f) (s .args .lo .now) (s .args .hi .now) (s .args .fork) (s .pre .0) (s .pre .1))
 
-follow-requires : tie.Need-follow-requires
-follow-requires c κs =
+bound-from-requires : tie.Need-bound-from-requires
+bound-from-requires c κs =
     let s = c .before .before .before in
     let p = s .pre .0 in
     record { accepted = p .accepted; short = p .lo-short; above = p .above; leads = lower-leads (s .args .image .now) (s .args .f) (s .args .lo .now) (s .args .hi .now) (s .args .fork) p (s .pre .1) }
 
-follow-requires-2 : tie.Need-follow-requires-2
-follow-requires-2 c κs =
+bound-from-requires-2 : tie.Need-bound-from-requires-2
+bound-from-requires-2 c κs =
     let s = c .before .before .before .before in
     let p = s .pre .0 in
     record { accepted = p .accepted; short = p .hi-short; above = p .above; leads = upper-leads (s .args .image .now) (s .args .f) (s .args .lo .now) (s .args .hi .now) (s .args .fork) p (s .pre .1) }
@@ -33,14 +33,14 @@ sums-apart-requires c κs =
     let k = c .before .before in
     let s = entered k in
     let p = s .pre .0 in
-    (bound-down (s .args .image .now) (s .args .f) (p .accepted) (s .args .lo .now) (p .lo-short) (p .above) (k .before .follow .result) (lower k), bound-down (s .args .image .now) (s .args .f) (p .accepted) (s .args .hi .now) (p .hi-short) (p .above) (k .follow2 .result) (upper k))
+    (bound-down (s .args .image .now) (s .args .f) (p .accepted) (s .args .lo .now) (p .lo-short) (p .above) (k .before .bound-from .result) (lower k), bound-down (s .args .image .now) (s .args .f) (p .accepted) (s .args .hi .now) (p .hi-short) (p .above) (k .bound-from2 .result) (upper k))
 
 passed-at-requires : tie.Need-passed-at-requires
 passed-at-requires c κs =
     let k = c .before .before .before in
     let s = entered k in
     let p = s .pre .0 in
-    bound-key (s .args .image .now) (s .args .f) (p .accepted) (s .args .lo .now) (p .lo-short) (p .above) (k .before .follow .result) (lower k)
+    bound-key (s .args .image .now) (s .args .f) (p .accepted) (s .args .lo .now) (p .lo-short) (p .above) (k .before .bound-from .result) (lower k)
 
 add-below : tie.Need-add-below
 add-below c = search needs
@@ -50,7 +50,7 @@ reached-at-requires c κs =
     let k = c .before .before .before .before .before in
     let s = entered k in
     let p = s .pre .0 in
-    bound-key (s .args .image .now) (s .args .f) (p .accepted) (s .args .hi .now) (p .hi-short) (p .above) (k .follow2 .result) (upper k)
+    bound-key (s .args .image .now) (s .args .f) (p .accepted) (s .args .hi .now) (p .hi-short) (p .above) (k .bound-from2 .result) (upper k)
 
 add-upto : tie.Need-add-upto
 add-upto c = search needs
@@ -67,14 +67,14 @@ returns c =
     let s = entered k in
     let p = s .pre .0 in
     c .difference .ensures
-    ∙ sym (count-parted (s .args .image .now) (s .args .f) (s .args .lo .now) (s .args .hi .now) (p .above) (k .before .follow .result) (k .follow2 .result) (p .accepted) (p .lo-short) (p .hi-short) (lower k) (upper k) (t .sums-apart .result) (t .sums-apart .ensures) (u .passed-at .result) (v .reached-at .result) (u .passed-at .ensures .0) (v .reached-at .ensures .0))
+    ∙ sym (count-parted (s .args .image .now) (s .args .f) (s .args .lo .now) (s .args .hi .now) (p .above) (k .before .bound-from .result) (k .bound-from2 .result) (p .accepted) (p .lo-short) (p .hi-short) (lower k) (upper k) (t .sums-apart .result) (t .sums-apart .ensures) (u .passed-at .result) (v .reached-at .result) (u .passed-at .ensures .0) (v .reached-at .ensures .0))
 
 pub count-apart-spec : {M : Type 1} → statement M
 count-apart-spec =
     tie.close
     (tie.spec
-    follow-requires
-    follow-requires-2
+    bound-from-requires
+    bound-from-requires-2
     sums-apart-requires
     passed-at-requires
     add-below

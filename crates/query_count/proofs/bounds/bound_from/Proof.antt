@@ -8,8 +8,8 @@ use Prim.Native.Nat.{ℕ, _+_, _-_, _<_}
 use mathlib.Core.Path.{refl}
 use native.Mathlib.Omega.{arith}
 use borrow.Author.Needs.{needs}
-use Rattle.query_count.proofs.bounds.follow.Statement.{statement}
-use Rattle.query_count.proofs.bounds.follow.Tie as tie
+use Rattle.query_count.proofs.bounds.bound_from.Statement.{statement}
+use Rattle.query_count.proofs.bounds.bound_from.Tie as tie
 
 abbrev Inv-loop : tie.InvT-loop
 Inv-loop image f key level₀ level = (above : ℕ) → Leading image f key (level₀ .node .0) (level₀ .depth) (above + level₀ .sum) → Leading image f key (level .node .0) (level .depth) (above + level .sum)
@@ -113,8 +113,8 @@ returns-3 c =
     let s = entered l in
     λ above o. bound-end (s .args .image .now) (s .args .f) (s .pre .accepted) (s .args .key .now) (s .pre .short) above (l .loop .level) (l .loop .inv above o) (omega (arith, c .before .if1 .left))
 
-pub follow-spec : {M : Type 1} → statement M
-follow-spec =
+pub bound-from-spec : {M : Type 1} → statement M
+bound-from-spec =
     tie.close
     (tie.spec
     Inv-loop
