@@ -8,7 +8,6 @@ use Rattle.spec.specs.Bytes.{Bytes, bit, shared}
 use Rattle.spec.specs.Nodes.{is-exact, read-leaves}
 use Rattle.spec.specs.Questions.{counted}
 use Rattle.image_types.specs.declared.Frame.{Frame}
-use Rattle.image_types.specs.declared.NodeNum.{NodeNum}
 use Rattle.image_types.specs.declared.ValuePos.{ValuePos}
 use Rattle.nav_laws.specs.declared.BranchKind.the-variants.{Absent, Leaf, Child}
 use Rattle.nav_laws.specs.declared.Found.{Found}
@@ -20,6 +19,8 @@ use Rattle.nav_laws.specs.Descent.{child-number}
 use Rattle.nav_laws.specs.NextLabel.{kind-with}
 use Rattle.nav_laws.specs.Positions.{branches, place, child-at, slot-at}
 use Rattle.nav_laws.specs.FoundBranch.{node-count, Is-position, Found-branch, Behind-branch}
+use Rattle.query_laws.specs.declared.BoundEnd.{BoundEnd}
+use Rattle.query_laws.specs.declared.BoundEnd.the-variants as End
 use Rattle.query_laws.specs.Bounds.{high-passed, low-reached}
 use Rattle.query_laws.specs.LevelSums.{slots-below}
 use Rattle.query_laws.specs.Leads.{Leads, Branch-missing, Leaf-behind, along, shared-byte}
@@ -27,29 +28,27 @@ use Rattle.query_laws.specs.Steps.{exact-stop}
 use Rattle.query_laws.specs.Followed.{Stopped, stopped-nowhere, sum-nowhere}
 use Rattle.query_laws.specs.Summed.{Leading, Ended, passed-there, reached-there, end-unpassed, leading-root, leading-on, ended-none, ended-leaf, ended-end}
 use Rattle.query_laws.specs.Answers.{value-none, value-exact, value-open, count-bounds}
-use Rattle.query_count.specs.declared.bounds.KeyEnd.{KeyEnd}
-use Rattle.query_count.specs.declared.bounds.KeyEnd.the-variants as End
 use Rattle.query_count.specs.declared.bounds.Bound.{Bound}
 use Rattle.query_count.specs.declared.levels.LevelSum.{LevelSum}
 use Rattle.query_count.specs.declared.levels.BoundSums.{BoundSums}
 use Rattle.query_count.specs.Levels.{Down-to, Sums-apart}
 
--- the leaf where a key has led: none, the node if it is an exact leaf, or the open leaf
-abbrev pub leaf-of : Bytes → Frame → KeyEnd → LeafStop
-leaf-of s f End.Nowhere = Nowhere
-leaf-of s f (End.Node m) = exact-stop (is-exact (node-at (nodes s f) (m .0)))
-leaf-of s f (End.Leaf v) = Open v
+-- the leaf where a bound ends, m its node: none, the node if it is an exact leaf, or the open leaf
+abbrev pub leaf-of : Bytes → Frame → ℕ → BoundEnd → LeafStop
+leaf-of s f m End.NoLeaf = Nowhere
+leaf-of s f m End.Node = exact-stop (is-exact (node-at (nodes s f) m))
+leaf-of s f m (End.Leaf v) = Open v
 
--- A key has led there, with so many of its bytes passed.
-pub record Key-ended (s : Bytes) (f : Frame) (key : Bytes) (end : KeyEnd) (depth : ℕ) : Type 0 where
+-- A key has led to where its bound ends.
+pub record Key-ended (s : Bytes) (f : Frame) (key : Bytes) (r : Bound) : Type 0 where
   -- the image is accepted
   pub accepted : Accepted s f
   -- the key is no longer than a path
   pub short : length key ≤ 64
   -- the leaf there
-  pub stop-is : Stopped s f key (leaf-of s f end) depth
+  pub stop-is : Stopped s f key (leaf-of s f (r .level .node .0) (r .end)) (r .level .depth)
   -- a node there is one of the nodes
-  pub inside : (m : NodeNum) → end ≡ End.Node m → m .0 < node-count f
+  pub inside : r .end ≡ End.Node → r .level .node .0 < node-count f
 
 -- ---- the way that two keys share
 
@@ -99,9 +98,9 @@ pub record Leads-on (s : Bytes) (f : Frame) (key : Bytes) (from : LevelSum) : Ty
 
 -- The bound of a key that has ended, whose sum leaves out a sum on the levels above.
 pub record Bound-ended (s : Bytes) (f : Frame) (key : Bytes) (above : ℕ) (r : Bound) : Type 0 where
-  pub ended : Ended s f key (leaf-of s f (r .end)) (r .level .node .0) (r .level .depth) (above + r .level .sum)
+  pub ended : Ended s f key (leaf-of s f (r .level .node .0) (r .end)) (r .level .node .0) (r .level .depth) (above + r .level .sum)
   -- a node where the key leads is one of the nodes
-  pub inside : (m : NodeNum) → r .end ≡ End.Node m → m .0 < node-count f
+  pub inside : r .end ≡ End.Node → r .level .node .0 < node-count f
 
 module _ (s : Bytes) (f : Frame) (lo hi : Bytes) (fork : LevelSum) (o : Parted s f lo hi (fork .node .0) (fork .depth)) (none : fork .sum ≡ 0) where
   none-above : o .above + fork .sum ≡ o .above
@@ -127,43 +126,54 @@ module _ (s : Bytes) (f : Frame) (a : Accepted s f) (key : Bytes) (short : lengt
   }
 
   -- its key has led somewhere
-  pub bound-key : Key-ended s f key (r .end) (r .level .depth)
+  pub bound-key : Key-ended s f key r
   bound-key = record { accepted = a; short = short; stop-is = o .ended .stop-is; inside = o .inside }
 
 -- ---- what counts where a key leads
 
-module _ (s : Bytes) (f : Frame) (key : Bytes) (end : KeyEnd) (depth : ℕ) (o : Key-ended s f key end depth) where
+module _ (s : Bytes) (f : Frame) (key : Bytes) (r : Bound) (o : Key-ended s f key r) where
+  -- the leaf there, and the bytes that are passed
+  abbrev stop : LeafStop
+  stop = leaf-of s f (r .level .node .0) (r .end)
+
+  abbrev depth : ℕ
+  depth = r .level .depth
+
+  -- the leaf, as the bound ends
+  stop-at : (end : BoundEnd) → r .end ≡ end → stop ≡ leaf-of s f (r .level .node .0) end
+  stop-at end e = ap (leaf-of s f (r .level .node .0)) e
+
   -- the slot of an open leaf is one of the leaves
-  pub slot-inside : (v : ValuePos) → end ≡ End.Leaf v → v .0 < f .leaves
-  slot-inside v e = o .stop-is .leaf-in v (ap (leaf-of s f) e)
+  pub slot-inside : (v : ValuePos) → r .end ≡ End.Leaf v → v .0 < f .leaves
+  slot-inside v e = o .stop-is .leaf-in v (stop-at (End.Leaf v) e)
 
   -- nothing is passed
-  pub passed-nowhere : end ≡ End.Nowhere → passed-there s f key ≡ 0
-  passed-nowhere e = value-none s f (o .accepted) key (leaf-of s f end) depth (o .stop-is .leads) false (high-passed (length key)) (ap (leaf-of s f) e)
+  pub passed-nowhere : r .end ≡ End.NoLeaf → passed-there s f key ≡ 0
+  passed-nowhere e = value-none s f (o .accepted) key stop depth (o .stop-is .leads) false (high-passed (length key)) (stop-at End.NoLeaf e)
 
   -- nor where the key ends at a node
-  pub passed-node : (m : NodeNum) → end ≡ End.Node m → passed-there s f key ≡ 0
-  passed-node m e = end-unpassed s f (o .accepted) key depth (is-exact (node-at (nodes s f) (m .0))) (rw e at (o .stop-is))
+  pub passed-node : r .end ≡ End.Node → passed-there s f key ≡ 0
+  passed-node e = end-unpassed s f (o .accepted) key depth (is-exact (node-at (nodes s f) (r .level .node .0))) (rw e at (o .stop-is))
 
   -- an open leaf is passed by its highest key
-  pub passed-leaf : (v : ValuePos) → end ≡ End.Leaf v → passed-there s f key ≡ bit (high-passed (length key) (slot-of (f .width) (nodes s f) (v .0)) (drop depth key))
-  passed-leaf v e = value-open s f (o .accepted) key (leaf-of s f end) depth (o .stop-is .leads) false (high-passed (length key)) v (ap (leaf-of s f) e)
+  pub passed-leaf : (v : ValuePos) → r .end ≡ End.Leaf v → passed-there s f key ≡ bit (high-passed (length key) (slot-of (f .width) (nodes s f) (v .0)) (drop depth key))
+  passed-leaf v e = value-open s f (o .accepted) key stop depth (o .stop-is .leads) false (high-passed (length key)) v (stop-at (End.Leaf v) e)
 
   -- nothing is reached
-  pub reached-nowhere : end ≡ End.Nowhere → reached-there s f key ≡ 0
-  reached-nowhere e = value-none s f (o .accepted) key (leaf-of s f end) depth (o .stop-is .leads) true (low-reached (length key)) (ap (leaf-of s f) e)
+  pub reached-nowhere : r .end ≡ End.NoLeaf → reached-there s f key ≡ 0
+  reached-nowhere e = value-none s f (o .accepted) key stop depth (o .stop-is .leads) true (low-reached (length key)) (stop-at End.NoLeaf e)
 
   -- a node is reached if it is an exact leaf
-  pub reached-node : (m : NodeNum) → end ≡ End.Node m → reached-there s f key ≡ bit (is-exact (node-at (nodes s f) (m .0)))
-  reached-node m e = go (is-exact (node-at (nodes s f) (m .0))) (ap (leaf-of s f) e)
+  pub reached-node : r .end ≡ End.Node → reached-there s f key ≡ bit (is-exact (node-at (nodes s f) (r .level .node .0)))
+  reached-node e = go (is-exact (node-at (nodes s f) (r .level .node .0))) (stop-at End.Node e)
     where
-      go : (b : Bool) → leaf-of s f end ≡ exact-stop b → reached-there s f key ≡ bit b
-      go true q = value-exact s f (o .accepted) key (leaf-of s f end) depth (o .stop-is .leads) true (low-reached (length key)) q
-      go false q = value-none s f (o .accepted) key (leaf-of s f end) depth (o .stop-is .leads) true (low-reached (length key)) q
+      go : (b : Bool) → stop ≡ exact-stop b → reached-there s f key ≡ bit b
+      go true q = value-exact s f (o .accepted) key stop depth (o .stop-is .leads) true (low-reached (length key)) q
+      go false q = value-none s f (o .accepted) key stop depth (o .stop-is .leads) true (low-reached (length key)) q
 
   -- an open leaf is reached by its lowest key
-  pub reached-leaf : (v : ValuePos) → end ≡ End.Leaf v → reached-there s f key ≡ bit (low-reached (length key) (slot-of (f .width) (nodes s f) (v .0)) (drop depth key))
-  reached-leaf v e = value-open s f (o .accepted) key (leaf-of s f end) depth (o .stop-is .leads) true (low-reached (length key)) v (ap (leaf-of s f) e)
+  pub reached-leaf : (v : ValuePos) → r .end ≡ End.Leaf v → reached-there s f key ≡ bit (low-reached (length key) (slot-of (f .width) (nodes s f) (v .0)) (drop depth key))
+  reached-leaf v e = value-open s f (o .accepted) key stop depth (o .stop-is .leads) true (low-reached (length key)) v (stop-at (End.Leaf v) e)
 
 -- ---- along the way that two keys share
 
@@ -256,10 +266,10 @@ module _ (s : Bytes) (f : Frame) (a : Accepted s f) (lo hi : Bytes) (g : length 
 
 module _ (s : Bytes) (f : Frame) (a : Accepted s f) (key : Bytes) (short : length key ≤ 64) (above : ℕ) (from : LevelSum) (o : Leading s f key (from .node .0) (from .depth) (above + from .sum)) where
   -- the key ends at the node
-  pub bound-end : length key ≤ from .depth → Bound-ended s f key above (record { level = from; end = End.Node (from .node) })
+  pub bound-end : length key ≤ from .depth → Bound-ended s f key above (record { level = from; end = End.Node })
   bound-end h = record {
     ended = ended-end s f a key (from .node .0) (from .depth) (above + from .sum) o h;
-    inside = λ m q. let z : m ≡ from .node = cc in rw z (o .node-in);
+    inside = λ q. o .node-in;
   }
 
   module _ (h : from .depth < length key) (b : Found) (t : Found-branch s f (from .node .0) (getD key (from .depth) 0) b) (to : LevelSum) (slot : ValuePos) (v : Behind-branch s f (from .node .0) (b .at .0) (to .node .0) (slot .0))
@@ -278,17 +288,17 @@ module _ (s : Bytes) (f : Frame) (a : Accepted s f) (key : Bytes) (short : lengt
     bound-next k = rw (d, to-sum) (leading-on s f a key (from .node .0) (from .depth) (above + from .sum) o (b .kind) (to .node .0) (slot .0) h short (t .kind-is) to-child to-slot k)
 
     -- none: the key leads nowhere
-    pub bound-none : b .kind ≡ Absent → Bound-ended s f key above (record { level = to; end = End.Nowhere })
+    pub bound-none : b .kind ≡ Absent → Bound-ended s f key above (record { level = to; end = End.NoLeaf })
     bound-none k = record {
       ended = rw (d, to-sum) (ended-none s f a key (from .node .0) (from .depth) (above + from .sum) o (b .kind) (to .node .0) (slot .0) h short (t .kind-is) to-child to-slot k);
-      inside = λ m q. let z : _≡_ {A = ℕ} 0 1 = cc in absurd (omega arith);
+      inside = λ q. let z : _≡_ {A = ℕ} 0 1 = cc in absurd (omega arith);
     }
 
     -- one that ends: the key leads to its open leaf
     pub bound-leaf : b .kind ≡ Leaf → Bound-ended s f key above (record { level = to; end = End.Leaf slot })
     bound-leaf k = record {
       ended = rw (d, to-sum) (ended-leaf s f a key (from .node .0) (from .depth) (above + from .sum) o (b .kind) (to .node .0) (slot .0) h short (t .kind-is) to-child to-slot k slot refl);
-      inside = λ m q. let z : _≡_ {A = ℕ} 0 1 = cc in absurd (omega arith);
+      inside = λ q. let z : _≡_ {A = ℕ} 0 1 = cc in absurd (omega arith);
     }
 
 -- ---- counts

@@ -7,26 +7,18 @@ use super::levels::LevelSum;
 use bits::numbers::one_if;
 use bits::numbers::wide;
 use image_types::Frame;
-use image_types::NodeNum;
-use image_types::ValuePos;
 use nav::behind::child_and_slot;
 use nav::branches::find;
 use nav::nodes::is_exact;
 use nav_laws::BranchKind;
+use query_laws::BoundEnd;
 use query_point::suffix::high_below;
 use query_point::suffix::low_above;
 
-// Where the bytes of a key lead: to no branch, to a node, with no byte left, or to an open leaf.
-pub enum KeyEnd {
-    Nowhere,
-    Node(NodeNum),
-    Leaf(ValuePos),
-}
-
-// The bound of a key that has ended, behind its last branch, and where the key leads.
+// The bound of a key that has ended, behind its last branch, and where it ends: a node there is that of the level.
 pub struct Bound {
     pub level: LevelSum,
-    pub end: KeyEnd,
+    pub end: BoundEnd,
 }
 
 // The bound of a key, from a node to which its first bytes lead: each level adds the slot number at the branch of the next byte.
@@ -42,49 +34,50 @@ pub fn bound_from(image: &[u8], f: Frame, key: &[u8], from: LevelSum) -> Bound
         let next = child_and_slot(image, f, m, found.at);
         let slot = next.slot;
         let node = next.child;
-        level = LevelSum {
-            node,
-            depth: d + 1,
-            sum: level.sum + slot.0,
-        };
+        let depth = d + 1;
+        let sum = level.sum + slot.0;
+        level = LevelSum { node, depth, sum };
         let kind = found.kind;
         match kind {
             BranchKind::Absent => {
-                let end = KeyEnd::Nowhere;
+                let end = BoundEnd::NoLeaf;
                 return Bound { level, end };
             }
             BranchKind::Leaf => {
-                let end = KeyEnd::Leaf(slot);
+                let end = BoundEnd::Leaf(slot);
                 return Bound { level, end };
             }
             BranchKind::Child => {}
         }
     }
-    let node = level.node;
-    let end = KeyEnd::Node(node);
+    let end = BoundEnd::Node;
     Bound { level, end }
 }
 
 // 1 if the key leads to an open leaf whose highest key lies below it, else 0.
-pub fn passed_at(image: &[u8], f: Frame, key: &[u8], end: KeyEnd, depth: usize) -> usize
-    requires { ⌜ Key-ended (now image) f (now key) end depth ⌝ }
+pub fn passed_at(image: &[u8], f: Frame, key: &[u8], bound: Bound) -> usize
+    requires { ⌜ Key-ended (now image) f (now key) bound ⌝ }
     ensures { λ r. ⌜ (r ≡ passed-there (now (image .entry)) f (now (key .entry))) × (r ≤ 1) ⌝ }
 {
+    let level = bound.level;
+    let end = bound.end;
     match end {
-        KeyEnd::Nowhere => 0,
-        KeyEnd::Node(_) => 0,
-        KeyEnd::Leaf(slot) => one_if(high_below(image, f, slot, key, depth)),
+        BoundEnd::NoLeaf => 0,
+        BoundEnd::Node => 0,
+        BoundEnd::Leaf(slot) => one_if(high_below(image, f, slot, key, level.depth)),
     }
 }
 
 // 1 if the key leads to a leaf whose lowest key does not lie above it, else 0.
-pub fn reached_at(image: &[u8], f: Frame, key: &[u8], end: KeyEnd, depth: usize) -> usize
-    requires { ⌜ Key-ended (now image) f (now key) end depth ⌝ }
+pub fn reached_at(image: &[u8], f: Frame, key: &[u8], bound: Bound) -> usize
+    requires { ⌜ Key-ended (now image) f (now key) bound ⌝ }
     ensures { λ r. ⌜ (r ≡ reached-there (now (image .entry)) f (now (key .entry))) × (r ≤ 1) ⌝ }
 {
+    let level = bound.level;
+    let end = bound.end;
     match end {
-        KeyEnd::Nowhere => 0,
-        KeyEnd::Node(node) => one_if(is_exact(image, f, node)),
-        KeyEnd::Leaf(slot) => one_if(!low_above(image, f, slot, key, depth)),
+        BoundEnd::NoLeaf => 0,
+        BoundEnd::Node => one_if(is_exact(image, f, level.node)),
+        BoundEnd::Leaf(slot) => one_if(!low_above(image, f, slot, key, level.depth)),
     }
 }

@@ -36,15 +36,11 @@ fn count_apart(image: &[u8], f: Frame, lo: &[u8], hi: &[u8], fork: LevelSum) -> 
     requires { ⌜ Parted (now image) f (now lo) (now hi) (fork .node .0) (fork .depth) × (fork .sum ≡ 0) ⌝ }
     ensures { λ r. ⌜ r ≡ counted (read-leaves (now (image .entry))) (now (lo .entry)) (now (hi .entry)) ⌝ }
 {
-    let a = bound_from(image, f, lo, fork);
-    let b = bound_from(image, f, hi, fork);
-    let lower = a.level;
-    let upper = b.level;
-    let first = a.end;
-    let last = b.end;
-    let sums = sums_apart(image, f, lower, upper);
-    let below = sums.lower + passed_at(image, f, lo, first, lower.depth);
-    let upto = sums.upper + reached_at(image, f, hi, last, upper.depth);
+    let lower = bound_from(image, f, lo, fork);
+    let upper = bound_from(image, f, hi, fork);
+    let sums = sums_apart(image, f, lower.level, upper.level);
+    let below = sums.lower + passed_at(image, f, lo, lower);
+    let upto = sums.upper + reached_at(image, f, hi, upper);
     difference(upto, below)
 }
 
@@ -70,18 +66,12 @@ pub fn count(image: &[u8], f: Frame, lo: &[u8], hi: &[u8]) -> usize
         KeyEnd::NoNodes => 0,
         KeyEnd::NoBranch => 0,
         KeyEnd::Node(node) => {
-            let sum = 0usize;
-            count_apart(
-                image,
-                f,
-                lo,
-                hi,
-                LevelSum {
-                    node,
-                    depth: n,
-                    sum,
-                },
-            )
+            let fork = LevelSum {
+                node,
+                depth: n,
+                sum: 0,
+            };
+            count_apart(image, f, lo, hi, fork)
         }
         KeyEnd::Leaf(node, at, depth) => {
             count_leaf(image, f, lo, hi, slot(image, f, node, at), depth)

@@ -27,8 +27,8 @@ use Rattle.nav_laws.specs.Positions.{branches, place}
 use Rattle.nav_laws.specs.Slots.{slot-number, slot-of}
 use Rattle.query_laws.specs.declared.LastHigher.{LastHigher}
 use Rattle.query_laws.specs.declared.LastHigher.the-variants.{None, At}
-use Rattle.query_laws.specs.declared.WayEnd.{WayEnd}
-use Rattle.query_laws.specs.declared.WayEnd.the-variants as End
+use Rattle.query_laws.specs.declared.BoundEnd.{BoundEnd}
+use Rattle.query_laws.specs.declared.BoundEnd.the-variants as End
 use Rattle.query_laws.specs.Bounds.{high-passed}
 use Rattle.query_laws.specs.FirstLeaf.{leaf-below, leaf-behind}
 use Rattle.query_laws.specs.Next.{head-of, behind-each, higher-at, higher-kept, higher-taken, next-from, next-end, next-absent, next-open, next-child}
@@ -56,21 +56,21 @@ abbrev pub Higher-in : Bytes → Frame → Bytes → ℕ → LastHigher → Type
 Higher-in s f start n None = Unit
 Higher-in s f start n (At m d b) = (d < n) × Has-higher s f start (m .0) d b
 
--- the leaf where the way ends, m the last node and d its depth: the one behind the last higher label; the first at or below the node; the open leaf
-abbrev pub end-leaf : ℕ → List Node → Bytes → WayEnd → LastHigher → ℕ → ℕ → Option Leaf
-end-leaf w ns start End.Past higher m d = higher-leaf ns start higher
+-- the leaf that is sought, m the last node of the way and d its depth: where the way ends at no leaf, the one behind the last higher label; the first at or below the node; the open leaf
+abbrev pub end-leaf : ℕ → List Node → Bytes → BoundEnd → LastHigher → ℕ → ℕ → Option Leaf
+end-leaf w ns start End.NoLeaf higher m d = higher-leaf ns start higher
 end-leaf w ns start End.Node higher m d = leaf-below ns start m d
 end-leaf w ns start (End.Leaf v) higher m d = some (record { cut = take d start; exact = false; suffix = slot-of w ns (v .0) })
 
 -- a node there stands on its level, and the slot of an open leaf is one of n
-abbrev pub End-in : List Node → ℕ → WayEnd → ℕ → ℕ → Type 0
-End-in ns n End.Past m d = Unit
+abbrev pub End-in : List Node → ℕ → BoundEnd → ℕ → ℕ → Type 0
+End-in ns n End.NoLeaf m d = Unit
 End-in ns n End.Node m d = On-level ns (64 - d) m
 End-in ns n (End.Leaf v) m d = v .0 < n
 
--- where the way ends at the branch of an open leaf: past it, if the start has passed it, else there
-abbrev pub leaf-end : Bool → ValuePos → WayEnd
-leaf-end true v = End.Past
+-- where the way ends at the branch of an open leaf: at no leaf, if the start has passed it, else there
+abbrev pub leaf-end : Bool → ValuePos → BoundEnd
+leaf-end true v = End.NoLeaf
 leaf-end false v = End.Leaf v
 
 -- The first bytes of the start, `depth` of them, lead to a node.
@@ -92,7 +92,7 @@ pub record Higher-passed (s : Bytes) (f : Frame) (start : Bytes) (m d : ℕ) (be
   pub higher-in : Higher-in s f start (d + 1) after
 
 -- Where following the start has ended.
-pub record Key-followed (s : Bytes) (f : Frame) (start : Bytes) (end : WayEnd) (higher : LastHigher) (node depth sum : ℕ) : Type 0 where
+pub record Key-followed (s : Bytes) (f : Frame) (start : Bytes) (end : BoundEnd) (higher : LastHigher) (node depth sum : ℕ) : Type 0 where
   -- there the leaf that is sought stands
   pub leaf-is : next-leaf (read-leaves s) start ≡ end-leaf (f .width) (nodes s f) start end higher node depth
   pub end-in : End-in (nodes s f) (f .leaves) end node depth
@@ -188,7 +188,7 @@ module _ {s : Bytes} {f : Frame} {start : Bytes} {higher : LastHigher} {m d sum 
   on = rw level-more at (p .from .level)
 
   -- No branch has the next byte as its label.
-  pub followed-none : b .kind ≡ Kind.Absent → Key-followed s f start End.Past after (child .0) (d + 1) (sum + slot .0)
+  pub followed-none : b .kind ≡ Kind.Absent → Key-followed s f start End.NoLeaf after (child .0) (d + 1) (sum + slot .0)
   followed-none k = record {
     leaf-is =
         byte-leaf ∙ next-absent (high-passed (length start)) (nodes s f) (64 - (d + 1)) m on (take d start) (getD start d 0) (drop (d + 1) start) (higher-leaf (nodes s f) start higher) (sym (p .found .kind-is) ∙ k)
@@ -240,15 +240,15 @@ module _ {s : Bytes} {f : Frame} {start : Bytes} {higher : LastHigher} {m d sum 
 
 -- ---- where the way has ended
 
-module _ {s : Bytes} {f : Frame} {start : Bytes} {end : WayEnd} {higher : LastHigher} {m d sum : ℕ} (k : Key-followed s f start end higher m d sum) where
-  -- past all leaves below its last node
-  pub ended-past : end ≡ End.Past → next-leaf (read-leaves s) start ≡ higher-leaf (nodes s f) start higher
-  ended-past e = k .leaf-is ∙ ap (λ (x : WayEnd). end-leaf (f .width) (nodes s f) start x higher m d) e
+module _ {s : Bytes} {f : Frame} {start : Bytes} {end : BoundEnd} {higher : LastHigher} {m d sum : ℕ} (k : Key-followed s f start end higher m d sum) where
+  -- at no leaf
+  pub ended-nowhere : end ≡ End.NoLeaf → next-leaf (read-leaves s) start ≡ higher-leaf (nodes s f) start higher
+  ended-nowhere e = k .leaf-is ∙ ap (λ (x : BoundEnd). end-leaf (f .width) (nodes s f) start x higher m d) e
 
   -- at a node
   pub ended-node : end ≡ End.Node → (next-leaf (read-leaves s) start ≡ leaf-below (nodes s f) start m d) × On-level (nodes s f) (64 - d) m
-  ended-node e = (k .leaf-is ∙ ap (λ (x : WayEnd). end-leaf (f .width) (nodes s f) start x higher m d) e, rw e at (k .end-in))
+  ended-node e = (k .leaf-is ∙ ap (λ (x : BoundEnd). end-leaf (f .width) (nodes s f) start x higher m d) e, rw e at (k .end-in))
 
   -- at an open leaf
   pub ended-leaf : (v : ValuePos) → end ≡ End.Leaf v → (next-leaf (read-leaves s) start ≡ some (record { cut = take d start; exact = false; suffix = slot-of (f .width) (nodes s f) (v .0) })) × (v .0 < f .leaves)
-  ended-leaf v e = (k .leaf-is ∙ ap (λ (x : WayEnd). end-leaf (f .width) (nodes s f) start x higher m d) e, rw e at (k .end-in))
+  ended-leaf v e = (k .leaf-is ∙ ap (λ (x : BoundEnd). end-leaf (f .width) (nodes s f) start x higher m d) e, rw e at (k .end-in))

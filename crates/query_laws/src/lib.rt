@@ -1,4 +1,4 @@
-// The types that the laws of questions speak of: where the bytes of a key lead, the rule behind a point's reply, the last higher label that a key has passed, where the way of a seek ends, and the leaf that a seek finds. No function is declared here.
+// The types that the laws of questions speak of: where the bytes of a key lead, the rule behind a point's reply, the last higher label that a key has passed, where the bound of a key ends, and the leaf that a seek finds. No function is declared here.
 use image_types::BitPos;
 use image_types::NodeNum;
 use image_types::ValuePos;
@@ -28,9 +28,9 @@ pub enum LastHigher {
     At(NodeNum, usize, Found),
 }
 
-// Where following a key ends: past all leaves below its last node; at a node, where all its bytes are passed; or at an open leaf that it has not passed.
-pub enum WayEnd {
-    Past,
+// Where the bound of a key ends: at no leaf; at a node, with no byte left; or at the open leaf with a slot. A count takes the leaf to which the key's bytes lead, whether the key has passed it or not; for a seek an open leaf that the start has passed is no leaf any more.
+pub enum BoundEnd {
+    NoLeaf,
     Node,
     Leaf(ValuePos),
 }

@@ -17,6 +17,7 @@ use Rattle.query_laws.specs.LeafKeys.{Begins-with, Reached}
 use Rattle.query_laws.specs.Ordered.{next-leaf}
 use Rattle.query_laws.specs.Seeking.{leaf-end, Higher-in, Key-followed}
 use Rattle.query_laws.specs.Summed.{Summed}
+use Rattle.query_count.specs.declared.bounds.Bound.{Bound}
 use Rattle.query_count.specs.declared.levels.LevelSum.{LevelSum}
 use Rattle.query_seek.specs.declared.way.Way.{Way}
 use Rattle.query_seek.specs.declared.next.NextLeaf.{NextLeaf}
@@ -24,26 +25,25 @@ use Rattle.query_seek.specs.declared.next.NextLeaf.{NextLeaf}
 -- ---- the way along a start
 
 -- The way along a start ends at the branch of an open leaf with this slot, and the start has this bound behind the branch.
-pub record Leaf-branch (s : Bytes) (f : Frame) (start : Bytes) (slot : ValuePos) (bound : LevelSum) : Type 0 where
+pub record Leaf-branch (s : Bytes) (f : Frame) (start : Bytes) (slot : ValuePos) (level : LevelSum) : Type 0 where
   pub accepted : Accepted s f
   pub slot-in : slot .0 < f .leaves
-  pub depth-in : bound .depth ≤ length start
+  pub depth-in : level .depth ≤ length start
   pub short : length start ≤ 64
   -- one more does not make the sum too great
-  pub small : bound .sum ≤ 4194240
+  pub small : level .sum ≤ 4194240
 
 -- whether a start whose first d bytes are the cut key of an open leaf has passed the leaf
 abbrev pub leaf-passed : Bytes → Frame → Bytes → ValuePos → ℕ → Bool
 leaf-passed s f start slot d = high-passed (length start) (slot-of (f .width) (nodes s f) (slot .0)) (drop d start)
 
--- The way ends at the open leaf, or past it.
-pub record Ends-there (s : Bytes) (f : Frame) (start : Bytes) (slot : ValuePos) (higher : LastHigher) (bound : LevelSum) (r : Way) : Type 0 where
-  pub end-is : r .end ≡ leaf-end (leaf-passed s f start slot (bound .depth)) slot
-  pub higher-is : r .higher ≡ higher
-  pub node-is : r .bound .node ≡ bound .node
-  pub depth-is : r .bound .depth ≡ bound .depth
+-- The bound ends at the open leaf, or at no leaf if the start has passed it.
+pub record Ends-there (s : Bytes) (f : Frame) (start : Bytes) (slot : ValuePos) (level : LevelSum) (r : Bound) : Type 0 where
+  pub end-is : r .end ≡ leaf-end (leaf-passed s f start slot (level .depth)) slot
+  pub node-is : r .level .node ≡ level .node
+  pub depth-is : r .level .depth ≡ level .depth
   -- a leaf that is passed counts in the sum
-  pub sum-is : r .bound .sum ≡ bound .sum + bit (leaf-passed s f start slot (bound .depth))
+  pub sum-is : r .level .sum ≡ level .sum + bit (leaf-passed s f start slot (level .depth))
 
 -- ---- the first leaf that a start has not passed
 
@@ -67,10 +67,10 @@ pub record Way-followed (s : Bytes) (f : Frame) (start : Bytes) (way : Way) (key
   pub short : length start ≤ 64
   pub key-size : length key ≡ 64
   pub begins : Begins-with key start
-  pub ended : Key-followed s f start (way .end) (way .higher) (way .bound .node .0) (way .bound .depth) (way .bound .sum)
+  pub ended : Key-followed s f start (way .bound .end) (way .higher) (way .bound .level .node .0) (way .bound .level .depth) (way .bound .level .sum)
 
 -- The first leaf that the start has not passed, with its cut key at the front of a key, and the start's bound.
 pub record Next-leaf (s : Bytes) (f : Frame) (start key : Bytes) (r : NextLeaf) : Type 0 where
   pub leaf : Reached s f (next-leaf (read-leaves s) start) key (r .end)
   -- where there is a leaf, the bound is that of the start
-  pub bound : (r .end .stop ≡ Nowhere → ⊥) → Summed s f start (r .bound .node .0) (r .bound .depth) (r .bound .sum)
+  pub bound : (r .end .stop ≡ Nowhere → ⊥) → Summed s f start (r .level .node .0) (r .level .depth) (r .level .sum)

@@ -20,13 +20,13 @@ use nav_laws::LeafEnd;
 use nav_laws::LeafStop;
 use query_count::levels::AT_ROOT;
 use query_count::levels::LevelSum;
+use query_laws::BoundEnd;
 use query_laws::LastHigher;
-use query_laws::WayEnd;
 
-// The first leaf that a start has not passed, and the start's bound, from which the leaves that it has passed can be counted.
+// The first leaf that a start has not passed, and the start's bound on the level below its last branch, from which the leaves that it has passed can be counted.
 pub struct NextLeaf {
     pub end: LeafEnd,
-    pub bound: LevelSum,
+    pub level: LevelSum,
 }
 
 // Whether there is a leaf at a stop.
@@ -66,18 +66,16 @@ fn leaf_of_way(image: &[u8], f: Frame, start: &[u8], way: Way, key: &mut [u8]) -
     ensures { λ r. ⌜ Reached (now (image .entry)) f (next-leaf (read-leaves (now (image .entry))) (now (start .entry))) (now (key .exit)) r ⌝ }
 {
     let bound = way.bound;
-    let end = way.end;
+    let level = bound.level;
+    let end = bound.end;
     match end {
-        WayEnd::Past => {
+        BoundEnd::NoLeaf => {
             let higher = way.higher;
             leaf_above(image, f, start, higher, key)
         }
-        WayEnd::Node => {
-            let node = bound.node;
-            first_below(image, f, node, key, bound.depth)
-        }
-        WayEnd::Leaf(slot) => LeafEnd {
-            depth: bound.depth,
+        BoundEnd::Node => first_below(image, f, level.node, key, level.depth),
+        BoundEnd::Leaf(slot) => LeafEnd {
+            depth: level.depth,
             stop: LeafStop::Open(slot),
         },
     }
@@ -91,12 +89,13 @@ pub fn next_leaf(image: &[u8], f: Frame, start: &[u8], key: &mut [u8]) -> NextLe
     if f.dense.nodes + f.sparse.nodes == 0 {
         return NextLeaf {
             end: NO_LEAF,
-            bound: AT_ROOT,
+            level: AT_ROOT,
         };
     }
     write_bytes(key, 0, start);
     let way = follow_key(image, f, start);
     let end = leaf_of_way(image, f, start, way, key);
     let bound = way.bound;
-    NextLeaf { end, bound }
+    let level = bound.level;
+    NextLeaf { end, level }
 }

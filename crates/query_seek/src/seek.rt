@@ -91,8 +91,7 @@ pub fn seek(image: &[u8], f: Frame, starts: usize, start: &[u8], key: &mut [u8])
     }
     let low = lowest_key(image, f, stop, key, end.depth);
     let n = greater_key(start, key, low);
-    let bound = next.bound;
-    let number = sum_below(image, f, bound) - starts;
+    let number = sum_below(image, f, next.level) - starts;
     Sought {
         leaf: SoughtLeaf::At(number),
         n,

@@ -12,61 +12,46 @@ use nav::behind::child_and_slot;
 use nav::branches::find;
 use nav::branches::has_higher;
 use nav_laws::BranchKind;
+use query_count::bounds::Bound;
 use query_count::levels::AT_ROOT;
 use query_count::levels::LevelSum;
+use query_laws::BoundEnd;
 use query_laws::LastHigher;
-use query_laws::WayEnd;
 use query_point::suffix::high_below;
 
-// Where following a start ends, the last higher label that was passed, and the start's bound on the level below: an open leaf that the start has passed counts in its sum.
+// The bound of a start, and the last higher label that was passed: an open leaf that the start has passed counts in the bound's sum, and the bound ends at no leaf there.
 pub struct Way {
-    pub end: WayEnd,
+    pub bound: Bound,
     pub higher: LastHigher,
-    pub bound: LevelSum,
 }
 
-// The end of a way at the branch of an open leaf with this slot: at the leaf, or past it.
-fn end_at_leaf(
-    image: &[u8],
-    f: Frame,
-    start: &[u8],
-    slot: ValuePos,
-    higher: LastHigher,
-    bound: LevelSum,
-) -> Way
-    requires { ⌜ Leaf-branch (now image) f (now start) slot bound ⌝ }
-    ensures { λ r. ⌜ Ends-there (now (image .entry)) f (now (start .entry)) slot higher bound r ⌝ }
+// The bound of a start at the branch of an open leaf with this slot: it ends at the leaf, or at no leaf where the start has passed it, which then counts in the sum.
+fn end_at_leaf(image: &[u8], f: Frame, start: &[u8], slot: ValuePos, level: LevelSum) -> Bound
+    requires { ⌜ Leaf-branch (now image) f (now start) slot level ⌝ }
+    ensures { λ r. ⌜ Ends-there (now (image .entry)) f (now (start .entry)) slot level r ⌝ }
 {
-    if high_below(image, f, slot, start, bound.depth) {
-        let node = bound.node;
-        let bound = LevelSum {
-            node,
-            depth: bound.depth,
-            sum: bound.sum + 1,
-        };
-        return Way {
-            end: WayEnd::Past,
-            higher,
-            bound,
-        };
+    if high_below(image, f, slot, start, level.depth) {
+        let node = level.node;
+        let depth = level.depth;
+        let sum = level.sum + 1;
+        let end = BoundEnd::NoLeaf;
+        let level = LevelSum { node, depth, sum };
+        return Bound { level, end };
     }
-    Way {
-        end: WayEnd::Leaf(slot),
-        higher,
-        bound,
-    }
+    let end = BoundEnd::Leaf(slot);
+    Bound { level, end }
 }
 
 // Along the start from the root, one label search a level.
 pub fn follow_key(image: &[u8], f: Frame, start: &[u8]) -> Way
     requires { ⌜ Accepted (now image) f × (0 < node-count f) × (length (now start) ≤ 64) ⌝ }
-    ensures { λ r. ⌜ Key-followed (now (image .entry)) f (now (start .entry)) (r .end) (r .higher) (r .bound .node .0) (r .bound .depth) (r .bound .sum) ⌝ }
+    ensures { λ r. ⌜ Key-followed (now (image .entry)) f (now (start .entry)) (r .bound .end) (r .higher) (r .bound .level .node .0) (r .bound .level .depth) (r .bound .level .sum) ⌝ }
 {
-    let mut bound = AT_ROOT;
+    let mut level = AT_ROOT;
     let mut higher = LastHigher::None;
-    while bound.depth < start.len() {
-        let d = bound.depth;
-        let m = bound.node;
+    while level.depth < start.len() {
+        let d = level.depth;
+        let m = level.node;
         let y = wide(start[d]);
         let found = find(image, f, m, y);
         if has_higher(image, f, m, y, found) {
@@ -74,26 +59,25 @@ pub fn follow_key(image: &[u8], f: Frame, start: &[u8]) -> Way
         }
         let next = child_and_slot(image, f, m, found.at);
         let slot = next.slot;
-        let child = next.child;
+        let node = next.child;
         let depth = d + 1;
-        let sum = bound.sum + slot.0;
-        bound = LevelSum {
-            node: child,
-            depth,
-            sum,
-        };
+        let sum = level.sum + slot.0;
+        level = LevelSum { node, depth, sum };
         let kind = found.kind;
         match kind {
             BranchKind::Absent => {
-                let end = WayEnd::Past;
-                return Way { end, higher, bound };
+                let end = BoundEnd::NoLeaf;
+                let bound = Bound { level, end };
+                return Way { bound, higher };
             }
             BranchKind::Leaf => {
-                return end_at_leaf(image, f, start, slot, higher, bound);
+                let bound = end_at_leaf(image, f, start, slot, level);
+                return Way { bound, higher };
             }
             BranchKind::Child => {}
         }
     }
-    let end = WayEnd::Node;
-    Way { end, higher, bound }
+    let end = BoundEnd::Node;
+    let bound = Bound { level, end };
+    Way { bound, higher }
 }

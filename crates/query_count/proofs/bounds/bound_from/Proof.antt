@@ -59,11 +59,11 @@ find-requires c κs =
 child-and-slot-requires : tie.Need-child-and-slot-requires Inv-loop μ-loop
 child-and-slot-requires c κs = record { accepted = entered (head c) .pre .accepted; within = c .find .ensures .at-is .within }
 
-add-t17 : tie.Need-add-t17 Inv-loop μ-loop
-add-t17 c = omega (arith, more (c .before .before .before), entered (head (c .before .before .before)) .pre .short)
+add-depth : tie.Need-add-depth Inv-loop μ-loop
+add-depth c = omega (arith, more (c .before .before .before), entered (head (c .before .before .before)) .pre .short)
 
-add-t21 : tie.Need-add-t21 Inv-loop μ-loop
-add-t21 c =
+add-sum : tie.Need-add-sum Inv-loop μ-loop
+add-sum c =
     let k = behind c in
     let b = k .before in
     let l = head b in
@@ -109,9 +109,9 @@ loop-again c =
 
 returns-3 : tie.Need-returns-3 Inv-loop μ-loop
 returns-3 c =
-    let l = c .before .before .before in
+    let l = c .before .before in
     let s = entered l in
-    λ above o. bound-end (s .args .image .now) (s .args .f) (s .pre .accepted) (s .args .key .now) (s .pre .short) above (l .loop .level) (l .loop .inv above o) (omega (arith, c .before .if1 .left))
+    λ above o. bound-end (s .args .image .now) (s .args .f) (s .pre .accepted) (s .args .key .now) (s .pre .short) above (l .loop .level) (l .loop .inv above o) (omega (arith, c .if1 .left))
 
 pub bound-from-spec : {M : Type 1} → statement M
 bound-from-spec =
@@ -124,8 +124,8 @@ bound-from-spec =
     wide-requires
     find-requires
     child-and-slot-requires
-    add-t17
-    add-t21
+    add-depth
+    add-sum
     enum-told
     returns
     enum-told-2

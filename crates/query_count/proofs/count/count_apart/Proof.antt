@@ -30,14 +30,13 @@ bound-from-requires-2 c κs =
 
 sums-apart-requires : tie.Need-sums-apart-requires
 sums-apart-requires c κs =
-    let k = c .before .before in
-    let s = entered k in
+    let s = entered c in
     let p = s .pre .0 in
-    (bound-down (s .args .image .now) (s .args .f) (p .accepted) (s .args .lo .now) (p .lo-short) (p .above) (k .before .bound-from .result) (lower k), bound-down (s .args .image .now) (s .args .f) (p .accepted) (s .args .hi .now) (p .hi-short) (p .above) (k .bound-from2 .result) (upper k))
+    (bound-down (s .args .image .now) (s .args .f) (p .accepted) (s .args .lo .now) (p .lo-short) (p .above) (c .before .bound-from .result) (lower c), bound-down (s .args .image .now) (s .args .f) (p .accepted) (s .args .hi .now) (p .hi-short) (p .above) (c .bound-from2 .result) (upper c))
 
 passed-at-requires : tie.Need-passed-at-requires
 passed-at-requires c κs =
-    let k = c .before .before .before in
+    let k = c .before in
     let s = entered k in
     let p = s .pre .0 in
     bound-key (s .args .image .now) (s .args .f) (p .accepted) (s .args .lo .now) (p .lo-short) (p .above) (k .before .bound-from .result) (lower k)
@@ -47,7 +46,7 @@ add-below c = search needs
 
 reached-at-requires : tie.Need-reached-at-requires
 reached-at-requires c κs =
-    let k = c .before .before .before .before .before in
+    let k = c .before .before .before in
     let s = entered k in
     let p = s .pre .0 in
     bound-key (s .args .image .now) (s .args .f) (p .accepted) (s .args .hi .now) (p .hi-short) (p .above) (k .bound-from2 .result) (upper k)
@@ -63,7 +62,7 @@ returns c =
     let v = c .before .before in
     let u = v .before .before in
     let t = u .before in
-    let k = t .before .before .before in
+    let k = t .before in
     let s = entered k in
     let p = s .pre .0 in
     c .difference .ensures

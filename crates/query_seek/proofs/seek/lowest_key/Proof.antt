@@ -1,9 +1,8 @@
-use Rattle.query_laws.specs.LeafKeys.{Lowest-key}
 use Rattle.query_laws.specs.Seeks.{low-of}
 use Rattle.nav_laws.specs.declared.LeafStop.{LeafStop}
 use Rattle.nav_laws.specs.Accepted.{nodes}
 use lib.ListN.{take}
-use mathlib.Core.Path.{sym, ap, subst}
+use mathlib.Core.Path.{ap}
 use borrow.Author.Needs.{needs}
 use Rattle.query_seek.proofs.seek.lowest_key.Statement.{statement}
 use Rattle.query_seek.proofs.seek.lowest_key.Tie as tie

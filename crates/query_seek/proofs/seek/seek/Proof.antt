@@ -17,12 +17,12 @@ use Rattle.query_seek.proofs.seek.seek.Tie as tie
 abbrev entered : tie.After-next-leaf → tie.Start
 entered c = c .before .before .before .before .before
 
--- where that leaf is known, from where it is there, and from where the bound is taken
+-- where that leaf is known, from where it is there, and from where its key is written
 abbrev known : tie.Else1 → tie.After-next-leaf
 known c = c .before .before .before .before .before
 
-abbrev there : tie.After-bound → tie.Else1
-there c = c .before .before .before .before .before .before .before .before .before
+abbrev there : tie.After-slice-known4 → tie.Else1
+there c = c .before .before .before .before .before .before .before .before
 
 -- there is a leaf
 some-leaf : (c : tie.Else1) → known c .next-leaf .result .end .stop ≡ Nowhere → ⊥
@@ -30,7 +30,7 @@ some-leaf c = there-not (known c .next-leaf .result .end .stop) (sym (c .before 
 
 -- the start's bound
 bound : (c : tie.Else1)
-    → Summed (entered (known c) .args .image .now) (entered (known c) .args .f) (entered (known c) .args .start .now) (known c .next-leaf .result .bound .node .0) (known c .next-leaf .result .bound .depth) (known c .next-leaf .result .bound .sum)
+    → Summed (entered (known c) .args .image .now) (entered (known c) .args .f) (entered (known c) .args .start .now) (known c .next-leaf .result .level .node .0) (known c .next-leaf .result .level .depth) (known c .next-leaf .result .level .sum)
 bound c = known c .next-leaf .ensures .bound (some-leaf c)
 
 next-leaf-requires : tie.Need-next-leaf-requires
@@ -84,7 +84,7 @@ returns-2 c =
     let e = there (c .before) in
     let s = entered (known e) in
     let r = known e .next-leaf in
-    let k = c .before .before .before .before in
+    let k = c .before .before .before in
     let g = k .greater-key in
     let l = k .before .before .before .before .lowest-key in (
       record {

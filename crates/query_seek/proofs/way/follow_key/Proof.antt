@@ -13,10 +13,10 @@ use Rattle.query_seek.proofs.way.follow_key.Statement.{statement}
 use Rattle.query_seek.proofs.way.follow_key.Tie as tie
 
 abbrev Inv-loop : tie.InvT-loop
-Inv-loop image f start bound₀ higher₀ bound higher = Following image f start higher (bound .node .0) (bound .depth) (bound .sum)
+Inv-loop image f start level₀ higher₀ level higher = Following image f start higher (level .node .0) (level .depth) (level .sum)
 
 abbrev μ-loop : tie.MeasureT-loop
-μ-loop image f start bound₀ higher₀ bound higher = length start - bound .depth
+μ-loop image f start level₀ higher₀ level higher = length start - level .depth
 
 -- where the function was entered, from the head of the loop
 abbrev entered : tie.At-loop Inv-loop μ-loop → tie.Start Inv-loop μ-loop
@@ -34,34 +34,34 @@ abbrev finding : tie.After-struct-known3 Inv-loop μ-loop → tie.After-find Inv
 finding c = behind c .before .before .before
 
 -- a byte of the start is left
-more : (c : tie.After-find Inv-loop μ-loop) → head c .loop .bound .depth < length (entered (head c) .args .start .now)
+more : (c : tie.After-find Inv-loop μ-loop) → head c .loop .level .depth < length (entered (head c) .args .start .now)
 more c = c .before .before .before .before .if1 .taken
 
 -- what the node has at that byte
 found : (c : tie.After-find Inv-loop μ-loop)
-    → Found-branch (entered (head c) .args .image .now) (entered (head c) .args .f) (head c .loop .bound .node .0) (getD (entered (head c) .args .start .now) (head c .loop .bound .depth) 0) (c .find .result)
+    → Found-branch (entered (head c) .args .image .now) (entered (head c) .args .f) (head c .loop .level .node .0) (getD (entered (head c) .args .start .now) (head c .loop .level .depth) 0) (c .find .result)
 found c = rw (c .before .wide .ensures .0) at (c .find .ensures)
 
 -- whether it has a label above that byte
 above : (c : tie.After-has-higher Inv-loop μ-loop)
-    → c .has-higher .result ≡ is-there (first-kind (drop (place (entered (head (c .before)) .args .image .now) (entered (head (c .before)) .args .f) (head (c .before) .loop .bound .node .0) (getD (entered (head (c .before)) .args .start .now) (head (c .before) .loop .bound .depth) 0 + 1)) (branches (entered (head (c .before)) .args .image .now) (entered (head (c .before)) .args .f) (head (c .before) .loop .bound .node .0))))
+    → c .has-higher .result ≡ is-there (first-kind (drop (place (entered (head (c .before)) .args .image .now) (entered (head (c .before)) .args .f) (head (c .before) .loop .level .node .0) (getD (entered (head (c .before)) .args .start .now) (head (c .before) .loop .level .depth) 0 + 1)) (branches (entered (head (c .before)) .args .image .now) (entered (head (c .before)) .args .f) (head (c .before) .loop .level .node .0))))
 above c = rw (c .before .before .wide .ensures .0) at (c .has-higher .ensures)
 
 -- the last higher label with the node passed
 passed : (c : tie.Joined2 Inv-loop μ-loop)
-    → Higher-passed (entered (head (c .before .before)) .args .image .now) (entered (head (c .before .before)) .args .f) (entered (head (c .before .before)) .args .start .now) (head (c .before .before) .loop .bound .node .0) (head (c .before .before) .loop .bound .depth) (head (c .before .before) .loop .higher) (c .if2 .higher)
+    → Higher-passed (entered (head (c .before .before)) .args .image .now) (entered (head (c .before .before)) .args .f) (entered (head (c .before .before)) .args .start .now) (head (c .before .before) .loop .level .node .0) (head (c .before .before) .loop .level .depth) (head (c .before .before) .loop .higher) (c .if2 .higher)
 passed c =
     let l = head (c .before .before) in
     let s = entered l in
-    let short : l .loop .bound .depth < 64 = omega (arith, more (c .before .before), s .pre .2) in
+    let short : l .loop .level .depth < 64 = omega (arith, more (c .before .before), s .pre .2) in
     ⊎-elim
-    (λ t. rw (t .1) (higher-new (s .args .image .now) (s .args .f) (s .args .start .now) (l .loop .bound .node) (l .loop .bound .depth) (l .loop .higher) short (l .loop .inv .level) (l .loop .inv .higher-in) (found (c .before .before)) (sym (above (c .before)) ∙ t .0 .taken)))
-    (λ t. rw (t .1) (higher-same (s .args .image .now) (s .args .f) (s .args .start .now) (l .loop .bound .node) (l .loop .bound .depth) (l .loop .higher) short (l .loop .inv .level) (l .loop .inv .higher-in) (sym (above (c .before)) ∙ t .0 .left)))
+    (λ t. rw (t .1) (higher-new (s .args .image .now) (s .args .f) (s .args .start .now) (l .loop .level .node) (l .loop .level .depth) (l .loop .higher) short (l .loop .inv .level) (l .loop .inv .higher-in) (found (c .before .before)) (sym (above (c .before)) ∙ t .0 .taken)))
+    (λ t. rw (t .1) (higher-same (s .args .image .now) (s .args .f) (s .args .start .now) (l .loop .level .node) (l .loop .level .depth) (l .loop .higher) short (l .loop .inv .level) (l .loop .inv .higher-in) (sym (above (c .before)) ∙ t .0 .left)))
     (c .if2 .came)
 
 -- the byte is passed
 byte : (c : tie.After-struct-known3 Inv-loop μ-loop)
-    → Byte-passed (entered (head (finding c)) .args .image .now) (entered (head (finding c)) .args .f) (entered (head (finding c)) .args .start .now) (head (finding c) .loop .higher) (head (finding c) .loop .bound .node .0) (head (finding c) .loop .bound .depth) (head (finding c) .loop .bound .sum) (finding c .find .result) (behind c .child-and-slot .result .child) (behind c .child-and-slot .result .slot) (behind c .before .if2 .higher)
+    → Byte-passed (entered (head (finding c)) .args .image .now) (entered (head (finding c)) .args .f) (entered (head (finding c)) .args .start .now) (head (finding c) .loop .higher) (head (finding c) .loop .level .node .0) (head (finding c) .loop .level .depth) (head (finding c) .loop .level .sum) (finding c .find .result) (behind c .child-and-slot .result .child) (behind c .child-and-slot .result .slot) (behind c .before .if2 .higher)
 byte c = record {
   from = head (finding c) .loop .inv;
   more = more (finding c);
@@ -125,7 +125,7 @@ returns-2 c =
     let b = c .before .before .before in
     let s = entered (head (finding b)) in
     let e = c .end-at-leaf .ensures in
-    rw (e .end-is, e .higher-is, e .node-is, e .depth-is, e .sum-is) (followed-leaf (s .pre .0) (byte b) (c .before .enum-told2 .given .1) _ refl)
+    rw (e .end-is, e .node-is, e .depth-is, e .sum-is) (followed-leaf (s .pre .0) (byte b) (c .before .enum-told2 .given .1) _ refl)
 
 enum-told-3 : tie.Need-enum-told-3 Inv-loop μ-loop
 enum-told-3 c = search needs
