@@ -68,8 +68,8 @@ pub record Same-stop (s : Bytes) (f : Frame) (lo hi : Bytes) (stop : LeafStop) (
   pub lower : Stopped s f lo stop depth
   pub upper : Stopped s f hi stop depth
 
--- Two keys have a cut key of d bytes at their front.
-pub record Cut-shared (lo hi : Bytes) (d : ℕ) : Type 0 where
+-- A cut key of d bytes is no longer than either of two keys, and these are no longer than a path.
+pub record Cut-within (lo hi : Bytes) (d : ℕ) : Type 0 where
   pub lo-short : length lo ≤ 64
   pub hi-short : length hi ≤ 64
   pub lo-in : d ≤ length lo
@@ -83,7 +83,7 @@ leaf-between s f lo hi v d = bit (low-reached (length hi) (slot-of (f .width) (n
 pub record Leaf-shared (s : Bytes) (f : Frame) (lo hi : Bytes) (m p d : ℕ) : Type 0 where
   pub position : Is-position s f m p
   pub slot-in : slot-at s f m p < f .leaves
-  pub cut : Cut-shared lo hi d
+  pub cut : Cut-within lo hi d
   pub count-is : counted (read-leaves s) lo hi ≡ leaf-between s f lo hi (slot-at s f m p) d
 
 -- ---- the bound of a key

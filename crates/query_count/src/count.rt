@@ -5,7 +5,7 @@ ghost use lib.ListN.{length};
 ghost use Rattle.spec.specs.Nodes.{read-leaves};
 ghost use Rattle.spec.specs.Questions.{counted};
 ghost use Rattle.nav_laws.specs.Accepted.{Accepted};
-ghost use Rattle.query_count.specs.Bounds.{Parted, Cut-shared, leaf-between};
+ghost use Rattle.query_count.specs.Bounds.{Parted, Cut-within, leaf-between};
 use super::bounds::bound_from;
 use super::bounds::passed_at;
 use super::bounds::reached_at;
@@ -46,7 +46,7 @@ fn count_apart(image: &[u8], f: Frame, lo: &[u8], hi: &[u8], fork: LevelSum) -> 
 
 // The count where the bytes that both keys share, `depth` of them, are the cut key of an open leaf, which alone can lie between the keys: 1 if it has a possible key from lo to hi, else 0.
 fn count_leaf(image: &[u8], f: Frame, lo: &[u8], hi: &[u8], slot: ValuePos, depth: usize) -> usize
-    requires { ⌜ Accepted (now image) f × (slot .0 < f .leaves) × Cut-shared (now lo) (now hi) depth ⌝ }
+    requires { ⌜ Accepted (now image) f × (slot .0 < f .leaves) × Cut-within (now lo) (now hi) depth ⌝ }
     ensures { λ r. ⌜ r ≡ leaf-between (now (image .entry)) f (now (lo .entry)) (now (hi .entry)) (slot .0) depth ⌝ }
 {
     if high_below(image, f, slot, lo, depth) {
