@@ -1,7 +1,7 @@
 -- What the functions of two bounds ask and give: the way that two keys share, the bound of each from where they part, and what counts where it leads.
 use Prim.Native.Nat.{ℕ, _+_, _-_, _<_, _≤_}
 use mathlib.Core.Path.{_≡_, refl, sym, ap, _∙_}
-use mathlib.Core.Bool.{Bool, true, false}
+use mathlib.Core.Bool.{Bool, true, false, not, _&&_}
 use native.Mathlib.Omega.{arith}
 use lib.ListN.{length, getD, drop}
 use Rattle.spec.specs.Bytes.{Bytes, bit, shared}
@@ -22,6 +22,7 @@ use Rattle.nav_laws.specs.FoundBranch.{node-count, Is-position, Found-branch, B
 use Rattle.query_laws.specs.declared.BoundEnd.{BoundEnd}
 use Rattle.query_laws.specs.declared.BoundEnd.the-variants as End
 use Rattle.query_laws.specs.Bounds.{high-passed, low-reached}
+use Rattle.query_laws.specs.OpenBetween.{Open-between, open-between}
 use Rattle.query_laws.specs.LevelSums.{slots-below}
 use Rattle.query_laws.specs.Leads.{Leads, Branch-missing, Leaf-behind, along, shared-byte}
 use Rattle.query_laws.specs.Steps.{exact-stop}
@@ -68,23 +69,12 @@ pub record Same-stop (s : Bytes) (f : Frame) (lo hi : Bytes) (stop : LeafStop) (
   pub lower : Stopped s f lo stop depth
   pub upper : Stopped s f hi stop depth
 
--- A cut key of d bytes is no longer than either of two keys, and these are no longer than a path.
-pub record Cut-within (lo hi : Bytes) (d : ℕ) : Type 0 where
-  pub lo-short : length lo ≤ 64
-  pub hi-short : length hi ≤ 64
-  pub lo-in : d ≤ length lo
-  pub hi-in : d ≤ length hi
-
--- how many leaves lie between two keys that lead to the same open leaf, with slot v, behind d bytes: 1 if hi has reached it and lo has not passed it
-abbrev pub leaf-between : Bytes → Frame → Bytes → Bytes → ℕ → ℕ → ℕ
-leaf-between s f lo hi v d = bit (low-reached (length hi) (slot-of (f .width) (nodes s f) v) (drop d hi)) - bit (high-passed (length lo) (slot-of (f .width) (nodes s f) v) (drop d lo))
-
 -- The bytes that two keys share lead both to the open leaf behind the branch of node m at position p, d bytes down.
 pub record Leaf-shared (s : Bytes) (f : Frame) (lo hi : Bytes) (m p d : ℕ) : Type 0 where
   pub position : Is-position s f m p
-  pub slot-in : slot-at s f m p < f .leaves
-  pub cut : Cut-within lo hi d
-  pub count-is : counted (read-leaves s) lo hi ≡ leaf-between s f lo hi (slot-at s f m p) d
+  pub cut : Open-between s f lo hi (slot-at s f m p) d
+  -- the leaf alone is left
+  pub count-is : counted (read-leaves s) lo hi ≡ bit (open-between s f lo hi (slot-at s f m p) d)
 
 -- ---- the bound of a key
 
@@ -257,10 +247,15 @@ module _ (s : Bytes) (f : Frame) (a : Accepted s f) (lo hi : Bytes) (g : length 
       let y : Same-stop s f lo hi (Open v) d = rw (t .passed) x in
       record {
         position = record { accepted = a; within = rw (t .at-is) (t .here .found .at-is .within) };
-        slot-in = y .lower .leaf-in v refl;
-        cut = record { lo-short = g; hi-short = h; lo-in = y .lower .depth-in; hi-in = y .upper .depth-in };
-        count-is = count-same (Open v) d y _ _ (sym (value-open s f a lo (Open v) d (y .lower .leads) false (high-passed (length lo)) v refl)) (sym (value-open s f a hi (Open v) d (y .upper .leads) true (low-reached (length hi)) v refl));
+        cut = record { accepted = a; slot-in = y .lower .leaf-in v refl; lo-in = y .lower .depth-in; hi-in = y .upper .depth-in; lo-short = g; hi-short = h };
+        count-is = count-same (Open v) d y _ _ (sym (value-open s f a lo (Open v) d (y .lower .leads) false (high-passed (length lo)) v refl)) (sym (value-open s f a hi (Open v) d (y .upper .leads) true (low-reached (length hi)) v refl))
+            ∙ one-less (high-passed (length lo) (slot-of (f .width) (nodes s f) (v .0)) (drop d lo)) (low-reached (length hi) (slot-of (f .width) (nodes s f) (v .0)) (drop d hi));
       }
+    where
+      one-less : (p r : Bool) → bit r - bit p ≡ bit (not p && r)
+      one-less true true = refl
+      one-less true false = refl
+      one-less false r = omega arith
 
 -- ---- one level of a bound
 

@@ -1,11 +1,11 @@
 // The count question over an accepted image, by both bounds.
 ghost use mathlib.Core.Path.{_≡_};
-ghost use Prim.Native.Nat.{_-_, _<_, _≤_};
+ghost use Prim.Native.Nat.{_-_, _≤_};
 ghost use lib.ListN.{length};
 ghost use Rattle.spec.specs.Nodes.{read-leaves};
 ghost use Rattle.spec.specs.Questions.{counted};
 ghost use Rattle.nav_laws.specs.Accepted.{Accepted};
-ghost use Rattle.query_count.specs.Bounds.{Parted, Cut-within, leaf-between};
+ghost use Rattle.query_count.specs.Bounds.{Parted};
 use super::bounds::bound_from;
 use super::bounds::passed_at;
 use super::bounds::reached_at;
@@ -13,13 +13,11 @@ use super::levels::LevelSum;
 use super::levels::sums_apart;
 use bits::numbers::one_if;
 use image_types::Frame;
-use image_types::ValuePos;
 use keys::compare::shared;
 use nav::behind::slot;
 use query_laws::KeyEnd;
 use query_point::follow::follow;
-use query_point::suffix::high_below;
-use query_point::suffix::low_above;
+use query_point::suffix::open_between;
 
 // How much the leaves that the upper bound has reached are more than those that the lower one has passed.
 fn difference(upto: usize, below: usize) -> usize
@@ -44,18 +42,7 @@ fn count_apart(image: &[u8], f: Frame, lo: &[u8], hi: &[u8], fork: LevelSum) -> 
     difference(upto, below)
 }
 
-// The count where the bytes that both keys share, `depth` of them, are the cut key of an open leaf, which alone can lie between the keys: 1 if it has a possible key from lo to hi, else 0.
-fn count_leaf(image: &[u8], f: Frame, lo: &[u8], hi: &[u8], slot: ValuePos, depth: usize) -> usize
-    requires { ⌜ Accepted (now image) f × (slot .0 < f .leaves) × Cut-within (now lo) (now hi) depth ⌝ }
-    ensures { λ r. ⌜ r ≡ leaf-between (now (image .entry)) f (now (lo .entry)) (now (hi .entry)) (slot .0) depth ⌝ }
-{
-    if high_below(image, f, slot, lo, depth) {
-        return 0;
-    }
-    one_if(!low_above(image, f, slot, hi, depth))
-}
-
-// How many leaves have a possible key from lo to hi, both included. No leaf on the way that both keys share lies between the two bounds, so none is counted there.
+// How many leaves have a possible key from lo to hi, both included. No leaf on the way that both keys share lies between the two bounds, so none is counted there; an open leaf to which both lead is the only one left.
 pub fn count(image: &[u8], f: Frame, lo: &[u8], hi: &[u8]) -> usize
     requires { ⌜ Accepted (now image) f × (length (now lo) ≤ 64) × (length (now hi) ≤ 64) ⌝ }
     ensures { λ r. ⌜ r ≡ counted (read-leaves (now (image .entry))) (now (lo .entry)) (now (hi .entry)) ⌝ }
@@ -74,7 +61,8 @@ pub fn count(image: &[u8], f: Frame, lo: &[u8], hi: &[u8]) -> usize
             count_apart(image, f, lo, hi, fork)
         }
         KeyEnd::Leaf(node, at, depth) => {
-            count_leaf(image, f, lo, hi, slot(image, f, node, at), depth)
+            let leaf = slot(image, f, node, at);
+            one_if(open_between(image, f, lo, hi, leaf, depth))
         }
     }
 }

@@ -1,5 +1,5 @@
 -- Where the first bytes of a key lead from the root, one branch a byte: what the descent that all questions share promises. What a question says of this is said by its own laws, which go along the way.
-use Prim.Native.Nat.{ℕ, zero, suc, _+_, _<_, _≤_}
+use Prim.Native.Nat.{ℕ, zero, suc, _+_, _<_}
 use mathlib.Core.Path.{_≡_, refl}
 use mathlib.Core.Bool.{Bool, true, false, cond}
 use mathlib.Core.List.{[], _∷_}
@@ -94,36 +94,3 @@ shared-parts (x ∷ p) (y ∷ q) i e h g same = go (eqb x y) refl (shared-parts 
     go true c r (suc i) e h g same = r i (omega arith) (omega arith) (omega arith) same
     go false c r zero e h g same = eqb-false x y c same
     go false c r (suc i) e h g same = omega arith
-
-module _ (s : Bytes) (f : Frame) (lo hi : Bytes) where
-  byte-shared : (d m : ℕ) (b : Found) → d < shared lo hi → At-byte s f lo d m b → At-byte s f hi d m b
-  byte-shared d m b h t = let q = shared-byte lo hi d h in record { more = q .1; found = rw (q .2) at (t .found) }
-
-  leads-shared : {d m : ℕ} → d ≤ shared lo hi → Leads s f lo d m → Leads s f hi d m
-  leads-shared h (root z) = root z
-  leads-shared h (next {d} {m} {c} l b) =
-      next (leads-shared (omega arith) l) (record { branch = b .branch; here = byte-shared d m (b .branch) (omega arith) (b .here); continues = b .continues; child-is = b .child-is })
-
-  -- Where the bytes that two keys share lead the one, they lead the other.
-  pub ends-shared : (n : ℕ) (end : KeyEnd) → n ≤ shared lo hi → Leads-to s f lo n end → Leads-to s f hi n end
-  ends-shared n End.NoNodes h t = t
-  ends-shared n End.NoBranch h t = record {
-    depth = t .depth;
-    node = t .node;
-    leads = leads-shared (omega (arith, t .inside)) (t .leads);
-    inside = t .inside;
-    branch = t .branch;
-    here = byte-shared (t .depth) (t .node) (t .branch) (omega (arith, t .inside)) (t .here);
-    absent = t .absent;
-  }
-  ends-shared n (End.Node m) h t = leads-shared h t
-  ends-shared n (End.Leaf m p d) h t = record {
-    depth = t .depth;
-    passed = t .passed;
-    leads = leads-shared (omega (arith, t .inside)) (t .leads);
-    inside = t .inside;
-    branch = t .branch;
-    here = byte-shared (t .depth) (m .0) (t .branch) (omega (arith, t .inside)) (t .here);
-    ends = t .ends;
-    at-is = t .at-is;
-  }

@@ -14,6 +14,7 @@ pub mod AtLabel
 pub mod Parting
 pub mod Seeks
 pub mod Seeking
+pub mod OpenBetween
 pub mod RangeWays
 pub mod StemWay
 pub mod Rules

@@ -1,7 +1,7 @@
 -- A range over an accepted image, bound by bound: what the bytes passed so far leave of it, one law for each step of the ways along the bounds, and one for each end of the way along the bytes that both share.
 use Prim.Native.Nat.{ℕ, suc, _+_, _-_, _<_, _≤_}
 use mathlib.Core.Path.{_≡_, refl, sym, ap, ap₂, _∙_}
-use mathlib.Core.Bool.{Bool, true, false, not, _||_, _&&_}
+use mathlib.Core.Bool.{Bool, true, false, not, _||_}
 use mathlib.Core.List.{List, [], _∷_}
 use native.Mathlib.Omega.{arith}
 use lib.ListN.{length, getD, drop, drop-of-length-le}
@@ -28,6 +28,7 @@ use Rattle.nav_laws.specs.Slots.{node-at, slot-of}
 use Rattle.query_laws.specs.AtLabel.{at-label, size-from, at-absent, at-open, at-child}
 use Rattle.query_laws.specs.Bounds.{high-passed, low-reached, highest-counts, lowest-counts}
 use Rattle.query_laws.specs.Ordered.{passed, reached, counted-is, range-counted}
+use Rattle.query_laws.specs.OpenBetween.{open-between}
 use Rattle.query_laws.specs.Parting.{some-left, some-reached, some-met, left-none, reached-none, left-open, reached-open, ahead-none, named-place, named-kind, ahead-lower, ahead-upto, ahead-higher, left-higher, left-same, reached-end, reached-exact, reached-lower, reached-same, met-none, met-open, met-same, met-past, met-above, met-between, met-parted, left-end, met-end}
 use Rattle.query_laws.specs.Root.{count-same}
 use Rattle.query_laws.specs.Seeking.{first-child}
@@ -71,11 +72,6 @@ reached-of hi d g = some-reached (low-reached (length hi)) (drop d hi) g
 -- whether one does neither, lo not above hi
 abbrev pub met-of : Bytes → Bytes → ℕ → Group → Bool
 met-of lo hi d g = some-met (high-passed (length lo)) (low-reached (length hi)) (drop d lo) (drop d hi) g
-
--- whether an open leaf, whose cut key is the first d bytes of both bounds, does neither
-abbrev pub open-between : Bytes → Frame → Bytes → Bytes → ℕ → ℕ → Bool
-open-between s f lo hi slot d =
-    not (high-passed (length lo) (slot-of (f .width) (nodes s f) slot) (drop d lo)) && low-reached (length hi) (slot-of (f .width) (nodes s f) slot) (drop d hi)
 
 -- The first d bytes of both bounds lead to node m, and the leaves at or below it decide the range.
 pub record Both-at (s : Bytes) (f : Frame) (lo hi : Bytes) (m d : ℕ) : Type 0 where

@@ -5,16 +5,14 @@ use mathlib.Core.Bool.{Bool, true, false, cond, not, _&&_, _||_, true≢false, a
 use mathlib.Core.List.{List, [], _∷_, _++_, append-nil}
 use native.Mathlib.Omega.{arith}
 use lib.ListN.{length, drop}
-use lib.Dec.{eqb}
-use borrow.Author.Tests.{not-true}
 use Rattle.spec.specs.Bytes.{Bytes, Bits, any, count, bit, equal, begins}
-use Rattle.spec.specs.Leaves.{Leaf, others, bits-behind}
+use Rattle.spec.specs.Leaves.{Leaf, bits-behind}
 use Rattle.spec.specs.Nodes.{is-exact, read-leaves}
 use Rattle.spec.specs.Questions.{begins-with}
 use Rattle.spec.specs.Rules.{leads-to-node, leads-to-exact, leads-to-open, same-suffix, branch-missing, key-ended, at-exact-leaf, suffix-equal, suffix-other, no-nodes, applies, rule}
 use Rattle.spec.specs.Rules as spec
 use Rattle.theory.specs.Terms.{In, here, Bound}
-use Rattle.theory.specs.Lists.{and-both, or-both-false, all-in, any-in, any-none, any-false, in-any, any-count, count-any, in-map, in-filter}
+use Rattle.theory.specs.Lists.{or-both-false, any-in, any-none, any-false, in-any, any-count, count-any}
 use Rattle.theory.specs.Order.{equal-true, equal-comm, begins-append}
 use Rattle.theory.specs.Rules.{root-there, applies-rule, else-missing}
 use Rattle.image_types.specs.declared.Frame.{Frame}
@@ -29,7 +27,7 @@ use Rattle.query_laws.specs.declared.Rule.{Rule}
 use Rattle.query_laws.specs.declared.Rule.the-variants as Named
 use Rattle.query_laws.specs.Root.{count-same, has-suffix, leads-to-leaf}
 use Rattle.query_laws.specs.Answers.{led-stops, value-none, value-exact, value-open}
-use Rattle.query_laws.specs.Leads.{Leads, along, Branch-missing, Leaf-behind}
+use Rattle.query_laws.specs.Leads.{Leads, Branch-missing, Leaf-behind}
 use Rattle.query_laws.specs.Steps.{exact-stop}
 use Rattle.query_laws.specs.Followed.{Stopped, node-length, stopped-end, way-none, way-leaf, leads-way}
 use Rattle.query_laws.specs.Seeks.{root-of, some-leaf}

@@ -7,6 +7,7 @@ ghost use Rattle.spec.specs.Bytes.{bit, fill};
 ghost use Rattle.nav_laws.specs.Slots.{slot-of};
 ghost use Rattle.query_laws.specs.Bounds.{high-passed, low-reached};
 ghost use Rattle.nav_laws.specs.Accepted.{Accepted, nodes};
+ghost use Rattle.query_laws.specs.OpenBetween.{Open-between, open-between};
 ghost use Rattle.query_laws.specs.Root.{has-suffix};
 use bits::numbers::read_from;
 use bits::numbers::smaller;
@@ -117,4 +118,22 @@ pub fn low_above(image: &[u8], f: Frame, slot: ValuePos, key: &[u8], d: usize) -
         i = i + 1;
     }
     false
+}
+
+// Whether an open leaf, whose cut key is the first `depth` bytes of both bounds, neither ends below the lower nor starts above the upper.
+pub fn open_between(
+    image: &[u8],
+    f: Frame,
+    lo: &[u8],
+    hi: &[u8],
+    slot: ValuePos,
+    depth: usize,
+) -> bool
+    requires { ⌜ Open-between (now image) f (now lo) (now hi) (slot .0) depth ⌝ }
+    ensures { λ r. ⌜ r ≡ open-between (now (image .entry)) f (now (lo .entry)) (now (hi .entry)) (slot .0) depth ⌝ }
+{
+    if high_below(image, f, slot, lo, depth) {
+        return false;
+    }
+    !low_above(image, f, slot, hi, depth)
 }

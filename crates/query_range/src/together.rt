@@ -6,8 +6,8 @@ ghost use Rattle.spec.specs.Bytes.{bit, shared};
 ghost use Rattle.spec.specs.Nodes.{read-leaves};
 ghost use Rattle.spec.specs.Questions.{range};
 ghost use Rattle.nav_laws.specs.Accepted.{Accepted};
-ghost use Rattle.query_laws.specs.RangeWays.{Both-at, group-below, met-of, open-between};
-ghost use Rattle.query_range.specs.RangeContracts.{Open-between, Parted};
+ghost use Rattle.query_laws.specs.RangeWays.{Both-at, group-below, met-of};
+ghost use Rattle.query_range.specs.RangeContracts.{Parted};
 use super::sides::Branch;
 use super::sides::left_behind;
 use super::sides::reached_behind;
@@ -15,7 +15,6 @@ use super::sides::reached_below;
 use bits::numbers::wide;
 use image_types::Frame;
 use image_types::NodeNum;
-use image_types::ValuePos;
 use keys::compare::shared;
 use nav::behind::slot;
 use nav::branches::find;
@@ -23,19 +22,7 @@ use nav::branches::is_there;
 use nav_edges::next_higher;
 use query_laws::KeyEnd;
 use query_point::follow::follow;
-use query_point::suffix::high_below;
-use query_point::suffix::low_above;
-
-// Whether an open leaf, whose cut key is the first `depth` bytes of both bounds, neither ends below the lower nor starts above the upper.
-fn open_between(image: &[u8], f: Frame, lo: &[u8], hi: &[u8], slot: ValuePos, depth: usize) -> bool
-    requires { ⌜ Open-between (now image) f (now lo) (now hi) (slot .0) depth ⌝ }
-    ensures { λ r. ⌜ r ≡ open-between (now (image .entry)) f (now (lo .entry)) (now (hi .entry)) (slot .0) depth ⌝ }
-{
-    if high_below(image, f, slot, lo, depth) {
-        return false;
-    }
-    !low_above(image, f, slot, hi, depth)
-}
+use query_point::suffix::open_between;
 
 // The range at a node where the bounds part: a label between their bytes decides at once; else each bound is asked alone behind its own byte.
 fn apart(image: &[u8], f: Frame, lo: &[u8], hi: &[u8], node: NodeNum, depth: usize) -> bool

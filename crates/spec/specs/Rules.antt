@@ -1,6 +1,6 @@
 -- Document 02, order 3: the rule behind a point's reply. Each of the six rules has a test of its own over a leaf list; that exactly one of them applies to a key is proved in `theory`, Rules.
 use Prim.Native.Nat.{ℕ}
-use mathlib.Core.Bool.{Bool, true, false, cond, not, _&&_, _||_}
+use mathlib.Core.Bool.{Bool, false, cond, not, _&&_, _||_}
 use mathlib.Core.List.{List, [], _∷_, _++_}
 use lib.ListN.{length}
 use Rattle.spec.specs.Bytes.{Bytes, any, equal, begins, same-bits}

@@ -1,11 +1,12 @@
 use borrow.Author.Needs.{needs}
-use Rattle.query_count.specs.Bounds.{Leaf-shared, leads-parted, leaf-between, count-nowhere, count-absent, count-shared}
+use Rattle.query_count.specs.Bounds.{Leaf-shared, leads-parted, count-nowhere, count-absent, count-shared}
 use Rattle.query_laws.specs.Leads.{Leads-to}
+use Rattle.query_laws.specs.OpenBetween.{Open-between, open-between}
 use Rattle.query_laws.specs.declared.KeyEnd.{KeyEnd}
 use Rattle.query_laws.specs.declared.KeyEnd.the-variants as End
 use Rattle.image_types.specs.declared.BitPos.{BitPos}
 use Rattle.image_types.specs.declared.NodeNum.{NodeNum}
-use Rattle.spec.specs.Bytes.{shared}
+use Rattle.spec.specs.Bytes.{bit, shared}
 use Rattle.theory.specs.Order.{shared-le}
 use Prim.Native.Nat.{ℕ}
 use mathlib.Core.Path.{_≡_, refl, sym, ap, subst, _∙_}
@@ -75,10 +76,14 @@ enum-known-end-2 c = search needs
 slot-requires : tie.Need-slot-requires
 slot-requires c κs = leaf c .position
 
-count-leaf-requires : tie.Need-count-leaf-requires
-count-leaf-requires c κs =
-    let l = leaf (c .before) in
-    (l .position .accepted, omega (arith, l .slot-in, c .slot .ensures), l .cut)
+open-between-requires : tie.Need-open-between-requires
+open-between-requires c κs =
+    let t = c .before in
+    let a = entered (follows t) .args in
+    subst (λ (v : ℕ). Open-between (a .image .now) (a .f) (a .lo .now) (a .hi .now) v (depth t)) (sym (c .slot .ensures)) (leaf t .cut)
+
+one-if-requires : tie.Need-one-if-requires
+one-if-requires c κs = search needs
 
 returns : tie.Need-returns
 returns c =
@@ -97,9 +102,9 @@ returns-3 c = search needs
 
 returns-4 : tie.Need-returns-4
 returns-4 c =
-    let t = c .before .before in
+    let t = c .before .before .before in
     let a = entered (follows t) .args in
-    c .count-leaf .ensures ∙ ap (λ (v : ℕ). leaf-between (a .image .now) (a .f) (a .lo .now) (a .hi .now) v (depth t)) (c .before .slot .ensures) ∙ sym (leaf t .count-is)
+    c .one-if .ensures .0 ∙ ap bit (c .before .open-between .ensures ∙ ap (λ (v : ℕ). open-between (a .image .now) (a .f) (a .lo .now) (a .hi .now) v (depth t)) (c .before .before .slot .ensures)) ∙ sym (leaf t .count-is)
 
 pub count-spec : {M : Type 1} → statement M
 count-spec =
@@ -113,7 +118,8 @@ count-spec =
     count-apart-requires
     enum-known-end-2
     slot-requires
-    count-leaf-requires
+    open-between-requires
+    one-if-requires
     returns
     returns-2
     returns-3

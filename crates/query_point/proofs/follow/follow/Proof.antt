@@ -2,7 +2,6 @@ use borrow.Author.Needs.{needs}
 use Rattle.query_laws.specs.Leads.{At-byte, Leads, root, next}
 use Rattle.query_laws.specs.Followed.{leads-way}
 use mathlib.Core.Path.{refl, subst}
-use lib.ListN.{length, getD}
 use Prim.Native.Nat.{ℕ, _-_, _<_, _≤_}
 use native.Mathlib.Omega.{arith}
 use Rattle.query_point.proofs.follow.follow.Statement.{statement}

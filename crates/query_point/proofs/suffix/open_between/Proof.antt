@@ -1,7 +1,7 @@
 use mathlib.Core.Path.{sym, _∙_}
 use borrow.Author.Needs.{needs}
-use Rattle.query_range.proofs.together.open_between.Statement.{statement}
-use Rattle.query_range.proofs.together.open_between.Tie as tie
+use Rattle.query_point.proofs.suffix.open_between.Statement.{statement}
+use Rattle.query_point.proofs.suffix.open_between.Tie as tie
 
 high-below-requires : tie.Need-high-below-requires
 high-below-requires c κs = search needs
