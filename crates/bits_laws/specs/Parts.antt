@@ -36,10 +36,6 @@ part-part s w from m j k h e l =
     ∙ part-take (drop from s) j k (omega (arith, length-drop from s)) ∙ ap (drop j) (sym (take-take (j + k) m (drop from s) l)) ∙ sym (part-take (take m (drop from s)) j k (omega (arith, length-take-le m (drop from s) (omega (arith, length-drop from s)))))
     ∙ ap (λ (z : Bytes). part z j k) e
 
--- the middle of three
-pub part-middle : (x y z : Bytes) (j k : ℕ) → j ≡ length x → k ≡ length y → part (x ++ (y ++ z)) j k ≡ y
-part-middle x y z j k e f = ap (take k) (drop-at x (y ++ z) j (sym e)) ∙ take-at y z k (sym f)
-
 -- what a part from k to the end is
 pub mid-is : (o : Bytes) (k : ℕ) → midOf k (length o - k) o ≡ drop k o
 mid-is o k = take-all (length o - k) (drop k o) (omega (arith, length-drop k o))

@@ -153,7 +153,7 @@ module _ (ends : Bool) (q : Bits → Bytes → Bool) where
   branches-none (to-node x ∷ es) (g ∷ gs) = count-append (counts []) (map (prefix x) g) (branch-leaves es gs) ∙ omega (arith, prefixed-none x g, branches-none es gs)
 
   -- a lower bound of labels
-  pub under-less : (y x : ℕ) (es : List Branch) → y < x → Below-label x es → Below-label y es
+  under-less : (y x : ℕ) (es : List Branch) → y < x → Below-label x es → Below-label y es
   under-less y x [] h u = tt
   under-less y x (e ∷ es) h u = omega arith
 

@@ -14,7 +14,7 @@ use Rattle.spec.specs.Trie.{open-leaves, leaf-count}
 use Rattle.nav_laws.specs.Counting.{labels-below, counts, count-append, counts-at, branches-none, branches-counted, exact-none, exact-counted}
 use Rattle.nav_laws.specs.Slots.{node-at, leaves-before, slot-number, slot-of, slot-is}
 use Rattle.theory.specs.Terms.{All}
-use Rattle.theory.specs.LinkedLevels.{first-width, Linked, Labelled, Ascends, levels-back}
+use Rattle.theory.specs.LinkedLevels.{first-width, Linked, Labelled, levels-back}
 use Rattle.theory.specs.Levels.{leaf-count-append, leaves-in}
 use Rattle.theory.specs.Numbering.{leaves-before as before, leaves-before-groups}
 use Rattle.theory.specs.NodeBits.{Slots-width}
@@ -150,7 +150,7 @@ between-same ns zero a = refl
 between-same ns (suc l) a = omega (arith, between-same ns l (1 + children-before ns a))
 
 -- The recursion on the levels left gives the leaves at or below the first m nodes of a level.
-pub between-levels : (ls : List (List Node)) (l : ℕ) (all pre : List Node) (m : ℕ) → length ls ≤ l → Linked ls → Stands all pre ls → m ≤ first-width ls
+between-levels : (ls : List (List Node)) (l : ℕ) (all pre : List Node) (m : ℕ) → length ls ≤ l → Linked ls → Stands all pre ls → m ≤ first-width ls
     → leaves-between all l (length pre) (length pre + m) ≡ before ls m
 unfolding leaves-between
 between-levels [] l all pre m f k s h = let e : length pre + m ≡ length pre = omega arith in rw e (between-same all l (length pre) ∙ sym (before-none m))

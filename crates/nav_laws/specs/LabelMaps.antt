@@ -12,7 +12,7 @@ use Rattle.spec.specs.Bytes.{Bits, any, filter, iota, ones}
 use Rattle.spec.specs.Image.{has}
 use Rattle.spec.specs.Nodes.{Branch, to-node, to-leaf, node, label-of, has-child, children}
 use Rattle.nav_laws.specs.Counting.{labels-below}
-use Rattle.nav_laws.specs.Descent.{goes-on, ends-at}
+use Rattle.nav_laws.specs.Descent.{goes-on}
 use Rattle.theory.specs.Terms.{Is-bytes}
 use Rattle.theory.specs.Bits.{Ascends-from, has-here, has-skip, has-none}
 use Rattle.theory.specs.LinkedLevels.{Ascends, Labelled}
@@ -46,7 +46,7 @@ none-ones zero i n = refl
 none-ones (suc c) i zero = refl
 none-ones (suc c) i (suc n) = omega (arith, none-ones c (suc i) n)
 
-pub ones-has : (n i c : ℕ) (xs : List ℕ) → Ascends-from i (i + n) xs → c ≤ n → ones (take c (map (has xs) (iota i n))) ≡ numbers-below (i + c) xs
+ones-has : (n i c : ℕ) (xs : List ℕ) → Ascends-from i (i + n) xs → c ≤ n → ones (take c (map (has xs) (iota i n))) ≡ numbers-below (i + c) xs
 unfolding ones iota numbers-below
 ones-has n i c [] k h = none-ones c i n ∙ empty
   where
@@ -189,13 +189,6 @@ unfolding goes-on
 child-goes y [] = refl
 child-goes y (to-node x ∷ fs) = and-one (eqb y x) ∙ eqb-flip y x
 child-goes y (to-leaf x s ∷ fs) = and-none (eqb y x)
-
--- A branch with the label y continues or ends at an open leaf.
-pub matches-is : (y : ℕ) (fs : List Branch) → matches y fs ≡ goes-on y fs || ends-at y fs
-unfolding matches goes-on ends-at
-matches-is y [] = refl
-matches-is y (to-node x ∷ fs) = eqb-flip y x ∙ sym (or-none (eqb x y))
-matches-is y (to-leaf x s ∷ fs) = eqb-flip y x
 
 -- ---- one node
 

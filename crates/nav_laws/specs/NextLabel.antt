@@ -71,12 +71,6 @@ not-there Absent h = refl
 not-there Leaf h = absurd (true≢false h)
 not-there Child h = absurd (true≢false h)
 
--- one that is neither absent nor ends continues
-pub else-child : (k : BranchKind) → (k ≡ Absent → ⊥) → (k ≡ Leaf → ⊥) → k ≡ Child
-else-child Absent g h = absurd (g refl)
-else-child Leaf g h = absurd (h refl)
-else-child Child g h = refl
-
 -- what the kind says of the branch with the label y
 pub with-absent : (y : ℕ) (es : List Branch) → kind-with y es ≡ Absent → (goes-on y es ≡ false) × (ends-at y es ≡ false)
 unfolding kind-with goes-on ends-at

@@ -2,26 +2,23 @@
 use Rattle.spec.specs.Leaves.{Leaf}
 use Prim.Native.Nat.{ℕ, zero, suc, _+_, _-_, _<_, _≤_}
 use mathlib.Core.Path.{_≡_, refl, sym, ap, _∙_}
-use mathlib.Core.Bool.{Bool, true, false, not, _&&_, true≢false}
+use mathlib.Core.Bool.{true, false, true≢false}
 use mathlib.Core.List.{List, [], _∷_}
 use native.Mathlib.Omega.{arith}
 use lib.ListN.{length, take, drop, length-append}
 use lib.Seq.{take-nil, take-take}
-use lib.Dec.{ltb}
-use Rattle.spec.specs.Bytes.{Bytes, Bits, bit, count, concat}
+use Rattle.spec.specs.Bytes.{bit, count, concat}
 use Rattle.spec.specs.Nodes.{Branch, to-node, to-leaf, Node, node, branches-of, is-exact, children, total, children-of}
 use Rattle.spec.specs.Trie.{open-leaves, leaf-count}
 use Rattle.nav_laws.specs.declared.BranchKind.{BranchKind}
 use Rattle.nav_laws.specs.declared.BranchKind.the-variants as Kind
-use Rattle.nav_laws.specs.Counting.{labels-below, counts}
-use Rattle.nav_laws.specs.Slots.{node-at, leaves-before, slot-number, slot-of}
-use Rattle.nav_laws.specs.Descent.{goes-children, children-before, child-number, children-split, goes-on, ends-at, Stop, miss, at-exact, at-open, descend, leaves-below, between-same, value, level-counted, kids-append, kids-take}
+use Rattle.nav_laws.specs.Slots.{node-at, leaves-before, slot-number}
+use Rattle.nav_laws.specs.Descent.{goes-children, children-before, child-number, children-split, goes-on, ends-at, kids-append, kids-take}
 use Rattle.nav_laws.specs.NextLabel.{first-kind}
 use Rattle.theory.specs.LeafLists.{Realizable, All-well-sized}
-use Rattle.theory.specs.Terms.{All, Bound}
+use Rattle.theory.specs.Terms.{All}
 use Rattle.theory.specs.LevelTrie.{trie}
-use Rattle.theory.specs.NodeBits.{Slots-width}
-use Rattle.theory.specs.Levels.{leaves-in, leaf-count-root}
+use Rattle.theory.specs.Levels.{leaf-count-root}
 use Rattle.theory.specs.TrieTests.{realizable-trie, Empty-or-valid, empty-list, valid-trie}
 use Rattle.theory.specs.LinkedLevels.{first-width, levels-back, Linked}
 
@@ -144,8 +141,3 @@ child-there (to-node x ∷ fs) e = omega arith
 pub kind-slot : (ns : List Node) (m i : ℕ) (kind : BranchKind) → kind ≡ first-kind (drop i (branches-of (node-at ns m))) → kind ≡ Kind.Leaf → slot-number ns m i < leaf-count ns
 unfolding slot-number leaves-before
 kind-slot ns m i kind e h = omega (arith, branch-leaves ns m, open-split i (branches-of (node-at ns m)), leaf-there (drop i (branches-of (node-at ns m))) (sym e ∙ h))
-
--- The node behind one that continues is one of the nodes.
-pub kind-child : (ns : List Node) (m i : ℕ) (kind : BranchKind) → kind ≡ first-kind (drop i (branches-of (node-at ns m))) → kind ≡ Kind.Child → length ns ≡ 1 + total children-of ns → child-number ns m i < length ns
-unfolding child-number children-before
-kind-child ns m i kind e h t = omega (arith, branch-kids ns m, children-split i (branches-of (node-at ns m)), child-there (drop i (branches-of (node-at ns m))) (sym e ∙ h))

@@ -1,7 +1,7 @@
 -- Branches and nodes of an accepted image by their positions: the laws of dense and sparse nodes, read off its bodies.
 use Prim.Native.Nat.{ℕ, _+_, _-_, _*_, _<_, _≤_}
-use mathlib.Core.Path.{_≡_, refl, sym, ap, ap₂, _∙_}
-use mathlib.Core.Bool.{Bool, true, false, cond, _&&_, _||_, true≢false}
+use mathlib.Core.Path.{_≡_, refl, sym, ap, _∙_}
+use mathlib.Core.Bool.{Bool, true, false, cond, _&&_}
 use mathlib.Core.List.{List, [], map}
 use mathlib.Core.Option.{none}
 use native.Mathlib.Omega.{arith}
@@ -178,7 +178,7 @@ module _ (s : Bytes) (f : Frame) (a : Accepted s f) where
         rw (the-node, n, next-index) at (sparse.sparse-end (dense-nodes s f) (sparse-nodes s f) (drop (f .sl) s) (drop (f .sc) s) (drop (f .sb) s) (t .0) (t .1) (a .SC .1) (a .SB .1) (a .writable .sparse-labelled) (a .writable .sparse-bytes) (m - f .dense .nodes) within-nodes)
 
     -- It is an exact leaf exactly if it starts with an FF that is not alone.
-    pub exact-sparse : is-exact (node-at (nodes s f) m)
+    exact-sparse : is-exact (node-at (nodes s f) m)
         ≡ leb (select (drop (f .sb) s) (f .sparse .entries) (m - f .dense .nodes) + 2) (select (drop (f .sb) s) (f .sparse .entries) (m + 1 - f .dense .nodes)) && eqb (getD s (f .sl + select (drop (f .sb) s) (f .sparse .entries) (m - f .dense .nodes)) 0) 255
     exact-sparse =
         let n = a .entry-size in

@@ -77,7 +77,7 @@ module _ (s : Bytes) (f : Frame) (a : Accepted s f) (key : Bytes) where
       omega (arith, below-sums (nodes s f) 64 0 0 key (omega arith) h, below-nowhere (nodes s f) 64 key e, between-nowhere (nodes s f) 64 0 e)
 
   -- no byte leads to the root
-  pub way-root : 0 < node-count f → On-way s f key 0 0
+  way-root : 0 < node-count f → On-way s f key 0 0
   way-root h = record {
     node-in = h;
     depth-in = omega arith;
@@ -86,7 +86,7 @@ module _ (s : Bytes) (f : Frame) (a : Accepted s f) (key : Bytes) where
   }
 
   -- no way is longer than 64 levels
-  pub way-ends : (d m : ℕ) → 64 ≤ d → On-way s f key d m → ⊥
+  way-ends : (d m : ℕ) → 64 ≤ d → On-way s f key d m → ⊥
   unfolding first-below
   way-ends d m h o = let z : 64 - d ≡ 0 = omega arith in let k = rw z at (o .levels-in) in omega (arith, o .node-in, k)
 
@@ -156,7 +156,7 @@ module _ (s : Bytes) (f : Frame) (a : Accepted s f) (key : Bytes) where
   -- What the node has at the key's next byte: the same laws, by the branch found there and what stands behind its position.
   module _ (m d : ℕ) (h : d < length key) (b : Found) (r : Found-branch s f m (getD key d 0) b) where
     -- the key goes on to the child
-    pub way-child : (child : ℕ) → child ≡ child-at s f m (b .at .0) → b .kind ≡ Child → On-way s f key d m → On-way s f key (d + 1) child
+    way-child : (child : ℕ) → child ≡ child-at s f m (b .at .0) → b .kind ≡ Child → On-way s f key d m → On-way s f key (d + 1) child
     way-child child e k o = let c = e ∙ r .at-is .child-is in rw c (way-on m d (b .kind) h (r .kind-is) k o)
 
     -- the key has left the trie

@@ -62,7 +62,7 @@ unfolding lowest low-rest
 open-key s f v cut d h i = record { low-is = refl; depth-in = h; slot-in = λ u q. let e : v ≡ u = cc in rw e at i }
 
 -- the exact leaf there
-pub exact-key : (s : Bytes) (f : Frame) (suffix : Bits) (cut : Bytes) (d : ℕ) → d ≤ 64 → Has-key s f (some (record { cut = take d cut; exact = true; suffix = suffix })) Exact cut d
+exact-key : (s : Bytes) (f : Frame) (suffix : Bits) (cut : Bytes) (d : ℕ) → d ≤ 64 → Has-key s f (some (record { cut = take d cut; exact = true; suffix = suffix })) Exact cut d
 unfolding lowest
 exact-key s f suffix cut d h = record { low-is = refl; depth-in = h; slot-in = λ u q. let z : _≡_ {A = ℕ} 0 1 = cc in absurd (omega arith) }
 
@@ -100,7 +100,7 @@ pub record Reached (s : Bytes) (f : Frame) (leaf : Option Leaf) (key : Bytes) (e
 -- a node and its first branch
 module _ {s : Bytes} {f : Frame} {leaf : Option Leaf} {key : Bytes} {m d : ℕ} (w : First-below s f leaf key m d) where
   -- a node on its level stands above the 64th
-  pub below-deep : d < 64
+  below-deep : d < 64
   below-deep = omega (arith, level-left (nodes s f) (64 - d) m (w .level))
 
   module _ (first : FirstBranch) (n : First-branch s f m first) where

@@ -47,7 +47,7 @@ none-counted ends q w l k = rw (below-empty l k, descend-empty k)
 -- ---- the leaves that count before a key
 
 -- By the nodes of a good leaf list's trie.
-pub trie-counted : (n w : ℕ) (ls : List Leaf) (ns : List Node) → Realizable n ls → All-well-sized n ls → ns ≡ concat (trie ls) → All (Slots-width w) ns → (ends : Bool) (q : Bits → Bytes → Bool) (k : Bytes)
+trie-counted : (n w : ℕ) (ls : List Leaf) (ns : List Node) → Realizable n ls → All-well-sized n ls → ns ≡ concat (trie ls) → All (Slots-width w) ns → (ends : Bool) (q : Bits → Bytes → Bool) (k : Bytes)
     → count (counts ends q k) ls ≡ leaves-below ns 64 0 0 k + value ends q w ns (descend ns 0 k)
 unfolding count trie concat total leaves-in
 trie-counted n w ls ns g o e wide ends q k = go (realizable-trie n ls g o) e

@@ -13,7 +13,7 @@ use Rattle.spec.specs.Leaves.{Leaf, trimmed, lowest, highest}
 use Rattle.spec.specs.Questions.{meets, range, stem-end, begins-with}
 use Rattle.theory.specs.Terms.{Is-bytes, Key, Bound}
 use Rattle.theory.specs.Lists.{and-both, le-or-lt, bytes-drop}
-use Rattle.theory.specs.Order.{below-nil, below-append, prefix-append, begins-append}
+use Rattle.theory.specs.Order.{below-nil, below-append, prefix-append, begins-append, begins-through}
 use Rattle.theory.specs.LeafLists.{Well-sized, All-well-sized}
 use Rattle.theory.specs.Intervals.{fill-order, fill-tight, trimmed-below, combine, bytes-filled, bytes-trimmed, trimmed-length, lowest-key, highest-key}
 use Rattle.theory.specs.Stems.{below-ff, stem-exactly}
@@ -35,7 +35,7 @@ covers stem l = begins stem (l .cut) || (not (l .exact) && (begins (l .cut) stem
 -- ---- the suffix
 
 -- bits that have ended agree with all bytes
-pub agrees-none : (s : Bits) (r : Bytes) → length s ≡ 0 → Is-bytes r → agrees s r ≡ true
+agrees-none : (s : Bits) (r : Bytes) → length s ≡ 0 → Is-bytes r → agrees s r ≡ true
 unfolding agrees fill
 agrees-none s [] h b = refl
 agrees-none [] (y ∷ r) h b = rw (le-leb 0 y (omega arith), le-leb y 255 (omega (arith, b .0)), agrees-none [] r refl (b .1))
@@ -96,14 +96,6 @@ agreed (suc k) m s (y ∷ r) b e =
     (sym (combine (fill false 8 s) (fill true 8 s) y low high (fill-order 8 s .0) (λ ne. ih ∙ free ne)) ∙ ap (λ (t : Bool). (leb (fill false 8 s) y && leb y (fill true 8 s)) && t) ih)
 
 -- ---- prefixes
-
--- what begins the beginning of a key begins the key
-pub begins-through : (a b c : Bytes) → begins a b ≡ true → begins b c ≡ true → begins a c ≡ true
-begins-through a b c p q =
-    let u : Bytes = drop (length a) b in
-    let v : Bytes = drop (length b) c in
-    let e : c ≡ a ++ (u ++ v) = prefix-append b c q ∙ ap (λ (z : Bytes). z ++ v) (prefix-append a b p) ∙ append-assoc a u v in
-    rw e (begins-append a (u ++ v))
 
 -- where neither of two keys begins the other, all that begins with one lies on one side of all that begins with the other
 apart : (c p t u v : Bytes) → begins c p ≡ false → begins p c ≡ false → not (below (p ++ v) (c ++ t)) && not (below (c ++ u) p) ≡ false
@@ -178,7 +170,7 @@ module _ {n : ℕ} (l : Leaf) (o : Well-sized n l) (stem : Bytes) (b : Bound ste
       go false = open-leaf (begins (l .cut) stem) refl
 
   -- The leaf meets the stem's range exactly if it has a possible key that begins with the stem.
-  pub meets-covers : meets stem (stem-end stem) l ≡ covers stem l
+  meets-covers : meets stem (stem-end stem) l ≡ covers stem l
   unfolding meets covers
   meets-covers = go (begins stem (l .cut)) refl
     where

@@ -240,7 +240,7 @@ module _ (s : Bytes) (f : Frame) (a : Accepted s f) (stem : Bytes) (b : Bound st
   }
 
   -- The node to which the first bytes of a stem lead is on its way.
-  pub stem-way : {d m : ℕ} → Leads s f stem d m → Stem-way s f stem d m
+  stem-way : {d m : ℕ} → Leads s f stem d m → Stem-way s f stem d m
   stem-way l = along (Stem-way s f stem) stem-root (λ d m c o y. stem-child s f a stem m d (y .branch) (y .here) o c (y .child-is) (y .continues)) l
 
   -- An image without nodes has no key that begins with a stem.

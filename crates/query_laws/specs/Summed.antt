@@ -89,7 +89,7 @@ module _ (s : Bytes) (f : Frame) (a : Accepted s f) where
   rest-slot node i = omega (arith, slot-range (nodes s f) node i .1, a .writable .leaf-total, a .writable .few)
 
   -- the first node behind the branches before a branch is one of the nodes, or behind the last
-  pub rest-child : (node i : ℕ) → 0 < node-count f → child-number (nodes s f) node i ≤ node-count f
+  rest-child : (node i : ℕ) → 0 < node-count f → child-number (nodes s f) node i ≤ node-count f
   rest-child node i h = omega (arith, child-range (nodes s f) node i .1, a .node-total h)
 
   -- and so few over all levels that the sum fits
