@@ -1,11 +1,11 @@
-// Branches of a node of an accepted image: found by their label, and the first one from a label on.
+// Branches of a node of an accepted image: found by their label, the first one from a label on, and those of a sparse node by their entry.
 ghost use mathlib.Core.Path.{_≡_};
 ghost use Prim.Native.Nat.{_+_, _-_, _≤_, _<_};
 ghost use lib.ListN.{length, getD, drop};
 ghost use lib.Dec.{eqb};
 ghost use Rattle.nav_laws.specs.Accepted.{Accepted};
 ghost use Rattle.nav_laws.specs.NextLabel.{first-kind, kind-there, is-there};
-ghost use Rattle.nav_laws.specs.NextBranch.{Next-branch};
+ghost use Rattle.nav_laws.specs.NextBranch.{Next-branch, Entry-read, Entry-branch};
 ghost use Rattle.nav_laws.specs.FoundBranch.{Is-node, Is-sparse, Found-branch};
 ghost use Rattle.nav_laws.specs.Positions.{branches, place};
 use super::nodes::entries_of;
@@ -46,6 +46,37 @@ pub fn kind_there(continues: usize) -> BranchKind
         return BranchKind::Child;
     }
     BranchKind::Leaf
+}
+
+// The branch of a sparse node at an entry.
+pub fn branch_at(image: &[u8], f: Frame, at: BitPos) -> NextBranch
+    requires { ⌜ Accepted (now image) f × (at .0 < f .sparse .entries) ⌝ }
+    ensures { λ r. ⌜ Entry-read (now (image .entry)) f (at .0) r ⌝ }
+{
+    let sc = f.sc;
+    let i = f.sl + at.0;
+    let label = wide(image[i]);
+    let continues = bit_at(&image[sc..], at.0);
+    NextBranch {
+        kind: kind_there(continues),
+        label,
+        at,
+    }
+}
+
+// The branch of a sparse node at an entry, or none if the node's entries end there.
+pub fn entry_branch(image: &[u8], f: Frame, at: BitPos, end: BitPos) -> NextBranch
+    requires { ⌜ Accepted (now image) f × (end .0 ≤ f .sparse .entries) ⌝ }
+    ensures { λ r. ⌜ Entry-branch (now (image .entry)) f (at .0) (end .0) r ⌝ }
+{
+    if at.0 >= end.0 {
+        return NextBranch {
+            kind: BranchKind::Absent,
+            label: 0,
+            at,
+        };
+    }
+    branch_at(image, f, at)
 }
 
 // Whether a kind is that of a branch that is there.
@@ -165,23 +196,8 @@ fn next_sparse(image: &[u8], f: Frame, m: NodeNum, y: usize) -> NextBranch
     let first = e.first;
     let end = e.end;
     let sl = f.sl;
-    let sc = f.sc;
     let p = search(&image[sl..], first.0, end.0, y);
-    if p >= end.0 {
-        return NextBranch {
-            kind: BranchKind::Absent,
-            label: 0,
-            at: BitPos(p),
-        };
-    }
-    let i = sl + p;
-    let label = wide(image[i]);
-    let continues = bit_at(&image[sc..], p);
-    NextBranch {
-        kind: kind_there(continues),
-        label: label,
-        at: BitPos(p),
-    }
+    entry_branch(image, f, BitPos(p), end)
 }
 
 // The first branch of a node whose label is not below y.

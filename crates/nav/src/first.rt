@@ -1,16 +1,12 @@
 // The first branch of a node of an accepted image, and whether the node is an exact leaf, from one look at the node.
 ghost use Rattle.nav_laws.specs.FoundBranch.{Is-node, Is-sparse, First-branch};
-use super::branches::kind_there;
+use super::branches::entry_branch;
 use super::branches::next_branch;
 use super::nodes::entries_of;
 use super::nodes::is_exact;
-use bits::numbers::wide;
-use bits::ones::bit_at;
 use image_types::Frame;
 use image_types::NodeNum;
-use nav_laws::BranchKind;
 use nav_laws::FirstBranch;
-use nav_laws::NextBranch;
 
 // The first branch of a sparse node: the one at its first entry.
 fn first_sparse(image: &[u8], f: Frame, m: NodeNum) -> FirstBranch
@@ -18,28 +14,8 @@ fn first_sparse(image: &[u8], f: Frame, m: NodeNum) -> FirstBranch
     ensures { λ r. ⌜ First-branch (now (image .entry)) f (m .0) r ⌝ }
 {
     let e = entries_of(image, f, m);
-    let at = e.first;
-    let end = e.end;
     let exact = e.exact;
-    let sl = f.sl;
-    let sc = f.sc;
-    let p = at.0;
-    if p >= end.0 {
-        let branch = NextBranch {
-            kind: BranchKind::Absent,
-            label: 0,
-            at,
-        };
-        return FirstBranch { exact, branch };
-    }
-    let i = sl + p;
-    let label = wide(image[i]);
-    let continues = bit_at(&image[sc..], p);
-    let branch = NextBranch {
-        kind: kind_there(continues),
-        label,
-        at,
-    };
+    let branch = entry_branch(image, f, e.first, e.end);
     FirstBranch { exact, branch }
 }
 

@@ -9,22 +9,29 @@ use lib.Seq.{getD-drop}
 use lib.Dec.{ltb, eqb}
 use borrow.Author.Tests.{le-ltb, lt-ltb, ltb-true, ltb-false}
 use Rattle.spec.specs.Bytes.{Bytes, bit}
-use Rattle.spec.specs.Nodes.{label-of}
-use Rattle.bits_laws.specs.Bits.{bit-at}
+use Rattle.spec.specs.Nodes.{label-of, is-exact}
+use Rattle.bits_laws.specs.Bits.{bit-at, select}
 use Rattle.bits_laws.specs.RankLaws.{rank-le}
 use Rattle.bits_laws.specs.SelectLaws.{select-le}
 use Rattle.image_types.specs.declared.Frame.{Frame}
 use Rattle.nav_laws.specs.declared.BranchKind.the-variants.{Absent}
 use Rattle.nav_laws.specs.declared.Found.{Found}
+use Rattle.nav_laws.specs.declared.NextBranch.{NextBranch}
 use Rattle.nav_laws.specs.Accepted.{nodes}
 use Rattle.nav_laws.specs.Counting.{labels-below-le}
 use Rattle.nav_laws.specs.FoundBranch.{Is-sparse, Found-branch, Entries-at}
 use Rattle.nav_laws.specs.LabelMaps.{matches}
+use Rattle.nav_laws.specs.NextBranch.{Next-branch, Entry-branch, sparse-next}
 use Rattle.nav_laws.specs.NextLabel.{first-kind, kind-with, kind-there, is-there, with-there, there-before, labels-next, own-place}
 use Rattle.nav_laws.specs.Positions.{branches, place, child-at, slot-at, Branch-at, end-sparse, rising, label-sparse, branch-sparse, place-sparse, none-end, one-there}
+use Rattle.nav_laws.specs.Slots.{node-at}
 use Rattle.nav_laws.specs.SparsePositions.{label-high}
 use Rattle.nav_edges.specs.declared.LastBranch.{LastBranch}
-use Rattle.nav_edges.specs.EdgeContracts.{first-entry, Higher-entry, Last-branch}
+use Rattle.nav_edges.specs.EdgeContracts.{Last-branch}
+
+-- the first entry of a sparse node's branches
+abbrev first-entry : Bytes → Frame → ℕ → ℕ
+first-entry s f m = select (drop (f .sb) s) (f .sparse .entries) (m - f .dense .nodes) + bit (is-exact (node-at (nodes s f) m))
 
 module _ (s : Bytes) (f : Frame) (m : ℕ) (n : Is-sparse s f m) where
   -- a branch of a sparse node stands at one position
@@ -48,15 +55,21 @@ module _ (s : Bytes) (f : Frame) (m : ℕ) (n : Is-sparse s f m) where
   branch-there : (i : ℕ) → i ≤ length (branches s f m) → Branch-at s f m i (first-entry s f m + i)
   branch-there i h = branch-sparse s f (n .accepted) m (n .behind-dense) (n .inside) (first-entry s f m) refl i h (omega (arith, room))
 
-  -- The first branch with a label above y stands behind the branch at y, or, where y has none, at its position.
-  pub higher-there : (y : ℕ) (b : Found) → Found-branch s f m y b → (p : ℕ) → p ≡ b .at .0 + bit (is-there (b .kind)) → Higher-entry s f m y p (b .end .0)
-  higher-there y b r p e =
-      let i = labels-below-le y (branches s f m) in
-      let at = one-position (place s f m y) (b .at .0) (first-entry s f m + place s f m y) (r .at-is) (branch-there (place s f m y) i) in
-      let t : is-there (b .kind) ≡ matches y (drop (place s f m y) (branches s f m)) = ap is-there (r .kind-is) ∙ with-there y (drop (place s f m y) (branches s f m)) in
-      let next = labels-next y (branches s f m) (rising s f (n .accepted) m (n .behind-dense) (n .inside)) in
-      let end = r .end-is (n .behind-dense) in
-      record { sparse = n; stands = omega (arith, e, ap bit t); end-is = omega arith; end-inside = omega (arith, room) }
+  module _ (y : ℕ) (b : Found) (r : Found-branch s f m y b) where
+    -- the first branch whose label is not below y stands at its entry
+    found-at : b .at .0 ≡ first-entry s f m + place s f m y
+    found-at = one-position (place s f m y) (b .at .0) (first-entry s f m + place s f m y) (r .at-is) (branch-there (place s f m y) (labels-below-le y (branches s f m)))
+
+    -- The position behind the node's last branch is among the image's entries.
+    pub end-room : b .end .0 ≤ f .sparse .entries
+    end-room = omega (arith, found-at, r .end-is (n .behind-dense), room)
+
+    -- The first branch with a label above y stands behind the branch at y, or, where y has none, at its position.
+    pub higher-there : (p : ℕ) → p ≡ b .at .0 + bit (is-there (b .kind)) → (c : NextBranch) → Entry-branch s f p (b .end .0) c → Next-branch s f m (y + 1) (c .kind) (c .label) (c .at .0)
+    higher-there p e =
+        let t : is-there (b .kind) ≡ matches y (drop (place s f m y) (branches s f m)) = ap is-there (r .kind-is) ∙ with-there y (drop (place s f m y) (branches s f m)) in
+        let next = labels-next y (branches s f m) (rising s f (n .accepted) m (n .behind-dense) (n .inside)) in
+        sparse-next s f (n .accepted) m (y + 1) p (first-entry s f m) (n .behind-dense) (n .inside) refl (omega (arith, e, ap bit t, found-at)) (b .end .0) (omega (arith, found-at, r .end-is (n .behind-dense))) end-room
 
   module _ (y first end : ℕ) (exact : Bool) (r : Entries-at s f m exact first end) where
     -- where all labels are below z, the branches from z on start at the end

@@ -2,13 +2,14 @@
 ghost use Prim.Native.Nat.{_+_, _<_};
 ghost use Rattle.nav_laws.specs.FoundBranch.{Is-node, Is-sparse, Found-branch};
 ghost use Rattle.nav_laws.specs.NextBranch.{Next-branch};
-ghost use Rattle.nav_edges.specs.EdgeContracts.{Last-branch, Higher-entry};
+ghost use Rattle.nav_edges.specs.EdgeContracts.{Last-branch};
 use bits::numbers::one_if;
 use bits::numbers::wide;
 use bits::ones::bit_at;
 use image_types::BitPos;
 use image_types::Frame;
 use image_types::NodeNum;
+use nav::branches::entry_branch;
 use nav::branches::find;
 use nav::branches::has_higher;
 use nav::branches::is_there;
@@ -18,30 +19,6 @@ use nav::nodes::entries_of;
 use nav_laws::BranchKind;
 use nav_laws::Found;
 use nav_laws::NextBranch;
-
-// The first branch of a sparse node whose label is above y: the one at entry p, unless that is the end.
-fn higher_entry(image: &[u8], f: Frame, m: NodeNum, y: usize, p: usize, end: usize) -> NextBranch
-    requires { ⌜ Higher-entry (now image) f (m .0) y p end ⌝ }
-    ensures { λ r. ⌜ Next-branch (now (image .entry)) f (m .0) (y + 1) (r .kind) (r .label) (r .at .0) ⌝ }
-{
-    if p >= end {
-        return NextBranch {
-            kind: BranchKind::Absent,
-            label: 0,
-            at: BitPos(p),
-        };
-    }
-    let sl = f.sl;
-    let sc = f.sc;
-    let i = sl + p;
-    let label = wide(image[i]);
-    let continues = bit_at(&image[sc..], p);
-    NextBranch {
-        kind: kind_there(continues),
-        label,
-        at: BitPos(p),
-    }
-}
 
 // The first branch of a node whose label is above y, where b is what it has at y. In a sparse node the branch's position tells; a dense one is searched.
 pub fn next_higher(image: &[u8], f: Frame, m: NodeNum, y: usize, b: Found) -> NextBranch
@@ -55,7 +32,7 @@ pub fn next_higher(image: &[u8], f: Frame, m: NodeNum, y: usize, b: Found) -> Ne
     let at = b.at;
     let end = b.end;
     let p = at.0 + one_if(is_there(kind));
-    higher_entry(image, f, m, y, p, end.0)
+    entry_branch(image, f, BitPos(p), end)
 }
 
 // Whether a node has a label above y, and, if it has none, the branch at y.

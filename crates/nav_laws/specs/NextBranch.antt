@@ -15,6 +15,7 @@ use Rattle.bits_laws.specs.Bits.{bit-at, rank, select}
 use Rattle.image_types.specs.declared.Frame.{Frame}
 use Rattle.nav_laws.specs.declared.BranchKind.{BranchKind}
 use Rattle.nav_laws.specs.declared.BranchKind.the-variants.{Absent}
+use Rattle.nav_laws.specs.declared.NextBranch.{NextBranch}
 use Rattle.nav_laws.specs.Counting.{labels-below}
 use Rattle.nav_laws.specs.Slots.{node-at}
 use Rattle.nav_laws.specs.Descent.{goes-on}
@@ -32,6 +33,18 @@ pub record Named-branch (s : Bytes) (f : Frame) (m y label p : ℕ) : Type 0 whe
 pub record Next-branch (s : Bytes) (f : Frame) (m y : ℕ) (kind : BranchKind) (label p : ℕ) : Type 0 where
   pub kind-is : kind ≡ first-kind (drop (place s f m y) (branches s f m))
   pub there : (kind ≡ Absent → ⊥) → Named-branch s f m y label p
+
+-- The branch that the entry p tells: its label and whether it continues.
+pub record Entry-read (s : Bytes) (f : Frame) (p : ℕ) (b : NextBranch) : Type 0 where
+  pub kind-is : b .kind ≡ kind-there (eqb (bit-at (drop (f .sc) s) p) 1)
+  pub label-is : b .label ≡ getD s (f .sl + p) 0
+  pub label-byte : b .label < 256
+  pub at-is : b .at .0 ≡ p
+
+-- What a sparse node whose entries end before `end` has at the entry p: no branch from the end on, and before it the one that the entry tells.
+pub record Entry-branch (s : Bytes) (f : Frame) (p end : ℕ) (b : NextBranch) : Type 0 where
+  pub none-left : end ≤ p → b .kind ≡ Absent
+  pub read : p < end → Entry-read s f p b
 
 module _ (s : Bytes) (f : Frame) (a : Accepted s f) where
   module _ (m y p : ℕ) (h : m < f .dense .nodes) (l : y ≤ 256) (is : p ≡ select (drop (f .dl) s) (256 * m + 256) (rank (drop (f .dl) s) (256 * m + y))) where
@@ -88,17 +101,28 @@ module _ (s : Bytes) (f : Frame) (a : Accepted s f) where
     sparse-none k = record { kind-is = kind-end (branches s f m) (place s f m y) (omega arith); there = λ n. absurd (n refl) }
 
     -- the next one is a branch
-    pub sparse-some : p < first + length (branches s f m) → p ≤ f .sparse .entries → (c x : ℕ) → c ≡ bit-at (drop (f .sc) s) p → x ≡ getD s (f .sl + p) 0 → x < 256 → Next-branch s f m y (kind-there (eqb c 1)) x p
-    sparse-some k r c x e v u =
+    pub sparse-some : p < first + length (branches s f m) → p ≤ f .sparse .entries → (b : NextBranch) → Entry-read s f p b → Next-branch s f m y (b .kind) (b .label) (b .at .0)
+    sparse-some k r b e =
         let q : place s f m y < length (branches s f m) = omega arith in
-        let b = child-sparse s f a m h l first starts (place s f m y) q in
+        let c = child-sparse s f a m h l first starts (place s f m y) q in
         let t = label-sparse s f a m h l first starts (place s f m y) q in
         let w = branch-sparse s f a m h l first starts (place s f m y) (omega arith) (omega arith) in
         record {
-          kind-is = kind-by c (getD (map has-child (branches s f m)) (place s f m y) false) (e ∙ ap (bit-at (drop (f .sc) s)) stands ∙ b) ∙ sym (kind-at (branches s f m) (place s f m y) q);
+          kind-is = e .kind-is ∙ kind-by (bit-at (drop (f .sc) s) p) (getD (map has-child (branches s f m)) (place s f m y) false) (ap (bit-at (drop (f .sc) s)) stands ∙ c) ∙ sym (kind-at (branches s f m) (place s f m y) q);
           there = λ n. record {
-            label-is = v ∙ sym (getD-drop (f .sl) s p 0) ∙ ap (λ (z : ℕ). getD (drop (f .sl) s) z 0) stands ∙ t ∙ label-first (branches s f m) (place s f m y) q;
-            label-byte = u;
-            at-is = rw (← stands) at w;
+            label-is = e .label-is ∙ sym (getD-drop (f .sl) s p 0) ∙ ap (λ (z : ℕ). getD (drop (f .sl) s) z 0) stands ∙ t ∙ label-first (branches s f m) (place s f m y) q;
+            label-byte = e .label-byte;
+            at-is = rw (e .at-is) (rw (← stands) at w);
           };
         }
+
+    -- The branch at the entry, or none where the node's entries end there.
+    pub sparse-next : (end : ℕ) → end ≡ first + length (branches s f m) → end ≤ f .sparse .entries → (b : NextBranch) → Entry-branch s f p end b → Next-branch s f m y (b .kind) (b .label) (b .at .0)
+    sparse-next end e u b r = go (ltb p end) refl
+      where
+        go : (t : Bool) → ltb p end ≡ t → Next-branch s f m y (b .kind) (b .label) (b .at .0)
+        go true q = let k = ltb-true p end q in sparse-some (omega arith) (omega arith) b (r .read k)
+        go false q =
+            let k = ltb-false p end q in
+            let z = r .none-left k in
+            record { kind-is = z ∙ kind-end (branches s f m) (place s f m y) (omega arith); there = λ n. absurd (n z) }

@@ -2,14 +2,11 @@
 use Prim.Native.Nat.{ℕ, _+_, _-_, _<_, _≤_}
 use mathlib.Core.Path.{_≡_}
 use mathlib.Core.Bool.{Bool, true, false}
-use lib.ListN.{getD, drop}
-use lib.Dec.{eqb}
+use lib.ListN.{drop}
 use Rattle.spec.specs.Bytes.{Bytes, bit}
 use Rattle.spec.specs.Nodes.{is-exact, total, children-of}
-use Rattle.bits_laws.specs.Bits.{bit-at, rank, select}
+use Rattle.bits_laws.specs.Bits.{rank, select}
 use Rattle.image_types.specs.declared.Frame.{Frame}
-use Rattle.nav_laws.specs.declared.NextBranch.{NextBranch}
-use Rattle.nav_laws.specs.NextLabel.{kind-there}
 use Rattle.nav_laws.specs.Slots.{node-at}
 use Rattle.nav_laws.specs.Accepted.{dense-nodes, nodes}
 use Rattle.nav_laws.specs.Positions.{place}
@@ -23,13 +20,6 @@ start-of s f m = select (drop (f .sb) s) (f .sparse .entries) (m - f .dense .nod
 -- the node behind the first continuing entry from p on
 abbrev pub child-from : Bytes → Frame → ℕ → ℕ
 child-from s f p = 1 + (total children-of (dense-nodes s f) + rank (drop (f .sc) s) p)
-
--- The branch that the entry p tells: its label and whether it continues.
-pub record Entry-read (s : Bytes) (f : Frame) (p : ℕ) (b : NextBranch) : Type 0 where
-  pub kind-is : b .kind ≡ kind-there (eqb (bit-at (drop (f .sc) s) p) 1)
-  pub label-is : b .label ≡ getD s (f .sl + p) 0
-  pub label-byte : b .label < 256
-  pub at-is : b .at .0 ≡ p
 
 -- Whether the entry p belongs to a sparse node, if it is behind the first entry of the node and not behind the first one of the next.
 pub record Tells-end (s : Bytes) (f : Frame) (p : ℕ) (r : Bool) : Type 0 where

@@ -19,9 +19,9 @@ use Rattle.nav_laws.specs.Slots.{node-at}
 use Rattle.nav_laws.specs.Accepted.{Accepted, nodes}
 use Rattle.nav_laws.specs.Positions.{branches, place, end-sparse, sole-plain, other-plain, first-exact}
 use Rattle.nav_laws.specs.Tables.{start-found}
-use Rattle.nav_laws.specs.NextBranch.{Next-branch, sparse-none, sparse-some}
+use Rattle.nav_laws.specs.NextBranch.{Next-branch, Entry-read, sparse-none, sparse-some}
 use Rattle.nav_laws.specs.FoundBranch.{node-count, First-branch}
-use Rattle.walk_levels.specs.Entries.{start-of, Entry-read}
+use Rattle.walk_levels.specs.Entries.{start-of}
 
 module _ (s : Bytes) (f : Frame) (a : Accepted s f) (m : ℕ) (h : f .dense .nodes ≤ m) (l : m < node-count f) where
   -- a node has an entry
@@ -66,9 +66,8 @@ module _ (s : Bytes) (f : Frame) (a : Accepted s f) (m : ℕ) (h : f .dense .nod
     -- it is the node's own: the branch that it tells
     pub next-there : p < start-of s f (m + 1) → (b : NextBranch) → Entry-read s f p b → Next-branch s f m y (b .kind) (b .label) (b .at .0)
     next-there k b r =
-        rw (r .kind-is, r .at-is)
-        (sparse-some s f a m y p (start-of s f m + bit (is-exact (node-at (nodes s f) m))) h l refl is (omega (arith, end-sparse s f a m h l))
-        (omega (arith, select-is (drop (f .sb) s) (f .sparse .entries) (m + 1 - f .dense .nodes) .0)) (bit-at (drop (f .sc) s) p) (b .label) refl (r .label-is) (r .label-byte))
+        sparse-some s f a m y p (start-of s f m + bit (is-exact (node-at (nodes s f) m))) h l refl is (omega (arith, end-sparse s f a m h l))
+        (omega (arith, select-is (drop (f .sb) s) (f .sparse .entries) (m + 1 - f .dense .nodes) .0)) b r
 
   -- ---- the first branch
 

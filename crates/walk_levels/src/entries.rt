@@ -6,8 +6,7 @@ ghost use Rattle.nav_laws.specs.Positions.{child-at, slot-at};
 ghost use Rattle.nav_laws.specs.NextBranch.{Next-branch};
 ghost use Rattle.nav_laws.specs.Accepted.{Accepted};
 ghost use Rattle.nav_laws.specs.FoundBranch.{Is-node, Is-position, First-branch};
-ghost use Rattle.walk_levels.specs.Entries.{start-of, child-from, Entry-read, Tells-end, Next-entry, Behind-node, Starts-at};
-use bits::numbers::wide;
+ghost use Rattle.walk_levels.specs.Entries.{start-of, child-from, Tells-end, Next-entry, Behind-node, Starts-at};
 use bits::ones::bit_at;
 use image_types::BitPos;
 use image_types::EXTRA_LABEL;
@@ -15,7 +14,7 @@ use image_types::Frame;
 use image_types::NodeNum;
 use image_types::ValuePos;
 use nav::behind::child;
-use nav::branches::kind_there;
+use nav::branches::branch_at;
 use nav::branches::next_branch;
 use nav::first::first_branch;
 use nav_laws::BranchKind;
@@ -33,22 +32,6 @@ const MARK: usize = EXTRA_LABEL as usize;
 pub struct Entry {
     pub at: BitPos,
     pub child: NodeNum,
-}
-
-// The branch of a sparse node at an entry.
-fn branch_at(image: &[u8], f: Frame, at: BitPos) -> NextBranch
-    requires { ⌜ Accepted (now image) f × (at .0 < f .sparse .entries) ⌝ }
-    ensures { λ r. ⌜ Entry-read (now (image .entry)) f (at .0) r ⌝ }
-{
-    let sc = f.sc;
-    let i = f.sl + at.0;
-    let label = wide(image[i]);
-    let continues = bit_at(&image[sc..], at.0);
-    NextBranch {
-        kind: kind_there(continues),
-        label,
-        at,
-    }
 }
 
 // Whether an entry that is behind the first one of a sparse node belongs to the node: it does if it starts no node.

@@ -1,4 +1,4 @@
-use Rattle.nav_edges.proofs.EdgeLaws.{higher-there}
+use Rattle.nav_edges.proofs.EdgeLaws.{end-room, higher-there}
 use Rattle.spec.specs.Bytes.{bit}
 use mathlib.Core.Path.{ap, _∙_}
 use native.Mathlib.Omega.{arith}
@@ -26,13 +26,15 @@ add-p c =
     let p = c .before .before .before .before .before .before .before .before .before .pre in
     omega (arith, p .2 .at-is .within .sparse (omega arith), p .0 .accepted .entry-size, p .0 .accepted .writable .few-entries)
 
-higher-entry-requires : tie.Need-higher-entry-requires
-higher-entry-requires c κs =
+entry-branch-requires : tie.Need-entry-branch-requires
+entry-branch-requires c κs =
     let s = c .before .before .before .before .before .before .before .before .before in
-    higher-there (s .args .image .now) (s .args .f) (s .args .m .0) (record { accepted = s .pre .0 .accepted; behind-dense = omega arith; inside = s .pre .0 .inside }) (s .args .y) (s .args .b) (s .pre .2) _ (omega (arith, c .before .one-if .ensures .0 ∙ ap bit (c .before .before .is-there .ensures)))
+    (s .pre .0 .accepted, end-room (s .args .image .now) (s .args .f) (s .args .m .0) (record { accepted = s .pre .0 .accepted; behind-dense = omega arith; inside = s .pre .0 .inside }) (s .args .y) (s .args .b) (s .pre .2))
 
 returns-2 : tie.Need-returns-2
-returns-2 c = search needs
+returns-2 c =
+    let s = c .before .before .before .before .before .before .before .before .before .before in
+    higher-there (s .args .image .now) (s .args .f) (s .args .m .0) (record { accepted = s .pre .0 .accepted; behind-dense = omega arith; inside = s .pre .0 .inside }) (s .args .y) (s .args .b) (s .pre .2) _ (omega (arith, c .before .before .one-if .ensures .0 ∙ ap bit (c .before .before .before .is-there .ensures))) (c .entry-branch .result) (c .entry-branch .ensures)
 
 pub next-higher-spec : {M : Type 1} → statement M
 next-higher-spec =
@@ -44,5 +46,5 @@ next-higher-spec =
     is-there-requires
     one-if-requires
     add-p
-    higher-entry-requires
+    entry-branch-requires
     returns-2)

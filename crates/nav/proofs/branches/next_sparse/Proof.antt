@@ -1,13 +1,8 @@
 use Rattle.nav_laws.specs.Positions.{labels-room, place-sparse}
 use Rattle.image_types.specs.Records.{tail-part}
-use Rattle.nav_laws.specs.Tables.{entries-ranked}
-use Rattle.nav_laws.specs.NextBranch.{Next-branch, sparse-none, sparse-some}
-use Rattle.bits_laws.specs.Bits.{bit-at}
+use Rattle.nav_laws.specs.NextBranch.{sparse-next}
 use lib.ListN.{length-drop}
-use mathlib.Core.List.{List}
-use Prim.Native.Nat.{ℕ}
 use native.Mathlib.Omega.{arith}
-use mathlib.Core.Path.{sym, ap, _∙_}
 use borrow.Author.Needs.{needs}
 use Rattle.nav.proofs.branches.next_sparse.Statement.{statement}
 use Rattle.nav.proofs.branches.next_sparse.Tie as tie
@@ -30,56 +25,19 @@ search-requires c κs =
     let r = c .before .before .before .entries-of .ensures in
     rw (tail-part (a .image .now) (a .f .sl)) (omega (arith, r .end-is), omega (arith, r .end-inside, length-drop (a .f .sl) (a .image .now), labels-room (a .image .now) (a .f) (c .before .before .before .before .before .pre .accepted)))
 
+entry-branch-requires : tie.Need-entry-branch-requires
+entry-branch-requires c κs = search needs
+
 returns : tie.Need-returns
 returns c =
-    let a = c .before .before .before .before .before .before .before .before .args in
-    let p = c .before .before .before .before .before .before .before .before .pre in
-    let first = c .before .before .before .before .before .before .entries-of .result .first .0 in
-    let at = c .before .before .search .result in
-    let r = c .before .before .before .before .before .before .entries-of .ensures in
-    let v = rw (tail-part (a .image .now) (a .f .sl)) at (c .before .before .search .ensures) in
-    let q = place-sparse (a .image .now) (a .f) (p .accepted) (a .m .0) (p .behind-dense) (p .inside) first (r .first-is) at (a .y) (v .0) (omega (arith, v .1, r .end-is)) (v .2) (λ k. v .3 (omega (arith, r .end-is))) in
-    sparse-none (a .image .now) (a .f) (p .accepted) (a .m .0) (a .y) at first (p .behind-dense) (p .inside) (r .first-is) q (omega (arith, r .end-is))
-
-add-i : tie.Need-add-i
-add-i c = search needs
-
-shared-slice-read-wide : tie.Need-shared-slice-read-wide
-shared-slice-read-wide c =
-    let a = c .before .before .before .before .before .before .before .before .before .args in
-    omega (arith, c .before .before .before .before .before .before .before .entries-of .ensures .end-inside, labels-room (a .image .now) (a .f) (c .before .before .before .before .before .before .before .before .before .pre .accepted))
-
-wide-requires : tie.Need-wide-requires
-wide-requires c κs = search needs
-
-sub-bit-at : tie.Need-sub-bit-at
-sub-bit-at c = search needs
-
-part-bit-at-start : tie.Need-part-bit-at-start
-part-bit-at-start c = search needs
-
-part-bit-at-end : tie.Need-part-bit-at-end
-part-bit-at-end c = search needs
-
-bit-at-requires : tie.Need-bit-at-requires
-bit-at-requires c κs =
-    let a = c .before .before .before .before .before .before .before .before .before .before .before .args in
-    rw (tail-part (a .image .now) (a .f .sc)) (omega (arith, entries-ranked (a .image .now) (a .f) (c .before .before .before .before .before .before .before .before .before .before .before .pre .accepted) .0, c .before .before .before .before .before .before .before .before .before .entries-of .ensures .end-inside))
-
-kind-there-requires : tie.Need-kind-there-requires
-kind-there-requires c κs = search needs
-
-returns-2 : tie.Need-returns-2
-returns-2 c =
-    let a = c .before .before .before .before .before .before .before .before .before .before .before .before .before .args in
-    let p = c .before .before .before .before .before .before .before .before .before .before .before .before .before .pre in
-    let first = c .before .before .before .before .before .before .before .before .before .before .before .entries-of .result .first .0 in
-    let at = c .before .before .before .before .before .before .before .search .result in
-    let r = c .before .before .before .before .before .before .before .before .before .before .before .entries-of .ensures in
-    let v = rw (tail-part (a .image .now) (a .f .sl)) at (c .before .before .before .before .before .before .before .search .ensures) in
-    let q = place-sparse (a .image .now) (a .f) (p .accepted) (a .m .0) (p .behind-dense) (p .inside) first (r .first-is) at (a .y) (v .0) (omega (arith, v .1, r .end-is)) (v .2) (λ k. v .3 (omega (arith, r .end-is))) in
-    let b = sparse-some (a .image .now) (a .f) (p .accepted) (a .m .0) (a .y) at first (p .behind-dense) (p .inside) (r .first-is) q (omega (arith, r .end-is)) (omega (arith, v .1, r .end-inside)) (c .before .bit-at .result) (c .before .before .before .wide .result) (c .before .bit-at .ensures ∙ ap (λ (z : List ℕ). bit-at z at) (tail-part (a .image .now) (a .f .sc))) (c .before .before .before .wide .ensures .0) (c .before .before .before .wide .ensures .1) in
-    rw (c .kind-there .ensures) b
+    let a = c .before .before .before .before .before .before .before .args in
+    let p = c .before .before .before .before .before .before .before .pre in
+    let e = c .before .before .before .before .before .entries-of in
+    let r = e .ensures in
+    let at = c .before .search .result in
+    let v = rw (tail-part (a .image .now) (a .f .sl)) at (c .before .search .ensures) in
+    let q = place-sparse (a .image .now) (a .f) (p .accepted) (a .m .0) (p .behind-dense) (p .inside) (e .result .first .0) (r .first-is) at (a .y) (v .0) (omega (arith, v .1, r .end-is)) (v .2) (λ k. v .3 (omega (arith, r .end-is))) in
+    sparse-next (a .image .now) (a .f) (p .accepted) (a .m .0) (a .y) at (e .result .first .0) (p .behind-dense) (p .inside) (r .first-is) q (e .result .end .0) (r .end-is) (r .end-inside) (c .entry-branch .result) (c .entry-branch .ensures)
 
 pub next-sparse-spec : {M : Type 1} → statement M
 next-sparse-spec =
@@ -90,13 +48,5 @@ next-sparse-spec =
     part-search-start
     part-search-end
     search-requires
-    returns
-    add-i
-    shared-slice-read-wide
-    wide-requires
-    sub-bit-at
-    part-bit-at-start
-    part-bit-at-end
-    bit-at-requires
-    kind-there-requires
-    returns-2)
+    entry-branch-requires
+    returns)

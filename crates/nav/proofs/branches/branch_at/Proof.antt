@@ -10,8 +10,8 @@ use Rattle.nav_laws.specs.NextLabel.{kind-there}
 use Rattle.nav_laws.specs.Positions.{labels-room}
 use Rattle.nav_laws.specs.Tables.{entries-ranked}
 use borrow.Author.Needs.{needs}
-use Rattle.walk_levels.proofs.entries.branch_at.Statement.{statement}
-use Rattle.walk_levels.proofs.entries.branch_at.Tie as tie
+use Rattle.nav.proofs.branches.branch_at.Statement.{statement}
+use Rattle.nav.proofs.branches.branch_at.Tie as tie
 
 add-i : tie.Need-add-i
 add-i c = search needs
