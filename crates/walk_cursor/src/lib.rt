@@ -15,7 +15,7 @@ use nav_laws::LeafStop;
 use query_point::suffix::slot_bits;
 use walk_levels::moves::Resume;
 use walk_levels::moves::climb;
-use walk_levels::moves::descend;
+use walk_levels::moves::first_behind;
 
 // A place of a walk: the path to the leaf, whose labels are the cut key, what is kept of its levels, and the leaf's number in key order. Behind the last leaf the path ends nowhere.
 pub struct Cursor {
@@ -78,7 +78,7 @@ pub fn advance(
     let branch = higher.branch;
     let kind = branch.kind;
     if is_there(kind) {
-        return descend(image, f, path, entries, labels, higher);
+        return first_behind(image, f, path, entries, labels, higher);
     }
     LeafEnd {
         depth: 0,

@@ -136,7 +136,7 @@ fn entry_behind(f: Frame, m: NodeNum, b: NextBranch, child: NodeNum) -> Entry
 }
 
 // The first leaf behind a branch of the path. On each level that is entered the node is the next one, and its first entry the one behind the last.
-pub fn descend(
+pub fn first_behind(
     image: &[u8],
     f: Frame,
     path: &mut [usize; 64],
@@ -158,10 +158,8 @@ pub fn descend(
         keep_entry(entries, d, entry_behind(f, m, b, c));
         d = d + 1;
         let BranchKind::Child = kind else {
-            return LeafEnd {
-                depth: d,
-                stop: LeafStop::Open(slot_at(image, f, m, at, c)),
-            };
+            let stop = LeafStop::Open(slot_at(image, f, m, at, c));
+            return LeafEnd { depth: d, stop };
         };
         let next = enter(image, f, c, NodeNum(path[d]), entry_on(entries, d));
         let first = next.first;
@@ -169,10 +167,8 @@ pub fn descend(
         path[d] = c.0;
         keep_entry(entries, d, entry);
         if first.exact {
-            return LeafEnd {
-                depth: d,
-                stop: LeafStop::Exact,
-            };
+            let stop = LeafStop::Exact;
+            return LeafEnd { depth: d, stop };
         }
         b = first.branch;
         c = entry.child;

@@ -30,8 +30,8 @@ climb-requires c κs =
 is-there-requires : tie.Need-is-there-requires
 is-there-requires c κs = search needs
 
-descend-requires : tie.Need-descend-requires
-descend-requires c κs =
+first-behind-requires : tie.Need-first-behind-requires
+first-behind-requires c κs =
     let b = c .before .before .before .before .before .before .before .before .before .before .before .before .before in
     let k = c .before .before .before .before .before .before .climb .ensures in
     record { accepted = b .pre .at .accepted; room = b .pre .at .stands .room; branch = k .higher .found (branch-left (c .before .before .before)) .branch; rows = k .rows; sparse = k .sparse; child-is = k .child-is }
@@ -43,7 +43,7 @@ returns c =
     record {
       stands = λ place w.
           let r = c .before .before .before .before .before .before .before .before .before .before .before .resume .result in
-          stands-next (a .image .now) (a .f) (cursor-of (a .path .now) (a .entries .now) (a .labels .now) (a .end) place) w (r .depth) (r .from) (resumed (c .before .before .before .before .before .before .before .before .before .before .before) place w) (k .result) (k .ensures .higher) (branch-left (c .before .before .before .before)) _ _ _ (c .descend .result) (c .descend .ensures);
+          stands-next (a .image .now) (a .f) (cursor-of (a .path .now) (a .entries .now) (a .labels .now) (a .end) place) w (r .depth) (r .from) (resumed (c .before .before .before .before .before .before .before .before .before .before .before) place w) (k .result) (k .ensures .higher) (branch-left (c .before .before .before .before)) _ _ _ (c .first-behind .result) (c .first-behind .ensures);
     }
 
 returns-2 : tie.Need-returns-2
@@ -60,4 +60,4 @@ returns-2 c =
 pub advance-spec : {M : Type 1} → statement M
 advance-spec =
     tie.close
-    (tie.spec resume-requires climb-requires is-there-requires descend-requires returns returns-2)
+    (tie.spec resume-requires climb-requires is-there-requires first-behind-requires returns returns-2)

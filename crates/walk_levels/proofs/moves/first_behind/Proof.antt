@@ -5,8 +5,8 @@ use borrow.Author.Needs.{needs}
 use Rattle.nav_paths.proofs.BranchTests.{ends-leaf}
 use Rattle.walk_levels.specs.LevelLaws.{numbered-at}
 use Rattle.walk_levels.specs.DownLaws.{Goes-down, goes-first, goes-named, goes-position, goes-small, down-leaf, down-deep, down-node, down-behind, down-last, down-exact, down-next}
-use Rattle.walk_levels.proofs.moves.descend.Statement.{statement}
-use Rattle.walk_levels.proofs.moves.descend.Tie as tie
+use Rattle.walk_levels.proofs.moves.first_behind.Statement.{statement}
+use Rattle.walk_levels.proofs.moves.first_behind.Tie as tie
 
 abbrev Inv-loop : tie.InvT-loop
 Inv-loop image f path₀ entries₀ labels₀ d₀ b₀ c₀ path entries labels d b c = Goes-down image f path₀ labels₀ d₀ (b₀ .label) path entries labels d b (c .0)
@@ -14,11 +14,11 @@ Inv-loop image f path₀ entries₀ labels₀ d₀ b₀ c₀ path entries labels
 abbrev μ-loop : tie.MeasureT-loop
 μ-loop image f path₀ entries₀ labels₀ d₀ b₀ c₀ path entries labels d b c = 64 - d
 
-mul-t16 : tie.Need-mul-t16 Inv-loop μ-loop
-mul-t16 c = omega (arith, c .before .before .pre .branch .deep)
+mul-t18 : tie.Need-mul-t18 Inv-loop μ-loop
+mul-t18 c = omega (arith, c .before .before .pre .branch .deep)
 
-element-copy-out-t19 : tie.Need-element-copy-out-t19 Inv-loop μ-loop
-element-copy-out-t19 c = omega (arith, c .before .before .pre .branch .deep)
+element-copy-out-t21 : tie.Need-element-copy-out-t21 Inv-loop μ-loop
+element-copy-out-t21 c = omega (arith, c .before .before .pre .branch .deep)
 
 entry-on-requires : tie.Need-entry-on-requires Inv-loop μ-loop
 entry-on-requires c κs = omega (arith, c .before .before .before .before .pre .branch .deep)
@@ -36,11 +36,11 @@ loop-holds c =
     let a = b .args in
     goes-first (a .image .now) (a .f) (a .path .now) (a .entries .now) (a .labels .now) (a .from) (b .pre) (c .child-at .result .0) (c .child-at .ensures)
 
-mul-t23 : tie.Need-mul-t23 Inv-loop μ-loop
-mul-t23 c = omega (arith, c .loop .inv .descends .branch .deep)
+mul-t25 : tie.Need-mul-t25 Inv-loop μ-loop
+mul-t25 c = omega (arith, c .loop .inv .descends .branch .deep)
 
-element-copy-out-t26 : tie.Need-element-copy-out-t26 Inv-loop μ-loop
-element-copy-out-t26 c = omega (arith, c .loop .inv .descends .branch .deep)
+element-copy-out-t28 : tie.Need-element-copy-out-t28 Inv-loop μ-loop
+element-copy-out-t28 c = omega (arith, c .loop .inv .descends .branch .deep)
 
 cast-labels : tie.Need-cast-labels Inv-loop μ-loop
 cast-labels c =
@@ -84,15 +84,15 @@ returns c =
     (down-leaf (a .image .now) (a .f) (b .pre .accepted) (a .path .now) (a .labels .now) (a .from .depth) (a .from .branch .label) (l .path) (l .entries) (l .labels) (l .d) (l .b) (l .c .0) (l .inv) (c .before .before .before .entry-behind .result) (c .before .before .before .entry-behind .ensures)
     (c .slot-at .result) (c .slot-at .ensures) (ends-leaf (l .b .kind) (c .before .match .keys2) (l .inv .descends .branch .there)))
 
-mul-t23-2 : tie.Need-mul-t23-2 Inv-loop μ-loop
-mul-t23-2 c =
+mul-t25-2 : tie.Need-mul-t25-2 Inv-loop μ-loop
+mul-t25-2 c =
     let l = c .before .before .before .before .before .before .before .before .loop in
     let b = c .before .before .before .before .before .before .before .before .before .before .before .before .before .before .before in
     let a = b .args in
     omega (arith, down-deep (a .image .now) (a .f) (b .pre .accepted) (a .path .now) (a .labels .now) (a .from .depth) (a .from .branch .label) (l .path) (l .entries) (l .labels) (l .d) (l .b) (l .c .0) (l .inv) (c .before .before .before .entry-behind .result) (c .before .before .before .entry-behind .ensures) (c .enum-told .given .1))
 
-element-copy-out-t26-2 : tie.Need-element-copy-out-t26-2 Inv-loop μ-loop
-element-copy-out-t26-2 c =
+element-copy-out-t28-2 : tie.Need-element-copy-out-t28-2 Inv-loop μ-loop
+element-copy-out-t28-2 c =
     let l = c .before .before .before .before .before .before .before .before .loop in
     let b = c .before .before .before .before .before .before .before .before .before .before .before .before .before .before .before in
     let a = b .args in
@@ -161,19 +161,19 @@ loop-again c =
     (down-next (a .image .now) (a .f) (b .pre .accepted) (a .path .now) (a .labels .now) (a .from .depth) (a .from .branch .label) (l .path) (l .entries) (l .labels) (l .d) (l .b) (l .c .0) (l .inv) (c .before .before .before .before .before .before .before .before .before .before .before .before .before .before .entry-behind .result) (c .before .before .before .before .before .before .before .before .before .before .before .before .before .before .entry-behind .ensures)
     (c .before .before .before .before .before .before .before .before .before .before .before .enum-told .given .1) (c .before .before .before .before .before .before .before .enter .result) (c .before .before .before .before .before .before .before .enter .ensures) (c .before .before .if1 .left))
 
-pub descend-spec : {M : Type 1} → statement M
-descend-spec =
+pub first-behind-spec : {M : Type 1} → statement M
+first-behind-spec =
     tie.close
     (tie.spec
     Inv-loop
     μ-loop
-    mul-t16
-    element-copy-out-t19
+    mul-t18
+    element-copy-out-t21
     entry-on-requires
     child-at-requires
     loop-holds
-    mul-t23
-    element-copy-out-t26
+    mul-t25
+    element-copy-out-t28
     cast-labels
     element-write-labels
     entry-behind-requires
@@ -182,8 +182,8 @@ descend-spec =
     enum-told
     slot-at-requires
     returns
-    mul-t23-2
-    element-copy-out-t26-2
+    mul-t25-2
+    element-copy-out-t28-2
     entry-on-requires-2
     enter-requires
     mul-path
