@@ -9,7 +9,7 @@ use bits::numbers::MODULUS_32;
 use bits::numbers::bytes_for;
 use bits::numbers::read32;
 use bits::parts::part;
-use bits::select::next_one;
+use bits_select::select::next_one;
 use check_slots_bits::clear::slot_clear;
 use image_types::Frame;
 use image_types::NodeNum;

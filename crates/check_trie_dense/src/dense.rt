@@ -12,9 +12,9 @@ ghost use Rattle.check_trie_laws.specs.DensePositions.{Dense-sized, row-valid};
 use super::ROW_WORDS;
 use super::cover::covered;
 use bits::numbers::read64;
-use bits::ones::bit_at;
-use bits::ones::ones_of;
 use bits::parts::part;
+use bits_ranks::ones::bit_at;
+use bits_ranks::ones::ones_of;
 use image_types::ROW_BITS;
 use image_types::ROW_BYTES;
 

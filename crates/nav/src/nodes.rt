@@ -5,7 +5,7 @@ ghost use Rattle.spec.specs.Nodes.{is-exact};
 ghost use Rattle.nav_laws.specs.Slots.{node-at};
 ghost use Rattle.nav_laws.specs.Accepted.{Accepted, nodes};
 ghost use Rattle.nav_laws.specs.FoundBranch.{node-count, Is-node, Is-sparse, Counts-before, Entries-at};
-use bits::ones::bit_at;
+use bits_ranks::ones::bit_at;
 use image_types::BitPos;
 use image_types::EXTRA_LABEL;
 use image_types::Frame;

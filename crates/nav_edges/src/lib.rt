@@ -5,7 +5,7 @@ ghost use Rattle.nav_laws.specs.NextBranch.{Next-branch};
 ghost use Rattle.nav_edges.specs.EdgeContracts.{Last-branch};
 use bits::numbers::one_if;
 use bits::numbers::wide;
-use bits::ones::bit_at;
+use bits_ranks::ones::bit_at;
 use image_types::BitPos;
 use image_types::Frame;
 use image_types::NodeNum;
