@@ -4,25 +4,17 @@ ghost use Rattle.spec.specs.Build.{image-length, build};
 ghost use Rattle.image_types.specs.Header.{settings};
 ghost use Rattle.image_types.specs.Outcomes.{outcome};
 ghost use Rattle.build.specs.Build.{Judges, length-of};
+use build_image::Settings;
+use build_image::image::build_image;
+use build_image::image::measure_image;
 use build_laws::KeyList;
 use build_list::judge::judge_list;
-use image::build_image;
-use image::measure_image;
 use image_records::header::MAX_DENSE_LEVELS;
 use image_records::header::MAX_SUFFIX_BITS;
 use image_types::Written;
 
-pub mod bodies; // bodies.rt: a record's body, filled from the keys or counted in an earlier body
-pub mod image; // image.rt: the plan of an image, its length, its header and its records
-
 // The number of a setting out of range.
 const SETTING_OUT_OF_RANGE: u32 = 5;
-
-// Dense levels and the suffix width, in range.
-pub struct Settings {
-    pub levels: usize,
-    pub width: usize,
-}
 
 // The length of an image: so many bytes, or a refusal's number.
 pub enum Length {

@@ -2,7 +2,7 @@
 use borrow.Author.Needs.{needs}
 use mathlib.Core.Path.{sym, _∙_}
 use Rattle.build_laws.specs.PackedBody.{small-of}
-use Rattle.build.proofs.AnswerLaws.{wide-dense, wide-suffix, list-refused, list-accepted}
+use Rattle.build.proofs.JudgeLaws.{wide-dense, wide-suffix, list-refused, list-accepted}
 use Rattle.build.proofs.judge.Statement.{statement}
 use Rattle.build.proofs.judge.Tie as tie
 

@@ -4,10 +4,10 @@ use Rattle.spec.specs.Keys.{keys-of}
 use Rattle.build_laws.specs.Limits.{counters, counter-max}
 use Rattle.build_laws.specs.CounterRoom.{counters-room}
 use Rattle.build_laws.specs.Plan.{entry-sums, node-sums, header-short, plan-made}
-use Rattle.build.specs.Build.{settings-of}
+use Rattle.build_image.specs.Image.{settings-of}
 use native.Mathlib.Omega.{arith}
-use Rattle.build.proofs.image.lay_out.Statement.{statement}
-use Rattle.build.proofs.image.lay_out.Tie as tie
+use Rattle.build_image.proofs.image.lay_out.Statement.{statement}
+use Rattle.build_image.proofs.image.lay_out.Tie as tie
 
 count-levels-requires : tie.Need-count-levels-requires
 count-levels-requires c κs =

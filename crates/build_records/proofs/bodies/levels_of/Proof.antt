@@ -5,8 +5,8 @@ use Rattle.build_laws.specs.declared.Body.{Body}
 use Rattle.build_laws.specs.declared.Body.the-variants.{Entries}
 use Rattle.build_laws.specs.BodyChoice.{levels-of}
 use mathlib.Core.Path.{sym, ap, _∙_}
-use Rattle.build.proofs.bodies.levels_of.Statement.{statement}
-use Rattle.build.proofs.bodies.levels_of.Tie as tie
+use Rattle.build_records.proofs.bodies.levels_of.Statement.{statement}
+use Rattle.build_records.proofs.bodies.levels_of.Tie as tie
 
 enum-told : tie.Need-enum-told
 enum-told c = search needs

@@ -1,13 +1,13 @@
 -- The plan decides 8 and 7, and the header and the records make the image.
 use mathlib.Core.Path.{refl}
 use Rattle.build_laws.specs.Plan.{plan-short, header-room}
-use Rattle.build.specs.Build.{settings-of}
-use Rattle.build.proofs.AnswerLaws.{length-not-stated, too-long, image-built}
+use Rattle.build_image.specs.Image.{settings-of}
+use Rattle.build_image.proofs.ImageLaws.{length-not-stated, too-long, image-built}
 use borrow.Author.Needs.{needs}
 use native.Mathlib.Omega.{arith}
 use borrow.Author.Needs.{needs}
-use Rattle.build.proofs.image.build_image.Statement.{statement}
-use Rattle.build.proofs.image.build_image.Tie as tie
+use Rattle.build_image.proofs.image.build_image.Statement.{statement}
+use Rattle.build_image.proofs.image.build_image.Tie as tie
 
 lay-out-requires : tie.Need-lay-out-requires
 lay-out-requires c κs =

@@ -11,8 +11,8 @@ use Rattle.build_laws.specs.BodyWritten.{ready-list, empty-body, sums-small, pa
 use borrow.Author.Needs.{needs}
 use native.Mathlib.Omega.{arith}
 use borrow.Author.Needs.{needs}
-use Rattle.build.proofs.bodies.fill_from_keys.Statement.{statement}
-use Rattle.build.proofs.bodies.fill_from_keys.Tie as tie
+use Rattle.build_records.proofs.bodies.fill_from_keys.Statement.{statement}
+use Rattle.build_records.proofs.bodies.fill_from_keys.Tie as tie
 
 -- an empty body
 empty-len : (body out : Bytes) (len : ℕ) → len ≡ length body → len ≡ 0 → out ≡ body ++ drop len out

@@ -5,8 +5,8 @@ use lib.ListN.{getD}
 use borrow.Author.Needs.{needs}
 use native.Mathlib.Omega.{arith}
 use borrow.Author.Needs.{needs}
-use Rattle.build.proofs.bodies.body_span.Statement.{statement}
-use Rattle.build.proofs.bodies.body_span.Tie as tie
+use Rattle.build_records.proofs.bodies.body_span.Statement.{statement}
+use Rattle.build_records.proofs.bodies.body_span.Tie as tie
 
 mul-t5 : tie.Need-mul-t5
 mul-t5 c = search needs

@@ -3,8 +3,8 @@ use mathlib.Core.Path.{_≡_}
 use Rattle.image_types.specs.Records.{last-row}
 use native.Mathlib.Omega.{arith}
 use borrow.Author.Needs.{needs}
-use Rattle.build.proofs.bodies.source_of.Statement.{statement}
-use Rattle.build.proofs.bodies.source_of.Tie as tie
+use Rattle.build_records.proofs.bodies.source_of.Statement.{statement}
+use Rattle.build_records.proofs.bodies.source_of.Tie as tie
 
 returns : tie.Need-returns
 returns c = let e : c .before .args .i ≡ 0 = omega arith in rw e

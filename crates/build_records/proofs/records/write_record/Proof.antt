@@ -14,8 +14,8 @@ use Rattle.build_laws.specs.Plan.{body-at, start-at, body-size, plan-short, Wri
 use borrow.Author.Needs.{needs}
 use native.Mathlib.Omega.{arith}
 use borrow.Author.Needs.{needs}
-use Rattle.build.proofs.image.write_record.Statement.{statement}
-use Rattle.build.proofs.image.write_record.Tie as tie
+use Rattle.build_records.proofs.records.write_record.Statement.{statement}
+use Rattle.build_records.proofs.records.write_record.Tie as tie
 
 -- a mark and a length have six bytes
 length-begin : (m : Bytes) (n : ℕ) → length (mark-bytes m ++ le32 n) ≡ 6

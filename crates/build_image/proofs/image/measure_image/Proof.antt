@@ -1,10 +1,10 @@
 -- The plan's end is the image's length.
 use mathlib.Core.Path.{refl}
 use borrow.Author.Needs.{needs}
-use Rattle.build.specs.Build.{settings-of}
-use Rattle.build.proofs.AnswerLaws.{image-end}
-use Rattle.build.proofs.image.measure_image.Statement.{statement}
-use Rattle.build.proofs.image.measure_image.Tie as tie
+use Rattle.build_image.specs.Image.{settings-of}
+use Rattle.build_image.proofs.ImageLaws.{image-end}
+use Rattle.build_image.proofs.image.measure_image.Statement.{statement}
+use Rattle.build_image.proofs.image.measure_image.Tie as tie
 
 lay-out-requires : tie.Need-lay-out-requires
 lay-out-requires c κs =

@@ -10,8 +10,8 @@ use Rattle.build_laws.specs.BodyWritten.{own-laid, earlier-laid, span-within, k
 use borrow.Author.Needs.{needs}
 use native.Mathlib.Omega.{arith}
 use borrow.Author.Needs.{needs}
-use Rattle.build.proofs.bodies.fill_body.Statement.{statement}
-use Rattle.build.proofs.bodies.fill_body.Tie as tie
+use Rattle.build_records.proofs.bodies.fill_body.Statement.{statement}
+use Rattle.build_records.proofs.bodies.fill_body.Tie as tie
 
 -- the source that was found gives the record's body
 known : (list : Bytes) (p : Plan) (i : ℕ) → Planned list p → i < 12 → (s t : Source) → s ≡ source-at i → s ≡ t → Gives list p i t

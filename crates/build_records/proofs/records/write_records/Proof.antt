@@ -6,8 +6,8 @@ use Rattle.build_laws.specs.CountPass.{Level-counts, list-counts}
 use Rattle.build_laws.specs.Plan.{source-counters, Written, written-none, written-asks, written-more, written-all}
 use borrow.Author.Needs.{needs}
 use native.Mathlib.Omega.{arith}
-use Rattle.build.proofs.image.write_records.Statement.{statement}
-use Rattle.build.proofs.image.write_records.Tie as tie
+use Rattle.build_records.proofs.records.write_records.Statement.{statement}
+use Rattle.build_records.proofs.records.write_records.Tie as tie
 
 abbrev Inv-loop : tie.InvT-loop
 Inv-loop out₀ list plan entries nodes leaves i₀ out i = (i ≤ 12) × Written list plan out₀ i out

@@ -1,0 +1,51 @@
+// The records of an image by the table, one behind the other.
+ghost use mathlib.Core.Path.{_≡_};
+ghost use Prim.Native.Nat.{_≤_};
+ghost use lib.ListN.{length};
+ghost use Rattle.spec.specs.Keys.{keys-of};
+ghost use Rattle.spec.specs.Image.{rows, write-records};
+ghost use Rattle.bits_laws.specs.Bits.{placed};
+ghost use Rattle.build_laws.specs.CountPass.{level-counts, list-counts};
+ghost use Rattle.build_laws.specs.RecordsWritten.{record-bytes};
+ghost use Rattle.build_laws.specs.Plan.{Planned, plan-bodies, counters-at, body-at, start-at, Writing};
+use super::bodies::counters_of;
+use super::bodies::fill_body;
+use super::bodies::source_of;
+use build_laws::Counters;
+use build_laws::Plan;
+use image_records::header::begin_record;
+use image_records::table::RECORDS;
+use image_records::table::body_size;
+use image_records::table::mark;
+
+// Record i goes to its place in out: its mark, the length of its body, and its body.
+fn write_record(out: &mut [u8], list: &[u8], plan: Plan, cnt: &Counters, i: usize)
+    requires { ⌜ Writing (now list) plan i (now out) × (now cnt ≡ counters-at (now list) i) ⌝ }
+    ensures { λ _. ⌜ now (out .exit) ≡ placed (now (out .entry)) (start-at plan i) (record-bytes i (body-at (now (list .entry)) plan i)) ⌝ }
+{
+    let starts = plan.starts;
+    let h = plan.header;
+    let m = mark(i);
+    begin_record(out, starts[i], &m, body_size(h, i));
+    fill_body(out, list, plan, cnt, i);
+}
+
+// All records go to out behind the header, one behind the other. The counters are the list's.
+pub fn write_records(
+    out: &mut [u8],
+    list: &[u8],
+    plan: Plan,
+    entries: &Counters,
+    nodes: &Counters,
+    leaves: &Counters,
+)
+    requires { ⌜ Planned (now list) plan × (start-at plan 12 ≤ length (now out)) × (level-counts (now entries) (now nodes) (now leaves) ≡ list-counts (keys-of (now list))) ⌝ }
+    ensures { λ _. ⌜ now (out .exit) ≡ placed (now (out .entry)) 22 (write-records rows (plan-bodies (now (list .entry)) plan)) ⌝ }
+{
+    let mut i = 0usize;
+    while i < RECORDS {
+        let cnt = counters_of(source_of(i), entries, nodes, leaves);
+        write_record(out, list, plan, &cnt, i);
+        i = i + 1;
+    }
+}
