@@ -8,10 +8,6 @@ ghost use Rattle.query_laws.specs.LeafKeys.{Reached};
 ghost use Rattle.query_laws.specs.Ordered.{next-leaf};
 ghost use Rattle.query_laws.specs.Seeking.{higher-leaf};
 ghost use Rattle.query_seek.specs.SeekContracts.{leaf-there, Passed-higher, Way-followed, Next-leaf};
-use super::leaf::first_behind;
-use super::leaf::first_below;
-use super::way::Way;
-use super::way::follow_key;
 use bits::copy::write_bytes;
 use bits::numbers::wide;
 use image_types::Frame;
@@ -22,6 +18,10 @@ use query_count::levels::AT_ROOT;
 use query_count::levels::LevelSum;
 use query_laws::BoundEnd;
 use query_laws::LastHigher;
+use query_seek_ways::leaf::first_behind;
+use query_seek_ways::leaf::first_below;
+use query_seek_ways::way::Way;
+use query_seek_ways::way::follow_key;
 
 // The first leaf that a start has not passed, and the start's bound on the level below its last branch, from which the leaves that it has passed can be counted.
 pub struct NextLeaf {

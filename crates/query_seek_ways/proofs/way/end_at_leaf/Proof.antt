@@ -4,8 +4,8 @@ use mathlib.Core.Bool.{Bool}
 use mathlib.Core.Path.{refl, sym, ap, _∙_}
 use native.Mathlib.Omega.{arith}
 use borrow.Author.Needs.{needs}
-use Rattle.query_seek.proofs.way.end_at_leaf.Statement.{statement}
-use Rattle.query_seek.proofs.way.end_at_leaf.Tie as tie
+use Rattle.query_seek_ways.proofs.way.end_at_leaf.Statement.{statement}
+use Rattle.query_seek_ways.proofs.way.end_at_leaf.Tie as tie
 
 high-below-requires : tie.Need-high-below-requires
 high-below-requires c κs = search needs

@@ -5,8 +5,8 @@ use Rattle.nav_laws.specs.Accepted.{nodes}
 use Rattle.nav_laws.specs.PathSteps.{node-in}
 use Rattle.query_laws.specs.FirstLeaf.{leaf-below}
 use Rattle.query_laws.specs.LeafKeys.{First-behind, First-below, exact-reached, first-behind}
-use Rattle.query_seek.proofs.leaf.first_below.Statement.{statement}
-use Rattle.query_seek.proofs.leaf.first_below.Tie as tie
+use Rattle.query_seek_ways.proofs.leaf.first_below.Statement.{statement}
+use Rattle.query_seek_ways.proofs.leaf.first_below.Tie as tie
 
 -- the leaf is the first at or below the node
 below : (s : tie.Start) → First-below (s .args .image .now) (s .args .f) (leaf-below (nodes (s .args .image .now) (s .args .f)) (s .args .key .now) (s .args .node .0) (s .args .depth)) (s .args .key .now) (s .args .node .0) (s .args .depth)

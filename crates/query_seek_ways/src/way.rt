@@ -4,7 +4,7 @@ ghost use lib.ListN.{length};
 ghost use Rattle.nav_laws.specs.Accepted.{Accepted};
 ghost use Rattle.nav_laws.specs.FoundBranch.{node-count};
 ghost use Rattle.query_laws.specs.Seeking.{Key-followed};
-ghost use Rattle.query_seek.specs.SeekContracts.{Leaf-branch, Ends-there};
+ghost use Rattle.query_seek_ways.specs.WayContracts.{Leaf-branch, Ends-there};
 use bits::numbers::wide;
 use image_types::Frame;
 use image_types::ValuePos;

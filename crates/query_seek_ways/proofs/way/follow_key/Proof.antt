@@ -9,8 +9,8 @@ use mathlib.Core.Logic.{⊎-elim}
 use mathlib.Core.Path.{_≡_, refl, sym, _∙_}
 use native.Mathlib.Omega.{arith}
 use borrow.Author.Needs.{needs}
-use Rattle.query_seek.proofs.way.follow_key.Statement.{statement}
-use Rattle.query_seek.proofs.way.follow_key.Tie as tie
+use Rattle.query_seek_ways.proofs.way.follow_key.Statement.{statement}
+use Rattle.query_seek_ways.proofs.way.follow_key.Tie as tie
 
 abbrev Inv-loop : tie.InvT-loop
 Inv-loop image f start level₀ higher₀ level higher = Following image f start higher (level .node .0) (level .depth) (level .sum)

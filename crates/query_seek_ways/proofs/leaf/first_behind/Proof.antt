@@ -12,8 +12,8 @@ use Rattle.nav_laws.specs.NextBranch.{Named-branch}
 use Rattle.nav_laws.specs.PathSteps.{node-in}
 use Rattle.query_laws.specs.FirstLeaf.{leaf-behind}
 use Rattle.query_laws.specs.LeafKeys.{First-behind, First-below, Reached, exact-reached, first-behind, open-reached, child-below}
-use Rattle.query_seek.proofs.leaf.first_behind.Statement.{statement}
-use Rattle.query_seek.proofs.leaf.first_behind.Tie as tie
+use Rattle.query_seek_ways.proofs.leaf.first_behind.Statement.{statement}
+use Rattle.query_seek_ways.proofs.leaf.first_behind.Tie as tie
 
 abbrev Inv-loop : tie.InvT-loop
 Inv-loop image f key₀ depth m₀ b₀ d₀ key m b d = First-behind image f (leaf-behind (nodes image f) key₀ (m₀ .0) depth (b₀ .label)) key (m .0) d b
