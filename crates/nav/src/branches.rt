@@ -8,7 +8,6 @@ ghost use Rattle.nav_laws.specs.NextLabel.{first-kind, kind-there, is-there};
 ghost use Rattle.nav_laws.specs.NextBranch.{Next-branch, Entry-read, Entry-branch};
 ghost use Rattle.nav_laws.specs.FoundBranch.{Is-node, Is-sparse, Found-branch};
 ghost use Rattle.nav_laws.specs.Positions.{branches, place};
-use super::nodes::entries_of;
 use bits::numbers::wide;
 use bits_ranks::ones::bit_at;
 use bits_select::select::next_one;
@@ -19,6 +18,7 @@ use image_types::ROW_BITS;
 use nav_laws::BranchKind;
 use nav_laws::Found;
 use nav_laws::NextBranch;
+use nav_nodes::nodes::entries_of;
 
 // The first of the labels from `from` to `to`, which ascend, that is not below y, or the end.
 fn search(labels: &[u8], from: usize, to: usize, y: usize) -> usize

@@ -2,11 +2,11 @@
 ghost use Rattle.nav_laws.specs.FoundBranch.{Is-node, Is-sparse, First-branch};
 use super::branches::entry_branch;
 use super::branches::next_branch;
-use super::nodes::entries_of;
-use super::nodes::is_exact;
 use image_types::Frame;
 use image_types::NodeNum;
 use nav_laws::FirstBranch;
+use nav_nodes::nodes::entries_of;
+use nav_nodes::nodes::is_exact;
 
 // The first branch of a sparse node: the one at its first entry.
 fn first_sparse(image: &[u8], f: Frame, m: NodeNum) -> FirstBranch

@@ -1,7 +1,4 @@
-// Navigation over an accepted image: what stands before a node, branches by their labels, and what lies behind a branch.
-// The questions and the walk are made of these functions.
+// Branches of the nodes of an accepted image. The questions and the walk rest on these.
 
-pub mod nodes; // nodes.rt: what stands before a node, and whether it is an exact leaf
-pub mod branches; // branches.rt: branches by their label
-pub mod behind; // behind.rt: the child and the slot behind a branch
+pub mod branches; // branches.rt: branches by their label, and those of a sparse node by their entry
 pub mod first; // first.rt: the first branch of a node

@@ -15,10 +15,10 @@ use nav::branches::has_higher;
 use nav::branches::is_there;
 use nav::branches::kind_there;
 use nav::branches::next_branch;
-use nav::nodes::entries_of;
 use nav_laws::BranchKind;
 use nav_laws::Found;
 use nav_laws::NextBranch;
+use nav_nodes::nodes::entries_of;
 
 // The first branch of a node whose label is above y, where b is what it has at y. In a sparse node the branch's position tells; a dense one is searched.
 pub fn next_higher(image: &[u8], f: Frame, m: NodeNum, y: usize, b: Found) -> NextBranch

@@ -6,8 +6,8 @@ ghost use Rattle.query_laws.specs.Leads.{Leads-to};
 use bits::numbers::wide;
 use image_types::Frame;
 use image_types::NodeNum;
-use nav::behind::child;
 use nav::branches::find;
+use nav_behind::behind::child;
 use nav_laws::BranchKind;
 use query_laws::KeyEnd;
 

@@ -8,12 +8,12 @@ use bits::numbers::wide;
 use image_types::BitPos;
 use image_types::Frame;
 use image_types::NodeNum;
-use nav::behind::child;
-use nav::behind::slot;
 use nav::first::first_branch;
-use nav::nodes::is_exact;
+use nav_behind::behind::child;
+use nav_behind::behind::slot;
 use nav_edges::last_branch;
 use nav_laws::BranchKind;
+use nav_nodes::nodes::is_exact;
 use query_point::suffix::high_below;
 use query_point::suffix::low_above;
 

@@ -8,9 +8,9 @@ ghost use Rattle.query_seek_ways.specs.WayContracts.{Leaf-branch, Ends-t
 use bits::numbers::wide;
 use image_types::Frame;
 use image_types::ValuePos;
-use nav::behind::child_and_slot;
 use nav::branches::find;
 use nav::branches::has_higher;
+use nav_behind::behind::child_and_slot;
 use nav_laws::BranchKind;
 use query_count::bounds::Bound;
 use query_count::levels::AT_ROOT;

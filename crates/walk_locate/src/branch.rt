@@ -9,9 +9,9 @@ ghost use Rattle.walk_locate.specs.Located.{lowered-range, Summable, Mor
 use image_types::BitPos;
 use image_types::Frame;
 use image_types::NodeNum;
-use nav::behind::child_and_slot;
 use nav::branches::is_there;
 use nav::branches::next_branch;
+use nav_behind::behind::child_and_slot;
 use nav_laws::NextBranch;
 use query_count::levels::LevelSum;
 use query_count::levels::sum_below;

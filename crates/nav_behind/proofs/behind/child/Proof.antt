@@ -3,8 +3,8 @@ use lib.ListN.{drop}
 use Rattle.bits_laws.specs.RankLaws.{rank-le}
 use borrow.Author.Tests.{lt-ltb, le-ltb}
 use native.Mathlib.Omega.{arith}
-use Rattle.nav.proofs.behind.child.Statement.{statement}
-use Rattle.nav.proofs.behind.child.Tie as tie
+use Rattle.nav_behind.proofs.behind.child.Statement.{statement}
+use Rattle.nav_behind.proofs.behind.child.Tie as tie
 
 child-rank-requires : tie.Need-child-rank-requires
 child-rank-requires c κs =

@@ -12,8 +12,8 @@ use lib.Dec.{eqb}
 use native.Mathlib.Omega.{arith}
 use mathlib.Core.Path.{ap, _∙_}
 use borrow.Author.Needs.{needs}
-use Rattle.nav.proofs.nodes.is_exact.Statement.{statement}
-use Rattle.nav.proofs.nodes.is_exact.Tie as tie
+use Rattle.nav_nodes.proofs.nodes.is_exact.Statement.{statement}
+use Rattle.nav_nodes.proofs.nodes.is_exact.Tie as tie
 
 sub-bit-at : tie.Need-sub-bit-at
 sub-bit-at c = search needs

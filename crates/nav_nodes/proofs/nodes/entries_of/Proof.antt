@@ -6,8 +6,8 @@ use mathlib.Core.Bool.{true, false}
 use lib.ListN.{drop}
 use native.Mathlib.Omega.{arith}
 use borrow.Author.Needs.{needs}
-use Rattle.nav.proofs.nodes.entries_of.Statement.{statement}
-use Rattle.nav.proofs.nodes.entries_of.Tie as tie
+use Rattle.nav_nodes.proofs.nodes.entries_of.Statement.{statement}
+use Rattle.nav_nodes.proofs.nodes.entries_of.Tie as tie
 
 node-start-requires : tie.Need-node-start-requires
 node-start-requires c κs = search needs

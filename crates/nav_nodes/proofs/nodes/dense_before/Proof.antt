@@ -3,8 +3,8 @@ use Rattle.nav_laws.specs.Accepted.{nodes}
 use Rattle.nav_laws.specs.NumberBounds.{leaves-all}
 use native.Mathlib.Omega.{arith}
 use borrow.Author.Needs.{needs}
-use Rattle.nav.proofs.nodes.dense_before.Statement.{statement}
-use Rattle.nav.proofs.nodes.dense_before.Tie as tie
+use Rattle.nav_nodes.proofs.nodes.dense_before.Statement.{statement}
+use Rattle.nav_nodes.proofs.nodes.dense_before.Tie as tie
 
 mul-t8 : tie.Need-mul-t8
 mul-t8 c = search needs

@@ -7,8 +7,8 @@ use Rattle.bits_laws.specs.Bits.{rank}
 use native.Mathlib.Omega.{arith}
 use mathlib.Core.Path.{ap}
 use borrow.Author.Needs.{needs}
-use Rattle.nav.proofs.nodes.sparse_before.Statement.{statement}
-use Rattle.nav.proofs.nodes.sparse_before.Tie as tie
+use Rattle.nav_nodes.proofs.nodes.sparse_before.Statement.{statement}
+use Rattle.nav_nodes.proofs.nodes.sparse_before.Tie as tie
 
 node-start-requires : tie.Need-node-start-requires
 node-start-requires c κs = search needs
