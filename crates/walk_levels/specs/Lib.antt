@@ -1,5 +1,3 @@
-pub mod Entries
-pub mod EntryLaws
 pub mod Levels
 pub mod LevelLaws
 pub mod DownLaws

@@ -3,14 +3,8 @@
 ghost use mathlib.Core.Path.{_≡_};
 ghost use Prim.Native.Nat.{_<_};
 ghost use Rattle.nav_laws.specs.Accepted.{Accepted};
-ghost use Rattle.walk_levels.specs.Entries.{Behind-node};
+ghost use Rattle.walk_entries.specs.Entries.{Behind-node};
 ghost use Rattle.walk_levels.specs.Levels.{Can-climb, Climbs, Can-descend, Descended, On-node, Enters, Behind-taken, entry-on, with-entry};
-use super::entries::Entry;
-use super::entries::child_at;
-use super::entries::first_at;
-use super::entries::next_at;
-use super::entries::slot_at;
-use super::entries::start_at;
 use bits::numbers::wide;
 use image_types::BitPos;
 use image_types::Frame;
@@ -22,6 +16,12 @@ use nav_laws::LeafEnd;
 use nav_laws::LeafStop;
 use nav_laws::NextBranch;
 use nav_paths::higher::Higher;
+use walk_entries::entries::Entry;
+use walk_entries::entries::child_at;
+use walk_entries::entries::first_at;
+use walk_entries::entries::next_at;
+use walk_entries::entries::slot_at;
+use walk_entries::entries::start_at;
 
 // Where the search for the next leaf starts: the depth of a node of the path, and the first of its labels that is not behind.
 pub struct Resume {

@@ -8,11 +8,11 @@ use Rattle.bits_laws.specs.RankLaws.{rank-le}
 use Rattle.nav_laws.specs.Accepted.{nodes}
 use Rattle.nav_laws.specs.NumberBounds.{leaves-all}
 use Rattle.nav_laws.specs.Positions.{child-at, slot-at, dense-kids, dense-leaves, dense-totals, few-children}
-use Rattle.walk_levels.specs.Entries.{child-from}
+use Rattle.walk_entries.specs.Entries.{child-from}
 use Rattle.bits_laws.specs.Bits.{rank}
 use borrow.Author.Needs.{needs}
-use Rattle.walk_levels.proofs.entries.slot_at.Statement.{statement}
-use Rattle.walk_levels.proofs.entries.slot_at.Tie as tie
+use Rattle.walk_entries.proofs.entries.slot_at.Statement.{statement}
+use Rattle.walk_entries.proofs.entries.slot_at.Tie as tie
 
 -- the child behind a branch of a dense node, and of a sparse one
 child-dense : (c : tie.Then1) → c .before .before .before .before .args .child .0 ≡ 1 + rank (drop (c .before .before .before .before .args .f .dc) (c .before .before .before .before .args .image .now)) (c .before .before .before .before .args .at .0)

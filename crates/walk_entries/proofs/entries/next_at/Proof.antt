@@ -4,11 +4,11 @@ use native.Mathlib.Omega.{arith}
 use lib.ListN.{drop}
 use Rattle.bits_laws.specs.SelectLaws.{select-le}
 use Rattle.nav_laws.specs.FoundBranch.{Is-sparse}
-use Rattle.walk_levels.specs.Entries.{start-of}
-use Rattle.walk_levels.specs.EntryLaws.{next-gone, next-there, entry-reached}
+use Rattle.walk_entries.specs.Entries.{start-of}
+use Rattle.walk_entries.specs.EntryLaws.{next-gone, next-there, entry-reached}
 use borrow.Author.Needs.{needs}
-use Rattle.walk_levels.proofs.entries.next_at.Statement.{statement}
-use Rattle.walk_levels.proofs.entries.next_at.Tie as tie
+use Rattle.walk_entries.proofs.entries.next_at.Statement.{statement}
+use Rattle.walk_entries.proofs.entries.next_at.Tie as tie
 
 -- the node is sparse where an entry is known
 sparse : (c : tie.Else1) → Is-sparse (c .before .before .before .args .image .now) (c .before .before .before .args .f) (c .before .before .before .args .m .0)

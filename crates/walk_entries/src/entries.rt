@@ -6,7 +6,7 @@ ghost use Rattle.nav_laws.specs.Positions.{child-at, slot-at};
 ghost use Rattle.nav_laws.specs.NextBranch.{Next-branch};
 ghost use Rattle.nav_laws.specs.Accepted.{Accepted};
 ghost use Rattle.nav_laws.specs.FoundBranch.{Is-node, Is-position, First-branch};
-ghost use Rattle.walk_levels.specs.Entries.{start-of, child-from, Tells-end, Next-entry, Behind-node, Starts-at};
+ghost use Rattle.walk_entries.specs.Entries.{start-of, child-from, Tells-end, Next-entry, Behind-node, Starts-at};
 use bits_ranks::ones::bit_at;
 use image_types::BitPos;
 use image_types::EXTRA_LABEL;

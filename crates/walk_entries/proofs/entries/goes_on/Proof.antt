@@ -10,10 +10,10 @@ use Rattle.bits_laws.specs.Bits.{bit-at}
 use Rattle.bits_laws.specs.SelectLaws.{select-le}
 use Rattle.image_types.specs.Records.{tail-part}
 use Rattle.nav_laws.specs.Tables.{starts-sampled}
-use Rattle.walk_levels.specs.EntryLaws.{louds-inside, louds-outside}
+use Rattle.walk_entries.specs.EntryLaws.{louds-inside, louds-outside}
 use borrow.Author.Needs.{needs}
-use Rattle.walk_levels.proofs.entries.goes_on.Statement.{statement}
-use Rattle.walk_levels.proofs.entries.goes_on.Tie as tie
+use Rattle.walk_entries.proofs.entries.goes_on.Statement.{statement}
+use Rattle.walk_entries.proofs.entries.goes_on.Tie as tie
 
 returns : tie.Need-returns
 returns c =

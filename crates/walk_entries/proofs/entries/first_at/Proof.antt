@@ -5,11 +5,11 @@ use native.Mathlib.Omega.{arith}
 use lib.ListN.{drop}
 use Rattle.bits_laws.specs.SelectLaws.{select-le}
 use Rattle.nav_laws.specs.FoundBranch.{Is-sparse}
-use Rattle.walk_levels.specs.Entries.{start-of}
-use Rattle.walk_levels.specs.EntryLaws.{start-below, first-other, first-sole, first-marked}
+use Rattle.walk_entries.specs.Entries.{start-of}
+use Rattle.walk_entries.specs.EntryLaws.{start-below, first-other, first-sole, first-marked}
 use borrow.Author.Needs.{needs}
-use Rattle.walk_levels.proofs.entries.first_at.Statement.{statement}
-use Rattle.walk_levels.proofs.entries.first_at.Tie as tie
+use Rattle.walk_entries.proofs.entries.first_at.Statement.{statement}
+use Rattle.walk_entries.proofs.entries.first_at.Tie as tie
 
 -- the node is sparse, and starts at the entry
 sparse : (c : tie.Else1) → Is-sparse (c .before .before .before .before .args .image .now) (c .before .before .before .before .args .f) (c .before .before .before .before .args .m .0)

@@ -5,10 +5,10 @@ use native.Mathlib.Omega.{arith}
 use lib.ListN.{drop}
 use Rattle.bits_laws.specs.RankLaws.{rank-le}
 use Rattle.nav_laws.specs.Positions.{dense-kids, dense-totals, few-children}
-use Rattle.walk_levels.specs.Entries.{start-of}
+use Rattle.walk_entries.specs.Entries.{start-of}
 use borrow.Author.Needs.{needs}
-use Rattle.walk_levels.proofs.entries.start_at.Statement.{statement}
-use Rattle.walk_levels.proofs.entries.start_at.Tie as tie
+use Rattle.walk_entries.proofs.entries.start_at.Statement.{statement}
+use Rattle.walk_entries.proofs.entries.start_at.Tie as tie
 
 returns : tie.Need-returns
 returns c = search needs

@@ -3,10 +3,10 @@ use mathlib.Core.Path.{ap, _∙_}
 use native.Mathlib.Omega.{arith}
 use borrow.Author.Tests.{le-ltb}
 use Rattle.nav_laws.specs.Positions.{child-at}
-use Rattle.walk_levels.specs.Entries.{child-from}
+use Rattle.walk_entries.specs.Entries.{child-from}
 use borrow.Author.Needs.{needs}
-use Rattle.walk_levels.proofs.entries.child_at.Statement.{statement}
-use Rattle.walk_levels.proofs.entries.child_at.Tie as tie
+use Rattle.walk_entries.proofs.entries.child_at.Statement.{statement}
+use Rattle.walk_entries.proofs.entries.child_at.Tie as tie
 
 returns : tie.Need-returns
 unfolding child-at

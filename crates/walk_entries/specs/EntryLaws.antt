@@ -21,7 +21,7 @@ use Rattle.nav_laws.specs.Positions.{branches, place, end-sparse, sole-plain, o
 use Rattle.nav_laws.specs.Tables.{start-found}
 use Rattle.nav_laws.specs.NextBranch.{Next-branch, Entry-read, sparse-none, sparse-some}
 use Rattle.nav_laws.specs.FoundBranch.{node-count, First-branch}
-use Rattle.walk_levels.specs.Entries.{start-of}
+use Rattle.walk_entries.specs.Entries.{start-of}
 
 module _ (s : Bytes) (f : Frame) (a : Accepted s f) (m : ℕ) (h : f .dense .nodes ≤ m) (l : m < node-count f) where
   -- a node has an entry
