@@ -7,7 +7,7 @@ use mathlib.Core.List.{List, [], _∷_}
 use native.Mathlib.Omega.{arith}
 use lib.ListN.{length, take, drop, length-append}
 use lib.Seq.{take-nil, take-take}
-use Rattle.spec.specs.Bytes.{bit, count, concat}
+use Rattle.spec.specs.Bytes.{bit, concat}
 use Rattle.spec.specs.Nodes.{Branch, to-node, to-leaf, Node, node, branches-of, is-exact, children, total, children-of}
 use Rattle.spec.specs.Trie.{open-leaves, leaf-count}
 use Rattle.nav_laws.specs.declared.BranchKind.{BranchKind}
@@ -16,7 +16,6 @@ use Rattle.nav_laws.specs.Slots.{node-at, leaves-before, slot-number}
 use Rattle.nav_laws.specs.Descent.{goes-children, children-before, child-number, children-split, goes-on, ends-at, kids-append, kids-take}
 use Rattle.nav_laws.specs.NextLabel.{first-kind}
 use Rattle.theory.specs.LeafLists.{Realizable, All-well-sized}
-use Rattle.theory.specs.Terms.{All}
 use Rattle.theory.specs.LevelTrie.{trie}
 use Rattle.theory.specs.Levels.{leaf-count-root}
 use Rattle.theory.specs.TrieTests.{realizable-trie, Empty-or-valid, empty-list, valid-trie}
