@@ -8,7 +8,7 @@ use super::in_word::select_by_halves;
 use super::in_word::select_in_word;
 use bits::numbers::read_word;
 use bits::numbers::smaller;
-use bits_ranks::ones::ones_word;
+use bits_ranks::ones_word;
 
 // The position of the lowest set bit of a word that is not zero.
 fn lowest_one(x: u64) -> usize

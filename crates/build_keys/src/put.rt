@@ -13,7 +13,7 @@ ghost use Rattle.build_laws.specs.Limits.{counter-max};
 use super::numbers::one_less;
 use bits::numbers::one_if;
 use bits::numbers::wide32;
-use bits_ranks::ones::set_bit;
+use bits_ranks::set_bit;
 use build_laws::Cell;
 use build_laws::Counters;
 use image_types::BitPos;

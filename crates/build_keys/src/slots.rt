@@ -15,7 +15,7 @@ use super::numbers::leaf_level;
 use super::numbers::one_less;
 use bits::numbers::wide32;
 use bits::reverse::reversed;
-use bits_ranks::ones::set_number;
+use bits_ranks::set_number;
 use build_laws::Counters;
 use build_laws::Key;
 use image_types::BitPos;

@@ -4,7 +4,7 @@ ghost use Prim.Native.Nat.{_-_, _≤_, _<_};
 ghost use Rattle.check_trie_laws.specs.Levels.{Louds-valid, LevelOf, Behind};
 use bits::numbers::bytes_for;
 use bits::parts::part;
-use bits_ranks::ones::rank_on;
+use bits_ranks::rank_on;
 use bits_select::select::select_from;
 use check_trie_laws::Level;
 use image_types::BitPos;

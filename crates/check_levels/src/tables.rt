@@ -9,7 +9,7 @@ use bits::numbers::blocks_for;
 use bits::numbers::bytes_for;
 use bits::numbers::read32;
 use bits::parts::part;
-use bits_ranks::ones::rank_from;
+use bits_ranks::rank_from;
 use bits_select::select::select_from;
 use check_trie_laws::Level;
 use image_types::BitPos;

@@ -9,7 +9,7 @@ ghost use Rattle.check_slots_laws.specs.SlotTests.{sparse-test, sparse-clear};
 ghost use Rattle.check_slots.specs.Entries.{Sized, Word-of, Entry-of, entry-clear, exact-test};
 use bits::numbers::bytes_for;
 use bits::parts::part;
-use bits_ranks::ones::ones_before;
+use bits_ranks::ones_before;
 use check_levels::tables::children_before;
 use check_slots_bits::clear::slot_clear;
 use check_slots_bits::starts::candidates;

@@ -15,7 +15,7 @@ ghost use Rattle.check_trie_laws.specs.Levels.{Louds-valid};
 ghost use Rattle.check_trie_laws.specs.BodyTests.{louds-test, dense-test, sparse-test, sums-test, Counts-few};
 use bits::numbers::bytes_for;
 use bits::parts::part;
-use bits_ranks::ones::bit_at;
+use bits_ranks::bit_at;
 use check_levels::judge::levels_valid;
 use check_tables_laws::SparseCounts;
 use check_trie_dense::dense::dense_valid;

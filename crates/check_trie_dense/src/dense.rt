@@ -13,8 +13,8 @@ use super::ROW_WORDS;
 use super::cover::covered;
 use bits::numbers::read64;
 use bits::parts::part;
-use bits_ranks::ones::bit_at;
-use bits_ranks::ones::ones_of;
+use bits_ranks::bit_at;
+use bits_ranks::ones_of;
 use image_types::ROW_BITS;
 use image_types::ROW_BYTES;
 

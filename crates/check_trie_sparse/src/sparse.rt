@@ -14,7 +14,7 @@ use super::labels::full_labels;
 use super::marks::descents_within;
 use bits::numbers::read_word;
 use bits::numbers::read64;
-use bits_ranks::ones::bit_at;
+use bits_ranks::bit_at;
 use image_types::BitPos;
 use image_types::EXTRA_LABEL;
 

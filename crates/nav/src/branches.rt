@@ -9,7 +9,7 @@ ghost use Rattle.nav_laws.specs.NextBranch.{Next-branch, Entry-read, Entry-bran
 ghost use Rattle.nav_laws.specs.FoundBranch.{Is-node, Is-sparse, Found-branch};
 ghost use Rattle.nav_laws.specs.Positions.{branches, place};
 use bits::numbers::wide;
-use bits_ranks::ones::bit_at;
+use bits_ranks::bit_at;
 use bits_select::select::next_one;
 use image_types::BitPos;
 use image_types::Frame;
@@ -18,7 +18,7 @@ use image_types::ROW_BITS;
 use nav_laws::BranchKind;
 use nav_laws::Found;
 use nav_laws::NextBranch;
-use nav_nodes::nodes::entries_of;
+use nav_nodes::entries_of;
 
 // The first of the labels from `from` to `to`, which ascend, that is not below y, or the end.
 fn search(labels: &[u8], from: usize, to: usize, y: usize) -> usize

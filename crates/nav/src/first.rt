@@ -5,8 +5,8 @@ use super::branches::next_branch;
 use image_types::Frame;
 use image_types::NodeNum;
 use nav_laws::FirstBranch;
-use nav_nodes::nodes::entries_of;
-use nav_nodes::nodes::is_exact;
+use nav_nodes::entries_of;
+use nav_nodes::is_exact;
 
 // The first branch of a sparse node: the one at its first entry.
 fn first_sparse(image: &[u8], f: Frame, m: NodeNum) -> FirstBranch

@@ -5,7 +5,7 @@ ghost use Rattle.nav_laws.specs.NextBranch.{Next-branch};
 ghost use Rattle.nav_edges.specs.EdgeContracts.{Last-branch};
 use bits::numbers::one_if;
 use bits::numbers::wide;
-use bits_ranks::ones::bit_at;
+use bits_ranks::bit_at;
 use image_types::BitPos;
 use image_types::Frame;
 use image_types::NodeNum;
@@ -18,7 +18,7 @@ use nav::branches::next_branch;
 use nav_laws::BranchKind;
 use nav_laws::Found;
 use nav_laws::NextBranch;
-use nav_nodes::nodes::entries_of;
+use nav_nodes::entries_of;
 
 // The first branch of a node whose label is above y, where b is what it has at y. In a sparse node the branch's position tells; a dense one is searched.
 pub fn next_higher(image: &[u8], f: Frame, m: NodeNum, y: usize, b: Found) -> NextBranch

@@ -6,7 +6,7 @@ ghost use Rattle.bits_laws.specs.Bits.{rank, select};
 ghost use Rattle.nav_laws.specs.Stored.{Rank-entry, Sample};
 ghost use Rattle.nav_laws.specs.Accepted.{Accepted};
 use bits::numbers::read32;
-use bits_ranks::ones::rank_from;
+use bits_ranks::rank_from;
 use bits_select::select::next_one;
 use bits_select::select::select_from;
 use image_types::BitPos;

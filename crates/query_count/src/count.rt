@@ -14,7 +14,7 @@ use super::levels::sums_apart;
 use bits::numbers::one_if;
 use image_types::Frame;
 use keys::compare::shared;
-use nav_behind::behind::slot;
+use nav_behind::slot;
 use query_laws::KeyEnd;
 use query_point::follow::follow;
 use query_point::suffix::open_between;

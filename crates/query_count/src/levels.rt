@@ -11,7 +11,7 @@ use bits::numbers::larger;
 use image_types::Frame;
 use image_types::MAX_LEVELS;
 use image_types::NodeNum;
-use nav_nodes::nodes::counts_before;
+use nav_nodes::counts_before;
 
 // A bound on the level `depth`: the first node there that does not lie before it, and the sum of its slot numbers on the levels above.
 pub struct LevelSum {

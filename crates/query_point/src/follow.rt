@@ -7,7 +7,7 @@ use bits::numbers::wide;
 use image_types::Frame;
 use image_types::NodeNum;
 use nav::branches::find;
-use nav_behind::behind::child;
+use nav_behind::child;
 use nav_laws::BranchKind;
 use query_laws::KeyEnd;
 

@@ -16,8 +16,8 @@ use super::suffix::suffix_equals;
 use image_types::BitPos;
 use image_types::Frame;
 use image_types::NodeNum;
-use nav_behind::behind::slot;
-use nav_nodes::nodes::is_exact;
+use nav_behind::slot;
+use nav_nodes::is_exact;
 use query_laws::KeyEnd;
 use query_laws::Rule;
 

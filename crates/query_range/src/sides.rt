@@ -9,11 +9,11 @@ use image_types::BitPos;
 use image_types::Frame;
 use image_types::NodeNum;
 use nav::first::first_branch;
-use nav_behind::behind::child;
-use nav_behind::behind::slot;
+use nav_behind::child;
+use nav_behind::slot;
 use nav_edges::last_branch;
 use nav_laws::BranchKind;
-use nav_nodes::nodes::is_exact;
+use nav_nodes::is_exact;
 use query_point::suffix::high_below;
 use query_point::suffix::low_above;
 

@@ -18,7 +18,7 @@ use image_types::NodeNum;
 use keys::compare::shared;
 use nav::branches::find;
 use nav::branches::is_there;
-use nav_behind::behind::slot;
+use nav_behind::slot;
 use nav_edges::next_higher;
 use query_laws::KeyEnd;
 use query_point::follow::follow;

@@ -10,7 +10,7 @@ use image_types::Frame;
 use image_types::ValuePos;
 use nav::branches::find;
 use nav::branches::has_higher;
-use nav_behind::behind::child_and_slot;
+use nav_behind::child_and_slot;
 use nav_laws::BranchKind;
 use query_count::bounds::Bound;
 use query_count::levels::AT_ROOT;

@@ -7,7 +7,7 @@ ghost use Rattle.spec.specs.Questions.{begins-with};
 ghost use Rattle.nav_laws.specs.Accepted.{Accepted};
 use super::suffix::suffix_agrees;
 use image_types::Frame;
-use nav_behind::behind::slot;
+use nav_behind::slot;
 use query_laws::KeyEnd;
 use query_point::follow::follow;
 

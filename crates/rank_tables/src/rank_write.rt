@@ -5,7 +5,7 @@ ghost use Rattle.bits_laws.specs.Bits.{placed};
 ghost use Rattle.rank_tables_laws.specs.Entries.{rank-entries};
 ghost use Rattle.rank_tables_laws.specs.Tables.{spanned, Ranks-room};
 use bits::numbers::write32;
-use bits_ranks::ones::rank_from;
+use bits_ranks::rank_from;
 use rank_tables_laws::Span;
 
 // The table of n ranks goes to out from `table`: entry b is the number of ones before block b of the finished body. A block has so many words.

@@ -10,8 +10,8 @@ ghost use Rattle.rank_tables_laws.specs.Tables.{Held};
 use super::words::Counted;
 use super::words::ones_among;
 use bits::numbers::read32;
-use bits_ranks::ones::bit_at;
-use bits_ranks::ones::ones_before;
+use bits_ranks::bit_at;
+use bits_ranks::ones_before;
 use image_types::SAMPLE_RATE;
 
 // Whether entry t is there and is the position of the set bit number 64 t, counted from 0, which word q holds among the first n bits. So many set bits stand before the word.

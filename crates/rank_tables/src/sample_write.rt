@@ -6,7 +6,7 @@ ghost use Rattle.rank_tables_laws.specs.Entries.{sample-entries};
 ghost use Rattle.rank_tables_laws.specs.Tables.{spanned, Samples-room};
 use bits::numbers::smaller;
 use bits::numbers::write32;
-use bits_ranks::ones::rank_from;
+use bits_ranks::rank_from;
 use bits_select::select::select_in;
 use image_types::SAMPLE_RATE;
 use rank_tables_laws::Span;

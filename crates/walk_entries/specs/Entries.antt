@@ -11,7 +11,7 @@ use Rattle.nav_laws.specs.Slots.{node-at}
 use Rattle.nav_laws.specs.Accepted.{dense-nodes, nodes}
 use Rattle.nav_laws.specs.Positions.{place}
 use Rattle.nav_laws.specs.FoundBranch.{Is-sparse}
-use Rattle.walk_entries.specs.declared.entries.Entry.{Entry}
+use Rattle.walk_entries.specs.declared.Entry.{Entry}
 
 -- the entry where sparse node m starts, or where the last one ends
 abbrev pub start-of : Bytes → Frame → ℕ → ℕ

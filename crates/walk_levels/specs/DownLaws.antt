@@ -24,7 +24,7 @@ use Rattle.nav_laws.specs.PathSteps.{node-in}
 use Rattle.nav_laws.specs.FoundBranch.{node-count, Is-position}
 use Rattle.nav_paths.specs.declared.higher.Higher.{Higher}
 use Rattle.nav_paths.specs.PathLaws.{Descends, descends-first, leaf-reached, next-deep, next-on, exact-reached, descends-next}
-use Rattle.walk_entries.specs.declared.entries.Entry.{Entry}
+use Rattle.walk_entries.specs.declared.Entry.{Entry}
 use Rattle.walk_levels.specs.declared.moves.Entered.{Entered}
 use Rattle.walk_entries.specs.Entries.{child-from, Behind-node}
 use Rattle.walk_levels.specs.Levels.{numbered, path-of, entry-on, with-entry, Behind-taken, Taken, Rows, Levels, On-node, Enters, Can-descend, Descended}

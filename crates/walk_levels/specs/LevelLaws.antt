@@ -28,7 +28,7 @@ use Rattle.nav_laws.specs.Positions.{branches, place, child-at, slot-at, Branch
 use Rattle.nav_laws.specs.FoundBranch.{node-count, First-branch}
 use Rattle.nav_laws.specs.NextBranch.{Next-branch}
 use Rattle.nav_laws.specs.Paths.{node-on}
-use Rattle.walk_entries.specs.declared.entries.Entry.{Entry}
+use Rattle.walk_entries.specs.declared.Entry.{Entry}
 use Rattle.nav_laws.specs.declared.LeafEnd.{LeafEnd}
 use Rattle.walk_entries.specs.Entries.{start-of, child-from, Next-entry, Behind-node, Starts-at}
 use Rattle.walk_levels.specs.Levels.{numbered, entry-on, with-entry, continues, Taken, Levels, On-node, Enters, Kept}

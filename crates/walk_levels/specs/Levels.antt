@@ -21,7 +21,7 @@ use Rattle.nav_laws.specs.Paths.{onward}
 use Rattle.nav_laws.specs.PathSteps.{Has-branch}
 use Rattle.nav_paths.specs.declared.higher.Higher.{Higher}
 use Rattle.nav_paths.specs.PathContracts.{Searchable, Next-higher, Reaches}
-use Rattle.walk_entries.specs.declared.entries.Entry.{Entry}
+use Rattle.walk_entries.specs.declared.Entry.{Entry}
 use Rattle.walk_levels.specs.declared.moves.Entered.{Entered}
 use Rattle.nav_laws.specs.declared.LeafEnd.{LeafEnd}
 use Rattle.walk_levels.specs.declared.moves.Resume.{Resume}

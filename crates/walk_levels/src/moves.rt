@@ -16,12 +16,12 @@ use nav_laws::LeafEnd;
 use nav_laws::LeafStop;
 use nav_laws::NextBranch;
 use nav_paths::higher::Higher;
-use walk_entries::entries::Entry;
-use walk_entries::entries::child_at;
-use walk_entries::entries::first_at;
-use walk_entries::entries::next_at;
-use walk_entries::entries::slot_at;
-use walk_entries::entries::start_at;
+use walk_entries::Entry;
+use walk_entries::child_at;
+use walk_entries::first_at;
+use walk_entries::next_at;
+use walk_entries::slot_at;
+use walk_entries::start_at;
 
 // Where the search for the next leaf starts: the depth of a node of the path, and the first of its labels that is not behind.
 pub struct Resume {

@@ -11,7 +11,7 @@ use image_types::Frame;
 use image_types::NodeNum;
 use nav::branches::is_there;
 use nav::branches::next_branch;
-use nav_behind::behind::child_and_slot;
+use nav_behind::child_and_slot;
 use nav_laws::NextBranch;
 use query_count::levels::LevelSum;
 use query_count::levels::sum_below;

@@ -4,11 +4,11 @@ ghost use Rattle.nav_laws.specs.Accepted.{Accepted};
 ghost use Rattle.walk_locate.specs.Located.{Leads};
 use super::branch::take_branch;
 use image_types::Frame;
-use nav_behind::behind::child;
-use nav_behind::behind::slot;
+use nav_behind::child;
+use nav_behind::slot;
 use nav_laws::BranchKind;
 use nav_laws::LeafStop;
-use nav_nodes::nodes::is_exact;
+use nav_nodes::is_exact;
 use nav_paths::leaf::PathEnd;
 use nav_paths::root_path;
 

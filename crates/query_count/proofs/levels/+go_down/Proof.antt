@@ -10,7 +10,7 @@ use borrow.Fn.PlainCycle.{Measures, is, falls, and}
 use Rattle.query_count.proofs.levels.go_down.Reads as go-down
 use Rattle.query_count.proofs.levels.go_down.Kinds as go-down-kinds
 use Rattle.query_count.proofs.levels.+go_down.Lts-go_down as go-down-lts
-use Rattle.nav_nodes.proofs.nodes.counts_before.Reads as counts-before-reads
+use Rattle.nav_nodes.proofs.counts_before.Reads as counts-before-reads
 use Rattle.query_count.proofs.levels.+go_down.{statement}
 use Rattle.query_count.proofs.levels.+go_down.Tie.{close}
 

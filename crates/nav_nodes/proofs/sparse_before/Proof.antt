@@ -1,0 +1,56 @@
+use Rattle.nav_laws.specs.Positions.{before-sparse, few-children, dense-totals}
+use lib.ListN.{drop}
+use Rattle.nav_laws.specs.Accepted.{nodes}
+use Rattle.nav_laws.specs.NumberBounds.{leaves-all}
+use Rattle.bits_laws.specs.RankLaws.{rank-le}
+use Rattle.bits_laws.specs.Bits.{rank}
+use native.Mathlib.Omega.{arith}
+use mathlib.Core.Path.{ap}
+use borrow.Author.Needs.{needs}
+use Rattle.nav_nodes.proofs.sparse_before.Statement.{statement}
+use Rattle.nav_nodes.proofs.sparse_before.Tie as tie
+
+node-start-requires : tie.Need-node-start-requires
+node-start-requires c κs = search needs
+
+entry-rank-requires : tie.Need-entry-rank-requires
+entry-rank-requires c κs = search needs
+
+add-t6 : tie.Need-add-t6
+add-t6 c =
+    let a = c .before .before .before .before .args in
+    let p = c .before .before .before .before .pre .0 in
+    let n = c .before .before .node-start in
+    omega (arith, dense-totals (a .image .now) (a .f) p .0, few-children (a .image .now) (a .f) p (a .f .dense .nodes) (omega arith), c .before .entry-rank .ensures, rank-le (drop (a .f .sc) (a .image .now)) (n .result .0), n .ensures .1, p .writable .few-entries, p .entry-size)
+
+sub-t7 : tie.Need-sub-t7
+sub-t7 c =
+    let a = c .before .before .before .before .before .args in
+    omega (arith, dense-totals (a .image .now) (a .f) (c .before .before .before .before .before .pre .0) .1)
+
+sub-t8 : tie.Need-sub-t8
+sub-t8 c =
+    let a = c .before .before .before .before .before .before .args in
+    omega (arith, c .before .before .before .entry-rank .ensures, rank-le (drop (a .f .sc) (a .image .now)) (c .before .before .before .before .node-start .result .0))
+
+add-t9 : tie.Need-add-t9
+add-t9 c =
+    let a = c .before .before .before .before .before .before .args in
+    let p = c .before .before .before .before .before .before .pre .0 in
+    omega (arith, dense-totals (a .image .now) (a .f) p .1, leaves-all (nodes (a .image .now) (a .f)) (a .f .dense .nodes), p .writable .leaf-total, p .writable .few, c .before .before .before .before .node-start .ensures .1, p .writable .few-entries, p .entry-size)
+
+returns : tie.Need-returns
+returns c =
+    let a = c .before .before .before .before .before .before .args in
+    let p = c .before .before .before .before .before .before .pre in
+    let d = dense-totals (a .image .now) (a .f) (p .0) in
+    let k = c .before .before .before .entry-rank .ensures in
+    let n = c .before .before .before .before .node-start .ensures .0 in
+    let q = before-sparse (a .image .now) (a .f) (p .0) (a .m .0) (p .1) (p .2) in
+    let e = ap (rank (drop (a .f .sc) (a .image .now))) n in
+    record { children-are = omega (arith, q .0); leaves-are = omega (arith, q .1) }
+
+pub sparse-before-spec : {M : Type 1} → statement M
+sparse-before-spec =
+    tie.close
+    (tie.spec node-start-requires entry-rank-requires add-t6 sub-t7 sub-t8 add-t9 returns)
