@@ -6,15 +6,14 @@ ghost use Rattle.image_types.specs.FrameOf.{FrameOf};
 ghost use Rattle.image_types.specs.Outcomes.{outcome};
 use ask_files::file::QuestionFile;
 use ask_files::file::judge_file;
+use ask_replies::write_replies;
 use check_image::accept;
 use image_types::Frame;
 use image_types::Framed;
 use image_types::Written;
 use lengths::replies_fit;
-use replies::write_replies;
 
 pub mod lengths; // lengths.rt: whether all replies fit into the buffer
-pub mod replies; // replies.rt: the reply to a question, and all replies in the buffer
 
 // The number of a reply buffer that is too short for the replies.
 const REPLIES_TOO_LONG: u32 = 25;

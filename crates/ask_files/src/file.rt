@@ -16,10 +16,10 @@ use keys::compare::compare;
 const MALFORMED: u32 = 21;
 
 // The number of a file that has a key over 64 bytes.
-const KEY_TOO_LONG: u32 = 22;
+pub const KEY_TOO_LONG: u32 = 22;
 
 // The number of a file that has a lower bound above its upper bound.
-const BOUNDS_REVERSED: u32 = 23;
+pub const BOUNDS_REVERSED: u32 = 23;
 
 // The number of a file that has more questions than MAX_QUESTIONS.
 const TOO_MANY_QUESTIONS: u32 = 24;

@@ -6,7 +6,7 @@ ghost use lib.ListN.{length};
 ghost use Rattle.spec.specs.Image.{rows};
 ghost use Rattle.image_types.specs.Header.{settings-of, counts-of, Short-fields};
 ghost use Rattle.image_types.specs.Records.{records-end, lengths-agree};
-ghost use Rattle.check_frame_laws.specs.FrameLaws.{settings-valid, Records-stand, Laid-out, Dense-placed, Totals};
+ghost use Rattle.check_frame_laws.specs.FrameLaws.{settings-valid, Records-stand, Laid-out, frame-at, header-starts, uncounted, Dense-placed, Totals};
 ghost use Rattle.check_tables_laws.specs.Tables.{dense-agrees};
 ghost use Rattle.check_frame.specs.Found.{Record-found, end-found, Ranked-frame, Read-as};
 use bits::numbers::read32;
@@ -145,24 +145,23 @@ pub struct RankedFrame {
     pub agrees: bool,
 }
 
-// The frame of an image whose records stand where its header says.
-fn laid_out(image: &[u8], h: Header) -> RankedFrame
-    requires { ⌜ Laid-out (now image) h ⌝ }
-    ensures { λ r. ⌜ Ranked-frame (now (image .entry)) r ⌝ }
+// The frame of a header: what it says, and the offset of each body by the table of the records. The totals of the dense nodes are left at 0.
+pub fn frame_at(h: Header) -> Frame
+    requires { ⌜ Short-fields h ⌝ }
+    ensures { λ r. ⌜ r ≡ frame-at h (header-starts h) uncounted ⌝ }
 {
     let starts = record_starts(h);
     let dense = h.dense;
     let sparse = h.sparse;
-    let uncounted = DenseTotals {
-        children: 0,
-        entries: 0,
-    };
-    let mut frame = Frame {
+    Frame {
         width: h.width,
         leaves: h.leaves,
         dense,
         sparse,
-        totals: uncounted,
+        totals: DenseTotals {
+            children: 0,
+            entries: 0,
+        },
         dl: starts[0] + BEFORE_BODY,
         dc: starts[1] + BEFORE_BODY,
         dp: starts[2] + BEFORE_BODY,
@@ -175,7 +174,15 @@ fn laid_out(image: &[u8], h: Header) -> RankedFrame
         rp: starts[9] + BEFORE_BODY,
         rs: starts[10] + BEFORE_BODY,
         ts: starts[11] + BEFORE_BODY,
-    };
+    }
+}
+
+// The frame of an image whose records stand where its header says, with the totals of its dense nodes.
+fn laid_out(image: &[u8], h: Header) -> RankedFrame
+    requires { ⌜ Laid-out (now image) h ⌝ }
+    ensures { λ r. ⌜ Ranked-frame (now (image .entry)) r ⌝ }
+{
+    let mut frame = frame_at(h);
     let counts = count_dense(image, frame);
     let totals = counts.totals;
     frame.totals = totals;

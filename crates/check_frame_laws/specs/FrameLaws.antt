@@ -1,20 +1,23 @@
 -- A frame from what the reader of the frame finds: the header stands, the records stand one behind the other up to the end, and their lengths are those that the header gives.
-use Prim.Native.Nat.{ℕ, _+_, _*_, _≤_, _<_}
+use Prim.Native.Nat.{ℕ, zero, suc, _+_, _*_, _≤_, _<_}
 use mathlib.Core.Path.{_≡_, refl, sym, ap, _∙_}
-use mathlib.Core.Bool.{Bool, true, false, _&&_, true≢false, and-false, and-assoc, and-true}
+use mathlib.Core.Bool.{Bool, true, false, cond, _&&_, true≢false, and-false, and-assoc, and-true}
 use mathlib.Core.List.{List, [], _∷_}
-use mathlib.Core.Option.{none, some}
+use mathlib.Core.Option.{Option, none, some}
+use native.Mathlib.Omega.{arith}
 use lib.ListN.{length, getD, drop}
 use lib.Dec.{leb, eqb}
-use borrow.Author.Tests.{lt-leb, le-leb, leb-true, ne-eqb, eq-eqb}
+use borrow.Author.Tests.{lt-leb, le-leb, leb-true, ne-eqb, eq-eqb, eqb-true}
 use Rattle.spec.specs.Bytes.{Bytes, blocks, every}
-use Rattle.spec.specs.Image.{rows, sizes}
+use Rattle.spec.specs.Image.{Settings, Counts, Row, rows, sizes}
 use Rattle.spec.specs.Frame.{has-header, read-bodies, named, parts}
-use Rattle.spec.specs.Check.{header-valid}
+use Rattle.spec.specs.Check.{header-valid, verdict}
+use Rattle.theory.specs.Terms.{All}
 use Rattle.theory.specs.Demands.{Passes-11, Passes-12, Check-refusal, header-missing, records-missing, header-wrong}
+use Rattle.theory.specs.CheckStages.{verdict-passes}
 use Rattle.bits_laws.specs.Bits.{rank}
-use Rattle.image_types.specs.Header.{settings-of, counts-of, Reads-header}
-use Rattle.image_types.specs.Records.{records-end, bodies-at, read-is, lengths-agree, starts, rows-end-at, laid-bodies, sized-is, bodies-laid}
+use Rattle.image_types.specs.Header.{settings-of, counts-of, Short-fields, slots-short, Reads-header}
+use Rattle.image_types.specs.Records.{twelve-rows, records-end, bodies-at, whole, read-is, lengths-agree, starts, rows-end-at, laid-bodies, sized-is, bodies-laid}
 use Rattle.image_types.specs.FrameOf.{frame-bodies, frame-parts, Chained, FrameOf, Within, within}
 use Rattle.image_types.specs.declared.Header.{Header}
 use Rattle.image_types.specs.declared.DenseTotals.{DenseTotals}
@@ -132,6 +135,32 @@ frame-at h a t = record {
 abbrev pub header-starts : Header → List ℕ
 header-starts h = starts (settings-of h) (counts-of h) rows 22
 
+-- the totals of dense nodes that are not counted
+abbrev pub uncounted : DenseTotals
+uncounted = record { children = 0; entries = 0 }
+
+-- each body is short
+sizes-small : (h : Header) → Short-fields h → All (λ r. r .size (settings-of h) (counts-of h) < 1099511627776) rows
+unfolding rows
+sizes-small h s =
+    let d = s .dense-nodes in
+    let e = s .sparse-entries in
+    let n = s .sparse-nodes in
+    let v = slots-short h s in
+    (omega arith, (omega arith, (omega arith, (omega arith, (omega arith, (omega arith, (omega arith, (omega arith, (omega arith, (omega arith, (omega arith, (omega arith, tt))))))))))))
+
+-- records of short bodies start before an end that grows with their number
+starts-before : (st : Settings) (c : Counts) (rs : List Row) (at : ℕ) → All (λ r. r .size st c < 1099511627776) rs → (i : ℕ) → getD (starts st c rs at) i 0 ≤ at + 1099511627782 * length rs
+unfolding starts
+starts-before st c [] at h zero = omega arith
+starts-before st c [] at h (suc i) = omega arith
+starts-before st c (r ∷ rs) at h zero = omega arith
+starts-before st c (r ∷ rs) at h (suc i) = omega (arith, h .0, starts-before st c rs (at + 6 + r .size st c) (h .1) i)
+
+-- Each record starts at an offset that fits a number by far.
+pub starts-small : (h : Header) → Short-fields h → (i : ℕ) → getD (header-starts h) i 0 < 17592186044416
+starts-small h s i = omega (arith, starts-before (settings-of h) (counts-of h) rows 22 (sizes-small h s) i, twelve-rows)
+
 -- the totals of the dense nodes, whose bodies stand at these offsets
 pub record Totals (s : Bytes) (dl dc dp n : ℕ) (t : DenseTotals) : Type 0 where
   pub children : t .children ≡ rank (drop dc s) (256 * n)
@@ -191,15 +220,19 @@ frame-laid s h t o n =
     }
 
 -- the totals of the dense nodes, by the ones of their bodies
-abbrev laid-totals : Bytes → Header → DenseTotals
+abbrev pub laid-totals : Bytes → Header → DenseTotals
 laid-totals s h = record {
   children = rank (drop (getD (header-starts h) 1 0 + 6) s) (256 * h .dense .nodes);
   entries = rank (drop (getD (header-starts h) 0 0 + 6) s) (256 * h .dense .nodes) + rank (drop (getD (header-starts h) 2 0 + 6) s) (h .dense .nodes);
 }
 
+-- A laid-out image has the frame with these totals.
+pub laid-frame : (s : Bytes) (h : Header) → Laid-out s h → FrameOf s (frame-at h (header-starts h) (laid-totals s h))
+laid-frame s h o = frame-laid s h (laid-totals s h) o (record { children = refl; entries = refl })
+
 -- A laid-out image has each body within it.
 pub laid-within : (s : Bytes) (h : Header) → Laid-out s h → Within s (frame-at h (header-starts h) (laid-totals s h))
-laid-within s h o = within s (frame-at h (header-starts h) (laid-totals s h)) (frame-laid s h (laid-totals s h) o (record { children = refl; entries = refl }))
+laid-within s h o = within s (frame-at h (header-starts h) (laid-totals s h)) (laid-frame s h o)
 
 -- the dense nodes' bodies and their tables lie within the image
 pub record Dense-placed (s : Bytes) (f : Frame) : Type 0 where
@@ -222,3 +255,42 @@ dense-laid s h t o =
 -- An image with a frame passed the numbers 11 and 12, and its records' bodies are the frame's.
 pub frame-passes : (s : Bytes) (f : Frame) → FrameOf s f → Passes-12 s (frame-bodies s f)
 frame-passes s f o = record { before = record { header = o .header; bodies = o .bodies }; header = o .valid }
+
+-- ---- an accepted image
+
+-- what has a header has 22 bytes
+pub header-long : (s : Bytes) → has-header s ≡ true → 22 ≤ length s
+unfolding has-header every
+header-long s e = go (leb 22 (length s)) (eqb (getD s 0 0) 72) (eqb (getD s 1 0) 68) refl e
+  where
+    go : (t u v : Bool) → leb 22 (length s) ≡ t → every (t ∷ u ∷ v ∷ []) ≡ true → 22 ≤ length s
+    go true u v f e = leb-true 22 (length s) f
+    go false u v f e = absurd (true≢false (sym e))
+
+-- where bodies are read, the records stand up to the end, and these are their bodies
+bodies-stand : (s : Bytes) (bs : List Bytes) → 22 ≤ length s → read-bodies rows (drop 22 s) ≡ some bs → (records-end rows s 22 ≡ some (length s)) × (bodies-at rows s 22 ≡ bs)
+bodies-stand s bs l e = go (records-end rows s 22) refl (sym (read-is rows s 22 l) ∙ e)
+  where
+    at-end : (n : ℕ) (t : Bool) → eqb n (length s) ≡ t → records-end rows s 22 ≡ some n → cond t (some (bodies-at rows s 22)) none ≡ some bs → (records-end rows s 22 ≡ some (length s)) × (bodies-at rows s 22 ≡ bs)
+    at-end n true f r e = (r ∙ ap some (eqb-true n (length s) f), cc)
+    at-end n false f r e = let z : _≡_ {A = ℕ} 0 1 = cc in absurd (omega arith)
+
+    go : (o : Option ℕ) → records-end rows s 22 ≡ o → whole rows s 22 o ≡ some bs → (records-end rows s 22 ≡ some (length s)) × (bodies-at rows s 22 ≡ bs)
+    go none r e = let z : _≡_ {A = ℕ} 0 1 = cc in absurd (omega arith)
+    go (some n) r e = at-end n (eqb n (length s)) refl r e
+
+-- two tests that both pass
+two-pass : (a b : Bool) → (a && b) ≡ true → (a ≡ true) × (b ≡ true)
+two-pass true b h = (refl, h)
+two-pass false b h = absurd (true≢false (sym h))
+
+-- An image that the check takes is laid out as its header says.
+pub accepted-laid : (s : Bytes) (h : Header) → verdict s ≡ 0 → Reads-header s h → Laid-out s h
+accepted-laid s h v r =
+    let p = verdict-passes s v in
+    let q = p .1 .before .before .before .before in
+    let l = header-long s (q .before .header) in
+    let b = bodies-stand s (p .0) l (q .before .bodies) in
+    let stands : Frame-stands s h = record { header = q .before .header; records = record { long = l; end = b .0 }; reads = r } in
+    let t = two-pass (settings-valid s h) (lengths-agree (settings-of h) (counts-of h) rows s 22) (sym (tests-12 s h stands) ∙ rw (b .1) (q .header)) in
+    record { stands = stands; settings = t .0; lengths = t .1 }

@@ -154,7 +154,7 @@ bodies-at [] s at = []
 bodies-at (r ∷ rs) s at = part s (at + 6) (body-length s at) ∷ bodies-at rs s (record-end s at)
 
 -- the bodies, where the records end with the bytes
-abbrev whole : List Row → Bytes → ℕ → Option ℕ → Option (List Bytes)
+abbrev pub whole : List Row → Bytes → ℕ → Option ℕ → Option (List Bytes)
 whole rs s at none = none
 whole rs s at (some e) = cond (eqb e (length s)) (some (bodies-at rs s at)) none
 

@@ -5,6 +5,7 @@ ghost use lib.ListN.{length, drop};
 ghost use Rattle.bits_laws.specs.Bits.{rank, select};
 ghost use Rattle.nav_laws.specs.Stored.{Rank-entry, Sample};
 ghost use Rattle.nav_laws.specs.Accepted.{Accepted};
+ghost use Rattle.nav_laws.specs.Tables.{Ranked};
 use bits::numbers::read32;
 use bits_ranks::rank_from;
 use bits_select::select::next_one;
@@ -12,6 +13,7 @@ use bits_select::select::select_from;
 use image_types::BitPos;
 use image_types::Frame;
 use image_types::NodeNum;
+use image_types::ROW_BITS;
 
 // The ones before bit k of the first n bits, by a table of those before each block of 64.
 fn rank_64(bits: &[u8], table: &[u8], n: usize, k: usize) -> usize
@@ -24,6 +26,14 @@ fn rank_64(bits: &[u8], table: &[u8], n: usize, k: usize) -> usize
     let b = (k - 1) / 64;
     let before = read32(table, 4 * b);
     rank_from(bits, b, before, k)
+}
+
+// The ones before bit k of the n bits of the body at an offset, by the table of those before each block of 64 at another.
+pub fn rank_at(image: &[u8], body: usize, table: usize, n: usize, k: usize) -> usize
+    requires { ⌜ (body ≤ length (now image)) × (table ≤ length (now image)) × Ranked 64 n (drop body (now image)) (drop table (now image)) × (k ≤ n) ⌝ }
+    ensures { λ r. ⌜ r ≡ rank (drop body (now (image .entry))) k ⌝ }
+{
+    rank_64(&image[body..], &image[table..], n, k)
 }
 
 // The ones before bit k of the first n bits, by a table of those before each block of 512.
@@ -44,9 +54,7 @@ pub fn label_rank(image: &[u8], f: Frame, at: BitPos) -> usize
     requires { ⌜ Accepted (now image) f × (at .0 ≤ 256 * f .dense .nodes) ⌝ }
     ensures { λ r. ⌜ r ≡ rank (drop (f .dl) (now (image .entry))) (at .0) ⌝ }
 {
-    let dl = f.dl;
-    let rl = f.rl;
-    rank_64(&image[dl..], &image[rl..], 256 * f.dense.nodes, at.0)
+    rank_at(image, f.dl, f.rl, ROW_BITS * f.dense.nodes, at.0)
 }
 
 // The continuing branches before a bit of DC.
@@ -54,9 +62,7 @@ pub fn child_rank(image: &[u8], f: Frame, at: BitPos) -> usize
     requires { ⌜ Accepted (now image) f × (at .0 ≤ 256 * f .dense .nodes) ⌝ }
     ensures { λ r. ⌜ r ≡ rank (drop (f .dc) (now (image .entry))) (at .0) ⌝ }
 {
-    let dc = f.dc;
-    let rc = f.rc;
-    rank_64(&image[dc..], &image[rc..], 256 * f.dense.nodes, at.0)
+    rank_at(image, f.dc, f.rc, ROW_BITS * f.dense.nodes, at.0)
 }
 
 // The exact leaves among the dense nodes before node m.
@@ -64,9 +70,7 @@ pub fn exact_rank(image: &[u8], f: Frame, m: NodeNum) -> usize
     requires { ⌜ Accepted (now image) f × (m .0 ≤ f .dense .nodes) ⌝ }
     ensures { λ r. ⌜ r ≡ rank (drop (f .dp) (now (image .entry))) (m .0) ⌝ }
 {
-    let dp = f.dp;
-    let rp = f.rp;
-    rank_64(&image[dp..], &image[rp..], f.dense.nodes, m.0)
+    rank_at(image, f.dp, f.rp, f.dense.nodes, m.0)
 }
 
 // The continuing entries before an entry of SC.

@@ -13,5 +13,6 @@ pub mod Check
 pub mod Ask
 pub mod Walk
 pub mod WalkRecords
+pub mod OneQuestion
 pub mod Print
 pub mod Examples

@@ -62,7 +62,7 @@ seek-place i (l ∷ ls) start h = go (below (highest l) start) (seek-place (suc 
     go false ih = omega arith
 
 -- the number of a reply over at most 65,535 leaves
-number-small : (ls : List Leaf) → length ls ≤ 65535 → (q : Question) → reply ls q .number < 4294967296
+pub number-small : (ls : List Leaf) → length ls ≤ 65535 → (q : Question) → reply ls q .number < 4294967296
 unfolding reply keyless point range begins-with counted seek
 number-small ls h (QP k) = bit-small (any (λ l. possible l k) ls)
 number-small ls h (QS start) = seek-place 0 ls start (omega arith)

@@ -193,7 +193,7 @@ unfolding parse-from
 questions-front f done [] q t d l h = absurd (omega arith)
 questions-front f done (b ∷ s) q t d l h = rw (ne-eqb done 1024 d, h, parse-from)
 
-questions-read : (f done : ℕ) (qs : List Question) → All Proper qs → done + length qs ≤ 1024 → length (file-bytes qs) ≤ f → parse-from f done (file-bytes qs) ≡ taken qs
+pub questions-read : (f done : ℕ) (qs : List Question) → All Proper qs → done + length qs ≤ 1024 → length (file-bytes qs) ≤ f → parse-from f done (file-bytes qs) ≡ taken qs
 unfolding parse-from file-bytes concat with-question
 questions-read zero done [] p d l = refl
 questions-read (suc f) done [] p d l = refl

@@ -1,14 +1,16 @@
 // Leaves as records of bytes, for programs in other languages: the kind (1 exact, 2 open), the cut key's length, 64 bytes with the cut key and zeros behind it,
 // and the suffix as a number of two bytes, the low one first.
 ghost use mathlib.Core.Path.{_≡_};
+ghost use Rattle.spec.specs.Check.{verdict};
 ghost use Rattle.spec.specs.Nodes.{read-leaves};
 ghost use Rattle.spec.specs.WalkRecords.{kind-byte, walk-records};
 ghost use Rattle.bits_laws.specs.Bits.{placed};
 ghost use Rattle.image_types.specs.Outcomes.{outcome};
 ghost use Rattle.walk_laws.specs.LeafValues.{value-record};
 ghost use Rattle.walk_laws.specs.Filling.{Fills};
-ghost use Rattle.walk_states.specs.Walks.{Walks};
+ghost use Rattle.walk_states.specs.Walks.{Walks, Opens};
 ghost use Rattle.walk_states.specs.Records.{Room};
+use accepted_frame::accepted_frame;
 use bits::copy::write_bytes;
 use image_types::Leaf;
 use image_types::Written;
@@ -16,6 +18,7 @@ use walk_cursor::advance;
 use walk_cursor::leaf_of;
 use walk_states::states::State;
 use walk_states::states::Status;
+use walk_states::states::open_accepted;
 use walk_states::value::padded;
 use walk_walker::walker::open_from;
 
@@ -77,14 +80,30 @@ fn write_leaves(image: &[u8], from: State, out: &mut [u8]) -> usize
     RECORD_SIZE * count
 }
 
-// Writes the records of the leaves from a place on to the front of out, of as many as it holds whole. The image is checked once.
-pub fn write_records(image: &[u8], place: usize, out: &mut [u8]) -> Written
-    ensures { λ r. ⌜ outcome r (now (out .exit)) ≡ walk-records (now (image .entry)) place (now (out .entry)) ⌝ }
+// Writes the records of the leaves from where a walk was opened to the front of out, of as many as it holds whole.
+fn write_opened(image: &[u8], at: State, out: &mut [u8]) -> Written
+    requires { ⌜ Opens (now image) (at .place) at ⌝ }
+    ensures { λ r. ⌜ outcome r (now (out .exit)) ≡ walk-records (now (image .entry)) (at .place) (now (out .entry)) ⌝ }
 {
-    let at = open_from(image, place);
     let status = at.status;
     match status {
         Status::Refused(number) => Written::Refused(number),
         Status::Opened => Written::Bytes(write_leaves(image, at, out)),
     }
+}
+
+// Writes the records of the leaves from a place on. The image is checked once.
+pub fn write_records(image: &[u8], place: usize, out: &mut [u8]) -> Written
+    ensures { λ r. ⌜ outcome r (now (out .exit)) ≡ walk-records (now (image .entry)) place (now (out .entry)) ⌝ }
+{
+    write_opened(image, open_from(image, place), out)
+}
+
+// The same over an image that the check has accepted, which is not checked again.
+pub fn write_accepted(image: &[u8], place: usize, out: &mut [u8]) -> Written
+    requires { ⌜ verdict (now image) ≡ 0 ⌝ }
+    ensures { λ r. ⌜ outcome r (now (out .exit)) ≡ walk-records (now (image .entry)) place (now (out .entry)) ⌝ }
+{
+    let f = accepted_frame(image);
+    write_opened(image, open_accepted(image, f, place), out)
 }

@@ -1,6 +1,8 @@
 // Where a walk over an image stands, by value beside the image's slice, and what it says there.
 ghost use mathlib.Core.Path.{_≡_};
+ghost use Rattle.spec.specs.Check.{verdict};
 ghost use Rattle.spec.specs.Walk.{open-walk};
+ghost use Rattle.nav_laws.specs.Accepted.{Accepted};
 ghost use Rattle.walk_states.specs.Walks.{no-leaf, Gives, Walks, Opens, Moved};
 use super::value::padded;
 use check_image::accept;
@@ -98,23 +100,29 @@ fn refused(number: u32, place: usize) -> State
     }
 }
 
-// The state of a walk that is opened at a place. The image is checked here, and not again; the cursor goes straight to the place.
+// The state of a walk over an accepted image that is opened at a place, to which the cursor goes straight.
+pub fn open_accepted(image: &[u8], f: Frame, place: usize) -> State
+    requires { ⌜ Accepted (now image) f × (verdict (now image) ≡ 0) ⌝ }
+    ensures { λ r. ⌜ Opens (now (image .entry)) place r ⌝ }
+{
+    if f.leaves < place {
+        return refused(PLACE_REFUSED, place);
+    }
+    State {
+        status: Status::Opened,
+        place,
+        frame: f,
+        cursor: cursor_at(image, f, place),
+    }
+}
+
+// The state of a walk that is opened at a place. The image is checked here, and not again.
 pub fn open_state(image: &[u8], place: usize) -> State
     ensures { λ r. ⌜ Opens (now (image .entry)) place r ⌝ }
 {
     match accept(image) {
         Framed::Refused(number) => refused(number, place),
-        Framed::At(f) => {
-            if f.leaves < place {
-                return refused(PLACE_REFUSED, place);
-            }
-            State {
-                status: Status::Opened,
-                place,
-                frame: f,
-                cursor: cursor_at(image, f, place),
-            }
-        }
+        Framed::At(f) => open_accepted(image, f, place),
     }
 }
 

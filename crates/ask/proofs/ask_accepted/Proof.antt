@@ -9,7 +9,7 @@ use Rattle.nav_laws.specs.FromCheck.{checked-accepted}
 use Rattle.query_laws.specs.Answers.{all-small}
 use Rattle.ask_laws.specs.AskJoined.{ask-joined}
 use Rattle.ask_files.proofs.JudgeLaws.{file-taken, file-refused}
-use Rattle.ask.specs.Replies.{file-replies}
+use Rattle.ask_replies.specs.Replies.{file-replies}
 use Rattle.ask.proofs.ask_accepted.Statement.{statement}
 use Rattle.ask.proofs.ask_accepted.Tie as tie
 

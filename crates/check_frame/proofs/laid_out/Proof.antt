@@ -1,163 +1,21 @@
--- Each start is the one that the header gives, and lies within the image.
-use native.Mathlib.Omega.{arith}
-use Rattle.check_frame_laws.specs.FrameLaws.{frame-laid, laid-within, dense-laid}
+-- The frame of the header is that of the image, once its dense nodes are counted.
+use Rattle.check_frame_laws.specs.FrameLaws.{uncounted, frame-laid, dense-laid}
 use borrow.Author.Needs.{needs}
 use Rattle.check_frame.proofs.laid_out.Statement.{statement}
 use Rattle.check_frame.proofs.laid_out.Tie as tie
 
-record-starts-requires : tie.Need-record-starts-requires
-record-starts-requires c κs = search needs
-
-array-read-t13 : tie.Need-array-read-t13
-array-read-t13 c = search needs
-
-add-t14 : tie.Need-add-t14
-add-t14 c =
-    let r = c .before .before in
-    let b = r .before .before in
-    rw (r .record-starts .ensures) (omega (arith, laid-within (b .args .image .now) (b .args .h) (b .pre) .dl))
-
-array-read-t17 : tie.Need-array-read-t17
-array-read-t17 c = search needs
-
-add-t18 : tie.Need-add-t18
-add-t18 c =
-    let r = c .before .before in
-    let b = r .before .before in
-    rw (r .record-starts .ensures) (omega (arith, laid-within (b .args .image .now) (b .args .h) (b .pre) .dc))
-
-array-read-t21 : tie.Need-array-read-t21
-array-read-t21 c = search needs
-
-add-t22 : tie.Need-add-t22
-add-t22 c =
-    let r = c .before .before in
-    let b = r .before .before in
-    rw (r .record-starts .ensures) (omega (arith, laid-within (b .args .image .now) (b .args .h) (b .pre) .dp))
-
-array-read-t25 : tie.Need-array-read-t25
-array-read-t25 c = search needs
-
-add-t26 : tie.Need-add-t26
-add-t26 c =
-    let r = c .before .before in
-    let b = r .before .before in
-    rw (r .record-starts .ensures) (omega (arith, laid-within (b .args .image .now) (b .args .h) (b .pre) .sl))
-
-array-read-t29 : tie.Need-array-read-t29
-array-read-t29 c = search needs
-
-add-t30 : tie.Need-add-t30
-add-t30 c =
-    let r = c .before .before in
-    let b = r .before .before in
-    rw (r .record-starts .ensures) (omega (arith, laid-within (b .args .image .now) (b .args .h) (b .pre) .sc))
-
-array-read-t33 : tie.Need-array-read-t33
-array-read-t33 c = search needs
-
-add-t34 : tie.Need-add-t34
-add-t34 c =
-    let r = c .before .before in
-    let b = r .before .before in
-    rw (r .record-starts .ensures) (omega (arith, laid-within (b .args .image .now) (b .args .h) (b .pre) .sb))
-
-array-read-t37 : tie.Need-array-read-t37
-array-read-t37 c = search needs
-
-add-t38 : tie.Need-add-t38
-add-t38 c =
-    let r = c .before .before in
-    let b = r .before .before in
-    rw (r .record-starts .ensures) (omega (arith, laid-within (b .args .image .now) (b .args .h) (b .pre) .sv))
-
-array-read-t41 : tie.Need-array-read-t41
-array-read-t41 c = search needs
-
-add-t42 : tie.Need-add-t42
-add-t42 c =
-    let r = c .before .before in
-    let b = r .before .before in
-    rw (r .record-starts .ensures) (omega (arith, laid-within (b .args .image .now) (b .args .h) (b .pre) .rl))
-
-array-read-t45 : tie.Need-array-read-t45
-array-read-t45 c = search needs
-
-add-t46 : tie.Need-add-t46
-add-t46 c =
-    let r = c .before .before in
-    let b = r .before .before in
-    rw (r .record-starts .ensures) (omega (arith, laid-within (b .args .image .now) (b .args .h) (b .pre) .rc))
-
-array-read-t49 : tie.Need-array-read-t49
-array-read-t49 c = search needs
-
-add-t50 : tie.Need-add-t50
-add-t50 c =
-    let r = c .before .before in
-    let b = r .before .before in
-    rw (r .record-starts .ensures) (omega (arith, laid-within (b .args .image .now) (b .args .h) (b .pre) .rp))
-
-array-read-t53 : tie.Need-array-read-t53
-array-read-t53 c = search needs
-
-add-t54 : tie.Need-add-t54
-add-t54 c =
-    let r = c .before .before in
-    let b = r .before .before in
-    rw (r .record-starts .ensures) (omega (arith, laid-within (b .args .image .now) (b .args .h) (b .pre) .rs))
-
-array-read-t57 : tie.Need-array-read-t57
-array-read-t57 c = search needs
-
-add-t58 : tie.Need-add-t58
-add-t58 c =
-    let r = c .before .before in
-    let b = r .before .before in
-    rw (r .record-starts .ensures) (omega (arith, laid-within (b .args .image .now) (b .args .h) (b .pre) .ts))
+frame-at-requires : tie.Need-frame-at-requires
+frame-at-requires c κs = search needs
 
 count-dense-requires : tie.Need-count-dense-requires
-count-dense-requires c κs =
-    let r = c .before .before in
-    let b = r .before .before in
-    rw (r .record-starts .ensures) (dense-laid (b .args .image .now) (b .args .h) _ (b .pre))
+count-dense-requires c κs = rw (c .frame-at .ensures) (dense-laid (c .before .before .args .image .now) (c .before .before .args .h) uncounted (c .before .before .pre))
 
 returns : tie.Need-returns
 returns c =
     let d = c .before in
-    let r = d .before .before .before in
-    let b = r .before .before in
-    let e = rw (r .record-starts .ensures) at (d .count-dense .ensures) in
-    rw (r .record-starts .ensures) (frame-laid (b .args .image .now) (b .args .h) (d .count-dense .result .totals) (b .pre) (e .0), e .1)
+    let b = d .before .before .before in
+    let e = rw (d .before .frame-at .ensures) at (d .count-dense .ensures) in
+    rw (d .before .frame-at .ensures) (frame-laid (b .args .image .now) (b .args .h) (d .count-dense .result .totals) (b .pre) (e .0), e .1)
 
 pub laid-out-spec : {M : Type 1} → statement M
-laid-out-spec =
-    tie.close
-    (tie.spec
-    record-starts-requires
-    array-read-t13
-    add-t14
-    array-read-t17
-    add-t18
-    array-read-t21
-    add-t22
-    array-read-t25
-    add-t26
-    array-read-t29
-    add-t30
-    array-read-t33
-    add-t34
-    array-read-t37
-    add-t38
-    array-read-t41
-    add-t42
-    array-read-t45
-    add-t46
-    array-read-t49
-    add-t50
-    array-read-t53
-    add-t54
-    array-read-t57
-    add-t58
-    count-dense-requires
-    returns)
+laid-out-spec = tie.close (tie.spec frame-at-requires count-dense-requires returns)

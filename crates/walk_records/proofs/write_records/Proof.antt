@@ -1,35 +1,26 @@
--- A refusal writes nothing; else the records of the leaves from the place on are written.
+-- The walk is opened at the place.
+use Prim.Native.Nat.{ℕ}
+use mathlib.Core.Path.{ap, _∙_}
+use Rattle.spec.specs.WalkRecords.{walk-records}
 use borrow.Author.Needs.{needs}
-use Rattle.walk_states.specs.StateLaws.{writes-refused, writes-records}
 use Rattle.walk_records.proofs.write_records.Statement.{statement}
 use Rattle.walk_records.proofs.write_records.Tie as tie
 
 open-from-requires : tie.Need-open-from-requires
 open-from-requires c κs = search needs
 
-enum-known-status : tie.Need-enum-known-status
-enum-known-status c = search needs
-
-enum-told : tie.Need-enum-told
-enum-told c = search needs
-
-write-leaves-requires : tie.Need-write-leaves-requires
-write-leaves-requires c κs = (c .before .before .before .open-from .ensures .walks, c .before .enum-told .given .1)
-
-returns : tie.Need-returns
-returns c =
-    let o = c .before .before .before in
-    let a = o .before .before .before .args in
-    writes-refused (a .image .now) (a .place) (a .out .now) (o .open-from .result) (o .open-from .ensures) _ (c .before .status .given .1)
+write-opened-requires : tie.Need-write-opened-requires
+write-opened-requires c κs = search needs
 
 same-length : tie.Need-same-length
 same-length c = search needs
 
-returns-2 : tie.Need-returns-2
-returns-2 c =
-    let o = c .before .before .before .before .before .before in
-    let a = o .before .before .before .args in
-    writes-records (a .image .now) (a .place) (a .out .now) (o .open-from .result) (o .open-from .ensures) (c .before .before .before .before .enum-told .given .1) _ _ (c .before .before .write-leaves .ensures)
+returns : tie.Need-returns
+returns c =
+    let b = c .before .before .before .before .before .before .before in
+    let o = c .before .before .before .before in
+    c .before .before .write-opened .ensures ∙ ap (λ (place : ℕ). walk-records (b .args .image .now) place (b .args .out .now)) (o .open-from .ensures .place-is)
 
 pub write-records-spec : {M : Type 1} → statement M
-write-records-spec = tie.close (tie.spec open-from-requires enum-known-status enum-told write-leaves-requires returns same-length returns-2)
+write-records-spec =
+    tie.close (tie.spec open-from-requires write-opened-requires same-length returns)

@@ -11,7 +11,7 @@ use Rattle.spec.specs.Questions.{questions-of}
 use Rattle.query_laws.specs.Answers.{all-small}
 use Rattle.ask_laws.specs.FileLaws.{few-questions}
 use Rattle.theory.specs.LengthBounds.{replies-bound}
-use Rattle.ask.specs.Replies.{file-replies}
+use Rattle.ask_replies.specs.Replies.{file-replies}
 use Rattle.ask.proofs.lengths.replies_fit.Statement.{statement}
 use Rattle.ask.proofs.lengths.replies_fit.Tie as tie
 

@@ -1,9 +1,9 @@
--- The check's number, 17, or the cursor at the place.
+-- The check's number, or the walk over the accepted image.
 use borrow.Author.Needs.{needs}
 use Rattle.image_types.specs.declared.Frame.{Frame}
 use Rattle.image_types.specs.declared.Framed.the-variants.{At, Refused}
 use Rattle.check_image.specs.Answers.{Checked-as}
-use Rattle.walk_states.specs.StateLaws.{opened-unchecked, checked, opened-past, opened-at}
+use Rattle.walk_states.specs.StateLaws.{opened-unchecked, checked}
 use Rattle.walk_states.proofs.states.open_state.Statement.{statement}
 use Rattle.walk_states.proofs.states.open_state.Tie as tie
 
@@ -19,50 +19,23 @@ refused-requires c κs = search needs
 enum-known-f : tie.Need-enum-known-f
 enum-known-f c = search needs
 
-refused-requires-2 : tie.Need-refused-requires-2
-refused-requires-2 c κs = search needs
+open-accepted-requires : tie.Need-open-accepted-requires
+open-accepted-requires c κs =
+    let d = c .before in
+    let s = d .before .before .before .before .args .image .now in
+    let f : Frame = d .f .given .0 .0 in
+    let o : Checked-as s (At f) = rw (d .f .given .1) at (d .before .before .accept .ensures) in
+    (checked s f (λ i. d .before .before .before .shared-slice-known .given i .fits) (o .0) (o .1), o .1)
 
 returns : tie.Need-returns
 returns c =
-    let d = c .before .before .before .before in
-    let s = d .before .before .before .before .args .image .now in
-    let f : Frame = d .f .given .0 .0 in
-    let o : Checked-as s (At f) = rw (d .f .given .1) at (d .before .before .accept .ensures) in
-    opened-past s f (checked s f (λ i. d .before .before .before .shared-slice-known .given i .fits) (o .0) (o .1)) (o .1) (c .refused2 .result) _ (c .before .if1 .taken) (c .refused2 .ensures)
-
-cursor-at-requires : tie.Need-cursor-at-requires
-cursor-at-requires c κs =
-    let d = c .before .before .before in
-    let s = d .before .before .before .before .args .image .now in
-    let f : Frame = d .f .given .0 .0 in
-    let o : Checked-as s (At f) = rw (d .f .given .1) at (d .before .before .accept .ensures) in
-    (checked s f (λ i. d .before .before .before .shared-slice-known .given i .fits) (o .0) (o .1), c .if1 .left)
-
-returns-2 : tie.Need-returns-2
-returns-2 c =
     let d = c .before .before in
     let s = d .before .before .before .before .args .image .now in
     let o : Checked-as s (Refused (d .number .given .0 .0)) = rw (d .number .given .1) at (d .before .before .accept .ensures) in
     opened-unchecked s (c .refused .result) _ _ (o .0) (o .1) (c .refused .ensures)
 
-returns-3 : tie.Need-returns-3
-returns-3 c =
-    let d = c .before .before .before .before in
-    let s = d .before .before .before .before .args .image .now in
-    let f : Frame = d .f .given .0 .0 in
-    let o : Checked-as s (At f) = rw (d .f .given .1) at (d .before .before .accept .ensures) in
-    opened-at s f (checked s f (λ i. d .before .before .before .shared-slice-known .given i .fits) (o .0) (o .1)) (o .1) _ (c .cursor-at .result) (c .cursor-at .ensures)
+returns-2 : tie.Need-returns-2
+returns-2 c = search needs
 
 pub open-state-spec : {M : Type 1} → statement M
-open-state-spec =
-    tie.close
-    (tie.spec
-    accept-requires
-    enum-known-number
-    refused-requires
-    enum-known-f
-    refused-requires-2
-    returns
-    cursor-at-requires
-    returns-2
-    returns-3)
+open-state-spec = tie.close (tie.spec accept-requires enum-known-number refused-requires enum-known-f open-accepted-requires returns returns-2)
