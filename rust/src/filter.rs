@@ -42,7 +42,7 @@ impl<'a> Filter<'a> {
     ///
     /// # Errors
     ///
-    /// [`BrokenImage`](Refusal::BrokenImage) to [`BadSuffix`](Refusal::BadSuffix), numbers 11
+    /// [`FrameWrong`](Refusal::FrameWrong) to [`SlotWrong`](Refusal::SlotWrong), numbers 11
     /// to 16, where no key list builds these bytes.
     ///
     /// ```
@@ -50,7 +50,7 @@ impl<'a> Filter<'a> {
     ///
     /// let image = build(["D1", "D12", "D2", "V"], Settings::default())?;
     /// assert!(Filter::open(&image).is_ok());
-    /// assert_eq!(Filter::open(&image[1..]).err(), Some(Refusal::BrokenImage));
+    /// assert_eq!(Filter::open(&image[1..]).err(), Some(Refusal::FrameWrong));
     /// # Ok::<(), Refusal>(())
     /// ```
     pub fn open(image: &'a [u8]) -> Result<Self, Refusal> {
@@ -168,7 +168,7 @@ impl<'a> Filter<'a> {
     /// # Errors
     ///
     /// [`KeyTooLong`](Refusal::KeyTooLong) where a bound has over 64 bytes,
-    /// [`ReversedBounds`](Refusal::ReversedBounds) where the lower one is above the upper one.
+    /// [`BoundsReversed`](Refusal::BoundsReversed) where the lower one is above the upper one.
     ///
     /// ```
     /// use range_filter::{build, Filter, Refusal, Settings};
@@ -177,7 +177,7 @@ impl<'a> Filter<'a> {
     /// let filter = Filter::open(&image)?;
     /// assert!(filter.may_contain_range("D11", "D13")?); // D12
     /// assert!(!filter.may_contain_range("E", "U")?);
-    /// assert_eq!(filter.may_contain_range("U", "E"), Err(Refusal::ReversedBounds));
+    /// assert_eq!(filter.may_contain_range("U", "E"), Err(Refusal::BoundsReversed));
     /// # Ok::<(), Refusal>(())
     /// ```
     pub fn may_contain_range(
@@ -216,7 +216,7 @@ impl<'a> Filter<'a> {
     /// # Errors
     ///
     /// [`KeyTooLong`](Refusal::KeyTooLong) where a bound has over 64 bytes,
-    /// [`ReversedBounds`](Refusal::ReversedBounds) where the lower one is above the upper one.
+    /// [`BoundsReversed`](Refusal::BoundsReversed) where the lower one is above the upper one.
     ///
     /// ```
     /// use range_filter::{build, Filter, Settings};
@@ -265,7 +265,7 @@ impl<'a> Filter<'a> {
     ///
     /// # Errors
     ///
-    /// [`BadPlace`](Refusal::BadPlace) where the place is behind the number of leaves.
+    /// [`PlaceOutOfRange`](Refusal::PlaceOutOfRange) where the place is behind the number of leaves.
     ///
     /// ```
     /// use range_filter::{build, Filter, Refusal, Settings};
@@ -275,7 +275,7 @@ impl<'a> Filter<'a> {
     /// let leaf = filter.leaf(1)?.expect("the image has four leaves");
     /// assert_eq!(leaf.cut(), b"D12");
     /// assert_eq!(filter.leaf(4)?, None);
-    /// assert_eq!(filter.leaf(5), Err(Refusal::BadPlace));
+    /// assert_eq!(filter.leaf(5), Err(Refusal::PlaceOutOfRange));
     /// # Ok::<(), Refusal>(())
     /// ```
     pub fn leaf(&self, place: usize) -> Result<Option<Leaf>, Refusal> {
@@ -305,7 +305,7 @@ impl<'a> Filter<'a> {
     ///
     /// # Errors
     ///
-    /// [`BrokenQuestion`](Refusal::BrokenQuestion) to
+    /// [`QuestionMalformed`](Refusal::QuestionMalformed) to
     /// [`TooManyQuestions`](Refusal::TooManyQuestions), numbers 21 to 24, for the first question
     /// that cannot be taken.
     ///

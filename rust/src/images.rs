@@ -13,16 +13,16 @@ pub const MAX_KEYS: usize = 65_535;
 ///
 /// # Errors
 ///
-/// [`BadSettings`](Refusal::BadSettings) first; then for the first key that cannot be taken
-/// [`TooManyKeys`](Refusal::TooManyKeys), [`BadKeyLength`](Refusal::BadKeyLength) or
-/// [`UnsortedKeys`](Refusal::UnsortedKeys).
+/// [`SettingOutOfRange`](Refusal::SettingOutOfRange) first; then for the first key that cannot be taken
+/// [`TooManyKeys`](Refusal::TooManyKeys), [`KeyLengthWrong`](Refusal::KeyLengthWrong) or
+/// [`KeysUnordered`](Refusal::KeysUnordered).
 ///
 /// ```
 /// use range_filter::{build, Refusal, Settings};
 ///
 /// let image = build(["D1", "D12", "D2", "V"], Settings::default())?;
 /// assert_eq!(image.len(), 110);
-/// assert_eq!(build(["D1", "D1"], Settings::default()), Err(Refusal::UnsortedKeys));
+/// assert_eq!(build(["D1", "D1"], Settings::default()), Err(Refusal::KeysUnordered));
 /// # Ok::<(), Refusal>(())
 /// ```
 ///
@@ -50,7 +50,7 @@ where
 ///
 /// # Errors
 ///
-/// [`BrokenKeyRecord`](Refusal::BrokenKeyRecord) to [`BadSettings`](Refusal::BadSettings),
+/// [`ListMalformed`](Refusal::ListMalformed) to [`SettingOutOfRange`](Refusal::SettingOutOfRange),
 /// numbers 1 to 5.
 ///
 /// ```
@@ -59,7 +59,7 @@ where
 /// let image = build_from_list(b"KY\x02D1KY\x03D12KY\x02D2KY\x01V", Settings::default())?;
 /// assert_eq!(image.len(), 110);
 /// let cut_off = build_from_list(b"KY\x02D", Settings::default());
-/// assert_eq!(cut_off, Err(Refusal::BrokenKeyRecord));
+/// assert_eq!(cut_off, Err(Refusal::ListMalformed));
 /// # Ok::<(), Refusal>(())
 /// ```
 pub fn build_from_list(list: &[u8], settings: Settings) -> Result<Vec<u8>, Refusal> {
@@ -121,7 +121,7 @@ pub(crate) fn write_key(key: &[u8], file: &mut Vec<u8>) {
 ///
 /// # Errors
 ///
-/// [`BrokenImage`](Refusal::BrokenImage) to [`BadSuffix`](Refusal::BadSuffix), numbers 11 to 16.
+/// [`FrameWrong`](Refusal::FrameWrong) to [`SlotWrong`](Refusal::SlotWrong), numbers 11 to 16.
 ///
 /// ```
 /// use range_filter::{build, check, Refusal, Settings};
@@ -129,7 +129,7 @@ pub(crate) fn write_key(key: &[u8], file: &mut Vec<u8>) {
 /// let mut image = build(["D1", "D12", "D2", "V"], Settings::default())?;
 /// assert_eq!(check(&image), Ok(()));
 /// image[2] = 9; // the version
-/// assert_eq!(check(&image), Err(Refusal::BadHeader));
+/// assert_eq!(check(&image), Err(Refusal::HeaderWrong));
 /// # Ok::<(), Refusal>(())
 /// ```
 pub fn check(image: &[u8]) -> Result<(), Refusal> {

@@ -12,7 +12,7 @@ use std::ops::Deref;
 ///
 /// assert!(build([[b'k'; MAX_KEY_BYTES]], Settings::default()).is_ok());
 /// let longer = [[b'k'; MAX_KEY_BYTES + 1]];
-/// assert_eq!(build(longer, Settings::default()), Err(Refusal::BadKeyLength));
+/// assert_eq!(build(longer, Settings::default()), Err(Refusal::KeyLengthWrong));
 /// ```
 pub const MAX_KEY_BYTES: usize = 64;
 

@@ -25,7 +25,7 @@ const REPLY_HEAD: usize = 7;
 /// # Errors
 ///
 /// Numbers 11 to 16 of [`check`](crate::check) for the image;
-/// [`BrokenQuestion`](Refusal::BrokenQuestion) to [`TooManyQuestions`](Refusal::TooManyQuestions),
+/// [`QuestionMalformed`](Refusal::QuestionMalformed) to [`TooManyQuestions`](Refusal::TooManyQuestions),
 /// numbers 21 to 24, for the first question that cannot be taken.
 ///
 /// ```

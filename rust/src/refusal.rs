@@ -11,7 +11,7 @@ use std::fmt;
 /// use range_filter::{build, Refusal, Settings};
 ///
 /// let refusal = build(["D2", "D1"], Settings::default()).unwrap_err();
-/// assert_eq!(refusal, Refusal::UnsortedKeys);
+/// assert_eq!(refusal, Refusal::KeysUnordered);
 /// assert_eq!(refusal.number(), 3);
 /// assert_eq!(
 ///     refusal.to_string(),
@@ -22,40 +22,40 @@ use std::fmt;
 #[non_exhaustive]
 pub enum Refusal {
     /// 1: a record of a key list has a wrong mark, or bytes of it are missing.
-    BrokenKeyRecord = 1,
+    ListMalformed = 1,
     /// 2: a key is empty or has over 64 bytes.
-    BadKeyLength = 2,
+    KeyLengthWrong = 2,
     /// 3: a key is not above the one before it.
-    UnsortedKeys = 3,
+    KeysUnordered = 3,
     /// 4: there are over 65,535 keys.
     TooManyKeys = 4,
     /// 5: a setting is out of range.
-    BadSettings = 5,
+    SettingOutOfRange = 5,
     /// 7: the image is longer than the output. No function of this crate gives it.
     OutputTooShort = 7,
     /// 8: the stated length is not the image's. No function of this crate gives it.
-    WrongStatedLength = 8,
+    StatedLengthWrong = 8,
     /// 11: the bytes are not the header and the records of an image.
-    BrokenImage = 11,
+    FrameWrong = 11,
     /// 12: the header of an image has a wrong value, or a record a length that the header's
     /// counts do not give.
-    BadHeader = 12,
+    HeaderWrong = 12,
     /// 13: a bit behind the last bit of a record is set.
     SpareBitSet = 13,
     /// 14: the trie of an image is not one that a key list builds.
-    BadTrie = 14,
+    TrieWrong = 14,
     /// 15: a rank or a select sample of an image is wrong.
-    WrongRank = 15,
+    RankWrong = 15,
     /// 16: a suffix of an image has a bit that no key gives it.
-    BadSuffix = 16,
+    SlotWrong = 16,
     /// 17: a place is behind the end of the leaves.
-    BadPlace = 17,
+    PlaceOutOfRange = 17,
     /// 21: a question has a wrong mark, or bytes of it are missing.
-    BrokenQuestion = 21,
+    QuestionMalformed = 21,
     /// 22: a key, a bound or a stem in a question has over 64 bytes.
     KeyTooLong = 22,
     /// 23: a lower bound is above its upper bound.
-    ReversedBounds = 23,
+    BoundsReversed = 23,
     /// 24: there are over 1,024 questions in a file.
     TooManyQuestions = 24,
     /// 25: the replies are longer than their buffer. No function of this crate gives it.
@@ -73,23 +73,23 @@ impl Refusal {
     /// assert_eq!(numbers[7..], [11, 12, 13, 14, 15, 16, 17, 21, 22, 23, 24, 25]);
     /// ```
     pub const ALL: &'static [Refusal] = &[
-        Refusal::BrokenKeyRecord,
-        Refusal::BadKeyLength,
-        Refusal::UnsortedKeys,
+        Refusal::ListMalformed,
+        Refusal::KeyLengthWrong,
+        Refusal::KeysUnordered,
         Refusal::TooManyKeys,
-        Refusal::BadSettings,
+        Refusal::SettingOutOfRange,
         Refusal::OutputTooShort,
-        Refusal::WrongStatedLength,
-        Refusal::BrokenImage,
-        Refusal::BadHeader,
+        Refusal::StatedLengthWrong,
+        Refusal::FrameWrong,
+        Refusal::HeaderWrong,
         Refusal::SpareBitSet,
-        Refusal::BadTrie,
-        Refusal::WrongRank,
-        Refusal::BadSuffix,
-        Refusal::BadPlace,
-        Refusal::BrokenQuestion,
+        Refusal::TrieWrong,
+        Refusal::RankWrong,
+        Refusal::SlotWrong,
+        Refusal::PlaceOutOfRange,
+        Refusal::QuestionMalformed,
         Refusal::KeyTooLong,
-        Refusal::ReversedBounds,
+        Refusal::BoundsReversed,
         Refusal::TooManyQuestions,
         Refusal::ReplyBufferTooShort,
     ];
@@ -121,34 +121,34 @@ impl Refusal {
     /// Gives the sentence that the refusal prints as.
     fn sentence(self) -> &'static str {
         match self {
-            Refusal::BrokenKeyRecord => {
+            Refusal::ListMalformed => {
                 "a record of the key list has a wrong mark or breaks off: \
                  write each key as KY, a length byte and its bytes"
             }
-            Refusal::BadKeyLength => {
+            Refusal::KeyLengthWrong => {
                 "a key is empty or has over 64 bytes: leave it out or shorten it"
             }
-            Refusal::UnsortedKeys => {
+            Refusal::KeysUnordered => {
                 "a key is not above the one before it: sort the keys and drop doubles"
             }
             Refusal::TooManyKeys => {
                 "there are over 65,535 keys: share them out among several images"
             }
-            Refusal::BadSettings => {
+            Refusal::SettingOutOfRange => {
                 "a setting is out of range: take 0 to 4 dense levels and 0 to 16 suffix bits"
             }
             Refusal::OutputTooShort => {
                 "the image is longer than the output: give it as many bytes as the image has"
             }
-            Refusal::WrongStatedLength => {
+            Refusal::StatedLengthWrong => {
                 "the stated length is not the image's: \
                  state the length that was given for this list and these settings"
             }
-            Refusal::BrokenImage => {
+            Refusal::FrameWrong => {
                 "these are not the bytes of one whole image: \
                  take the file that a build wrote, from its first byte to its last"
             }
-            Refusal::BadHeader => {
+            Refusal::HeaderWrong => {
                 "the image's header has a wrong value, or a record another length than it says: \
                  copy the image again, or build it anew"
             }
@@ -156,23 +156,23 @@ impl Refusal {
                 "a bit behind the end of a record of the image is set: \
                  copy the image again, or build it anew"
             }
-            Refusal::BadTrie => {
+            Refusal::TrieWrong => {
                 "the image's trie is not one that keys give: \
                  copy the image again, or build it anew"
             }
-            Refusal::WrongRank => {
+            Refusal::RankWrong => {
                 "a rank or a select sample of the image is wrong: \
                  copy the image again, or build it anew"
             }
-            Refusal::BadSuffix => {
+            Refusal::SlotWrong => {
                 "a suffix of the image has a bit that no key gives it: \
                  copy the image again, or build it anew"
             }
-            Refusal::BadPlace => {
+            Refusal::PlaceOutOfRange => {
                 "the place is behind the end of the leaves: \
                  take a place from 0 to the number of leaves"
             }
-            Refusal::BrokenQuestion => {
+            Refusal::QuestionMalformed => {
                 "a question has a wrong mark or breaks off: \
                  write QP, QS, QB, QR or QC, then each key as a length byte and its bytes"
             }
@@ -180,7 +180,7 @@ impl Refusal {
                 "a key, bound or stem has over 64 bytes, which no stored key has: \
                  ask with at most 64"
             }
-            Refusal::ReversedBounds => "the lower bound is above the upper one: exchange them",
+            Refusal::BoundsReversed => "the lower bound is above the upper one: exchange them",
             Refusal::TooManyQuestions => {
                 "there are over 1,024 questions in the file: put the rest into another one"
             }

@@ -3,7 +3,7 @@
 /// How an image is built: its dense levels and its suffix bits.
 ///
 /// The default has none of either, which gives the smallest image. Values out of range are
-/// taken here and refused by the build with [`Refusal::BadSettings`](crate::Refusal::BadSettings).
+/// taken here and refused by the build with [`Refusal::SettingOutOfRange`](crate::Refusal::SettingOutOfRange).
 ///
 /// ```
 /// use range_filter::{build, Filter, Refusal, Settings};
@@ -13,7 +13,7 @@
 /// assert_eq!(Filter::open(&image)?.settings(), settings);
 ///
 /// let wrong = Settings::default().with_dense_levels(5);
-/// assert_eq!(build(["D1"], wrong), Err(Refusal::BadSettings));
+/// assert_eq!(build(["D1"], wrong), Err(Refusal::SettingOutOfRange));
 /// # Ok::<(), Refusal>(())
 /// ```
 #[derive(Clone, Copy, Debug, Default, PartialEq, Eq, Hash)]
