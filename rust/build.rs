@@ -30,18 +30,17 @@ fn folder() -> PathBuf {
     let named = env::var_os(FOLDER_VARIABLE).map(PathBuf::from);
     named.unwrap_or_else(|| {
         let package = env::var_os("CARGO_MANIFEST_DIR").map(PathBuf::from);
-        package.unwrap_or_default().join("../target/staticlib")
+        let target = package.unwrap_or_default().with_file_name("target");
+        target.join("staticlib")
     })
 }
 
 /// Says why the archive cannot be linked and what to do, if so.
 fn problem(archive: &Path) -> Option<String> {
     let variable = |name| env::var(name).unwrap_or_default();
-    let (arch, os) = (
-        variable("CARGO_CFG_TARGET_ARCH"),
-        variable("CARGO_CFG_TARGET_OS"),
-    );
-    if (arch.as_str(), os.as_str()) != ("x86_64", "linux") {
+    let arch = variable("CARGO_CFG_TARGET_ARCH");
+    let os = variable("CARGO_CFG_TARGET_OS");
+    if arch != "x86_64" || os != "linux" {
         return Some(format!(
             "The archive {ARCHIVE} is for x86-64 Linux, and this build is for {arch} {os}: \
              build for an x86_64 Linux target."
@@ -53,7 +52,7 @@ fn problem(archive: &Path) -> Option<String> {
             "There is no {archive}.\n\
              Run `rt staticlib range_filter` at the root of the repository: it proves the library, \
              which takes minutes, and writes the archive.\n\
-             Or let the environment variable {FOLDER_VARIABLE} name the folder of an archive that is there.",
+             Or let the environment variable {FOLDER_VARIABLE} name a folder that has one.",
             archive = archive.display()
         )
     })

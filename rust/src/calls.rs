@@ -4,8 +4,10 @@
 //! the slices that it is lent, keeps no pointer behind a call, and has no state, so that calls
 //! may run on several threads at once. An empty slice has a pointer that is not null, and the
 //! library reads nothing through it.
+//!
+//! Which numbers the library gives is proved, so that a number without a name here never comes.
 
-use crate::{Refusal, Settings};
+use crate::{Refusal, Rule, Settings};
 
 /// The bytes of a seek's answer: a length byte and at most 64 bytes of a key.
 pub(crate) const FOUND_BYTES: usize = 65;
@@ -97,29 +99,28 @@ extern "C" {
 
 /// Gives the exact length of the image of a key list.
 pub(crate) fn image_length(list: &[u8], settings: Settings) -> Result<u32, Refusal> {
-    let (dense_levels, n) = (
-        settings.dense_levels().into(),
-        settings.suffix_bits().into(),
-    );
     // SAFETY: pointer and length are those of a slice that lives through the call.
-    decode(unsafe { range_filter_image_length(list.as_ptr(), list.len(), dense_levels, n) })
+    decode(unsafe {
+        range_filter_image_length(
+            list.as_ptr(),
+            list.len(),
+            settings.dense_levels().into(),
+            settings.suffix_bits().into(),
+        )
+    })
 }
 
 /// Builds the image of a key list at the start of an output, whose length is also the length
 /// that is stated for the image, and gives the bytes written.
 pub(crate) fn build(list: &[u8], settings: Settings, out: &mut [u8]) -> Result<u32, Refusal> {
-    let (dense_levels, n) = (
-        settings.dense_levels().into(),
-        settings.suffix_bits().into(),
-    );
     // SAFETY: pointers and lengths are those of slices that live through the call, and the
     // output is lent to it alone.
     decode(unsafe {
         range_filter_build(
             list.as_ptr(),
             list.len(),
-            dense_levels,
-            n,
+            settings.dense_levels().into(),
+            settings.suffix_bits().into(),
             out.len() as u64,
             out.as_mut_ptr(),
             out.len(),
@@ -165,11 +166,13 @@ impl<'a> Accepted<'a> {
     }
 
     /// Gives the bytes of the image.
+    #[inline]
     pub(crate) fn image(self) -> &'a [u8] {
         self.0
     }
 
     /// Gives the number in the reply to a point question.
+    #[inline]
     pub(crate) fn point(self, key: &[u8]) -> Result<u32, Refusal> {
         let image = self.0;
         // SAFETY: the check accepted these bytes, which are borrowed unchanged since; pointers
@@ -179,17 +182,19 @@ impl<'a> Accepted<'a> {
         })
     }
 
-    /// Gives the number of the rule behind the reply to a point question.
-    pub(crate) fn rule(self, key: &[u8]) -> Result<u32, Refusal> {
+    /// Gives the rule behind the reply to a point question.
+    pub(crate) fn rule(self, key: &[u8]) -> Result<Rule, Refusal> {
         let image = self.0;
         // SAFETY: the check accepted these bytes, which are borrowed unchanged since; pointers
         // and lengths are those of slices that live through the call.
-        decode(unsafe {
+        let number = decode(unsafe {
             range_filter_accepted_rule(image.as_ptr(), image.len(), key.as_ptr(), key.len())
-        })
+        })?;
+        Ok(Rule::from_number(number).expect("the library gives only the rules 1 to 6"))
     }
 
     /// Gives the number in the reply to a range question.
+    #[inline]
     pub(crate) fn range(self, lower: &[u8], upper: &[u8]) -> Result<u32, Refusal> {
         let image = self.0;
         // SAFETY: the check accepted these bytes, which are borrowed unchanged since; pointers
@@ -207,6 +212,7 @@ impl<'a> Accepted<'a> {
     }
 
     /// Gives the number in the reply to a begins-with question.
+    #[inline]
     pub(crate) fn begins_with(self, stem: &[u8]) -> Result<u32, Refusal> {
         let image = self.0;
         // SAFETY: the check accepted these bytes, which are borrowed unchanged since; pointers
@@ -222,6 +228,7 @@ impl<'a> Accepted<'a> {
     }
 
     /// Gives the number in the reply to a count question.
+    #[inline]
     pub(crate) fn count(self, lower: &[u8], upper: &[u8]) -> Result<u32, Refusal> {
         let image = self.0;
         // SAFETY: the check accepted these bytes, which are borrowed unchanged since; pointers
@@ -240,6 +247,7 @@ impl<'a> Accepted<'a> {
 
     /// Gives the number in the reply to a seek question, and writes the length byte and the key
     /// of the reply to a buffer.
+    #[inline]
     pub(crate) fn seek(self, start: &[u8], found: &mut [u8; FOUND_BYTES]) -> Result<u32, Refusal> {
         let image = self.0;
         // SAFETY: the check accepted these bytes, which are borrowed unchanged since; pointers
@@ -258,6 +266,7 @@ impl<'a> Accepted<'a> {
 
     /// Writes the records of the leaves from a place on, of as many as the buffer holds whole,
     /// and gives the bytes written.
+    #[inline]
     pub(crate) fn walk(self, place: usize, records: &mut [u8]) -> Result<u32, Refusal> {
         let image = self.0;
         // SAFETY: the check accepted these bytes, which are borrowed unchanged since; pointers
@@ -276,14 +285,22 @@ impl<'a> Accepted<'a> {
 }
 
 /// Reads a 64-bit answer: a refusal's number in its high half, or else a number in its low half.
+#[inline]
 fn decode(answer: u64) -> Result<u32, Refusal> {
     judge((answer >> 32) as u32).map(|()| answer as u32)
 }
 
 /// Reads the number of a refusal; 0 is none.
+#[inline]
 fn judge(number: u32) -> Result<(), Refusal> {
-    if number == 0 {
-        return Ok(());
+    match number {
+        0 => Ok(()),
+        number => Err(refusal(number)),
     }
-    Err(Refusal::from_number(number).expect("the library gives only numbers of its table"))
+}
+
+/// Gives the refusal with a number of the library's table.
+#[cold]
+fn refusal(number: u32) -> Refusal {
+    Refusal::from_number(number).expect("the library gives only numbers of its table")
 }

@@ -110,7 +110,8 @@ impl<'a> Filter<'a> {
     /// ```
     /// use range_filter::{build, Filter, Settings};
     ///
-    /// let image = build::<[&str; 0]>([], Settings::default())?;
+    /// let none: [&str; 0] = [];
+    /// let image = build(none, Settings::default())?;
     /// assert!(Filter::open(&image)?.is_empty());
     /// # Ok::<(), range_filter::Refusal>(())
     /// ```
@@ -159,8 +160,7 @@ impl<'a> Filter<'a> {
     /// # Ok::<(), range_filter::Refusal>(())
     /// ```
     pub fn rule(&self, key: impl AsRef<[u8]>) -> Result<Rule, Refusal> {
-        let number = self.accepted.rule(key.as_ref())?;
-        Ok(Rule::from_number(number).expect("the library gives only rules 1 to 6"))
+        self.accepted.rule(key.as_ref())
     }
 
     /// Says whether a key from bound to bound, both included, may be stored.
@@ -265,7 +265,8 @@ impl<'a> Filter<'a> {
     ///
     /// # Errors
     ///
-    /// [`PlaceOutOfRange`](Refusal::PlaceOutOfRange) where the place is behind the number of leaves.
+    /// [`PlaceOutOfRange`](Refusal::PlaceOutOfRange) where the place is above the number of
+    /// leaves.
     ///
     /// ```
     /// use range_filter::{build, Filter, Refusal, Settings};

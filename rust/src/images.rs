@@ -13,8 +13,8 @@ pub const MAX_KEYS: usize = 65_535;
 ///
 /// # Errors
 ///
-/// [`SettingOutOfRange`](Refusal::SettingOutOfRange) first; then for the first key that cannot be taken
-/// [`TooManyKeys`](Refusal::TooManyKeys), [`KeyLengthWrong`](Refusal::KeyLengthWrong) or
+/// [`SettingOutOfRange`](Refusal::SettingOutOfRange) first; then for the first key that cannot be
+/// taken [`TooManyKeys`](Refusal::TooManyKeys), [`KeyLengthWrong`](Refusal::KeyLengthWrong) or
 /// [`KeysUnordered`](Refusal::KeysUnordered).
 ///
 /// ```

@@ -105,7 +105,8 @@ impl Leaf {
     /// use range_filter::{build, Filter, Settings};
     ///
     /// let image = build(["D1", "D12", "D2", "VAN"], Settings::default().with_suffix_bits(8))?;
-    /// let widths: Vec<u8> = Filter::open(&image)?.leaves().map(|leaf| leaf.suffix().width()).collect();
+    /// let leaves = Filter::open(&image)?.leaves();
+    /// let widths: Vec<u8> = leaves.map(|leaf| leaf.suffix().width()).collect();
     /// assert_eq!(widths, [0, 8, 8, 8]);
     /// # Ok::<(), range_filter::Refusal>(())
     /// ```

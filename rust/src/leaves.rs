@@ -57,7 +57,7 @@ impl<'a> Leaves<'a> {
         self.records.get(at..at + RECORD_BYTES)
     }
 
-    /// Fetches a batch that starts at the next leaf.
+    /// Fetches a batch that starts at the next leaf. No place of a leaf is refused.
     fn fetch(&mut self) {
         let leaves = BATCH.min(self.end - self.place);
         self.first = self.place;

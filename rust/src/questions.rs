@@ -24,9 +24,10 @@ const REPLY_HEAD: usize = 7;
 ///
 /// # Errors
 ///
-/// Numbers 11 to 16 of [`check`](crate::check) for the image;
-/// [`QuestionMalformed`](Refusal::QuestionMalformed) to [`TooManyQuestions`](Refusal::TooManyQuestions),
-/// numbers 21 to 24, for the first question that cannot be taken.
+/// Those of [`check`](crate::check) for the image; then
+/// [`QuestionMalformed`](Refusal::QuestionMalformed) to
+/// [`TooManyQuestions`](Refusal::TooManyQuestions), numbers 21 to 24, for the first question that
+/// cannot be taken.
 ///
 /// ```
 /// use range_filter::{ask, build, Settings};

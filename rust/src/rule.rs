@@ -17,12 +17,12 @@ use std::fmt;
 /// assert_eq!(filter.rule("VAX")?, Rule::SuffixEqual);
 /// assert_eq!(filter.rule("VB")?, Rule::SuffixOther);
 ///
-/// let empty = build::<[&str; 0]>([], Settings::default())?;
+/// let none: [&str; 0] = [];
+/// let empty = build(none, Settings::default())?;
 /// assert_eq!(Filter::open(&empty)?.rule("D1")?, Rule::NoNodes);
 /// # Ok::<(), range_filter::Refusal>(())
 /// ```
 #[derive(Clone, Copy, Debug, PartialEq, Eq, Hash)]
-#[non_exhaustive]
 pub enum Rule {
     /// 1: a node on the way has no branch with the key's next byte. The key is not stored.
     BranchMissing = 1,

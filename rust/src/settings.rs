@@ -2,8 +2,8 @@
 
 /// How an image is built: its dense levels and its suffix bits.
 ///
-/// The default has none of either, which gives the smallest image. Values out of range are
-/// taken here and refused by the build with [`Refusal::SettingOutOfRange`](crate::Refusal::SettingOutOfRange).
+/// The default has none of either, which gives the smallest image. A value out of range is taken
+/// here and refused by the build.
 ///
 /// ```
 /// use range_filter::{build, Filter, Refusal, Settings};
@@ -48,8 +48,7 @@ impl Settings {
     /// let keys = ["D1", "D12", "D2", "V"];
     /// let sparse = build(keys, Settings::default())?;
     /// let dense = build(keys, Settings::default().with_dense_levels(1))?;
-    /// assert_eq!(sparse.len(), 110);
-    /// assert!(dense.len() > sparse.len());
+    /// assert_eq!((sparse.len(), dense.len()), (110, 209));
     /// # Ok::<(), range_filter::Refusal>(())
     /// ```
     #[must_use]

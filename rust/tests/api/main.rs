@@ -1,0 +1,11 @@
+//! The package from outside: document 01's examples, refusals, leaves, damaged images, question
+//! files, the traits of its types, and its build script.
+
+mod build_script;
+mod damaged_images;
+mod examples;
+mod leaves;
+mod question_files;
+mod refusals;
+mod shared;
+mod traits;

@@ -1,0 +1,79 @@
+//! What the tests share: lists and images of document 01, and pseudo-random keys.
+
+use range_filter::{build, Settings};
+use std::collections::BTreeSet;
+
+/// List A.
+pub const A: [&str; 4] = ["D1", "D12", "D2", "V"];
+
+/// List A with VAN for V.
+pub const VAN: [&str; 4] = ["D1", "D12", "D2", "VAN"];
+
+/// A list without keys.
+pub const NO_KEYS: [&str; 0] = [];
+
+/// The image of list A with dense levels 0 and n 0.
+pub const IMAGE_A: &[u8; 110] = b"HD\x01\x00\x00\x00\x04\0\0\0\0\0\0\0\x06\0\0\0\x03\0\0\0\
+DL\0\0\0\0DC\0\0\0\0DP\0\0\0\0\
+SL\x06\0\0\0\x44\x56\x31\x32\xFF\x32SC\x01\0\0\0\x05SB\x01\0\0\0\x15\
+SV\0\0\0\0RL\0\0\0\0RC\0\0\0\0RP\0\0\0\0\
+RS\x04\0\0\0\0\0\0\0TS\x04\0\0\0\0\0\0\0";
+
+/// Gives settings.
+pub fn settings(dense_levels: u8, suffix_bits: u8) -> Settings {
+    let settings = Settings::default().with_dense_levels(dense_levels);
+    settings.with_suffix_bits(suffix_bits)
+}
+
+/// Builds an image that has to be built.
+pub fn image<K: AsRef<[u8]>>(keys: &[K], dense_levels: u8, suffix_bits: u8) -> Vec<u8> {
+    build(keys, settings(dense_levels, suffix_bits)).expect("the keys build an image")
+}
+
+/// Gives where a record's body starts in an image that has its mark nowhere before.
+pub fn body_at(image: &[u8], mark: &[u8; 2]) -> usize {
+    let at = image.windows(2).position(|two| two == mark);
+    at.expect("the image has the record") + 6
+}
+
+/// Gives a record's body in an image that has its mark nowhere before.
+pub fn body<'a>(image: &'a [u8], mark: &[u8; 2]) -> &'a [u8] {
+    let at = body_at(image, mark);
+    let length = image[at - 4..at].try_into().expect("four bytes");
+    &image[at..at + u32::from_le_bytes(length) as usize]
+}
+
+/// A xorshift generator of numbers.
+pub struct Random(u64);
+
+impl Random {
+    /// Starts a generator from a seed, which is not 0.
+    pub fn new(seed: u64) -> Self {
+        Random(seed)
+    }
+
+    /// Gives the next number.
+    pub fn number(&mut self) -> u64 {
+        self.0 ^= self.0 << 13;
+        self.0 ^= self.0 >> 7;
+        self.0 ^= self.0 << 17;
+        self.0
+    }
+
+    /// Gives a number below a bound, which is not 0.
+    pub fn below(&mut self, bound: usize) -> usize {
+        (self.number() % bound as u64) as usize
+    }
+
+    /// Gives a key of a few of four bytes, FF among them, so that keys share prefixes.
+    pub fn key(&mut self, least: usize, most: usize) -> Vec<u8> {
+        let length = least + self.below(most - least + 1);
+        (0..length).map(|_| b"\x00AB\xFF"[self.below(4)]).collect()
+    }
+
+    /// Gives a key list.
+    pub fn keys(&mut self, tries: usize) -> Vec<Vec<u8>> {
+        let keys: BTreeSet<Vec<u8>> = (0..tries).map(|_| self.key(1, 8)).collect();
+        keys.into_iter().collect()
+    }
+}
