@@ -1,5 +1,6 @@
 //! A key by value.
 
+use std::borrow::Borrow;
 use std::cmp::Ordering;
 use std::fmt;
 use std::hash::{Hash, Hasher};
@@ -74,6 +75,13 @@ impl Deref for Key {
 
 impl AsRef<[u8]> for Key {
     fn as_ref(&self) -> &[u8] {
+        self.as_bytes()
+    }
+}
+
+// Equality, order and hash are those of the bytes, as a lookup by a slice asks.
+impl Borrow<[u8]> for Key {
+    fn borrow(&self) -> &[u8] {
         self.as_bytes()
     }
 }

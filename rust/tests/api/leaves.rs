@@ -113,6 +113,7 @@ fn an_iterator_goes_straight_to_a_place() {
         assert_eq!(leaves.nth(skipped).map(|leaf| leaf.place()), Some(place));
     }
     assert_eq!(leaves.nth(1), None);
+    assert_eq!(leaves.len(), 0);
     assert_eq!(filter.leaves().nth(1_000), None);
     assert_eq!(filter.leaves().nth(usize::MAX), None);
     let steps: Vec<usize> = filter.leaves().step_by(300).map(|l| l.place()).collect();

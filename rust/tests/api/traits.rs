@@ -98,6 +98,7 @@ fn keys_compare_and_hash_by_their_bytes() {
     let hashed: HashSet<Key> = starts.map(key).into();
     let sorted: BTreeSet<Key> = starts.map(key).into();
     assert_eq!(hashed.len(), 3);
+    assert!(hashed.contains(&b"D2a"[..]) && !hashed.contains(&b"D2"[..]));
     let sorted: Vec<&[u8]> = sorted.iter().map(Key::as_bytes).collect();
     assert_eq!(sorted, [&b"D1"[..], b"D2a", b"V"]);
 }
