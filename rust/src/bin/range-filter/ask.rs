@@ -1,0 +1,140 @@
+//! `range-filter ask`: questions to an image.
+
+use std::ffi::OsString;
+use std::io::{self, Write};
+use std::path::Path;
+
+use range_filter::Filter;
+
+use crate::arguments::{Arguments, Shape};
+use crate::command::Command;
+use crate::ending::{tell, Ending, Failure};
+use crate::files::{open_filter, read_image, unreadable};
+use crate::lines::Lines;
+use crate::progress::Progress;
+use crate::question::{Kind, Question};
+
+/// The subcommand.
+pub const COMMAND: Command = Command {
+    name: "ask",
+    summary: "put questions to an image",
+    help: HELP,
+    shape: Shape {
+        words: true,
+        ..Shape::IMAGE
+    },
+    run,
+};
+
+const HELP: &str = "\
+usage: range-filter ask IMAGE [QUESTION..]
+
+Puts questions to an image and writes a line for each reply. The questions stand
+behind the image's name, or, if there is none, one a line on standard input.
+
+  question            its reply
+  point KEY           0 (not stored) or 1 (may be stored), the rule behind it
+                      as a number, 1 to 6, and in words
+  range LOWER UPPER   0 or 1: a key from bound to bound, both included
+  stem STEM           0 or 1: a key that begins so
+  count LOWER UPPER   how many keys from bound to bound, both included; a list
+                      of keys with this image has at most two fewer
+  seek START          the place, from 0, and the smallest key from the start
+                      on that may be stored, or the word none
+
+A reply is the question, a colon, a blank and the words above, parted by blanks:
+
+  point D1: 1 rule 3 (exact leaf)
+  range D11 D13: 1
+  stem D: 1
+  count D12Z D2: 2
+  seek D13: 2 D2
+  seek W: none
+
+Words are parted by blanks or tabs. In a key \\xHH stands for the byte with these
+two hexadecimal digits, so that a blank is \\x20, and \\\\ for a backslash. The
+empty key is \"\". A key has at most 64 bytes. Replies are written the same way.
+
+A line that is no question is told on standard error with its number, and the
+others get their replies.
+
+Exit status: 0 all are replied to; 1 the image or a question is refused; 2 the
+arguments are not as above, or a file can't be read.
+";
+
+/// Reads the image and replies to the questions.
+fn run(arguments: &Arguments, output: &mut dyn Write) -> Result<Ending, Failure> {
+    let path = arguments.needed_operand(0);
+    let questions = read_words(&arguments.words)?;
+    let image = read_image(path)?;
+    let filter = open_filter(path, &image)?;
+    if questions.is_empty() {
+        return ask_lines(&filter, output);
+    }
+    let mut ending = Ending::Done;
+    for (place, question) in questions.into_iter().enumerate() {
+        if let Err(why) = ask(&filter, question, output)? {
+            tell(&format!("question {}: {why}", place + 1));
+            ending = Ending::Refused;
+        }
+    }
+    Ok(ending)
+}
+
+/// A question, or why its words are none.
+type Read = Result<Question, String>;
+
+/// Parts the words of the arguments into questions. An empty word is the empty key.
+fn read_words(words: &[OsString]) -> Result<Vec<Read>, Failure> {
+    let words: Vec<&[u8]> = words.iter().map(|word| word.as_encoded_bytes()).collect();
+    let mut questions = Vec::new();
+    let mut rest = words.as_slice();
+    while let Some((word, behind)) = rest.split_first() {
+        let kind = Kind::read(word).map_err(Failure::Unable)?;
+        let keys = &behind[..kind.keys().min(behind.len())];
+        if keys.len() < kind.keys() {
+            let why = Question::read(kind, keys).err().unwrap_or_default();
+            return Err(Failure::Unable(why));
+        }
+        questions.push(Question::read(kind, keys));
+        rest = &behind[keys.len()..];
+    }
+    Ok(questions)
+}
+
+/// Replies to the questions on standard input. Replies go out before a line is waited for.
+fn ask_lines(filter: &Filter, output: &mut dyn Write) -> Result<Ending, Failure> {
+    let name = Path::new("standard input");
+    let mut lines = Lines::new(io::stdin());
+    let mut progress = Progress::new("lines read");
+    let mut ending = Ending::Done;
+    while let Some(line) = lines
+        .next_line()
+        .map_err(|error| unreadable(name, &error))?
+    {
+        let question = line.and_then(Question::read_line);
+        if let Err(why) = ask(filter, question, output)? {
+            tell(&format!("line {}: {why}", lines.number()));
+            ending = Ending::Refused;
+        }
+        if lines.must_wait() {
+            output.flush()?;
+        }
+        progress.step();
+    }
+    Ok(ending)
+}
+
+/// Writes the reply to a question, or says why there is none.
+fn ask(filter: &Filter, question: Read, output: &mut dyn Write) -> io::Result<Result<(), String>> {
+    let replied = question.and_then(|question| {
+        let reply = question
+            .reply(filter)
+            .map_err(|refusal| refusal.to_string())?;
+        Ok(format!("{question}: {reply}"))
+    });
+    match replied {
+        Ok(line) => writeln!(output, "{line}").map(Ok),
+        Err(why) => Ok(Err(why)),
+    }
+}

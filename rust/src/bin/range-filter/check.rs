@@ -1,0 +1,60 @@
+//! `range-filter check`: whether a file is an image.
+
+use std::io::Write;
+
+use range_filter::Filter;
+
+use crate::arguments::{Arguments, Shape};
+use crate::command::Command;
+use crate::ending::{Ending, Failure};
+use crate::files::read_image;
+use crate::records::detail;
+use crate::text::grouped;
+
+/// The subcommand.
+pub const COMMAND: Command = Command {
+    name: "check",
+    summary: "say whether a file is an image, and if not, why",
+    help: HELP,
+    shape: Shape::IMAGE,
+    run,
+};
+
+const HELP: &str = "\
+usage: range-filter check IMAGE
+
+Says whether a file is an image, just as some list of keys builds it, in a line:
+
+  accepted: 4 leaves, dense levels 0, suffix bits 0
+  refused 12: what is wrong and what to do (the version is 2, and not 1)
+
+The number is one of 11 to 16. What stands in brackets tells more, if the header
+and the records show it.
+
+Exit status: 0 accepted; 1 refused; 2 the arguments are not as above, or the
+file can't be read.
+";
+
+/// Reads the file and writes the verdict.
+fn run(arguments: &Arguments, output: &mut dyn Write) -> Result<Ending, Failure> {
+    let image = read_image(arguments.needed_operand(0))?;
+    match Filter::open(&image) {
+        Ok(filter) => {
+            let settings = filter.settings();
+            let leaves = grouped(filter.len());
+            let (dense, bits) = (settings.dense_levels(), settings.suffix_bits());
+            writeln!(
+                output,
+                "accepted: {leaves} leaves, dense levels {dense}, suffix bits {bits}"
+            )?;
+            Ok(Ending::Done)
+        }
+        Err(refusal) => {
+            let number = refusal.number();
+            let more = detail(&image, refusal).map(|words| format!(" ({words})"));
+            let more = more.unwrap_or_default();
+            writeln!(output, "refused {number}: {refusal}{more}")?;
+            Ok(Ending::Refused)
+        }
+    }
+}

@@ -1,0 +1,144 @@
+//! The header and the records of an image by their bytes, for the eyes of a reader.
+
+use range_filter::{Refusal, Settings, MAX_KEYS};
+
+/// The bytes of a header.
+pub const HEADER_BYTES: usize = 22;
+/// The bytes of a record's mark and length.
+pub const RECORD_HEAD_BYTES: usize = 6;
+
+/// The marks of the records in their order, and what each holds.
+pub const RECORDS: [(&str, &str); 12] = [
+    ("DL", "D-Labels: the labels of dense nodes, 256 bits each"),
+    ("DC", "D-HasChild: which of them lead to nodes"),
+    ("DP", "D-IsPrefixKey: which dense nodes are exact leaves"),
+    ("SL", "S-Labels: the labels of sparse nodes, a byte each"),
+    ("SC", "S-HasChild: which of them lead to nodes"),
+    ("SB", "S-LOUDS: where the entries of a sparse node start"),
+    ("SV", "suffix bits of the leaves"),
+    ("RL", "ranks of DL"),
+    ("RC", "ranks of DC"),
+    ("RP", "ranks of DP"),
+    ("RS", "ranks of SC"),
+    ("TS", "select samples of SB"),
+];
+
+/// The fields of a header.
+#[derive(Clone, Copy, Debug, PartialEq, Eq)]
+pub struct Header {
+    version: u8,
+    dense_levels: u8,
+    suffix_bits: u8,
+    zero: u8,
+    /// The number of leaves.
+    pub leaves: u32,
+    /// The number of dense nodes.
+    pub dense_nodes: u32,
+    /// The number of entries of sparse nodes.
+    pub sparse_entries: u32,
+    /// The number of sparse nodes.
+    pub sparse_nodes: u32,
+}
+
+impl Header {
+    /// Reads the header at the start of an image, if it is there.
+    pub fn read(image: &[u8]) -> Option<Header> {
+        let fields = image.get(..HEADER_BYTES)?.strip_prefix(b"HD")?;
+        Some(Header {
+            version: fields[0],
+            dense_levels: fields[1],
+            suffix_bits: fields[2],
+            zero: fields[3],
+            leaves: read_number(fields, 4)?,
+            dense_nodes: read_number(fields, 8)?,
+            sparse_entries: read_number(fields, 12)?,
+            sparse_nodes: read_number(fields, 16)?,
+        })
+    }
+
+    /// Says which field alone makes the check refuse the image with 12, if one does.
+    fn fault(&self) -> Option<String> {
+        let most_dense = Settings::MAX_DENSE_LEVELS;
+        let most_bits = Settings::MAX_SUFFIX_BITS;
+        let faults = [
+            (
+                self.version != 1,
+                format!("the version is {}, and not 1", self.version),
+            ),
+            (
+                self.dense_levels > most_dense,
+                format!(
+                    "there are {} dense levels, over {most_dense}",
+                    self.dense_levels
+                ),
+            ),
+            (
+                self.suffix_bits > most_bits,
+                format!(
+                    "there are {} suffix bits, over {most_bits}",
+                    self.suffix_bits
+                ),
+            ),
+            (self.zero != 0, format!("the zero byte is {}", self.zero)),
+            (
+                self.leaves as usize > MAX_KEYS,
+                format!("there are {} leaves, over {MAX_KEYS}", self.leaves),
+            ),
+        ];
+        let wrong: Vec<String> = faults
+            .into_iter()
+            .filter_map(|(wrong, words)| wrong.then_some(words))
+            .collect();
+        (!wrong.is_empty()).then(|| wrong.join("; "))
+    }
+}
+
+/// Gives the lengths of the bodies of an image's records, or says where they break off.
+pub fn body_lengths(image: &[u8]) -> Result<[usize; RECORDS.len()], String> {
+    let mut lengths = [0; RECORDS.len()];
+    let mut rest = match Header::read(image) {
+        Some(_) => &image[HEADER_BYTES..],
+        None => return Err(no_header(image)),
+    };
+    for (length, (mark, _)) in lengths.iter_mut().zip(RECORDS) {
+        let Some(behind) = rest.strip_prefix(mark.as_bytes()) else {
+            return Err(format!("the record {mark} is not where it belongs"));
+        };
+        let body = read_number(behind, 0).map(|number| number as usize);
+        let end = body.and_then(|body| body.checked_add(RECORD_HEAD_BYTES));
+        let end = end.filter(|end| *end <= rest.len());
+        let end = end.ok_or_else(|| format!("the record {mark} runs past the end of the file"))?;
+        *length = end - RECORD_HEAD_BYTES;
+        rest = &rest[end..];
+    }
+    if !rest.is_empty() {
+        return Err(format!("{} bytes stand behind the last record", rest.len()));
+    }
+    Ok(lengths)
+}
+
+/// Says which part of an image makes the check refuse it, as far as header and records tell.
+pub fn detail(image: &[u8], refusal: Refusal) -> Option<String> {
+    match refusal {
+        Refusal::FrameWrong => body_lengths(image).err(),
+        Refusal::HeaderWrong => Header::read(image)?.fault(),
+        _ => None,
+    }
+}
+
+/// Says why an image has no header.
+fn no_header(image: &[u8]) -> String {
+    if image.len() < HEADER_BYTES {
+        return format!(
+            "it has {} bytes, and a header alone {HEADER_BYTES}",
+            image.len()
+        );
+    }
+    "it does not begin with the mark HD".to_string()
+}
+
+/// Reads the 32-bit number at an offset, whose low byte is first, if all of it is there.
+fn read_number(bytes: &[u8], offset: usize) -> Option<u32> {
+    let number = bytes.get(offset..offset + 4)?.try_into().ok()?;
+    Some(u32::from_le_bytes(number))
+}
