@@ -44,8 +44,8 @@ pub struct Arguments {
 }
 
 impl Arguments {
-    /// Reads the arguments of a subcommand by its shape.
-    pub fn read(shape: &Shape, words: IntoIter<OsString>) -> Result<Arguments, Failure> {
+    /// Reads the arguments of a subcommand by its shape, or says what is wrong with them.
+    pub fn read(shape: &Shape, words: IntoIter<OsString>) -> Result<Arguments, String> {
         let mut arguments = Arguments::default();
         let mut rest = words;
         let mut operands_only = false;
@@ -108,7 +108,7 @@ impl Arguments {
         shape: &Shape,
         word: &OsStr,
         rest: &mut IntoIter<OsString>,
-    ) -> Result<(), Failure> {
+    ) -> Result<(), String> {
         let text = word.to_string_lossy();
         let (name, joined) = match text.split_once('=') {
             Some((name, value)) => (name, Some(OsString::from(value))),
@@ -116,9 +116,9 @@ impl Arguments {
         };
         if let Some(option) = find(shape.options, name) {
             let value = joined.or_else(|| rest.next());
-            let value = value.ok_or_else(|| unable(format!("{option} needs a value behind it")))?;
+            let value = value.ok_or_else(|| format!("{option} has no value behind it"))?;
             if self.value(option).is_some() {
-                return Err(unable(format!("{option} is there twice: leave one out")));
+                return Err(format!("{option} is there twice"));
             }
             self.options.push((option, value));
         } else if let (Some(flag), None) = (find(shape.flags, name), &joined) {
@@ -126,21 +126,20 @@ impl Arguments {
         } else if matches!(&*text, "--help" | "-h") {
             self.help = true;
         } else {
-            return Err(unable(format!("there is no option {text} here")));
+            return Err(format!("there is no option {text}"));
         }
         Ok(())
     }
 
     /// Refuses operands that are missing or too many.
-    fn judge_operands(&self, shape: &Shape) -> Result<(), Failure> {
+    fn judge_operands(&self, shape: &Shape) -> Result<(), String> {
         let given = self.operands.len();
         if self.help {
             Ok(())
         } else if given < shape.needed {
-            Err(unable(format!("{} is missing", shape.operands[given])))
+            Err(format!("{} is missing", shape.operands[given]))
         } else if let Some(extra) = self.operands.get(shape.operands.len()) {
-            let extra = extra.display();
-            Err(unable(format!("'{extra}' is one argument too many")))
+            Err(format!("'{}' is one argument too many", extra.display()))
         } else {
             Ok(())
         }
@@ -155,9 +154,4 @@ fn is_option(word: &OsStr) -> bool {
 /// Gives a name as it stands in a list of names, if it is there.
 fn find(names: &[&'static str], name: &str) -> Option<&'static str> {
     names.iter().copied().find(|known| *known == name)
-}
-
-/// Gives the failure of a call whose arguments are not as the help says.
-fn unable(why: String) -> Failure {
-    Failure::Unable(format!("{why}: the subcommand's --help says what it takes"))
 }

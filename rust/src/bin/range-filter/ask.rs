@@ -1,7 +1,7 @@
 //! `range-filter ask`: questions to an image.
 
 use std::ffi::OsString;
-use std::io::{self, Write};
+use std::io::{self, IsTerminal, Write};
 use std::path::Path;
 
 use range_filter::Filter;
@@ -9,7 +9,7 @@ use range_filter::Filter;
 use crate::arguments::{Arguments, Shape};
 use crate::command::Command;
 use crate::ending::{tell, Ending, Failure};
-use crate::files::{open_filter, read_image, unreadable};
+use crate::files::{open_filter, read_image};
 use crate::lines::Lines;
 use crate::progress::Progress;
 use crate::question::{Kind, Question};
@@ -69,14 +69,12 @@ fn run(arguments: &Arguments, output: &mut dyn Write) -> Result<Ending, Failure>
     let image = read_image(path)?;
     let filter = open_filter(path, &image)?;
     if questions.is_empty() {
-        return ask_lines(&filter, output);
+        return reply_to_lines(&filter, output);
     }
     let mut ending = Ending::Done;
-    for (place, question) in questions.into_iter().enumerate() {
-        if let Err(why) = ask(&filter, question, output)? {
-            tell(&format!("question {}: {why}", place + 1));
-            ending = Ending::Refused;
-        }
+    for (question, number) in questions.into_iter().zip(1..) {
+        let place = format!("question {number}");
+        ending = ending.max(reply(&filter, question, &place, output)?);
     }
     Ok(ending)
 }
@@ -91,32 +89,24 @@ fn read_words(words: &[OsString]) -> Result<Vec<Read>, Failure> {
     let mut rest = words.as_slice();
     while let Some((word, behind)) = rest.split_first() {
         let kind = Kind::read(word).map_err(Failure::Unable)?;
-        let keys = &behind[..kind.keys().min(behind.len())];
-        if keys.len() < kind.keys() {
-            let why = Question::read(kind, keys).err().unwrap_or_default();
-            return Err(Failure::Unable(why));
-        }
+        let (keys, left) = behind
+            .split_at_checked(kind.keys())
+            .ok_or_else(|| Failure::Unable(kind.wrong_keys(behind.len())))?;
         questions.push(Question::read(kind, keys));
-        rest = &behind[keys.len()..];
+        rest = left;
     }
     Ok(questions)
 }
 
 /// Replies to the questions on standard input. Replies go out before a line is waited for.
-fn ask_lines(filter: &Filter, output: &mut dyn Write) -> Result<Ending, Failure> {
-    let name = Path::new("standard input");
-    let mut lines = Lines::new(io::stdin());
-    let mut progress = Progress::new("lines read");
+fn reply_to_lines(filter: &Filter, output: &mut dyn Write) -> Result<Ending, Failure> {
+    let mut lines = Lines::new(Path::new("standard input"), io::stdin());
+    let mut progress = Progress::new("lines read", !io::stdout().is_terminal());
     let mut ending = Ending::Done;
-    while let Some(line) = lines
-        .next_line()
-        .map_err(|error| unreadable(name, &error))?
-    {
+    while let Some(line) = lines.next_line()? {
         let question = line.and_then(Question::read_line);
-        if let Err(why) = ask(filter, question, output)? {
-            tell(&format!("line {}: {why}", lines.number()));
-            ending = Ending::Refused;
-        }
+        let place = format!("line {}", lines.number());
+        ending = ending.max(reply(filter, question, &place, output)?);
         if lines.must_wait() {
             output.flush()?;
         }
@@ -125,16 +115,22 @@ fn ask_lines(filter: &Filter, output: &mut dyn Write) -> Result<Ending, Failure>
     Ok(ending)
 }
 
-/// Writes the reply to a question, or says why there is none.
-fn ask(filter: &Filter, question: Read, output: &mut dyn Write) -> io::Result<Result<(), String>> {
-    let replied = question.and_then(|question| {
-        let reply = question
-            .reply(filter)
-            .map_err(|refusal| refusal.to_string())?;
-        Ok(format!("{question}: {reply}"))
+/// Writes the reply to a question, or tells why there is none and where the question stands.
+fn reply(
+    filter: &Filter,
+    question: Read,
+    place: &str,
+    output: &mut dyn Write,
+) -> io::Result<Ending> {
+    let replied = question.and_then(|question| match question.reply(filter) {
+        Ok(reply) => Ok(format!("{question}: {reply}")),
+        Err(refusal) => Err(refusal.to_string()),
     });
     match replied {
-        Ok(line) => writeln!(output, "{line}").map(Ok),
-        Err(why) => Ok(Err(why)),
+        Ok(line) => writeln!(output, "{line}").map(|()| Ending::Done),
+        Err(why) => {
+            tell(&format!("{place}: {why}"));
+            Ok(Ending::Refused)
+        }
     }
 }

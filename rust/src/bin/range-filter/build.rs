@@ -36,8 +36,8 @@ Builds the image of a file of keys and says how long it is.
 KEYS is a text file with one key a line, or - for standard input. A key has 1
 to 64 bytes. In it \\xHH stands for the byte with these two hexadecimal digits
 and \\\\ for a backslash; every other byte stands for itself. Keys ascend by
-their bytes, a key before the longer ones that begin with it, as in the order
-of `LC_ALL=C sort`. There are at most 65,535 of them.
+their bytes, a key before the longer ones that begin with it: where there are no
+escapes, that is the order of `LC_ALL=C sort`. There are at most 65,535 keys.
 
   -o IMAGE          the file to write. It is written under another name and
                     then takes the place of the file, so that a call which is

@@ -29,7 +29,7 @@ Says whether a file is an image, just as some list of keys builds it, in a line:
   refused 12: what is wrong and what to do (the version is 2, and not 1)
 
 The number is one of 11 to 16. What stands in brackets tells more, if the header
-and the records show it.
+and the records show it. A file of over 64 MiB is refused without being read.
 
 Exit status: 0 accepted; 1 refused; 2 the arguments are not as above, or the
 file can't be read.

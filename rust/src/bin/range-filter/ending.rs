@@ -3,8 +3,8 @@
 use std::io::{self, Write};
 use std::process::ExitCode;
 
-/// How a call ends that wrote its result.
-#[derive(Clone, Copy, Debug, PartialEq, Eq)]
+/// How a call ends that wrote its result; the greater of two endings is that of both.
+#[derive(Clone, Copy, Debug, PartialEq, Eq, PartialOrd, Ord)]
 pub enum Ending {
     /// All is done: exit status 0.
     Done,

@@ -65,7 +65,7 @@ pub fn open(path: &Path) -> Result<File, Failure> {
 pub fn unreadable(path: &Path, error: &io::Error) -> Failure {
     let name = path.display();
     Failure::Unable(format!(
-        "{name} can't be read ({error}): check its name and its rights"
+        "{name} can't be read ({error}): check its name and its permissions"
     ))
 }
 
@@ -77,7 +77,7 @@ pub fn write_whole(path: &Path, bytes: &[u8]) -> Result<(), Failure> {
     let unwritable = |error: io::Error| {
         let name = path.display();
         Failure::Unable(format!(
-            "{name} can't be written ({error}): check its folder and its rights"
+            "{name} can't be written ({error}): check its folder and its permissions"
         ))
     };
     if goal.exists() && !goal.is_file() {

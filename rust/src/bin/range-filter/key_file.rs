@@ -7,7 +7,6 @@ use std::path::Path;
 use range_filter::{Refusal, MAX_KEYS};
 
 use crate::ending::Failure;
-use crate::files::unreadable;
 use crate::lines::Lines;
 use crate::progress::Progress;
 use crate::text::{read_key, show_key};
@@ -41,18 +40,11 @@ fn for_each_key(
     input: impl Read,
     mut take: impl FnMut(Vec<u8>) -> Result<(), String>,
 ) -> Result<(), Failure> {
-    let mut lines = Lines::new(input);
-    let mut progress = Progress::new("lines read");
-    while let Some(line) = lines
-        .next_line()
-        .map_err(|error| unreadable(name, &error))?
-    {
+    let mut lines = Lines::new(name, input);
+    let mut progress = Progress::new("lines read", true);
+    while let Some(line) = lines.next_line()? {
         let taken = line.and_then(read_line).and_then(&mut take);
-        if let Err(why) = taken {
-            let name = name.display();
-            let number = lines.number();
-            return Err(Failure::Refused(format!("{name}, line {number}: {why}")));
-        }
+        taken.map_err(|why| lines.refused(&why))?;
         progress.step();
     }
     Ok(())
@@ -61,9 +53,7 @@ fn for_each_key(
 /// Gives the key of a line.
 fn read_line(line: &[u8]) -> Result<Vec<u8>, String> {
     if line.is_empty() {
-        return Err(
-            "the line is empty, and the empty key can't be stored: take it away".to_string(),
-        );
+        return Err("the line is empty, and the empty key can't be stored: remove it".to_string());
     }
     read_key(line).map_err(|fault| fault.to_string())
 }
@@ -72,10 +62,10 @@ fn read_line(line: &[u8]) -> Result<Vec<u8>, String> {
 fn not_above(last: &[u8], key: &[u8]) -> String {
     let shown = show_key(key);
     if last == key {
-        return format!("the key {shown} is there twice: take one away, or give --sort");
+        return format!("the key {shown} is there twice: remove one, or give --sort");
     }
     let before = show_key(last);
-    format!("the key {shown} is below {before} of the line before: sort the keys, or give --sort")
+    format!("the key {shown} is below {before}, the key before it: sort the keys, or give --sort")
 }
 
 /// Refuses more keys than an image has.

@@ -1,21 +1,27 @@
 //! The lines of a text file or of standard input, with their numbers.
 
 use std::io::{self, BufRead, BufReader, Read};
+use std::path::{Path, PathBuf};
+
+use crate::ending::Failure;
+use crate::files::unreadable;
 
 /// The most bytes that a line has: two keys of 64 escapes take about half of them.
 const LONGEST_LINE: usize = 1_024;
 
 /// The lines of an input, one after the other. No more of a line is kept than a line may have.
 pub struct Lines<R> {
+    name: PathBuf,
     input: BufReader<R>,
     line: Vec<u8>,
     number: usize,
 }
 
 impl<R: Read> Lines<R> {
-    /// Starts before the first line of an input.
-    pub fn new(input: R) -> Self {
+    /// Starts before the first line of an input that has some name.
+    pub fn new(name: &Path, input: R) -> Self {
         Lines {
+            name: name.to_path_buf(),
             input: BufReader::new(input),
             line: Vec::new(),
             number: 0,
@@ -23,19 +29,13 @@ impl<R: Read> Lines<R> {
     }
 
     /// Gives the next line, without its line feed, or what is wrong with it; nothing at the end.
-    pub fn next_line(&mut self) -> io::Result<Option<Result<&[u8], String>>> {
-        self.line.clear();
-        let room = LONGEST_LINE as u64 + 1;
-        let mut start = self.input.by_ref().take(room);
-        if start.read_until(b'\n', &mut self.line)? == 0 {
+    pub fn next_line(&mut self) -> Result<Option<Result<&[u8], String>>, Failure> {
+        let name = &self.name;
+        let read = fill_line(&mut self.input, &mut self.line);
+        if !read.map_err(|error| unreadable(name, &error))? {
             return Ok(None);
         }
         self.number += 1;
-        if self.line.last() == Some(&b'\n') {
-            self.line.pop();
-        } else if self.line.len() > LONGEST_LINE {
-            self.input.skip_until(b'\n')?;
-        }
         Ok(Some(judge(&self.line)))
     }
 
@@ -44,24 +44,44 @@ impl<R: Read> Lines<R> {
         self.number
     }
 
+    /// Gives the failure of an input whose last line is refused.
+    pub fn refused(&self, why: &str) -> Failure {
+        let (name, number) = (self.name.display(), self.number);
+        Failure::Refused(format!("{name}, line {number}: {why}"))
+    }
+
     /// Says whether the next line has to be waited for.
     pub fn must_wait(&self) -> bool {
         self.input.buffer().is_empty()
     }
 }
 
+/// Reads the next line, and no more of it than shows that it is too long; says whether there is
+/// one. The rest of a line that was too long is passed over first.
+fn fill_line(input: &mut impl BufRead, line: &mut Vec<u8>) -> io::Result<bool> {
+    if line.len() > LONGEST_LINE {
+        input.skip_until(b'\n')?;
+    }
+    line.clear();
+    let mut start = input.take(LONGEST_LINE as u64 + 1);
+    start.read_until(b'\n', line)?;
+    let there = !line.is_empty();
+    if line.last() == Some(&b'\n') {
+        line.pop();
+    }
+    Ok(there)
+}
+
 /// Gives a line back, or says what no line may be.
 fn judge(line: &[u8]) -> Result<&[u8], String> {
     if line.len() > LONGEST_LINE {
         Err(format!(
-            "the line has over {LONGEST_LINE} bytes: no line that is taken is so long"
+            "the line has over {LONGEST_LINE} bytes, and no key is so long: shorten it"
         ))
     } else if line.ends_with(b"\r") {
-        Err(
-            "a carriage return stands before the line feed: take it away, \
+        Err("a carriage return stands before the line feed: remove it, \
              or write \\x0D if it belongs to the key"
-                .to_string(),
-        )
+            .to_string())
     } else {
         Ok(line)
     }

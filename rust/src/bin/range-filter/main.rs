@@ -23,6 +23,7 @@ use std::env;
 use std::ffi::OsString;
 use std::io::{self, BufWriter, Write};
 use std::process::ExitCode;
+use std::vec::IntoIter;
 
 use arguments::Arguments;
 use command::Command;
@@ -58,13 +59,10 @@ says, or a file can't be read or written. Errors stand on standard error.
 fn main() -> ExitCode {
     let words: Vec<OsString> = env::args_os().skip(1).collect();
     let mut output = BufWriter::new(io::stdout().lock());
-    let ending = run(words, &mut output).and_then(|ending| {
-        output.flush()?;
-        Ok(ending)
-    });
-    // After a failure what was written so far still goes out; its error would be the second one.
-    let _ = output.flush();
-    match ending {
+    let ending = run(words, &mut output);
+    // What was written before a failure goes out too.
+    let flushed = output.flush().map_err(Failure::from);
+    match ending.and_then(|ending| flushed.map(|()| ending)) {
         Ok(ending) => ending.into(),
         Err(failure) => failure.tell(),
     }
@@ -81,18 +79,24 @@ fn run(words: Vec<OsString>, output: &mut dyn Write) -> Result<Ending, Failure> 
             let mut commands = COMMANDS.iter();
             let command = commands.find(|command| first == command.name);
             let command = command.ok_or_else(|| unknown(&first))?;
-            return run_command(command, Arguments::read(&command.shape, words)?, output);
+            return run_command(command, words, output);
         }
     }
     Ok(Ending::Done)
 }
 
-/// Runs a subcommand, or writes its help.
+/// Runs a subcommand on the words behind its name, or writes its help.
 fn run_command(
     command: &Command,
-    arguments: Arguments,
+    words: IntoIter<OsString>,
     output: &mut dyn Write,
 ) -> Result<Ending, Failure> {
+    let name = command.name;
+    let arguments = Arguments::read(&command.shape, words).map_err(|why| {
+        Failure::Unable(format!(
+            "{why}: `range-filter {name} --help` says what it takes"
+        ))
+    })?;
     if arguments.help {
         output.write_all(command.help.as_bytes())?;
         return Ok(Ending::Done);

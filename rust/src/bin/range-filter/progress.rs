@@ -23,14 +23,15 @@ pub struct Progress {
 }
 
 impl Progress {
-    /// Starts a piece of work; the words name its steps, as "lines read".
-    pub fn new(what: &'static str) -> Self {
+    /// Starts a piece of work; the words name its steps, as "lines read". It may be one whose
+    /// progress shows already.
+    pub fn new(what: &'static str, hidden: bool) -> Self {
         Progress {
             what,
             steps: 0,
             next: Instant::now() + QUIET,
             shown: false,
-            wanted: io::stderr().is_terminal(),
+            wanted: hidden && io::stderr().is_terminal(),
         }
     }
 
@@ -41,7 +42,7 @@ impl Progress {
             self.next = Instant::now() + PAUSE;
             self.shown = true;
             let steps = grouped(self.steps);
-            let _ = write!(io::stderr(), "\rrange-filter: {steps} {}", self.what);
+            let _ = write!(io::stderr(), "\x1b[Krange-filter: {steps} {}\r", self.what);
         }
     }
 }
@@ -50,7 +51,7 @@ impl Progress {
 impl Drop for Progress {
     fn drop(&mut self) {
         if self.shown {
-            let _ = write!(io::stderr(), "\r\x1b[K");
+            let _ = write!(io::stderr(), "\x1b[K");
         }
     }
 }

@@ -40,6 +40,16 @@ impl Kind {
         })
     }
 
+    /// Says that a question of this kind has another number of keys.
+    pub fn wrong_keys(self, number: usize) -> String {
+        let name = self.name();
+        let takes = match self.keys() {
+            1 => "one key",
+            _ => "two keys, a lower and an upper bound",
+        };
+        format!("{name} takes {takes}, and here are {number}")
+    }
+
     /// Gives the number of keys that a question of this kind has.
     pub fn keys(self) -> usize {
         match self {
@@ -75,23 +85,16 @@ impl Question {
         let words: Vec<&[u8]> = words.filter(|word| !word.is_empty()).collect();
         let (kind, keys) = words
             .split_first()
-            .ok_or("the line has no question: write a kind and its keys, or take it away")?;
+            .ok_or("the line has no question: write a kind and its keys, or remove it")?;
         Question::read(Kind::read(kind)?, keys)
     }
 
     /// Reads the keys of a question of some kind.
     pub fn read(kind: Kind, keys: &[&[u8]]) -> Result<Question, String> {
-        let name = kind.name();
         let (first, second) = match (kind.keys(), keys) {
             (1, [key]) => (read_word(key)?, Vec::new()),
             (2, [lower, upper]) => (read_word(lower)?, read_word(upper)?),
-            (1, _) => return Err(format!("{name} takes one key, and here are {}", keys.len())),
-            _ => {
-                return Err(format!(
-                    "{name} takes two keys, a lower and an upper bound, and here are {}",
-                    keys.len()
-                ))
-            }
+            _ => return Err(kind.wrong_keys(keys.len())),
         };
         Ok(Question {
             kind,

@@ -1,6 +1,8 @@
-//! The header and the records of an image by their bytes, for the eyes of a reader.
+//! The header and the records of an image by their bytes, to show them.
 
 use range_filter::{Refusal, Settings, MAX_KEYS};
+
+use crate::text::grouped;
 
 /// The bytes of a header.
 pub const HEADER_BYTES: usize = 22;
@@ -30,8 +32,7 @@ pub struct Header {
     dense_levels: u8,
     suffix_bits: u8,
     zero: u8,
-    /// The number of leaves.
-    pub leaves: u32,
+    leaves: u32,
     /// The number of dense nodes.
     pub dense_nodes: u32,
     /// The number of entries of sparse nodes.
@@ -56,40 +57,29 @@ impl Header {
         })
     }
 
-    /// Says which field alone makes the check refuse the image with 12, if one does.
-    fn fault(&self) -> Option<String> {
-        let most_dense = Settings::MAX_DENSE_LEVELS;
-        let most_bits = Settings::MAX_SUFFIX_BITS;
-        let faults = [
-            (
-                self.version != 1,
-                format!("the version is {}, and not 1", self.version),
-            ),
-            (
-                self.dense_levels > most_dense,
-                format!(
-                    "there are {} dense levels, over {most_dense}",
-                    self.dense_levels
-                ),
-            ),
-            (
-                self.suffix_bits > most_bits,
-                format!(
-                    "there are {} suffix bits, over {most_bits}",
-                    self.suffix_bits
-                ),
-            ),
-            (self.zero != 0, format!("the zero byte is {}", self.zero)),
-            (
-                self.leaves as usize > MAX_KEYS,
-                format!("there are {} leaves, over {MAX_KEYS}", self.leaves),
-            ),
-        ];
-        let wrong: Vec<String> = faults
-            .into_iter()
-            .filter_map(|(wrong, words)| wrong.then_some(words))
-            .collect();
-        (!wrong.is_empty()).then(|| wrong.join("; "))
+    /// Says which fields alone make the check refuse the image with 12.
+    fn faults(&self) -> Vec<String> {
+        let mut faults = Vec::new();
+        if self.version != 1 {
+            faults.push(format!("the version is {}, and not 1", self.version));
+        }
+        let (levels, most) = (self.dense_levels, Settings::MAX_DENSE_LEVELS);
+        if levels > most {
+            faults.push(format!("there are {levels} dense levels, over {most}"));
+        }
+        let (bits, most) = (self.suffix_bits, Settings::MAX_SUFFIX_BITS);
+        if bits > most {
+            faults.push(format!("there are {bits} suffix bits, over {most}"));
+        }
+        if self.zero != 0 {
+            faults.push(format!("the zero byte is {}", self.zero));
+        }
+        let leaves = self.leaves as usize;
+        if leaves > MAX_KEYS {
+            let (leaves, most) = (grouped(leaves), grouped(MAX_KEYS));
+            faults.push(format!("there are {leaves} leaves, over {most}"));
+        }
+        faults
     }
 }
 
@@ -121,7 +111,10 @@ pub fn body_lengths(image: &[u8]) -> Result<[usize; RECORDS.len()], String> {
 pub fn detail(image: &[u8], refusal: Refusal) -> Option<String> {
     match refusal {
         Refusal::FrameWrong => body_lengths(image).err(),
-        Refusal::HeaderWrong => Header::read(image)?.fault(),
+        Refusal::HeaderWrong => {
+            let faults = Header::read(image)?.faults();
+            (!faults.is_empty()).then(|| faults.join("; "))
+        }
         _ => None,
     }
 }

@@ -102,16 +102,15 @@ fn describe(trie: &Trie) -> String {
         let (place, cut) = (leaf.place(), show_key(leaf.cut()));
         format!("{place} {} {cut}{suffix}", kind(leaf))
     };
-    let leaves: Vec<String> = trie.leaves.iter().map(leaf).collect();
+    let mut leaves: Vec<String> = trie.leaves.iter().map(leaf).collect();
+    if leaves.is_empty() {
+        leaves.push("none".to_string());
+    }
     format!(
         "Levels: {}, of which dense: {}. Leaves by place: {}.",
         trie.levels(),
         trie.dense_levels,
-        if leaves.is_empty() {
-            "none".to_string()
-        } else {
-            leaves.join("; ")
-        }
+        leaves.join("; ")
     )
 }
 

@@ -7,6 +7,7 @@ mod tally;
 
 use std::fs;
 use std::io::Write;
+use std::mem;
 use std::path::{Path, PathBuf};
 
 use range_filter::{Filter, Settings};
@@ -108,20 +109,14 @@ fn read_runs(folder: &Path, settings: Settings) -> Result<Vec<Run>, Failure> {
 
 /// Reads the questions of a file, each with the words of the line above it.
 fn read_questions(path: &Path) -> Result<Vec<(String, Question)>, Failure> {
-    let mut lines = Lines::new(open(path)?);
+    let mut lines = Lines::new(path, open(path)?);
     let mut questions = Vec::new();
     let mut words = String::new();
-    while let Some(line) = lines
-        .next_line()
-        .map_err(|error| unreadable(path, &error))?
-    {
-        match line.and_then(read_line) {
-            Ok(Line::Words(read)) => words = read,
-            Ok(Line::Question(question)) => questions.push((std::mem::take(&mut words), question)),
-            Err(why) => {
-                let (name, number) = (path.display(), lines.number());
-                return Err(Failure::Refused(format!("{name}, line {number}: {why}")));
-            }
+    while let Some(line) = lines.next_line()? {
+        let line = line.and_then(read_line);
+        match line.map_err(|why| lines.refused(&why))? {
+            Line::Words(read) => words = read,
+            Line::Question(question) => questions.push((mem::take(&mut words), question)),
         }
     }
     Ok(questions)

@@ -58,16 +58,11 @@ impl Run {
 
 /// Reads a run file and gives the records that are wanted.
 fn read_records(path: &Path, wanted: impl Fn(&Record) -> bool) -> Result<Vec<Record>, Failure> {
-    let mut lines = Lines::new(open(path)?);
+    let mut lines = Lines::new(path, open(path)?);
     let mut records = Vec::new();
-    while let Some(line) = lines
-        .next_line()
-        .map_err(|error| unreadable(path, &error))?
-    {
-        let record = line.and_then(read_record).map_err(|why| {
-            let name = path.display();
-            Failure::Refused(format!("{name}, line {}: {why}", lines.number()))
-        })?;
+    while let Some(line) = lines.next_line()? {
+        let record = line.and_then(read_record);
+        let record = record.map_err(|why| lines.refused(&why))?;
         if wanted(&record) {
             records.push(record);
         }

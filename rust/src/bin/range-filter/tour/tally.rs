@@ -79,3 +79,57 @@ impl Tally {
         }
     }
 }
+
+#[cfg(test)]
+mod tests {
+    use super::{Ending, Tally};
+
+    /// Gives what a tally writes.
+    fn written(tally: &Tally) -> String {
+        let mut output = Vec::new();
+        tally.write(&mut output).expect("a vector takes all bytes");
+        String::from_utf8(output).expect("the output is text")
+    }
+
+    /// Gives a tally of a tour on which all went well.
+    fn good() -> Tally {
+        Tally {
+            questions: 3,
+            read: 2,
+            in_vain: 1,
+            passed_over: 1_004,
+            keys: 20,
+            ..Tally::default()
+        }
+    }
+
+    #[test]
+    fn a_good_tour_ends_well() {
+        let expected = "
+1,004 of 1,006 reads were saved: 2 runs read, 1 in vain.
+All 3 answers are those of a full reading of all runs.
+No stored key was denied: all 20 were put to their filters.
+";
+        assert_eq!(written(&good()), expected);
+        assert_eq!(good().ending(), Ending::Done);
+    }
+
+    #[test]
+    fn a_wrong_answer_is_told() {
+        let tally = Tally { wrong: 1, ..good() };
+        assert!(
+            written(&tally).contains("\nWRONG: 1 of 3 answers are not those of a full reading.\n")
+        );
+        assert_eq!(tally.ending(), Ending::Refused);
+    }
+
+    #[test]
+    fn a_denied_key_is_told() {
+        let tally = Tally {
+            denied: 2,
+            ..good()
+        };
+        assert!(written(&tally).contains("\nWRONG: 2 of 20 stored keys were denied.\n"));
+        assert_eq!(tally.ending(), Ending::Refused);
+    }
+}

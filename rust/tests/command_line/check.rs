@@ -1,0 +1,154 @@
+//! `range-filter check`.
+
+use crate::examples::{image_a_dense, IMAGE_A, IMAGE_VAN};
+use crate::program::{Folder, Outcome};
+
+/// Runs the check over some bytes.
+fn check(test: &str, image: &[u8]) -> Outcome {
+    let folder = Folder::new(test);
+    folder.write("image", image);
+    folder.run(&["check", "image"])
+}
+
+/// Gives list A's image with one byte changed.
+fn damaged(offset: usize, byte: u8) -> Vec<u8> {
+    let mut image = IMAGE_A.to_vec();
+    image[offset] = byte;
+    image
+}
+
+#[test]
+fn images_are_accepted_with_leaves_and_settings() {
+    assert_eq!(
+        check("check_a", IMAGE_A).done(),
+        "accepted: 4 leaves, dense levels 0, suffix bits 0\n"
+    );
+    assert_eq!(
+        check("check_dense", &image_a_dense()).done(),
+        "accepted: 4 leaves, dense levels 1, suffix bits 0\n"
+    );
+    assert_eq!(
+        check("check_van", IMAGE_VAN).done(),
+        "accepted: 4 leaves, dense levels 0, suffix bits 8\n"
+    );
+}
+
+/// Asserts that an image is refused with a number and with what stands in brackets.
+fn refused(test: &str, image: &[u8], number: u32, detail: &str) {
+    let outcome = check(test, image);
+    assert_eq!((outcome.status, outcome.errors.as_str()), (1, ""));
+    let start = format!("refused {number}: ");
+    assert!(outcome.output.starts_with(&start), "{}", outcome.output);
+    assert!(
+        outcome.output.ends_with(&format!("{detail}\n")),
+        "{}",
+        outcome.output
+    );
+    assert_eq!(outcome.output.lines().count(), 1);
+}
+
+#[test]
+fn broken_frames_get_11() {
+    refused(
+        "check_11_none",
+        b"",
+        11,
+        " (it has 0 bytes, and a header alone 22)",
+    );
+    let short = " (it has 21 bytes, and a header alone 22)";
+    refused("check_11_short", &IMAGE_A[..21], 11, short);
+    refused(
+        "check_11_head",
+        &damaged(0, b'h'),
+        11,
+        " (it does not begin with the mark HD)",
+    );
+    let mark = " (the record DC is not where it belongs)";
+    refused("check_11_mark", &damaged(28, b'd'), 11, mark);
+    let end = " (the record TS runs past the end of the file)";
+    refused("check_11_end", &IMAGE_A[..109], 11, end);
+    refused(
+        "check_11_length",
+        &damaged(45, 0xFF),
+        11,
+        " (the record SL runs past the end of the file)",
+    );
+    let more = [IMAGE_A, b"ab"].concat();
+    refused(
+        "check_11_more",
+        &more,
+        11,
+        " (2 bytes stand behind the last record)",
+    );
+}
+
+#[test]
+fn wrong_headers_get_12_with_the_field() {
+    refused(
+        "check_12_version",
+        &damaged(2, 2),
+        12,
+        " (the version is 2, and not 1)",
+    );
+    refused(
+        "check_12_dense",
+        &damaged(3, 5),
+        12,
+        " (there are 5 dense levels, over 4)",
+    );
+    refused(
+        "check_12_n",
+        &damaged(4, 17),
+        12,
+        " (there are 17 suffix bits, over 16)",
+    );
+    refused("check_12_zero", &damaged(5, 9), 12, " (the zero byte is 9)");
+    refused(
+        "check_12_leaves",
+        &damaged(8, 1),
+        12,
+        " (there are 65,540 leaves, over 65,535)",
+    );
+    let mut two = damaged(2, 3);
+    two[5] = 1;
+    let both = " (the version is 3, and not 1; the zero byte is 1)";
+    refused("check_12_two", &two, 12, both);
+    // A body that is not as long as the counts give shows in no field alone.
+    refused("check_12_body", &damaged(14, 7), 12, "anew");
+}
+
+#[test]
+fn wrong_bodies_get_13_to_16() {
+    // SL stands at 40, SC at 52, SB at 59, RS at 90: six bytes of mark and length, then the body.
+    refused("check_13", &damaged(58, 0x45), 13, "anew");
+    let mut unsorted = damaged(46, 0x56);
+    unsorted[47] = 0x44;
+    refused("check_14", &unsorted, 14, "anew");
+    refused("check_15", &damaged(96, 1), 15, "anew");
+    // The slots of V, D2, D1 and D12 are the body of SV at 66.
+    let mut image = IMAGE_VAN.to_vec();
+    image[72 + 2] = 1;
+    refused("check_16", &image, 16, "anew");
+}
+
+#[test]
+fn files_that_cannot_be_read_are_told() {
+    let folder = Folder::new("check_files");
+    assert!(folder
+        .run(&["check", "none"])
+        .failed(2)
+        .starts_with("none can't be read ("));
+    assert_eq!(
+        folder.run(&["check", "."]).failed(2),
+        ". is a folder: name a file in it"
+    );
+    let help = "`range-filter check --help` says what it takes";
+    assert_eq!(
+        folder.run(&["check"]).failed(2),
+        format!("IMAGE is missing: {help}")
+    );
+    assert_eq!(
+        folder.run(&["check", "a", "b"]).failed(2),
+        format!("'b' is one argument too many: {help}")
+    );
+}
