@@ -118,6 +118,15 @@ impl Folder {
     }
 }
 
+/// Removes the folder, unless the test has failed and its files may tell why.
+impl Drop for Folder {
+    fn drop(&mut self) {
+        if !thread::panicking() {
+            let _ = fs::remove_dir_all(&self.path);
+        }
+    }
+}
+
 /// Gives a text of so many keys, one a line, ascending.
 pub fn many_keys(number: usize) -> String {
     (0..number).map(|key| format!("key{key:06}\n")).collect()

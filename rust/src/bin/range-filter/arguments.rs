@@ -97,7 +97,7 @@ impl Arguments {
             Some(number) => Ok(Some(number)),
             None => Err(Failure::Unable(format!(
                 "{option} takes a whole number from 0 to {greatest}, and not '{}'",
-                value.display()
+                value.to_string_lossy()
             ))),
         }
     }
@@ -139,7 +139,10 @@ impl Arguments {
         } else if given < shape.needed {
             Err(format!("{} is missing", shape.operands[given]))
         } else if let Some(extra) = self.operands.get(shape.operands.len()) {
-            Err(format!("'{}' is one argument too many", extra.display()))
+            Err(format!(
+                "'{}' is one argument too many",
+                extra.to_string_lossy()
+            ))
         } else {
             Ok(())
         }

@@ -46,41 +46,32 @@ fn run(arguments: &Arguments, output: &mut dyn Write) -> Result<Ending, Failure>
 fn write_summary(filter: &Filter, output: &mut dyn Write) -> io::Result<()> {
     let header = Header::read(filter.image()).expect("an accepted image has a header");
     let exact = filter.leaves().filter(|leaf| leaf.is_exact()).count();
-    let (leaves, open) = (filter.len(), filter.len() - exact);
-    // A cut key of so many bytes goes by a node on each level above.
+    let open = filter.len() - exact;
+    let (dense, sparse) = (header.dense_nodes as usize, header.sparse_nodes as usize);
+    // A cut key goes by a node on each level before its last byte.
     let levels = filter.leaves().map(|leaf| leaf.cut().len()).max();
     let settings = filter.settings();
-    let (dense, sparse) = (header.dense_nodes as usize, header.sparse_nodes as usize);
     let lines = [
         ("bytes", grouped(filter.image().len())),
         ("bits a key", bits_a_key(filter)),
         ("dense levels", settings.dense_levels().to_string()),
         ("suffix bits", settings.suffix_bits().to_string()),
-        (
-            "leaves",
-            format!(
-                "{} ({} exact, {} open)",
-                grouped(leaves),
-                grouped(exact),
-                grouped(open)
-            ),
-        ),
+        ("leaves", sum((exact, "exact"), (open, "open"))),
         ("levels", levels.unwrap_or(0).to_string()),
-        (
-            "nodes",
-            format!(
-                "{} ({} dense, {} sparse)",
-                grouped(dense + sparse),
-                grouped(dense),
-                grouped(sparse)
-            ),
-        ),
+        ("nodes", sum((dense, "dense"), (sparse, "sparse"))),
         ("sparse entries", grouped(header.sparse_entries as usize)),
     ];
     for (name, value) in lines {
         writeln!(output, "{name:16}{value}")?;
     }
     Ok(())
+}
+
+/// Gives a sum and its two parts in words.
+fn sum((first, first_name): (usize, &str), (second, second_name): (usize, &str)) -> String {
+    let all = grouped(first + second);
+    let (first, second) = (grouped(first), grouped(second));
+    format!("{all} ({first} {first_name}, {second} {second_name})")
 }
 
 /// Gives the bits of the image for each of its leaves.
@@ -95,17 +86,13 @@ pub fn bits_a_key(filter: &Filter) -> String {
 /// Writes the header and the records with their bytes, and the sum.
 fn write_records(filter: &Filter, output: &mut dyn Write) -> io::Result<()> {
     let lengths = body_lengths(filter.image()).expect("an accepted image has its records");
-    writeln!(
-        output,
-        "{:8}{:56}{:>12}",
-        "record", "what it holds", "bytes"
-    )?;
+    let mut write_row =
+        |mark: &str, what: &str, bytes: &str| writeln!(output, "{mark:8}{what:56}{bytes:>12}");
+    write_row("record", "what it holds", "bytes")?;
     let header = "header: version, settings and counts";
-    writeln!(output, "{:8}{header:56}{:>12}", "HD", HEADER_BYTES)?;
+    write_row("HD", header, &HEADER_BYTES.to_string())?;
     for ((mark, what), length) in RECORDS.iter().zip(lengths) {
-        let bytes = grouped(RECORD_HEAD_BYTES + length);
-        writeln!(output, "{mark:8}{what:56}{bytes:>12}")?;
+        write_row(mark, what, &grouped(RECORD_HEAD_BYTES + length))?;
     }
-    let bytes = grouped(filter.image().len());
-    writeln!(output, "{:8}{:56}{bytes:>12}", "", "total")
+    write_row("", "total", &grouped(filter.image().len()))
 }

@@ -60,7 +60,7 @@ impl<R: Read> Lines<R> {
 /// one. The rest of a line that was too long is passed over first.
 fn fill_line(input: &mut impl BufRead, line: &mut Vec<u8>) -> io::Result<bool> {
     if line.len() > LONGEST_LINE {
-        input.skip_until(b'\n')?;
+        pass_line(input)?;
     }
     line.clear();
     let mut start = input.take(LONGEST_LINE as u64 + 1);
@@ -70,6 +70,20 @@ fn fill_line(input: &mut impl BufRead, line: &mut Vec<u8>) -> io::Result<bool> {
         line.pop();
     }
     Ok(there)
+}
+
+/// Passes over the rest of a line and its line feed.
+fn pass_line(input: &mut impl BufRead) -> io::Result<()> {
+    loop {
+        let bytes = input.fill_buf()?;
+        let end = bytes.iter().position(|byte| *byte == b'\n');
+        let passed = end.map_or(bytes.len(), |end| end + 1);
+        let done = end.is_some() || bytes.is_empty();
+        input.consume(passed);
+        if done {
+            return Ok(());
+        }
+    }
 }
 
 /// Gives a line back, or says what no line may be.

@@ -118,7 +118,7 @@ fn unknown(word: &OsString) -> Failure {
     let what = if word.is_empty() {
         "a subcommand is missing".to_string()
     } else {
-        format!("there is no subcommand '{}'", word.display())
+        format!("there is no subcommand '{}'", word.to_string_lossy())
     };
     Failure::Unable(format!("{what}: `range-filter --help` lists them"))
 }

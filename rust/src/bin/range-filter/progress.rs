@@ -23,8 +23,8 @@ pub struct Progress {
 }
 
 impl Progress {
-    /// Starts a piece of work; the words name its steps, as "lines read". It may be one whose
-    /// progress shows already.
+    /// Starts a piece of work; the words name its steps, as "lines read". It is hidden if nothing
+    /// else on the terminal shows how far it is.
     pub fn new(what: &'static str, hidden: bool) -> Self {
         Progress {
             what,
@@ -38,7 +38,7 @@ impl Progress {
     /// Counts a step.
     pub fn step(&mut self) {
         self.steps += 1;
-        if self.wanted && self.steps.is_multiple_of(STEPS) && Instant::now() >= self.next {
+        if self.wanted && self.steps % STEPS == 0 && Instant::now() >= self.next {
             self.next = Instant::now() + PAUSE;
             self.shown = true;
             let steps = grouped(self.steps);

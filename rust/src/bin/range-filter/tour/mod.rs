@@ -1,6 +1,6 @@
 //! `range-filter tour`: filters at work on sample runs.
 
-mod asking;
+mod answer;
 mod report;
 mod run;
 mod tally;
@@ -19,6 +19,7 @@ use crate::ending::{Ending, Failure};
 use crate::files::{open, open_filter, unreadable};
 use crate::lines::Lines;
 use crate::question::{Kind, Question};
+use answer::Answer;
 use run::Run;
 use tally::Tally;
 
@@ -72,7 +73,7 @@ fn run(arguments: &Arguments, output: &mut dyn Write) -> Result<Ending, Failure>
     report::write_runs(&runs, &filters, settings, output)?;
     let mut tally = Tally::default();
     for (words, question) in &questions {
-        let answer = asking::ask(question, &runs, &filters)?;
+        let answer = Answer::find(question, &runs, &filters)?;
         tally.add_answer(&answer);
         report::write_answer(words, question, &answer, output)?;
     }

@@ -4,7 +4,7 @@ use std::io::{self, Write};
 
 use range_filter::{Filter, Settings};
 
-use super::asking::Answer;
+use super::answer::Answer;
 use super::run::Run;
 use crate::info::bits_a_key;
 use crate::question::{Kind, Question};
@@ -33,11 +33,8 @@ pub fn write_runs(
     write_row("run", head.map(str::to_string), output)?;
     for (run, filter) in runs.iter().zip(filters) {
         let [records, bytes, image] = sizes(run).map(grouped);
-        write_row(
-            &run.name,
-            [records, bytes, image, bits_a_key(filter)],
-            output,
-        )?;
+        let columns = [records, bytes, image, bits_a_key(filter)];
+        write_row(&run.name, columns, output)?;
     }
     let sum = |column: usize| grouped(runs.iter().map(|run| sizes(run)[column]).sum());
     write_row("all", [sum(0), sum(1), sum(2), String::new()], output)
@@ -62,15 +59,15 @@ pub fn write_answer(
     answer: &Answer,
     output: &mut dyn Write,
 ) -> io::Result<()> {
-    writeln!(output, "\n{words}")?;
+    writeln!(output)?;
+    if !words.is_empty() {
+        writeln!(output, "{words}")?;
+    }
     write_wrapped("asked", &question.to_string(), output)?;
     write_wrapped("read", &names(answer.useful()), output)?;
     write_wrapped("read in vain", &names(answer.in_vain()), output)?;
-    write_wrapped(
-        "passed over",
-        &names(answer.passed_over.iter().copied()),
-        output,
-    )?;
+    let passed_over = answer.passed_over.iter().copied();
+    write_wrapped("passed over", &names(passed_over), output)?;
     write_found(question, answer, output)
 }
 
@@ -83,15 +80,12 @@ fn names<'a>(runs: impl Iterator<Item = &'a Run>) -> String {
 /// Writes what was found: how many records, and the first of them.
 fn write_found(question: &Question, answer: &Answer, output: &mut dyn Write) -> io::Result<()> {
     let found = answer.records().count();
-    let allowed = match question.kind() {
-        Kind::Count => format!(" (by the filters at most {})", answer.allowed),
-        _ => String::new(),
-    };
-    write_wrapped(
-        "found",
-        &format!("{}{allowed}", counted(found, "record")),
-        output,
-    )?;
+    let mut words = counted(found, "record");
+    if question.kind() == Kind::Count {
+        let allowed: usize = answer.read.iter().map(|reading| reading.allowed).sum();
+        words.push_str(&format!(" (by the filters at most {allowed})"));
+    }
+    write_wrapped("found", &words, output)?;
     for record in answer.records().take(SHOWN) {
         let key = show_key(&record.key);
         writeln!(output, "{:INDENT$}{key}  {}", "", record.value)?;
@@ -100,10 +94,7 @@ fn write_found(question: &Question, answer: &Answer, output: &mut dyn Write) -> 
         writeln!(output, "{:INDENT$}and {} more", "", found - SHOWN)?;
     }
     if !answer.right {
-        writeln!(
-            output,
-            "  WRONG: a full reading of all runs finds other records"
-        )?;
+        writeln!(output, "  WRONG: a full reading of all runs says otherwise")?;
     }
     Ok(())
 }

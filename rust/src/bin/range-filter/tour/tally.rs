@@ -4,7 +4,7 @@ use std::io::{self, Write};
 
 use range_filter::Filter;
 
-use super::asking::Answer;
+use super::answer::Answer;
 use super::report::counted;
 use super::run::Run;
 use crate::ending::Ending;
