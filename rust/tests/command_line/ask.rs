@@ -1,6 +1,9 @@
 //! `range-filter ask`.
 
 use std::io::{BufRead, BufReader, Write};
+use std::sync::mpsc;
+use std::thread;
+use std::time::Duration;
 
 use crate::examples::{IMAGE_A, IMAGE_VAN};
 use crate::program::{Folder, Outcome};
@@ -216,13 +219,18 @@ fn a_reply_comes_before_the_next_question_is_written() {
     folder.write("image", IMAGE_A);
     let mut child = folder.start(&["ask", "image"]);
     let mut questions = child.stdin.take().unwrap();
-    let mut replies = BufReader::new(child.stdout.take().unwrap());
+    let replies = BufReader::new(child.stdout.take().unwrap());
+    let (sender, receiver) = mpsc::channel();
+    let reader = thread::spawn(move || {
+        let mut lines = replies.lines().map_while(Result::ok);
+        lines.try_for_each(|line| sender.send(line))
+    });
     for (question, expected) in QUESTIONS_A.lines().zip(REPLIES_A.lines()) {
         writeln!(questions, "{question}").unwrap();
-        let mut reply = String::new();
-        replies.read_line(&mut reply).unwrap();
-        assert_eq!(reply.trim_end(), expected);
+        let reply = receiver.recv_timeout(Duration::from_secs(5));
+        assert_eq!(reply.as_deref(), Ok(expected));
     }
     drop(questions);
     assert!(child.wait().unwrap().success());
+    reader.join().unwrap().unwrap();
 }

@@ -252,6 +252,7 @@ fn files_that_cannot_be_used_are_told() {
     let told = |keys: &str, image: &str| folder.run(&["build", keys, "-o", image]).failed(2);
     assert!(told("none", "image").starts_with("none can't be read ("));
     assert!(told("keys", "none/image").starts_with("none/image can't be written ("));
+    assert!(told("keys", "").starts_with(" can't be written ("));
     assert_eq!(
         told("folder", "image"),
         "folder is a folder: name a file in it"
