@@ -155,7 +155,8 @@ fn no_questions_get_no_replies() {
 fn bad_lines_are_told_and_the_others_replied_to() {
     let long = "A".repeat(65);
     let lines = format!(
-        "point D1\nprint D1\n\nrange D1\npoint D1 D2\npoint \\q\nstem {long}\nrange V D1\nstem D\r\nseek W\n"
+        "point D1\nprint D1\n\nrange D1\npoint D1 D2\npoint \\q\n\
+         stem {long}\nrange V D1\nstem D\r\nseek W\n"
     );
     let outcome = ask_lines("ask_bad_lines", &lines);
     assert_eq!(outcome.status, 1);

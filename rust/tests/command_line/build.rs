@@ -197,51 +197,53 @@ fn too_many_keys_are_refused() {
     );
 }
 
+/// Asserts that arguments are refused with a sentence and that nothing is written.
+fn refuses_arguments(test: &str, arguments: &[&str], sentence: &str) {
+    let folder = Folder::new(test);
+    folder.write("keys", LIST_A);
+    let arguments = [&["build"], arguments].concat();
+    assert_eq!(folder.run(&arguments).failed(2), sentence);
+    assert_eq!(folder.names(), ["keys"]);
+}
+
 #[test]
 fn wrong_arguments_are_refused() {
-    let folder = Folder::new("build_arguments");
-    folder.write("keys", LIST_A);
-    let help = "`range-filter build --help` says what it takes";
-    let wrong: [(&[&str], String); 9] = [
+    let wrong: [(&[&str], &str); 6] = [
+        (&["-o", "image"], "KEYS is missing"),
+        (&["keys", "-o"], "-o has no value behind it"),
         (
-            &["keys"],
-            "-o IMAGE is missing: name the file to write".to_string(),
+            &["keys", "-o", "image", "more"],
+            "'more' is one argument too many",
         ),
-        (&["-o", "image"], format!("KEYS is missing: {help}")),
-        (
-            &["keys", "-o"],
-            format!("-o has no value behind it: {help}"),
-        ),
-        (
-            &["keys", "more", "-o", "image"],
-            format!("'more' is one argument too many: {help}"),
-        ),
-        (
-            &["keys", "-o", "image", "-o", "image"],
-            format!("-o is there twice: {help}"),
-        ),
+        (&["keys", "-o", "image", "-o", "image"], "-o is there twice"),
         (
             &["keys", "-o", "image", "--hash"],
-            format!("there is no option --hash: {help}"),
+            "there is no option --hash",
         ),
         (
             &["keys", "-o", "image", "--sort=yes"],
-            format!("there is no option --sort=yes: {help}"),
-        ),
-        (
-            &["keys", "-o", "image", "--dense", "5"],
-            "--dense takes a whole number from 0 to 4, and not '5'".to_string(),
-        ),
-        (
-            &["keys", "-o", "image", "--suffix-bits", "-1"],
-            "--suffix-bits takes a whole number from 0 to 16, and not '-1'".to_string(),
+            "there is no option --sort=yes",
         ),
     ];
-    for (arguments, sentence) in wrong {
-        let arguments = [&["build"], arguments].concat();
-        assert_eq!(folder.run(&arguments).failed(2), sentence);
+    for (arguments, why) in wrong {
+        let sentence = format!("{why}: `range-filter build --help` says what it takes");
+        refuses_arguments("build_arguments", arguments, &sentence);
     }
-    assert_eq!(folder.names(), ["keys"]);
+    let sentence = "-o IMAGE is missing: name the file to write";
+    refuses_arguments("build_no_output", &["keys"], sentence);
+}
+
+#[test]
+fn settings_out_of_range_are_refused() {
+    let sentence = "--dense takes a whole number from 0 to 4, and not '5'";
+    let arguments = ["keys", "-o", "image", "--dense", "5"];
+    refuses_arguments("build_dense_5", &arguments, sentence);
+    let sentence = "--suffix-bits takes a whole number from 0 to 16, and not '-1'";
+    let arguments = ["keys", "-o", "image", "--suffix-bits", "-1"];
+    refuses_arguments("build_n_minus_1", &arguments, sentence);
+    let sentence = "--suffix-bits takes a whole number from 0 to 16, and not '17'";
+    let arguments = ["keys", "-o", "image", "--suffix-bits=17"];
+    refuses_arguments("build_n_17", &arguments, sentence);
 }
 
 #[test]

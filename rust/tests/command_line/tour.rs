@@ -15,9 +15,8 @@ fn small_folder(test: &str, questions: &str) -> Folder {
     folder
 }
 
-#[test]
-fn a_small_tour_is_told_in_full() {
-    let questions = "\
+/// Questions to the small runs, and what the tour says.
+const QUESTIONS: &str = "\
 # Is D1 there?
 point D1
 
@@ -30,8 +29,7 @@ count D11 Z
 # Is there a key with E?
 stem E
 ";
-    let folder = small_folder("tour_small", questions);
-    let expected = "\
+const TOUR: &str = "\
 2 runs, each with a filter (dense levels 0, suffix bits 0).
 
 run                      records   run bytes   filter bytes   bits a key
@@ -70,8 +68,12 @@ Is there a key with E?
 All 4 answers are those of a full reading of all runs.
 No stored key was denied: all 5 were put to their filters.
 ";
+
+#[test]
+fn a_small_tour_is_told_in_full() {
+    let folder = small_folder("tour_small", QUESTIONS);
     let arguments = ["tour", "runs", "--suffix-bits", "0"];
-    assert_eq!(folder.run(&arguments).done(), expected);
+    assert_eq!(folder.run(&arguments).done(), TOUR);
 }
 
 #[test]
