@@ -5,7 +5,7 @@ use range_filter_tests::answer::Answer;
 use range_filter_tests::examples::IMAGE_A;
 use range_filter_tests::generate::images::built;
 use range_filter_tests::generate::keys::{any_keys, ff_keys, growing_keys, no_keys};
-use range_filter_tests::generate::questions::keys_about;
+use range_filter_tests::generate::questions::{decided_at_dense, keys_about};
 use range_filter_tests::random::Random;
 use range_filter_tests::reference::check::accepted_leaves;
 use range_filter_tests::reference::format::MAX_DENSE_LEVELS;
@@ -45,13 +45,6 @@ fn rules(image: &[u8], keys: &[Vec<u8>]) -> Vec<u32> {
 fn settings() -> impl Iterator<Item = (u64, u64)> {
     let dense_levels = 0..=u64::from(MAX_DENSE_LEVELS);
     dense_levels.flat_map(|levels| WIDTHS.map(|n| (levels, n)))
-}
-
-/// Says whether a key is decided at a dense node; gives nothing where its length leaves it
-/// open whether the node is dense or sparse.
-fn decided_at_dense(key: &[u8], dense_levels: u64) -> Option<bool> {
-    let only_dense = key.len() < dense_levels as usize;
-    (dense_levels == 0 || only_dense).then_some(only_dense)
 }
 
 /// Notes the rules of keys about the leaves of a list: by dense or sparse nodes, and by

@@ -7,6 +7,7 @@ use range_filter_tests::examples::IMAGE_A;
 use range_filter_tests::generate::every_setting;
 use range_filter_tests::generate::images::{any_image, built, large_images, small_frame, CHANGES};
 use range_filter_tests::generate::keys::{any_keys, many_mixed_keys};
+use range_filter_tests::generate::places::{far_places, ROOMS};
 use range_filter_tests::random::Random;
 use range_filter_tests::reference::check::accepted_leaves;
 use range_filter_tests::reference::leaves::Leaf;
@@ -34,9 +35,6 @@ const EVERY_PLACE: [(u64, u64, usize, usize); 6] = [
     (1, 16, 64, 200),
 ];
 
-/// Buffer lengths around those of no, one and two records.
-const LENGTHS: [usize; 8] = [0, 1, 67, 68, 69, 135, 136, 137];
-
 /// Compares the records from a place in a buffer of some length.
 fn compare(image: &[u8], place: u64, room: usize) -> Answer {
     compare::walk(library::walk, image, place, room)
@@ -50,12 +48,6 @@ fn leaves(image: &[u8]) -> Vec<Leaf> {
 /// Gives the records of leaves, one behind the other.
 fn records(leaves: &[Leaf]) -> Vec<u8> {
     leaves.iter().flat_map(record).collect()
-}
-
-/// Gives places far behind any leaf.
-fn far_places() -> impl Iterator<Item = u64> {
-    let powers = [16, 31, 32, 48, 63].map(|power| 1_u64 << power);
-    powers.into_iter().chain([u64::MAX - 1, u64::MAX])
 }
 
 /// Walks an image from its start to done by calls with room for so many records, each from
@@ -80,7 +72,7 @@ fn walk_from_everywhere(image: &[u8]) -> usize {
     let done = leaves.len() as u64;
     let whole = leaves.len() * RECORD_BYTES;
     for place in 0..=done {
-        for room in LENGTHS.into_iter().chain([whole, whole + 1]) {
+        for room in ROOMS.into_iter().chain([whole, whole + 1]) {
             compare(image, place, room);
         }
     }
@@ -162,7 +154,7 @@ fn done_stays_done() {
     for image in images.chain([built(&[], 0, 0), built(&[], 4, 16)]) {
         let done = leaves(&image).len() as u64;
         assert_eq!(next(&image, done), Ok(done));
-        for room in LENGTHS.into_iter().chain([10 * RECORD_BYTES]) {
+        for room in ROOMS.into_iter().chain([10 * RECORD_BYTES]) {
             assert_eq!(compare(&image, done, room), Answer::Written(0));
             assert_eq!(compare(&image, done, room), Answer::Written(0));
         }
@@ -231,7 +223,7 @@ fn small_frames_are_walked_or_refused_alike() {
 #[test]
 fn refused_images_are_refused_at_every_place() {
     for place in far_places().chain(0..4) {
-        for room in LENGTHS {
+        for room in ROOMS {
             assert_eq!(compare(&[], place, room), Answer::Refused(11));
         }
     }

@@ -1,7 +1,10 @@
-//! Deterministic generators of key lists, of built and changed images, and of questions.
+//! Deterministic generators of key lists, of built and changed images, of questions and of
+//! places.
 
 pub mod images;
 pub mod keys;
+pub mod neighbours;
+pub mod places;
 pub mod questions;
 pub mod universe;
 

@@ -7,6 +7,9 @@ use crate::reference::keys::MAX_KEY;
 use crate::reference::leaves::{highest, lowest, Leaf};
 use crate::reference::questions::Question;
 
+/// Lengths over 64; of some the low byte or the two low bytes are at most 64.
+pub const LONG_LENGTHS: [usize; 8] = [65, 66, 128, 255, 256, 320, 65_536, 65_600];
+
 /// Gives a byte string at or beside an end of a leaf's interval, or a short one.
 pub fn key_near(random: &mut Random, leaves: &[Leaf]) -> Vec<u8> {
     if leaves.is_empty() || random.once_in(8) {
@@ -41,14 +44,42 @@ pub fn add_to_last_byte(key: &mut [u8], number: u8) {
 pub fn question_near(random: &mut Random, leaves: &[Leaf]) -> Question {
     let one = key_near(random, leaves);
     let other = key_near(random, leaves);
-    let (lower, upper) = (one.clone().min(other.clone()), one.clone().max(other));
+    let bounds = [one.clone().min(other.clone()), one.clone().max(other)];
+    question_of(random, one, bounds)
+}
+
+/// Gives a question of any kind, about a key or about bounds.
+fn question_of(random: &mut Random, key: Vec<u8>, [lower, upper]: [Vec<u8>; 2]) -> Question {
     match random.below(5) {
-        0 => Question::Point(one),
-        1 => Question::Seek(one),
-        2 => Question::BeginsWith(one),
+        0 => Question::Point(key),
+        1 => Question::Seek(key),
+        2 => Question::BeginsWith(key),
         3 => Question::Range(lower, upper),
         _ => Question::Count(lower, upper),
     }
+}
+
+/// Gives a question that need not be taken: a key is near leaves, or any one, or too long,
+/// and the lower bound may be above the upper.
+pub fn any_question(random: &mut Random, leaves: &[Leaf]) -> Question {
+    let [one, other] = [(); 2].map(|()| any_key(random, leaves));
+    question_of(random, one.clone(), [one, other])
+}
+
+/// Gives a key near leaves, any key of up to 64 bytes, or one that is too long.
+fn any_key(random: &mut Random, leaves: &[Leaf]) -> Vec<u8> {
+    match random.below(10) {
+        0 => long_key(random, leaves),
+        1 | 2 => random.bytes(0, MAX_KEY),
+        _ => key_near(random, leaves),
+    }
+}
+
+/// Gives a key near leaves with bytes behind it that make it too long.
+fn long_key(random: &mut Random, leaves: &[Leaf]) -> Vec<u8> {
+    let mut key = key_near(random, leaves);
+    key.resize(*random.pick(&LONG_LENGTHS), random.byte());
+    key
 }
 
 /// Gives the begins-with questions for each prefix of a key, the empty one and the key
@@ -75,6 +106,13 @@ pub fn keys_about(random: &mut Random, leaves: &[Leaf]) -> Vec<Vec<u8>> {
     }
     keys.retain(|key| key.len() <= MAX_KEY);
     keys
+}
+
+/// Says whether a key is decided at a dense node; gives nothing where its length leaves it
+/// open whether the node is dense or sparse.
+pub fn decided_at_dense(key: &[u8], dense_levels: u64) -> Option<bool> {
+    let only_dense = key.len() < dense_levels as usize;
+    (dense_levels == 0 || only_dense).then_some(only_dense)
 }
 
 /// Gives so many questions around the ends of the intervals of a built image's leaves.
