@@ -1,9 +1,13 @@
 //! Calls of an implementation compared with the reference's: the same answer, and the
 //! same bytes of the buffer that is lent.
 
+use crate::accepted::{AcceptedCalls, Found, FOUND_BYTES};
 use crate::answer::Answer;
 use crate::reference;
 use crate::reference::build;
+use crate::reference::leaves::Leaf;
+use crate::reference::questions::Question;
+use crate::reference::replies::{Filter, Reply};
 use std::fmt::Debug;
 
 /// The bytes before and behind a buffer that no call may touch.
@@ -55,6 +59,79 @@ impl<'a> Case<'a> {
         let expected = |out: &mut [u8]| build::write(self.image.clone(), stated, out);
         let found = |out: &mut [u8]| other(self.list, dense_levels, n, stated, out);
         same(room, expected, found, &(self.settings, stated, self.list))
+    }
+}
+
+/// An accepted image, by the calls of the reference and by those of another implementation.
+pub struct AcceptedCase<'a, C> {
+    image: &'a [u8],
+    reference: Filter<'a>,
+    other: C,
+}
+
+impl<'a, C: AcceptedCalls> AcceptedCase<'a, C> {
+    /// Takes an accepted image with its leaves, and with the calls that are compared.
+    pub fn new(image: &'a [u8], leaves: &'a [Leaf], other: C) -> Self {
+        AcceptedCase {
+            image,
+            reference: Filter::new(leaves),
+            other,
+        }
+    }
+
+    /// Compares the calls of a question, and gives the reply that they make together.
+    pub fn question(&self, question: &Question) -> Result<Reply, u32> {
+        same_outcome(
+            FOUND_BYTES,
+            |buffer| reply_by(&self.reference, question, buffer),
+            |buffer| reply_by(&self.other, question, buffer),
+            found_bytes,
+            &(question, self.image),
+        )
+    }
+
+    /// Compares the records of a walk from a place in a buffer of some length, and gives the
+    /// answer.
+    pub fn walk(&self, place: u64, room: usize) -> Answer {
+        same(
+            room,
+            |records| self.reference.walk(place, records),
+            |records| self.other.walk(place, records),
+            &(place, self.image),
+        )
+    }
+}
+
+/// Puts a question by the call of its kind, a point by that of its rule too, and gives what
+/// the calls say as one reply.
+fn reply_by(
+    calls: &impl AcceptedCalls,
+    question: &Question,
+    buffer: &mut [u8],
+) -> Result<Reply, u32> {
+    let found: &mut Found = buffer.try_into().expect("the buffer is a seek's");
+    let number = calls.ask(question, found);
+    let key = match question {
+        Question::Point(key) => {
+            let rule = calls.rule(key);
+            assert_eq!(rule.err(), number.err(), "{question:?}");
+            rule.map(|rule| vec![u8::try_from(rule).expect("a rule is a byte")])?
+        }
+        Question::Seek(_) if number.is_ok() => found[1..][..usize::from(found[0])].to_vec(),
+        _ => Vec::new(),
+    };
+    Ok(Reply {
+        letter: question.letter(),
+        number: number?,
+        key,
+    })
+}
+
+/// Counts the bytes that the calls of a question write: those of a seek.
+fn found_bytes(reply: &Result<Reply, u32>) -> usize {
+    match reply {
+        Ok(reply) if reply.letter == b'S' => 1 + reply.key.len(),
+        _ => 0,
     }
 }
 
@@ -113,20 +190,31 @@ pub fn same(
     found: impl Fn(&mut [u8]) -> Answer,
     input: &dyn Debug,
 ) -> Answer {
-    let (answer, expected_bytes) = guarded(room, expected);
-    let (found_answer, found_bytes) = guarded(room, found);
-    assert_eq!(found_answer, answer, "answer: {input:?}");
+    same_outcome(room, expected, found, |answer| answer.written(), input)
+}
+
+/// Makes two calls likewise whose outcome tells the bytes that are written.
+fn same_outcome<R: PartialEq + Debug>(
+    room: usize,
+    expected: impl Fn(&mut [u8]) -> R,
+    found: impl Fn(&mut [u8]) -> R,
+    written: impl Fn(&R) -> usize,
+    input: &dyn Debug,
+) -> R {
+    let (outcome, expected_bytes) = guarded(room, expected);
+    let (found_outcome, found_bytes) = guarded(room, found);
+    assert_eq!(found_outcome, outcome, "answer: {input:?}");
     assert!(found_bytes == expected_bytes, "bytes: {input:?}");
-    let written = GUARD..GUARD + answer.written();
+    let written = GUARD..GUARD + written(&outcome);
     let (before, behind) = (&found_bytes[..written.start], &found_bytes[written.end..]);
     let mut kept = before.iter().chain(behind);
     assert!(kept.all(|&byte| byte == UNTOUCHED), "kept: {input:?}");
-    answer
+    outcome
 }
 
-/// Makes a call with a buffer inside guards, and gives its answer with buffer and guards.
-fn guarded(room: usize, call: impl Fn(&mut [u8]) -> Answer) -> (Answer, Vec<u8>) {
+/// Makes a call with a buffer inside guards, and gives its outcome with buffer and guards.
+fn guarded<R>(room: usize, call: impl Fn(&mut [u8]) -> R) -> (R, Vec<u8>) {
     let mut bytes = vec![UNTOUCHED; GUARD + room + GUARD];
-    let answer = call(&mut bytes[GUARD..GUARD + room]);
-    (answer, bytes)
+    let outcome = call(&mut bytes[GUARD..GUARD + room]);
+    (outcome, bytes)
 }

@@ -2,6 +2,7 @@
 //! calls of the proved library, the printer program, generators of inputs, and the
 //! comparisons themselves.
 
+pub mod accepted;
 pub mod answer;
 pub mod compare;
 pub mod examples;

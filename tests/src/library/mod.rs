@@ -1,6 +1,11 @@
 //! The calls of the proved library, which `rt staticlib range_filter` makes, as safe
-//! functions.
+//! functions. Those over an accepted image stand apart, since they ask for one.
 
+mod accepted;
+
+pub use accepted::{accept, Accepted};
+
+use crate::accepted::Number;
 use crate::answer::Answer;
 
 // The exports: a slice is a pointer and a length.
@@ -45,7 +50,8 @@ extern "C" {
 /// Gives the exact length of the image of a key list, or the number of a refusal.
 pub fn image_length(list: &[u8], dense_levels: u64, n: u64) -> Result<usize, u32> {
     // SAFETY: pointer and length are those of a slice that lives through the call.
-    decode(unsafe { range_filter_image_length(list.as_ptr(), list.len(), dense_levels, n) })
+    let returned = unsafe { range_filter_image_length(list.as_ptr(), list.len(), dense_levels, n) };
+    decode(returned).map(|length| length as usize)
 }
 
 /// Builds the image of a key list, whose length is stated, at the start of the output.
@@ -105,15 +111,16 @@ pub fn walk(image: &[u8], place: u64, records: &mut [u8]) -> Answer {
 
 /// Reads what a call that writes returns.
 fn answer(returned: u64) -> Answer {
-    decode(returned).map_or_else(Answer::Refused, Answer::Written)
+    let written = |bytes| Answer::Written(bytes as usize);
+    decode(returned).map_or_else(Answer::Refused, written)
 }
 
-/// Reads what a call returns: the refusal number times 2^32, plus a number of bytes, which
-/// is 0 for a refusal.
-fn decode(returned: u64) -> Result<usize, u32> {
+/// Reads what a call returns: the refusal number times 2^32, plus a number of bytes or the
+/// number of a reply, which is 0 for a refusal.
+fn decode(returned: u64) -> Number {
     match ((returned >> 32) as u32, returned as u32) {
-        (0, bytes) => Ok(bytes as usize),
+        (0, given) => Ok(given),
         (number, 0) => Err(number),
-        (number, bytes) => panic!("refusal {number} with {bytes} bytes"),
+        (number, given) => panic!("refusal {number} with {given}"),
     }
 }

@@ -3,6 +3,7 @@
 //! definitions word by word: clarity comes before speed, and no code is taken from the
 //! library or from the benchmark.
 
+pub mod accepted;
 pub mod build;
 pub mod check;
 pub mod decode;

@@ -36,6 +36,19 @@ impl Question {
     }
 }
 
+/// Judges a question that is put by value: 22, a key over 64 bytes; then 23, a lower bound
+/// above the upper.
+pub fn judge(question: &Question) -> Result<(), u32> {
+    let keys = question.keys();
+    if keys.iter().any(|key| key.len() > MAX_KEY) {
+        return Err(22);
+    }
+    match keys.is_sorted() {
+        true => Ok(()),
+        false => Err(23),
+    }
+}
+
 /// Reads a question file, or gives the number of the first faulty question: 24, else 21,
 /// 22 or 23 as the question is read from its start to its end.
 pub fn parse(file: &[u8]) -> Result<Vec<Question>, u32> {

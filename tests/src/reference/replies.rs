@@ -29,8 +29,8 @@ pub struct Reply {
 
 /// What replies are worked out from: the leaves in key order, the interval of each one's
 /// possible keys, and their trie.
-struct Filter<'a> {
-    leaves: &'a [Leaf],
+pub struct Filter<'a> {
+    pub leaves: &'a [Leaf],
     intervals: Vec<Interval>,
     trie: Trie<'a>,
 }
@@ -57,21 +57,28 @@ fn reply_bytes(image: &[u8], questions: &[u8]) -> Result<Vec<u8>, u32> {
 
 /// Gives the replies to questions over leaves in key order.
 pub fn replies(leaves: &[Leaf], questions: &[Question]) -> Vec<Reply> {
-    let interval = |leaf| Interval {
-        lowest: lowest(leaf),
-        highest: highest(leaf),
-    };
-    let filter = Filter {
-        leaves,
-        intervals: leaves.iter().map(interval).collect(),
-        trie: trie(leaves),
-    };
+    let filter = Filter::new(leaves);
     let asked = questions.iter();
     asked.map(|question| reply(&filter, question)).collect()
 }
 
+impl<'a> Filter<'a> {
+    /// Takes the leaves of an accepted image in key order.
+    pub fn new(leaves: &'a [Leaf]) -> Self {
+        let interval = |leaf| Interval {
+            lowest: lowest(leaf),
+            highest: highest(leaf),
+        };
+        Filter {
+            leaves,
+            intervals: leaves.iter().map(interval).collect(),
+            trie: trie(leaves),
+        }
+    }
+}
+
 /// Gives the reply to one question.
-fn reply(filter: &Filter, question: &Question) -> Reply {
+pub fn reply(filter: &Filter, question: &Question) -> Reply {
     let count = |lower: &[u8], upper: &[u8]| count(&filter.intervals, lower, upper);
     let (number, key) = match question {
         Question::Point(key) => point(filter, key),

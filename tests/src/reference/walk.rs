@@ -35,26 +35,40 @@ pub fn next(image: &[u8], place: u64) -> Result<u64, u32> {
 /// Writes the records of the leaves from a place on at the start of a buffer, one behind
 /// the other, of as many leaves as it holds whole; a refusal leaves the buffer as it was.
 pub fn write_records(image: &[u8], place: u64, buffer: &mut [u8]) -> Answer {
-    let rest = match leaves_from(image, place) {
+    match accepted_leaves(image) {
+        Ok(leaves) => write_from(&leaves, place, buffer),
+        Err(number) => Answer::Refused(number),
+    }
+}
+
+/// Writes the records of the leaves from a place of an accepted image on, of which all
+/// leaves are given.
+pub fn write_from(leaves: &[Leaf], place: u64, buffer: &mut [u8]) -> Answer {
+    let rest = match from(leaves, place) {
         Ok(rest) => rest,
         Err(number) => return Answer::Refused(number),
     };
     let room = buffer.chunks_exact_mut(RECORD_BYTES);
     let mut written = 0;
-    for (bytes, leaf) in room.zip(&rest) {
+    for (bytes, leaf) in room.zip(rest) {
         bytes.copy_from_slice(&record(leaf));
         written += RECORD_BYTES;
     }
     Answer::Written(written)
 }
 
-/// Gives the leaves of an image from a place on, which has to be a leaf's or done.
+/// Gives the leaves of an image from a place on.
 fn leaves_from(image: &[u8], place: u64) -> Result<Vec<Leaf>, u32> {
-    let mut leaves = accepted_leaves(image)?;
-    if place > leaves.len() as u64 {
-        return Err(17);
+    let leaves = accepted_leaves(image)?;
+    from(&leaves, place).map(<[Leaf]>::to_vec)
+}
+
+/// Gives the leaves from a place on, which has to be a leaf's or done.
+fn from(leaves: &[Leaf], place: u64) -> Result<&[Leaf], u32> {
+    match place <= leaves.len() as u64 {
+        true => Ok(&leaves[place as usize..]),
+        false => Err(17),
     }
-    Ok(leaves.split_off(place as usize))
 }
 
 /// Gives a leaf's record: its kind (1 exact, 2 open), its cut key's length, the cut key

@@ -1,0 +1,424 @@
+//! The proved library's calls over an accepted image, one question each, against the
+//! reference, and against the library's replies to a file with that one question.
+
+use range_filter_tests::accepted::{AcceptedCalls, FOUND_BYTES};
+use range_filter_tests::answer::Answer;
+use range_filter_tests::compare::AcceptedCase;
+use range_filter_tests::examples::{list_van, IMAGE_A};
+use range_filter_tests::generate::every_setting;
+use range_filter_tests::generate::images::{any_image, built, large_images, CHANGES};
+use range_filter_tests::generate::keys::{
+    any_keys, ff_keys, growing_keys, keys_by_node_size, many_keys, no_keys,
+};
+use range_filter_tests::generate::neighbours::{keys_around, questions_about, stems_about};
+use range_filter_tests::generate::places::{far_places, ROOMS};
+use range_filter_tests::generate::questions::{
+    any_question, decided_at_dense, key_near, keys_about, questions_near, LONG_LENGTHS,
+};
+use range_filter_tests::generate::universe::Universe;
+use range_filter_tests::library::{self, accept, Accepted};
+use range_filter_tests::random::Random;
+use range_filter_tests::reference::check::accepted_leaves;
+use range_filter_tests::reference::keys::{MAX_KEY, MAX_KEYS};
+use range_filter_tests::reference::leaves::{highest, lowest, Leaf};
+use range_filter_tests::reference::questions::{write, Question};
+use range_filter_tests::reference::replies::{self, Reply, NONE, REPLY_HEAD};
+use range_filter_tests::reference::walk::RECORD_BYTES;
+use range_filter_tests::tally::Tally;
+use std::collections::BTreeMap;
+use std::slice;
+
+const LISTS_A_SETTING: usize = 30;
+const QUESTIONS_AN_IMAGE: usize = 80;
+const CHANGES_A_KIND: usize = 10_000;
+const LARGE_KEYS: usize = 5_000;
+const LARGE_QUESTIONS: usize = 600;
+const LISTS_BY_NODE_SIZE: usize = 12;
+const WALKED_LISTS_A_SETTING: usize = 8;
+const PLACES_A_LARGE_IMAGE: usize = 200;
+const OFTEN: usize = 500;
+
+/// What the calls have said: refusals by their numbers, 0 for none, and replies by the
+/// letters of their questions.
+#[derive(Debug, Default)]
+struct Coverage {
+    refusals: Tally,
+    replies: BTreeMap<u8, Tally>,
+    files: usize,
+}
+
+impl Coverage {
+    /// Compares the calls of questions over an accepted image, and notes what they say.
+    fn compare(&mut self, image: &[u8], asked: &[Question]) {
+        let leaves = leaves(image);
+        let case = case(image, &leaves);
+        for question in asked {
+            let reply = case.question(question);
+            self.compare_file(image, question, &reply);
+            self.note(question, &reply);
+        }
+    }
+
+    /// Asserts that a file with one question gets the same reply or refusal; no file has a
+    /// key whose length is no byte.
+    fn compare_file(&mut self, image: &[u8], question: &Question, reply: &Result<Reply, u32>) {
+        if question.keys().iter().any(|key| key.len() > 0xFF) {
+            return;
+        }
+        let mut bytes = [0; REPLY_HEAD + MAX_KEY];
+        let answer = library::ask(image, &write(slice::from_ref(question)), &mut bytes);
+        let expected = match reply {
+            Ok(reply) => Ok(replies::write(slice::from_ref(reply))),
+            Err(number) => Err(*number),
+        };
+        let found = match answer {
+            Answer::Written(length) => Ok(bytes[..length].to_vec()),
+            Answer::Refused(number) => Err(number),
+        };
+        assert_eq!(found, expected, "{question:?} over {image:?}");
+        self.files += 1;
+    }
+
+    /// Notes a refusal, or what a reply says: of a point the rule, of a count whether it is
+    /// 0, 1, 2 or more, of a seek whether it gives its start, a key above it or none.
+    fn note(&mut self, question: &Question, reply: &Result<Reply, u32>) {
+        self.refusals
+            .note(reply.as_ref().err().copied().unwrap_or(0));
+        let Ok(reply) = reply else {
+            return;
+        };
+        let said = match question {
+            Question::Point(_) => reply.key[0].into(),
+            Question::Seek(_) if reply.number == NONE => 2,
+            Question::Seek(start) => u32::from(reply.key != *start),
+            _ => reply.number.min(3),
+        };
+        self.replies.entry(reply.letter).or_default().note(said);
+    }
+
+    /// Asserts that each refusal came often and no other, and that all calls said all that
+    /// they can say.
+    fn assert_full(&self, refusals: &[u32]) {
+        assert_eq!(self.refusals.numbers(), refusals);
+        let often = |&number: &u32| self.refusals.times(number) >= OFTEN;
+        assert!(refusals.iter().all(often), "{self:?}");
+        let said: Vec<(u8, Vec<u32>)> = self
+            .replies
+            .iter()
+            .map(|(&letter, tally)| (letter, tally.numbers()))
+            .collect();
+        let all = [
+            (b'B', vec![0, 1]),
+            (b'C', vec![0, 1, 2, 3]),
+            (b'P', vec![1, 2, 3, 4, 5, 6]),
+            (b'R', vec![0, 1]),
+            (b'S', vec![0, 1, 2]),
+        ];
+        assert_eq!(said, all, "{self:?}");
+        assert!(self.files >= OFTEN, "{self:?}");
+    }
+}
+
+/// Gives the leaves of an image that is accepted.
+fn leaves(image: &[u8]) -> Vec<Leaf> {
+    accepted_leaves(image).expect("the image is accepted")
+}
+
+/// Takes an image, of which all leaves are given, as the library has accepted it.
+fn case<'a>(image: &'a [u8], leaves: &'a [Leaf]) -> AcceptedCase<'a, Accepted<'a>> {
+    let accepted = accept(image).expect("the library accepts what the reference does");
+    AcceptedCase::new(image, leaves, accepted)
+}
+
+/// Gives every kind of question with keys that may be too long or out of order.
+fn any_questions(random: &mut Random, image: &[u8], count: usize) -> Vec<Question> {
+    let leaves = leaves(image);
+    (0..count).map(|_| any_question(random, &leaves)).collect()
+}
+
+/// Gives the questions that have a key alone or as a bound, in either order.
+fn questions_with(key: &[u8]) -> Vec<Question> {
+    let [key, least, most] = [key, &[], &[0xFF; MAX_KEY]].map(<[u8]>::to_vec);
+    let mut asked = vec![
+        Question::Point(key.clone()),
+        Question::Seek(key.clone()),
+        Question::BeginsWith(key.clone()),
+    ];
+    for (lower, upper) in [
+        (&key, &most),
+        (&least, &key),
+        (&most, &key),
+        (&key, &least),
+        (&key, &key),
+    ] {
+        asked.push(Question::Range(lower.clone(), upper.clone()));
+        asked.push(Question::Count(lower.clone(), upper.clone()));
+    }
+    asked
+}
+
+/// Asserts what a seek gives, and that the bytes of its buffer behind the key are kept.
+fn assert_seek(image: Accepted, start: &[u8], number: u32, key: &[u8]) {
+    for kept in [0x00, 0x5A, 0xFF] {
+        let mut expected = [kept; FOUND_BYTES];
+        expected[0] = key.len() as u8;
+        expected[1..=key.len()].copy_from_slice(key);
+        let mut found = [kept; FOUND_BYTES];
+        assert_eq!(image.seek(start, &mut found), Ok(number));
+        assert_eq!(found, expected, "{start:?}");
+    }
+}
+
+/// Walks an accepted image from every place with buffers of many lengths, and from behind
+/// done, where it is refused; notes the refusals and gives the number of leaves.
+fn walk_from_everywhere(image: &[u8], tally: &mut Tally) -> usize {
+    let leaves = leaves(image);
+    let case = case(image, &leaves);
+    let done = leaves.len() as u64;
+    let whole = leaves.len() * RECORD_BYTES;
+    for place in (0..=done).chain([done + 1, done + 2]).chain(far_places()) {
+        for room in ROOMS.into_iter().chain([whole, whole + 1]) {
+            tally.note(case.walk(place, room).number());
+        }
+    }
+    leaves.len()
+}
+
+#[test]
+fn list_a_is_asked() {
+    let a = accept(IMAGE_A).expect("list A's image is accepted");
+    let points: [(&[u8], u32, u32); 6] = [
+        (b"D1", 1, 3),
+        (b"D10", 0, 1),
+        (b"D", 0, 2),
+        (b"D2x", 1, 4),
+        (b"", 0, 2),
+        (b"D1\xFF", 0, 1),
+    ];
+    for (key, number, rule) in points {
+        assert_eq!((a.point(key), a.rule(key)), (Ok(number), Ok(rule)));
+    }
+    assert_eq!(a.count(b"D12Z", b"D2"), Ok(2));
+    assert_eq!(a.count(b"D11", b"D13"), Ok(1));
+    assert_eq!(a.count(b"D2a", b"V"), Ok(2));
+    assert_eq!(a.range(b"D10", b"D11"), Ok(0));
+    assert_eq!(a.range(b"D2zz", b"E"), Ok(1));
+    assert_eq!(a.begins_with(b"D"), Ok(1));
+    assert_eq!(a.begins_with(b"D10"), Ok(0));
+    assert_seek(a, b"", 0, b"D1");
+    assert_seek(a, b"D13", 2, b"D2");
+    assert_seek(a, b"D2a", 2, b"D2a");
+    assert_seek(a, b"W", NONE, b"");
+    let mut last = [0; RECORD_BYTES];
+    assert_eq!(a.walk(3, &mut last), Answer::Written(RECORD_BYTES));
+    assert_eq!(last[..4], *b"\x02\x01V\x00");
+    assert_eq!(a.walk(4, &mut last), Answer::Written(0));
+    assert_eq!(a.walk(5, &mut last), Answer::Refused(17));
+}
+
+#[test]
+fn suffix_of_van_is_asked() {
+    let image = built(&list_van(), 0, 8);
+    let van = accept(&image).expect("a built image is accepted");
+    assert_eq!((van.point(b"VAX"), van.rule(b"VAX")), (Ok(1), Ok(4)));
+    assert_eq!((van.point(b"VB"), van.rule(b"VB")), (Ok(0), Ok(5)));
+    assert_seek(van, b"V", 3, b"VA");
+    assert_seek(van, b"VB", NONE, b"");
+    let mut last = [0; RECORD_BYTES];
+    van.walk(3, &mut last);
+    assert_eq!(last[RECORD_BYTES - 2..], [0x82, 0x00]);
+}
+
+#[test]
+fn refused_images_are_not_accepted() {
+    assert_eq!(accept(b"").err(), Some(11));
+    let mut image = IMAGE_A.to_vec();
+    image[2] = 2;
+    assert_eq!(accept(&image).err(), Some(12));
+}
+
+#[test]
+fn all_lists_of_small_universes_are_asked_alike() {
+    let mut coverage = Coverage::default();
+    let universes = [
+        Universe::of_two_byte_keys(),
+        Universe::of_three_byte_keys(),
+        Universe::of_short_lists(),
+    ];
+    for (dense_levels, universe) in (0..).zip(&universes) {
+        for (number, list) in universe.lists.iter().enumerate() {
+            let n = [0, 1, 8, 9, 16][number % 5];
+            coverage.compare(&built(list, dense_levels, n), &universe.questions);
+        }
+    }
+    coverage.assert_full(&[0]);
+}
+
+#[test]
+fn images_of_every_setting_are_asked_alike() {
+    let mut random = Random::new(111);
+    let mut coverage = Coverage::default();
+    for (dense_levels, n) in every_setting() {
+        for _ in 0..LISTS_A_SETTING {
+            let keys = random.pick(&[any_keys, ff_keys, growing_keys, no_keys])(&mut random);
+            let image = built(&keys, dense_levels, n);
+            let asked = any_questions(&mut random, &image, QUESTIONS_AN_IMAGE);
+            coverage.compare(&image, &asked);
+        }
+    }
+    coverage.assert_full(&[0, 22, 23]);
+}
+
+#[test]
+fn keys_around_every_end_are_asked_for_alike() {
+    let mut random = Random::new(112);
+    let mut coverage = Coverage::default();
+    for (dense_levels, n) in every_setting() {
+        let stored = random.pick(&[any_keys, any_keys, any_keys, no_keys])(&mut random);
+        let image = built(&stored, dense_levels, n);
+        let keys = keys_around(&stored, &leaves(&image));
+        coverage.compare(&image, &questions_about(&keys));
+    }
+    coverage.assert_full(&[0]);
+    assert!(coverage.files > 50_000, "{coverage:?}");
+}
+
+#[test]
+fn stems_before_runs_of_ff_are_asked_for_alike() {
+    let mut random = Random::new(113);
+    let mut coverage = Coverage::default();
+    for (dense_levels, n) in every_setting() {
+        let stored = ff_keys(&mut random);
+        let image = built(&stored, dense_levels, n);
+        let leaves = leaves(&image);
+        let ends = leaves.iter().flat_map(|leaf| [lowest(leaf), highest(leaf)]);
+        for key in stored.iter().cloned().chain(ends) {
+            coverage.compare(&image, &stems_about(&key));
+        }
+    }
+    let stems = &coverage.replies[&b'B'];
+    assert!(stems.times(0).min(stems.times(1)) >= OFTEN, "{coverage:?}");
+}
+
+#[test]
+fn each_rule_comes_at_dense_and_at_sparse_nodes() {
+    let mut random = Random::new(114);
+    let mut coverages: [Coverage; 2] = Default::default();
+    for (dense_levels, n) in every_setting() {
+        for _ in 0..LISTS_A_SETTING {
+            let keys = random.pick(&[any_keys, ff_keys, growing_keys, no_keys])(&mut random);
+            let image = built(&keys, dense_levels, n);
+            let mut keys = keys_about(&mut random, &leaves(&image));
+            keys.retain(|key| decided_at_dense(key, dense_levels).is_some());
+            let asked: Vec<Question> = keys.into_iter().map(Question::Point).collect();
+            coverages[usize::from(dense_levels > 0)].compare(&image, &asked);
+        }
+    }
+    for coverage in &coverages {
+        let often = |rule| coverage.replies[&b'P'].times(rule) >= OFTEN;
+        assert!((1..=6).all(often), "{coverage:?}");
+    }
+}
+
+#[test]
+fn large_images_are_asked_alike() {
+    let mut random = Random::new(115);
+    let mut coverage = Coverage::default();
+    let mut images: Vec<Vec<u8>> = large_images(&mut random, LARGE_KEYS).collect();
+    images.push(built(&many_keys(&mut random, MAX_KEYS, 6), 2, 5));
+    for number in 0..LISTS_BY_NODE_SIZE {
+        let keys = keys_by_node_size(&mut random, [2, 6, 24, 256][number % 4]);
+        images.push(built(&keys, (number % 3) as u64, 4));
+    }
+    for image in images {
+        let asked = questions_near(&mut random, &image, LARGE_QUESTIONS);
+        coverage.compare(&image, &asked);
+    }
+    assert_eq!(coverage.refusals.numbers(), [0]);
+    let kinds: Vec<u8> = coverage.replies.keys().copied().collect();
+    assert_eq!(kinds, b"BCPRS", "{coverage:?}");
+}
+
+#[test]
+fn accepted_images_that_were_changed_are_asked_alike() {
+    let mut random = Random::new(116);
+    let mut coverage = Coverage::default();
+    for _ in 0..CHANGES_A_KIND {
+        let image = any_image(&mut random);
+        for change in &CHANGES {
+            let changed = (change.apply)(&mut random, &image);
+            if accept(&changed).is_ok() {
+                coverage.compare(&changed, &any_questions(&mut random, &changed, 10));
+            }
+        }
+    }
+    coverage.assert_full(&[0, 22, 23]);
+}
+
+#[test]
+fn keys_over_64_bytes_are_refused_with_22() {
+    let mut random = Random::new(117);
+    let mut coverage = Coverage::default();
+    for image in [IMAGE_A, &built(&[], 2, 8), &any_image(&mut random)] {
+        let leaves = leaves(image);
+        for length in LONG_LENGTHS {
+            let mut long = key_near(&mut random, &leaves);
+            long.resize(length, random.byte());
+            coverage.compare(image, &questions_with(&long));
+        }
+    }
+    assert_eq!(coverage.refusals.numbers(), [22]);
+}
+
+#[test]
+fn bounds_out_of_order_are_refused_with_23() {
+    let mut random = Random::new(118);
+    let mut coverage = Coverage::default();
+    for _ in 0..OFTEN {
+        let keys = random.pick(&[any_keys, any_keys, no_keys])(&mut random);
+        let image = built(&keys, 1, 3);
+        let mut bounds = [(); 2].map(|()| key_near(&mut random, &leaves(&image)));
+        bounds.sort();
+        let [lower, upper] = bounds;
+        if lower < upper {
+            let range = Question::Range(upper.clone(), lower.clone());
+            coverage.compare(&image, &[range, Question::Count(upper, lower)]);
+        }
+    }
+    assert_eq!(coverage.refusals.numbers(), [23]);
+    assert!(coverage.files >= OFTEN, "{coverage:?}");
+}
+
+#[test]
+fn images_of_every_setting_are_walked_from_every_place() {
+    let mut random = Random::new(119);
+    let mut tally = Tally::default();
+    let mut leaves = 0;
+    for (dense_levels, n) in every_setting() {
+        for _ in 0..WALKED_LISTS_A_SETTING {
+            let image = built(&any_keys(&mut random), dense_levels, n);
+            leaves += walk_from_everywhere(&image, &mut tally);
+        }
+        let empty = built(&[], dense_levels, n);
+        assert_eq!(walk_from_everywhere(&empty, &mut tally), 0);
+    }
+    assert_eq!(tally.numbers(), [0, 17]);
+    assert!(leaves >= OFTEN, "{leaves} leaves");
+}
+
+#[test]
+fn large_images_are_walked_from_some_places() {
+    let mut random = Random::new(120);
+    let images: Vec<Vec<u8>> = large_images(&mut random, LARGE_KEYS).collect();
+    for image in images {
+        let leaves = leaves(&image);
+        let case = case(&image, &leaves);
+        let whole = leaves.len() * RECORD_BYTES;
+        assert_eq!(case.walk(0, whole), Answer::Written(whole));
+        for _ in 0..PLACES_A_LARGE_IMAGE {
+            let place = random.below(leaves.len()) as u64;
+            assert_eq!(case.walk(place, RECORD_BYTES).length(), RECORD_BYTES);
+            case.walk(place, random.below(40 * RECORD_BYTES));
+        }
+    }
+}
