@@ -2,17 +2,19 @@
 //! with one that does the same work.
 
 use range_filter_bench::fast;
+use range_filter_bench::fast::accepted::Opened;
 use range_filter_bench::keys::KEY_SETS;
 use range_filter_bench::questions::{questions, KEY_KINDS, RANGE_KINDS};
 use range_filter_tests::answer::Answer;
-use range_filter_tests::compare::{self, Case};
+use range_filter_tests::compare::{self, AcceptedCase, Case};
 use range_filter_tests::generate::images::{any_image, built, large_images, small_frame, CHANGES};
 use range_filter_tests::generate::keys::{
     any_keys, ascending, ff_keys, growing_keys, keys_by_node_size, many_keys, many_mixed_keys,
     no_keys,
 };
-use range_filter_tests::generate::questions::{key_near, keys_about, questions_near};
-use range_filter_tests::generate::{any_settings, damaged};
+use range_filter_tests::generate::places::{far_places, ROOMS};
+use range_filter_tests::generate::questions::{any_question, key_near, keys_about, questions_near};
+use range_filter_tests::generate::{any_settings, damaged, every_setting};
 use range_filter_tests::random::Random;
 use range_filter_tests::reference::check::accepted_leaves;
 use range_filter_tests::reference::keys::{self, MAX_KEYS};
@@ -35,6 +37,7 @@ const MEASURED_QUESTIONS: usize = 100;
 const WALKED_IMAGES: usize = 1_000;
 const WALKED_KEYS: usize = 5_000;
 const PLACES_A_LARGE_IMAGE: usize = 20;
+const ACCEPTED_LISTS_A_SETTING: usize = 20;
 const ROOM: usize = 1 << 20;
 
 /// Compares a build, and gives the answer.
@@ -69,6 +72,24 @@ fn compare_walks(random: &mut Random, image: &[u8], places: usize) -> usize {
     let behind = compare_walk(image, leaves as u64 + 1, ROOM);
     assert_eq!(behind, Answer::Refused(17));
     leaves
+}
+
+/// Compares the calls over an accepted image, one question each, and walks from every place
+/// so many places apart; notes the refusals.
+fn compare_accepted(image: &[u8], asked: &[Question], apart: usize, tally: &mut Tally) {
+    let leaves = accepted_leaves(image).expect("the image is accepted");
+    let accepted = fast::check::accept(image).expect("and so it is by the fast check");
+    let case = AcceptedCase::new(image, &leaves, Opened::new(&accepted));
+    for question in asked {
+        tally.note(case.question(question).err().unwrap_or(0));
+    }
+    let done = leaves.len() as u64;
+    let places = (0..=done).step_by(apart).chain([done, done + 1]);
+    for place in places.chain(far_places()) {
+        for room in ROOMS.into_iter().chain([5 * RECORD_BYTES]) {
+            tally.note(case.walk(place, room).number());
+        }
+    }
 }
 
 /// Compares the replies to questions over an image: of all kinds, about keys near the ends
@@ -381,4 +402,36 @@ fn measured_lists_are_built_checked_and_walked_alike() {
             compare_walks(&mut random, &image, 1);
         }
     }
+}
+
+#[test]
+fn accepted_images_are_asked_and_walked_alike() {
+    let mut random = Random::new(26);
+    let mut tally = Tally::default();
+    for (dense_levels, n) in every_setting() {
+        for _ in 0..ACCEPTED_LISTS_A_SETTING {
+            let keys = random.pick(&[any_keys, ff_keys, growing_keys, no_keys])(&mut random);
+            let image = built(&keys, dense_levels, n);
+            let leaves = accepted_leaves(&image).expect("a built image is accepted");
+            let asked = [(); 40].map(|()| any_question(&mut random, &leaves));
+            compare_accepted(&image, &asked, 1, &mut tally);
+        }
+    }
+    assert_eq!(tally.numbers(), [0, 17, 22, 23]);
+}
+
+#[test]
+fn large_accepted_images_are_asked_and_walked_alike() {
+    let mut random = Random::new(27);
+    let mut tally = Tally::default();
+    let mut images: Vec<Vec<u8>> = large_images(&mut random, WALKED_KEYS).collect();
+    for round in 0..LARGE_LISTS {
+        let (keys, (dense_levels, n)) = large_list(&mut random, round);
+        images.push(built(&keys, dense_levels, n));
+    }
+    for image in images {
+        let asked = questions_near(&mut random, &image, 200);
+        compare_accepted(&image, &asked, 7, &mut tally);
+    }
+    assert_eq!(tally.numbers(), [0, 17]);
 }

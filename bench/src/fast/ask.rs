@@ -1,6 +1,8 @@
 //! Question files and their replies.
 
 use super::check::accept;
+use super::range::is_held;
+use super::seek::Key;
 use super::trie::Trie;
 use range_filter_tests::answer::Answer;
 use range_filter_tests::reference::keys::MAX_KEY;
@@ -106,20 +108,19 @@ fn reply(trie: &Trie, question: &Question, replies: &mut Vec<u8>) {
 
 /// Gives the reply to a point that a rule decides: the rule's number is its key.
 fn point_reply(rule: Rule) -> [u8; POINT_REPLY] {
-    let is_held = matches!(rule, Rule::ExactLeaf | Rule::SuffixEqual);
     let mut reply = [rule.number(); POINT_REPLY];
-    reply[..REPLY_HEAD].copy_from_slice(&reply_head(b'P', is_held.into(), 1));
+    reply[..REPLY_HEAD].copy_from_slice(&reply_head(b'P', is_held(rule).into(), 1));
     reply
 }
 
-/// Writes the reply to a seek: the key goes behind room for the head, which is then filled.
+/// Writes the reply to a seek.
 fn reply_to_seek(trie: &Trie, start: &[u8], replies: &mut Vec<u8>) {
-    let head = replies.len();
-    let key = head + REPLY_HEAD;
-    replies.resize(key, 0);
-    let number = trie.seek(start, replies).map_or(NONE, |place| place as u32);
-    let length = replies.len() - key;
-    replies[head..key].copy_from_slice(&reply_head(b'S', number, length));
+    let mut key = Key::new();
+    let number = trie
+        .seek(start, &mut key)
+        .map_or(NONE, |place| place as u32);
+    replies.extend_from_slice(&reply_head(b'S', number, key.bytes().len()));
+    replies.extend_from_slice(key.bytes());
 }
 
 /// Gives a reply up to its key, of which the length is given.

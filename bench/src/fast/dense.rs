@@ -71,6 +71,12 @@ impl<'a> Dense<'a> {
         (found < end).then_some(found)
     }
 
+    /// Gives the first branch of a node from one of its positions on, which there has to be.
+    #[inline]
+    pub fn first_at(&self, position: usize) -> usize {
+        next_one(self.labels, position, self.labels.len() * 8)
+    }
+
     /// Gives the next branch of the same node.
     #[inline]
     pub fn next(&self, position: usize) -> Option<usize> {

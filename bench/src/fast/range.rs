@@ -24,6 +24,11 @@ pub enum Parting<'k> {
     },
 }
 
+/// Says whether a rule takes a key for one that may be stored.
+pub fn is_held(rule: Rule) -> bool {
+    matches!(rule, Rule::ExactLeaf | Rule::SuffixEqual)
+}
+
 impl Trie<'_> {
     /// Gives the rule that decides a key: where its way from the root ends, and how.
     pub fn rule(&self, key: &[u8]) -> Rule {

@@ -2,7 +2,43 @@
 //! found, which is made once.
 
 use super::trie::{Before, Branch, Trie};
+use range_filter_tests::reference::keys::MAX_KEY;
 use std::cmp::Ordering;
+
+/// A key that is made from its start on, without a heap.
+pub struct Key {
+    bytes: [u8; MAX_KEY],
+    length: usize,
+}
+
+impl Key {
+    /// Gives the empty key.
+    pub fn new() -> Self {
+        Key {
+            bytes: [0; MAX_KEY],
+            length: 0,
+        }
+    }
+
+    /// Gives the bytes so far.
+    pub fn bytes(&self) -> &[u8] {
+        &self.bytes[..self.length]
+    }
+
+    /// Adds a byte.
+    #[inline]
+    fn push(&mut self, byte: u8) {
+        self.bytes[self.length] = byte;
+        self.length += 1;
+    }
+
+    /// Adds bytes.
+    #[inline]
+    fn extend_from_slice(&mut self, bytes: &[u8]) {
+        self.bytes[self.length..][..bytes.len()].copy_from_slice(bytes);
+        self.length += bytes.len();
+    }
+}
 
 /// How far a start leads from the root.
 struct Way {
@@ -30,8 +66,8 @@ enum Target {
 
 impl Trie<'_> {
     /// Seeks the first leaf whose highest possible key is not below a start. Adds the
-    /// greater of the start and its lowest key to some bytes, and gives its number.
-    pub fn seek(&self, start: &[u8], key: &mut Vec<u8>) -> Option<usize> {
+    /// greater of the start and its lowest key to an empty key, and gives its number.
+    pub fn seek(&self, start: &[u8], key: &mut Key) -> Option<usize> {
         if self.is_empty() {
             return None;
         }
@@ -105,7 +141,7 @@ impl Trie<'_> {
 
     /// Goes down from a branch so many levels towards the first leaf, and adds the bytes of
     /// its lowest key; gives the node from which it goes on if the leaf is still below.
-    fn descend(&self, branch: Branch, levels: usize, key: &mut Vec<u8>) -> Option<usize> {
+    fn descend(&self, branch: Branch, levels: usize, key: &mut Key) -> Option<usize> {
         let mut node = self.take(self.before(branch), branch, key)?;
         for _ in 0..levels {
             let start = self.start(node);
@@ -117,7 +153,7 @@ impl Trie<'_> {
     /// Adds the label of a branch, and the suffix where it is a leaf, with what is before it
     /// known; gives the node that it leads to.
     #[inline]
-    fn take(&self, before: Before, branch: Branch, key: &mut Vec<u8>) -> Option<usize> {
+    fn take(&self, before: Before, branch: Branch, key: &mut Key) -> Option<usize> {
         key.push(self.label(branch));
         if self.has_child(branch) {
             return Some(before.node());
@@ -133,7 +169,7 @@ impl Trie<'_> {
         level: usize,
         mut node: usize,
         mut below: Option<usize>,
-        key: &mut Vec<u8>,
+        key: &mut Key,
     ) -> usize {
         let mut slots = 0;
         for _ in level..self.levels {
@@ -153,7 +189,7 @@ impl Trie<'_> {
     }
 
     /// Adds the suffix in a slot, less its zero bytes at the end.
-    fn write_suffix(&self, slot: usize, key: &mut Vec<u8>) {
+    fn write_suffix(&self, slot: usize, key: &mut Key) {
         match self.suffix(slot).to_be_bytes() {
             [0, 0] => (),
             [first, 0] => key.push(first),

@@ -1,7 +1,7 @@
 //! The sparse nodes of an accepted image, numbered from the first of them, and their
 //! entries.
 
-use super::bits::{bit, bytes_below, load, rank_by_eight, select, select_two};
+use super::bits::{bit, bytes_below, load, next_one, rank_by_eight, select, select_two};
 use super::check::Accepted;
 use range_filter_tests::reference::build::EXTRA_LABEL;
 use range_filter_tests::reference::format::{NODE_BITS, RS, SB, SC, SL, TS};
@@ -64,6 +64,12 @@ impl<'a> Sparse<'a> {
         } else {
             self.entries
         }
+    }
+
+    /// Gives the end of a node with a start.
+    #[inline]
+    pub fn end(&self, start: usize) -> usize {
+        next_one(self.louds, start + 1, self.entries)
     }
 
     /// Gives the first branch of a node, or nothing where it is an exact leaf, which its

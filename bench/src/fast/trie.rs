@@ -4,12 +4,14 @@
 use super::check::{slot, Accepted};
 use super::dense::Dense;
 use super::sparse::Sparse;
-use range_filter_tests::reference::format::{Frame, NODE_BITS};
+use range_filter_tests::reference::format::NODE_BITS;
+use range_filter_tests::reference::keys::MAX_KEY;
 use std::cmp::Ordering;
+use std::ops::Range;
 
 /// The trie of an accepted image.
 pub struct Trie<'a> {
-    frame: &'a Frame<'a>,
+    pub image: &'a Accepted<'a>,
     dense: Dense<'a>,
     sparse: Sparse<'a>,
     dense_nodes: usize,
@@ -26,8 +28,18 @@ pub enum Branch {
     Sparse(usize),
 }
 
+impl Branch {
+    /// Gives the number of the bit or entry.
+    #[inline]
+    pub fn position(self) -> usize {
+        match self {
+            Branch::Dense(position) | Branch::Sparse(position) => position,
+        }
+    }
+}
+
 /// The continuing branches and the slots before a node or branch in level order.
-#[derive(Clone, Copy)]
+#[derive(Clone, Copy, Default)]
 pub struct Before {
     pub children: usize,
     pub slots: usize,
@@ -47,6 +59,14 @@ pub struct Start {
     pub branch: Option<Branch>,
 }
 
+/// What a node holds: where it starts, whether it is an exact leaf, and the positions of its
+/// branches, up to the last one's.
+pub struct Span {
+    pub start: usize,
+    pub is_exact: bool,
+    pub positions: Range<usize>,
+}
+
 impl Before {
     /// Gives the first node that is not the child of a branch before.
     #[inline]
@@ -60,7 +80,7 @@ impl<'a> Trie<'a> {
     pub fn new(image: &'a Accepted<'a>) -> Self {
         let starts = &image.levels.starts[..image.levels.count];
         Trie {
-            frame: &image.frame,
+            image,
             dense: Dense::new(image),
             sparse: Sparse::new(image),
             dense_nodes: image.dense.nodes,
@@ -73,7 +93,12 @@ impl<'a> Trie<'a> {
 
     /// Says whether there are no leaves, and so no nodes.
     pub fn is_empty(&self) -> bool {
-        self.frame.header.leaves == 0
+        self.leaves() == 0
+    }
+
+    /// Gives the number of leaves.
+    pub fn leaves(&self) -> u32 {
+        self.image.frame.header.leaves
     }
 
     /// Gives the branch of a node with a label.
@@ -215,6 +240,59 @@ impl<'a> Trie<'a> {
         }
     }
 
+    /// Gives what is before each level.
+    pub fn before_levels(&self) -> [Before; MAX_KEY] {
+        self.image.levels.starts.map(|start| Before {
+            children: start.children,
+            slots: start.leaves,
+        })
+    }
+
+    /// Gives the position of a node from its number and from what is before it: its first
+    /// bit, or its first entry.
+    pub fn position(&self, node: usize, before: Before) -> usize {
+        match node < self.dense_nodes {
+            true => node * NODE_BITS,
+            false => before.children + before.slots - self.dense_children - self.dense_leaves,
+        }
+    }
+
+    /// Counts what is before a position of a node; its exact leaf is.
+    #[inline]
+    pub fn before_at(&self, node: usize, position: usize) -> Before {
+        match node < self.dense_nodes {
+            true => self.before_position(position),
+            false => self.before_entry(position),
+        }
+    }
+
+    /// Gives the first branch of a node from a position on, which there has to be.
+    #[inline]
+    pub fn first_at(&self, node: usize, position: usize) -> Branch {
+        match node < self.dense_nodes {
+            true => Branch::Dense(self.dense.first_at(position)),
+            false => Branch::Sparse(position),
+        }
+    }
+
+    /// Gives what a node holds, with what is before it known.
+    pub fn span(&self, node: usize, before: Before) -> Span {
+        let start = self.position(node, before);
+        if node < self.dense_nodes {
+            return Span {
+                start,
+                is_exact: self.dense.is_exact(node),
+                positions: start..self.dense.last(node) + 1,
+            };
+        }
+        let is_exact = self.sparse.is_exact(start);
+        Span {
+            start,
+            is_exact,
+            positions: start + usize::from(is_exact)..self.sparse.end(start),
+        }
+    }
+
     /// Takes a label from a node.
     #[inline]
     pub fn step(&self, node: usize, label: u8) -> Step {
@@ -239,7 +317,7 @@ impl<'a> Trie<'a> {
     /// there are no suffixes no slot is looked for.
     #[inline]
     pub fn compare_leaf(&self, leaf: Branch, behind_cut: &[u8]) -> Ordering {
-        match self.frame.header.settings.width {
+        match self.image.frame.header.settings.width {
             0 => Ordering::Equal,
             _ => self.compare_slot(self.before(leaf).slots, behind_cut),
         }
@@ -249,7 +327,7 @@ impl<'a> Trie<'a> {
     #[inline]
     pub fn compare_slot(&self, number: usize, behind_cut: &[u8]) -> Ordering {
         let byte = |at: usize| behind_cut.get(at).copied().unwrap_or(0);
-        let kept = !(0xFFFF_u32 >> self.frame.header.settings.width) as u16;
+        let kept = !(0xFFFF_u32 >> self.image.frame.header.settings.width) as u16;
         let bits = u16::from_be_bytes([byte(0), byte(1)]) & kept;
         self.suffix(number).cmp(&bits)
     }
@@ -257,6 +335,6 @@ impl<'a> Trie<'a> {
     /// Reads the suffix in a slot as the high bits of two bytes.
     #[inline]
     pub fn suffix(&self, number: usize) -> u16 {
-        (slot(self.frame, number) as u16).reverse_bits()
+        (slot(&self.image.frame, number) as u16).reverse_bits()
     }
 }

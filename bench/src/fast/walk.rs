@@ -1,9 +1,11 @@
 //! Walking the leaves in key order. Key order visits the entries of each level in their
 //! order, so that one position a level is enough: the next entry of a level is the one
-//! behind its last, and no step needs a rank or a select.
+//! behind its last, and no step needs a rank or a select. A descent goes to the first leaf.
 
 use super::bits::{bit, next_one};
 use super::check::{accept, slot, Accepted};
+use super::locate::Descent;
+use super::trie::Trie;
 use range_filter_tests::answer::Answer;
 use range_filter_tests::reference::build::EXTRA_LABEL;
 use range_filter_tests::reference::format::{DC, DL, DP, NODE_BITS, SB, SC, SL};
@@ -47,19 +49,26 @@ struct Leaf {
 /// Writes the records of the leaves from a place on at the start of a buffer, of as many
 /// leaves as it holds whole; a refusal leaves the buffer as it was.
 pub fn walk(image: &[u8], place: u64, records: &mut [u8]) -> Answer {
-    let image = match accept(image) {
-        Ok(image) => image,
-        Err(number) => return Answer::Refused(number),
-    };
-    let Some(left) = u64::from(image.frame.header.leaves).checked_sub(place) else {
+    match accept(image) {
+        Ok(image) => write_records(&Trie::new(&image), place, records),
+        Err(number) => Answer::Refused(number),
+    }
+}
+
+/// Writes the records of the leaves from a place of an accepted image on.
+pub fn write_records(trie: &Trie, place: u64, records: &mut [u8]) -> Answer {
+    let Some(left) = u64::from(trie.leaves()).checked_sub(place) else {
         return Answer::Refused(17);
     };
-    let mut walk = Walk::new(&image);
-    for _ in 0..place {
-        walk.next_leaf();
-    }
     let count = (records.len() / RECORD_BYTES).min(left as usize);
-    for record in records.chunks_exact_mut(RECORD_BYTES).take(count) {
+    let mut records = records.chunks_exact_mut(RECORD_BYTES).take(count);
+    let Some(first) = records.next() else {
+        return Answer::Written(0);
+    };
+    let mut walk = Walk::new(trie.image);
+    let leaf = walk.open(trie, place as usize);
+    walk.write(&leaf, first);
+    for record in records {
         let leaf = walk.next_leaf();
         walk.write(&leaf, record);
     }
@@ -67,44 +76,65 @@ pub fn walk(image: &[u8], place: u64, records: &mut [u8]) -> Answer {
 }
 
 impl<'a> Walk<'a> {
-    /// Stands before the root.
+    /// Stands nowhere yet.
     fn new(image: &'a Accepted<'a>) -> Self {
-        let dense_levels = usize::from(image.frame.header.settings.dense_levels);
-        let dense_entries = image.dense.children + image.dense.leaves;
-        let mut cursors = [Cursor::default(); MAX_KEY];
-        let starts = &image.levels.starts[..image.levels.count];
-        for (level, (cursor, start)) in cursors.iter_mut().zip(starts).enumerate() {
-            cursor.slot = start.leaves;
-            cursor.position = if level < dense_levels {
-                start.nodes * NODE_BITS
-            } else {
-                start.children + start.leaves - dense_entries
-            };
-        }
         Walk {
             image,
-            dense_levels,
-            cursors,
+            dense_levels: usize::from(image.frame.header.settings.dense_levels),
+            cursors: [Cursor::default(); MAX_KEY],
             open: 0,
             labels: [0; MAX_KEY],
         }
     }
 
+    /// Goes to the leaf at a place, which there has to be.
+    fn open(&mut self, trie: &Trie, place: usize) -> Leaf {
+        let descent = trie.locate(place);
+        self.stand_below(trie, &descent);
+        let mut leaf = None;
+        for level in 0..=descent.level {
+            self.cursors[level] = Cursor {
+                position: descent.positions[level],
+                slot: descent.before[level].slots,
+            };
+            let at_branch = level < descent.level || !descent.is_exact;
+            self.open |= u64::from(at_branch) << level;
+            leaf = self.step(level);
+        }
+        leaf.expect("a descent ends at a leaf")
+    }
+
+    /// Stands before what comes next on the levels below a descent.
+    fn stand_below(&mut self, trie: &Trie, descent: &Descent) {
+        for level in descent.level + 1..trie.levels {
+            let before = descent.before[level];
+            self.cursors[level] = Cursor {
+                position: trie.position(descent.before[level - 1].node(), before),
+                slot: before.slots,
+            };
+        }
+    }
+
     /// Goes to the next leaf, which there has to be: on from the lowest node that has
-    /// branches left, at first from the root, and down.
+    /// branches left, and down.
     #[inline]
     fn next_leaf(&mut self) -> Leaf {
         let mut level = self.open.checked_ilog2().unwrap_or(0) as usize;
         loop {
-            let found = if level < self.dense_levels {
-                self.dense_step(level)
-            } else {
-                self.sparse_step(level)
-            };
-            if let Some(leaf) = found {
+            if let Some(leaf) = self.step(level) {
                 return leaf;
             }
             level += 1;
+        }
+    }
+
+    /// Takes what comes next on a level, and gives the leaf where it is one.
+    #[inline]
+    fn step(&mut self, level: usize) -> Option<Leaf> {
+        if level < self.dense_levels {
+            self.dense_step(level)
+        } else {
+            self.sparse_step(level)
         }
     }
 
