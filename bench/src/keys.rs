@@ -51,21 +51,21 @@ pub struct KeySet {
 
 /// The ways to make keys.
 pub const KEY_SETS: [KeySet; 5] = [
-    KeySet {
-        name: "random 8 bytes",
-        make: |random, count| distinct(count, || random.bytes(8, 8)),
-    },
+    RANDOM_8,
     RANDOM_13,
     STATION,
-    KeySet {
-        name: "text, host and user",
-        make: |random, count| distinct(count, || text_key(random)),
-    },
+    TEXT,
     KeySet {
         name: "64 bytes in pairs that differ in the last",
         make: |random, count| many_keys(random, count, 64),
     },
 ];
+
+/// Keys of eight random bytes.
+pub const RANDOM_8: KeySet = KeySet {
+    name: "random 8 bytes",
+    make: |random, count| distinct(count, || random.bytes(8, 8)),
+};
 
 /// Keys of random bytes, as long as those of stations.
 pub const RANDOM_13: KeySet = KeySet {
@@ -77,6 +77,12 @@ pub const RANDOM_13: KeySet = KeySet {
 pub const STATION: KeySet = KeySet {
     name: "station, time and kind, 13 bytes",
     make: station_keys,
+};
+
+/// Keys of text.
+pub const TEXT: KeySet = KeySet {
+    name: "text, host and user",
+    make: |random, count| distinct(count, || text_key(random)),
 };
 
 /// Gives so many different keys in ascending order.

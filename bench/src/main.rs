@@ -1,6 +1,8 @@
 //! Compares the proved library with a fast implementation without proofs, and prints the
 //! report, or the part of it that is named. The module `timing` says how times are taken.
 
+mod accepted;
+mod markdown;
 mod measure;
 mod tables;
 mod timing;
@@ -15,7 +17,7 @@ struct Part {
 }
 
 /// The parts of the report.
-const PARTS: [Part; 6] = [
+const PARTS: [Part; 8] = [
     Part {
         name: "build",
         print: tables::print_build,
@@ -37,8 +39,16 @@ const PARTS: [Part; 6] = [
         print: tables::print_ask,
     },
     Part {
+        name: "accepted",
+        print: tables::print_accepted,
+    },
+    Part {
         name: "growth",
         print: tables::print_growth,
+    },
+    Part {
+        name: "filter",
+        print: tables::print_filter,
     },
 ];
 

@@ -5,10 +5,11 @@ use crate::timing::{compare, Effort, Figures};
 use range_filter_bench::fast;
 use range_filter_bench::keys::KeySet;
 use range_filter_bench::questions::{questions, Kind};
+use range_filter_bench::rates::{false_positives, Rate};
 use range_filter_tests::library;
 use range_filter_tests::random::Random;
 use range_filter_tests::reference::keys::{self, MAX_KEY};
-use range_filter_tests::reference::questions::write;
+use range_filter_tests::reference::questions::{write, Question};
 use range_filter_tests::reference::replies::REPLY_HEAD;
 use range_filter_tests::reference::walk::RECORD_BYTES;
 
@@ -68,7 +69,7 @@ impl List {
     }
 
     /// Gives the image.
-    fn image(&self, setting: Setting) -> Vec<u8> {
+    pub fn image(&self, setting: Setting) -> Vec<u8> {
         let mut image = self.room();
         let Setting { dense_levels, n } = setting;
         let stated = self.stated(setting);
@@ -77,11 +78,30 @@ impl List {
         image
     }
 
+    /// Gives so many questions of a kind.
+    pub fn questions(&self, kind: &Kind, count: usize) -> Vec<Question> {
+        let mut random = Random::new(QUESTION_SEED);
+        questions(&mut random, [&self.keys, &self.others], kind, count)
+    }
+
+    /// Gives so many places of leaves.
+    pub fn places(&self, count: usize) -> Vec<u64> {
+        let mut random = Random::new(QUESTION_SEED);
+        let place = |_| random.below(self.keys.len()) as u64;
+        (0..count).map(place).collect()
+    }
+
     /// Gives the length of the image, as the library tells it.
     fn stated(&self, Setting { dense_levels, n }: Setting) -> u64 {
         let length = library::image_length(&self.bytes, dense_levels, n);
         length.expect("the keys make a list") as u64
     }
+}
+
+/// Gives how often the image is wrong about questions of a kind, points or ranges, about keys
+/// that are made like those of the list.
+pub fn rate(list: &List, setting: Setting, kind: &Kind) -> Rate {
+    false_positives(&list.image(setting), &list.keys, &kind.about(&list.others))
 }
 
 /// Gives the bytes of the image by key.
@@ -143,13 +163,7 @@ pub fn walk(list: &List, setting: Setting) -> Figures {
 /// included.
 pub fn ask(list: &List, setting: Setting, kind: &Kind, count: usize) -> Figures {
     let image = list.image(setting);
-    let mut random = Random::new(QUESTION_SEED);
-    let file = write(&questions(
-        &mut random,
-        [&list.keys, &list.others],
-        kind,
-        count,
-    ));
+    let file = write(&list.questions(kind, count));
     let mut replies = vec![0; count * (REPLY_HEAD + MAX_KEY)];
     let mut library_replies = replies.clone();
     let effort = Effort {

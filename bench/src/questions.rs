@@ -34,10 +34,7 @@ pub const POINT: Kind = Kind {
 
 /// The kinds of questions about what is between two bounds.
 pub const RANGE_KINDS: [Kind; 6] = [
-    Kind {
-        name: "range, short",
-        make: |keys, number| range(short(keys, number)),
-    },
+    SHORT_RANGE,
     Kind {
         name: "range, middle",
         make: |keys, number| range(further(keys, number, MIDDLE)),
@@ -59,6 +56,20 @@ pub const RANGE_KINDS: [Kind; 6] = [
         make: |keys, number| count(further(keys, number, keys.len() / WIDE_SHARE)),
     },
 ];
+
+/// The question whether there is a key from one to the same with its last byte FF.
+pub const SHORT_RANGE: Kind = Kind {
+    name: "range, short",
+    make: |keys, number| range(short(keys, number)),
+};
+
+impl Kind {
+    /// Gives a question about each key of an ascending list.
+    pub fn about(&self, keys: &[Vec<u8>]) -> Vec<Question> {
+        let numbers = 0..keys.len();
+        numbers.map(|number| (self.make)(keys, number)).collect()
+    }
+}
 
 /// Gives the first half of a key.
 fn stem(key: &[u8]) -> Vec<u8> {

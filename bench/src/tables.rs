@@ -1,9 +1,13 @@
 //! The tables of the report, in Markdown.
 
+use crate::accepted;
+use crate::markdown::{number, print_head, print_heading, print_row, print_text, with_commas};
 use crate::measure::{self, List, Setting};
 use crate::timing::{Figures, ROUNDS};
-use range_filter_bench::keys::{KeySet, BURST, KEY_SETS, RANDOM_13, STATION, STATIONS};
-use range_filter_bench::questions::{Kind, KEY_KINDS, POINT, RANGE_KINDS};
+use range_filter_bench::keys::{
+    KeySet, BURST, KEY_SETS, RANDOM_13, RANDOM_8, STATION, STATIONS, TEXT,
+};
+use range_filter_bench::questions::{Kind, KEY_KINDS, POINT, RANGE_KINDS, SHORT_RANGE};
 use range_filter_tests::reference::keys::MAX_KEYS;
 use range_filter_tests::reference::questions::MAX_QUESTIONS;
 
@@ -17,7 +21,7 @@ const SETTINGS: [Setting; 6] = [
     setting(2, 8),
 ];
 
-/// The settings that ask is measured with.
+/// The settings that ask, and calls over an accepted image, are measured with.
 const ASK_SETTINGS: [Setting; 4] = [setting(0, 0), setting(0, 8), setting(2, 0), setting(2, 8)];
 
 /// The settings of the table that shows how costs grow.
@@ -26,6 +30,15 @@ const FEW_SETTINGS: [Setting; 2] = [setting(0, 0), setting(2, 8)];
 /// The key sets and the numbers of keys of the table that shows how costs grow.
 const GROWING: [KeySet; 2] = [RANDOM_13, STATION];
 const COUNTS: [usize; 5] = [1 << 8, 1 << 10, 1 << 12, 1 << 14, MAX_KEYS];
+
+/// The key sets, the suffix widths and the dense levels of the table that helps to choose
+/// settings.
+const CHOICE: [KeySet; 3] = [RANDOM_8, STATION, TEXT];
+const CHOICE_WIDTHS: [u64; 4] = [0, 4, 8, 16];
+const CHOICE_LEVELS: [u64; 2] = [0, 2];
+
+/// What a short, a middle and a wide range is.
+const RANGES: &str = "A short range goes from a key to the same with its last byte FF, a middle one from a key to the second behind it in its list, a wide one over one hundredth of the list.";
 
 /// A measurement by key.
 type Measure = fn(&List, Setting) -> Figures;
@@ -48,7 +61,7 @@ pub fn print_introduction() {
     println!(
         "# Benchmark
 
-`rt staticlib range_filter && cargo run --release --offline --manifest-path bench/Cargo.toml --target-dir target/cargo >docs/benchmark.md` writes this page. With `-- build`, `-- length`, `-- check`, `-- walk`, `-- ask` or `-- growth` it writes that part of it.
+`rt staticlib range_filter && cargo run --release --offline --manifest-path bench/Cargo.toml --target-dir target/cargo >docs/benchmark.md` writes this page. With `-- build`, `-- length`, `-- check`, `-- walk`, `-- ask`, `-- accepted`, `-- growth` or `-- filter` it writes that part of it.
 
 The library is compared with a fast implementation without proofs (`bench/src/fast`), on the same input and in the same process; both are compiled for any x86-64. A round times the library and right behind it the fast implementation, by the processor time of the thread. A figure is the median of {ROUNDS} rounds, and so is a ratio, which is taken within a round. Both are called once before the first round, and buffers are not cleared between calls.
 
@@ -59,7 +72,7 @@ The keys come from a fixed seed, {keys} of each kind. A station key has 4 bytes 
 /// Prints the table of build.
 pub fn print_build() {
     print_heading("Build", "Nanoseconds a key: library, fast, ratio.");
-    print_by_setting(measure::build);
+    print_calls(measure::build);
 }
 
 /// Prints the table of the call that gives the image's length.
@@ -68,13 +81,13 @@ pub fn print_length() {
         "Image length",
         "The first call of build against the second, both of the library; nanoseconds a key: length, build, ratio.",
     );
-    print_by_setting(measure::length);
+    print_calls(measure::length);
 }
 
 /// Prints the table of check.
 pub fn print_check() {
     print_heading("Check", "Nanoseconds a key: library, fast, ratio.");
-    print_by_setting(measure::check);
+    print_calls(measure::check);
 }
 
 /// Prints the table of walk.
@@ -83,35 +96,95 @@ pub fn print_walk() {
         "Walk",
         "One call from place 0 that writes the records of all leaves, the check of the image included; nanoseconds a leaf: library, fast, ratio.",
     );
-    print_by_setting(measure::walk);
+    print_calls(measure::walk);
+}
+
+/// Prints a table of the times of a call by key.
+fn print_calls(measure: Measure) {
+    print_by_setting(&SETTINGS, |list, setting| {
+        cell(&measure(list, setting), 1.0)
+    });
 }
 
 /// Prints the tables of ask.
 pub fn print_ask() {
     let questions = with_commas(MAX_QUESTIONS);
     print_heading("Ask", &format!("Calls with {questions} questions of one kind, half of them about keys of the list and half of them about keys of another list made like it, the check of the image included; nanoseconds a question: library, fast, ratio. A stem is the first half of a key. The last column is a call with one question, for a point: its microseconds."));
-    print_by_kind(&KEY_KINDS, Some("one question"));
-    println!("\nRanges and counts, likewise. A short range goes from a key to the same with its last byte FF, a middle one from a key to the second behind it in its list, a wide one over one hundredth of the list.\n");
-    print_by_kind(&RANGE_KINDS, None);
+    let ask = |list: &List, setting, kind: &Kind| {
+        cell(&measure::ask(list, setting, kind, MAX_QUESTIONS), 1.0)
+    };
+    print_by_kind(&KEY_KINDS, &["one question"], ask, |list, setting| {
+        vec![cell(&measure::ask(list, setting, &POINT, 1), 1e3)]
+    });
+    print_text(&format!("Ranges and counts, likewise. {RANGES}"));
+    print_by_kind(&RANGE_KINDS, &[], ask, |_, _| Vec::new());
 }
 
-/// Prints a table with a row for each key set and setting and a column for each kind of
-/// questions, and one for calls with one question where it is named.
-fn print_by_kind(kinds: &[Kind], one_question: Option<&str>) {
-    let names = kinds.iter().map(|kind| kind.name).chain(one_question);
-    let names: Vec<String> = names.map(str::to_string).collect();
-    let columns = names.len();
-    print_row(&keys_heading(), names);
-    print_rule(columns);
+/// Prints the tables of calls over an accepted image.
+pub fn print_accepted() {
+    let calls = with_commas(accepted::CALLS);
+    print_heading("One question a call, over an accepted image", &format!("Calls over an image that the check has accepted before, one question each, without a question file; the fast implementation has opened its trie before. A round makes {calls} calls, with the questions that the tables of ask have; nanoseconds a call: library, fast, ratio. The rule is the one behind a point. A leaf is the one at any place: a walk with room for one record."));
+    let ask =
+        |list: &List, setting, kind: &Kind| cell(&accepted::question(list, setting, kind), 1.0);
+    print_by_kind(&KEY_KINDS, &["rule", "leaf"], ask, |list, setting| {
+        let figures = [accepted::rule(list, setting), accepted::leaf(list, setting)];
+        figures.iter().map(|figures| cell(figures, 1.0)).collect()
+    });
+    print_text(&format!("Ranges and counts, likewise. {RANGES}"));
+    print_by_kind(&RANGE_KINDS, &[], ask, |_, _| Vec::new());
+    print_text("A point over an accepted image beside a call of ask with one point, which checks the image, both of the library; nanoseconds: accepted, ask, and how many times as long ask takes.");
+    print_by_setting(&ASK_SETTINGS, |list, setting| {
+        let accepted = accepted::question(list, setting, &POINT).library;
+        let ask = measure::ask(list, setting, &POINT, 1).library;
+        [accepted, ask, ask / accepted].map(number).join(", ")
+    });
+}
+
+/// Prints a table with a row for each key set and setting, with a column for each kind of
+/// questions and further ones.
+fn print_by_kind(
+    kinds: &[Kind],
+    further: &[&str],
+    cell: impl Fn(&List, Setting, &Kind) -> String,
+    further_cells: impl Fn(&List, Setting) -> Vec<String>,
+) {
+    let names = kinds.iter().map(|kind| kind.name);
+    print_head(&keys_heading(), names.chain(further.iter().copied()));
     for key_set in &KEY_SETS {
         let list = List::new(key_set, MAX_KEYS);
         for setting in ASK_SETTINGS {
-            let ask = |kind| cell(&measure::ask(&list, setting, kind, MAX_QUESTIONS), 1.0);
-            let one = one_question.map(|_| cell(&measure::ask(&list, setting, &POINT, 1), 1e3));
             let name = format!("{}, {}", list.name, setting_name(setting));
-            print_row(&name, kinds.iter().map(ask).chain(one));
+            let cells = kinds.iter().map(|kind| cell(&list, setting, kind));
+            print_row(&name, cells.chain(further_cells(&list, setting)));
         }
     }
+}
+
+/// Prints the table that helps to choose dense levels and n.
+pub fn print_filter() {
+    print_heading(
+        "Choosing dense levels and n",
+        "Bits of the image a key, and how often a question for which the list has no key is answered with 1 (a false positive), in percent. The questions are about the keys of another list made like it; those for which the list has a key are left out. A short range goes from a key to the same with its last byte FF. The number of dense levels changes no answer. Nothing is timed, so that every run gives these figures.",
+    );
+    let bits = CHOICE_LEVELS.map(|levels| format!("bits a key, dense {levels}"));
+    let rates = ["point, %", "range, short, %"].map(str::to_string);
+    print_head(&keys_heading(), bits.into_iter().chain(rates));
+    for key_set in &CHOICE {
+        let list = List::new(key_set, MAX_KEYS);
+        for n in CHOICE_WIDTHS {
+            print_row(&format!("{}, n {n}", list.name), choice_cells(&list, n));
+        }
+    }
+}
+
+/// Gives the bits of a list's image a key and its rates of false positives, with some
+/// suffix width.
+fn choice_cells(list: &List, n: u64) -> Vec<String> {
+    let bits = |levels| 8.0 * measure::image_bytes(list, setting(levels, n));
+    let rate = |kind: &Kind| measure::rate(list, setting(CHOICE_LEVELS[0], n), kind).percent();
+    let bits = CHOICE_LEVELS.map(|levels| format!("{:.1}", bits(levels)));
+    let rates = [POINT, SHORT_RANGE].map(|kind| format!("{:.2}", rate(&kind)));
+    bits.into_iter().chain(rates).collect()
 }
 
 /// Gives a cell with the figures of the library and the fast implementation in a unit of
@@ -127,8 +200,7 @@ pub fn print_growth() {
         "Cost against the number of keys",
         "Nanoseconds a key by the library, and bytes of the image a key. With dense levels a short list has many dense nodes for its keys, of 96 bytes each. Calls on shorter lists are repeated so that a round takes as many keys as one call on the longest.",
     );
-    print_row("keys", COUNTS.map(with_commas));
-    print_rule(COUNTS.len());
+    print_head("keys", COUNTS.map(with_commas));
     for key_set in &GROWING {
         let lists = COUNTS.map(|count| List::new(key_set, count));
         for setting in FEW_SETTINGS {
@@ -143,31 +215,17 @@ pub fn print_growth() {
     }
 }
 
-/// Prints the heading of a part and what its figures are.
-fn print_heading(heading: &str, figures: &str) {
-    println!("\n## {heading}\n\n{figures}\n");
-}
-
 /// Prints a table with a row for each key set and a column for each setting.
-fn print_by_setting(measure: Measure) {
-    print_row(&keys_heading(), SETTINGS.map(setting_name));
-    print_rule(SETTINGS.len());
+fn print_by_setting(settings: &[Setting], cell: impl Fn(&List, Setting) -> String) {
+    let names = settings.iter().map(|&setting| setting_name(setting));
+    print_head(&keys_heading(), names);
     for key_set in &KEY_SETS {
         let list = List::new(key_set, MAX_KEYS);
-        let cells = SETTINGS.map(|setting| cell(&measure(&list, setting), 1.0));
-        print_row(list.name, cells);
+        print_row(
+            list.name,
+            settings.iter().map(|&setting| cell(&list, setting)),
+        );
     }
-}
-
-/// Prints a row of a table.
-fn print_row(name: &str, cells: impl IntoIterator<Item = String>) {
-    let cells: Vec<String> = cells.into_iter().collect();
-    println!("| {name} | {} |", cells.join(" | "));
-}
-
-/// Prints the rule below the heads of columns.
-fn print_rule(columns: usize) {
-    println!("|{}", " --- |".repeat(1 + columns));
 }
 
 /// Gives the head of the column that names key sets.
@@ -178,24 +236,4 @@ fn keys_heading() -> String {
 /// Gives the name of a setting.
 fn setting_name(Setting { dense_levels, n }: Setting) -> String {
     format!("dense {dense_levels}, n {n}")
-}
-
-/// Writes a figure with two places behind the point below 1, with one below 10 and with
-/// none from there on.
-fn number(figure: f64) -> String {
-    if figure < 0.995 {
-        format!("{figure:.2}")
-    } else if figure < 9.95 {
-        format!("{figure:.1}")
-    } else {
-        with_commas(figure.round() as usize)
-    }
-}
-
-/// Writes a number with commas.
-fn with_commas(number: usize) -> String {
-    match number {
-        0..1_000 => number.to_string(),
-        _ => format!("{},{:03}", with_commas(number / 1_000), number % 1_000),
-    }
 }
