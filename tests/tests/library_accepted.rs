@@ -1,10 +1,9 @@
 //! The proved library's calls over an accepted image, one question each, against the
 //! reference, and against the library's replies to a file with that one question.
 
-use range_filter_tests::accepted::{AcceptedCalls, FOUND_BYTES};
 use range_filter_tests::answer::Answer;
 use range_filter_tests::compare::AcceptedCase;
-use range_filter_tests::examples::{list_van, IMAGE_A};
+use range_filter_tests::examples::IMAGE_A;
 use range_filter_tests::generate::every_setting;
 use range_filter_tests::generate::images::{any_image, built, large_images, CHANGES};
 use range_filter_tests::generate::keys::{
@@ -36,12 +35,15 @@ const LARGE_QUESTIONS: usize = 600;
 const LISTS_BY_NODE_SIZE: usize = 12;
 const WALKED_LISTS_A_SETTING: usize = 8;
 const PLACES_A_LARGE_IMAGE: usize = 200;
+const ADDRESSES: usize = 80;
 const OFTEN: usize = 500;
 
-/// What the calls have said: refusals by their numbers, 0 for none, and replies by the
-/// letters of their questions.
+/// What the calls have been asked and have said: the lengths of keys, with 65 for all that
+/// are longer; refusals by their numbers, 0 for none; replies by the letters of their
+/// questions; and how many files with one question were compared.
 #[derive(Debug, Default)]
 struct Coverage {
+    lengths: Tally,
     refusals: Tally,
     replies: BTreeMap<u8, Tally>,
     files: usize,
@@ -79,9 +81,13 @@ impl Coverage {
         self.files += 1;
     }
 
-    /// Notes a refusal, or what a reply says: of a point the rule, of a count whether it is
-    /// 0, 1, 2 or more, of a seek whether it gives its start, a key above it or none.
+    /// Notes the lengths of a question's keys, and its refusal or what its reply says: of a
+    /// point the rule, of a count whether it is 0, 1, 2 or more, of a seek whether it gives
+    /// its start, a key above it or none.
     fn note(&mut self, question: &Question, reply: &Result<Reply, u32>) {
+        for key in question.keys() {
+            self.lengths.note(key.len().min(MAX_KEY + 1) as u32);
+        }
         self.refusals
             .note(reply.as_ref().err().copied().unwrap_or(0));
         let Ok(reply) = reply else {
@@ -157,18 +163,6 @@ fn questions_with(key: &[u8]) -> Vec<Question> {
     asked
 }
 
-/// Asserts what a seek gives, and that the bytes of its buffer behind the key are kept.
-fn assert_seek(image: Accepted, start: &[u8], number: u32, key: &[u8]) {
-    for kept in [0x00, 0x5A, 0xFF] {
-        let mut expected = [kept; FOUND_BYTES];
-        expected[0] = key.len() as u8;
-        expected[1..=key.len()].copy_from_slice(key);
-        let mut found = [kept; FOUND_BYTES];
-        assert_eq!(image.seek(start, &mut found), Ok(number));
-        assert_eq!(found, expected, "{start:?}");
-    }
-}
-
 /// Walks an accepted image from every place with buffers of many lengths, and from behind
 /// done, where it is refused; notes the refusals and gives the number of leaves.
 fn walk_from_everywhere(image: &[u8], tally: &mut Tally) -> usize {
@@ -182,59 +176,6 @@ fn walk_from_everywhere(image: &[u8], tally: &mut Tally) -> usize {
         }
     }
     leaves.len()
-}
-
-#[test]
-fn list_a_is_asked() {
-    let a = accept(IMAGE_A).expect("list A's image is accepted");
-    let points: [(&[u8], u32, u32); 6] = [
-        (b"D1", 1, 3),
-        (b"D10", 0, 1),
-        (b"D", 0, 2),
-        (b"D2x", 1, 4),
-        (b"", 0, 2),
-        (b"D1\xFF", 0, 1),
-    ];
-    for (key, number, rule) in points {
-        assert_eq!((a.point(key), a.rule(key)), (Ok(number), Ok(rule)));
-    }
-    assert_eq!(a.count(b"D12Z", b"D2"), Ok(2));
-    assert_eq!(a.count(b"D11", b"D13"), Ok(1));
-    assert_eq!(a.count(b"D2a", b"V"), Ok(2));
-    assert_eq!(a.range(b"D10", b"D11"), Ok(0));
-    assert_eq!(a.range(b"D2zz", b"E"), Ok(1));
-    assert_eq!(a.begins_with(b"D"), Ok(1));
-    assert_eq!(a.begins_with(b"D10"), Ok(0));
-    assert_seek(a, b"", 0, b"D1");
-    assert_seek(a, b"D13", 2, b"D2");
-    assert_seek(a, b"D2a", 2, b"D2a");
-    assert_seek(a, b"W", NONE, b"");
-    let mut last = [0; RECORD_BYTES];
-    assert_eq!(a.walk(3, &mut last), Answer::Written(RECORD_BYTES));
-    assert_eq!(last[..4], *b"\x02\x01V\x00");
-    assert_eq!(a.walk(4, &mut last), Answer::Written(0));
-    assert_eq!(a.walk(5, &mut last), Answer::Refused(17));
-}
-
-#[test]
-fn suffix_of_van_is_asked() {
-    let image = built(&list_van(), 0, 8);
-    let van = accept(&image).expect("a built image is accepted");
-    assert_eq!((van.point(b"VAX"), van.rule(b"VAX")), (Ok(1), Ok(4)));
-    assert_eq!((van.point(b"VB"), van.rule(b"VB")), (Ok(0), Ok(5)));
-    assert_seek(van, b"V", 3, b"VA");
-    assert_seek(van, b"VB", NONE, b"");
-    let mut last = [0; RECORD_BYTES];
-    van.walk(3, &mut last);
-    assert_eq!(last[RECORD_BYTES - 2..], [0x82, 0x00]);
-}
-
-#[test]
-fn refused_images_are_not_accepted() {
-    assert_eq!(accept(b"").err(), Some(11));
-    let mut image = IMAGE_A.to_vec();
-    image[2] = 2;
-    assert_eq!(accept(&image).err(), Some(12));
 }
 
 #[test]
@@ -267,6 +208,25 @@ fn images_of_every_setting_are_asked_alike() {
         }
     }
     coverage.assert_full(&[0, 22, 23]);
+    let lengths = coverage.lengths.numbers();
+    assert!(lengths.into_iter().eq(0..=MAX_KEY as u32 + 1));
+}
+
+#[test]
+fn images_at_any_address_are_asked_alike() {
+    let mut random = Random::new(121);
+    let mut coverage = Coverage::default();
+    for number in 0..ADDRESSES {
+        let mut bytes = vec![0; number % 8];
+        bytes.extend(any_image(&mut random));
+        let image = &bytes[number % 8..];
+        coverage.compare(
+            image,
+            &any_questions(&mut random, image, QUESTIONS_AN_IMAGE),
+        );
+        walk_from_everywhere(image, &mut coverage.refusals);
+    }
+    assert_eq!(coverage.refusals.numbers(), [0, 17, 22, 23]);
 }
 
 #[test]
