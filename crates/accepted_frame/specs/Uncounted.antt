@@ -1,19 +1,31 @@
 -- The frame of an accepted image before its dense nodes are counted.
-use Prim.Native.Nat.{ℕ, _*_, _≤_, _<_}
-use mathlib.Core.Path.{_≡_}
+use Prim.Native.Nat.{ℕ, _+_, _-_, _*_, _≤_, _<_}
+use mathlib.Core.Path.{_≡_, ap}
 use native.Mathlib.Omega.{arith}
-use lib.ListN.{length, drop}
+use lib.ListN.{length, take, drop}
+use lib.Seq.{take-all}
 use Rattle.spec.specs.Bytes.{Bytes}
 use Rattle.spec.specs.Check.{verdict}
+use Rattle.spec.specs.Nodes.{total, children-of}
+use Rattle.spec.specs.Trie.{leaf-count}
+use Rattle.bits_laws.specs.Bits.{rank, select}
+use Rattle.bits_laws.specs.RankLaws.{rank-le}
+use Rattle.bits_laws.specs.SelectLaws.{select-all}
 use Rattle.image_types.specs.Header.{Reads-header}
 use Rattle.image_types.specs.declared.Header.{Header}
 use Rattle.image_types.specs.declared.DenseTotals.{DenseTotals}
 use Rattle.image_types.specs.declared.Frame.{Frame}
 use Rattle.theory.specs.Terms.{Is-bytes}
 use Rattle.check_frame_laws.specs.FrameLaws.{frame-at, header-starts, uncounted, Totals, Laid-out, accepted-laid, laid-totals, laid-frame, frame-laid}
-use Rattle.nav_laws.specs.Accepted.{Accepted}
+use Rattle.nav_laws.specs.Accepted.{Accepted, nodes}
+use Rattle.nav_laws.specs.Stored.{Rank-entry}
+use Rattle.nav_laws.specs.Slots.{leaves-before}
+use Rattle.nav_laws.specs.Descent.{children-before}
+use Rattle.nav_laws.specs.Positions.{before-sparse, dense-totals}
+use Rattle.nav_laws.specs.FoundBranch.{node-count}
 use Rattle.nav_laws.specs.FromCheck.{checked-accepted}
-use Rattle.nav_laws.specs.Tables.{Ranked, labels-ranked, children-ranked, exacts-ranked}
+use Rattle.nav_laws.specs.Tables.{Ranked, children-ranked, starts-sampled}
+use Rattle.query_laws.specs.Followed.{node-length}
 
 -- the frame f is that of a header, and with some totals it is the frame of the accepted image s
 pub record Uncounted (s : Bytes) (f : Frame) : Type 0 where
@@ -22,27 +34,56 @@ pub record Uncounted (s : Bytes) (f : Frame) : Type 0 where
   pub frame-is : f ≡ frame-at header (header-starts header) uncounted
   pub accepted : Accepted s (frame-at header (header-starts header) totals)
 
--- a body of n bits and the table of its ranks lie at their offsets
-abbrev pub Ranked-at : Bytes → ℕ → ℕ → ℕ → Type 0
-Ranked-at s body table n = (body ≤ length s) × (table ≤ length s) × Ranked 64 n (drop body s) (drop table s) × (n ≤ n)
+module _ (s : Bytes) (f : Frame) (a : Accepted s f) where
+  -- the sparse entries end with the last node
+  last-end : select (drop (f .sb) s) (f .sparse .entries) (node-count f - f .dense .nodes) ≡ f .sparse .entries
+  last-end = select-all (drop (f .sb) s) (f .sparse .entries) (node-count f - f .dense .nodes) (omega (arith, starts-sampled s f a .1))
+
+  -- the nodes before the last end are all
+  all-nodes : take (node-count f) (nodes s f) ≡ nodes s f
+  all-nodes = take-all (node-count f) (nodes s f) (omega (arith, node-length s f a))
+
+  children-end : children-before (nodes s f) (node-count f) ≡ total children-of (nodes s f)
+  unfolding children-before
+  children-end = ap (total children-of) all-nodes
+
+  leaves-end : leaves-before (nodes s f) (node-count f) ≡ leaf-count (nodes s f)
+  unfolding leaves-before
+  leaves-end = ap leaf-count all-nodes
+
+  -- All entries together are a continuing branch for each node but the root, and one for each leaf.
+  all-entries : 0 < node-count f → f .totals .entries + f .sparse .entries + 1 ≡ node-count f + f .leaves
+  all-entries h =
+      let q = before-sparse s f a (node-count f) (omega arith) (omega arith) in
+      let d = dense-totals s f a in
+      let r = ap (rank (drop (f .sc) s)) last-end in
+      omega (arith, q .0, q .1, r, last-end, children-end, leaves-end, d .0, d .1, a .node-total h, a .writable .leaf-total, rank-le (drop (f .sc) s) (f .sparse .entries))
+
+-- where there is not no node, there is one
+pub some-node : {n : ℕ} → (n ≡ 0 → ⊥) → 0 < n
+some-node h = let z = h in omega arith
 
 -- what is asked of the frame to count its dense nodes
 module _ (s : Bytes) (f : Frame) (u : Uncounted s f) where
-  -- they are few
-  pub few : f .dense .nodes < 4294967296
-  few = rw (u .frame-is) (omega (arith, u .accepted .writable .few-dense, u .accepted .dense-size))
+  -- nodes, entries and leaves are few
+  pub few : (f .dense .nodes < 4294967296) × (f .sparse .nodes < 4294967296) × (f .leaves < 4294967296)
+  few =
+      let a = u .accepted in
+      rw (u .frame-is) (omega (arith, a .writable .few-dense, a .dense-size), omega (arith, a .writable .few-sparse, a .sparse-size), omega (arith, a .writable .few))
 
-  -- the ranks of DL
-  pub labels-at : Ranked-at s (f .dl) (f .rl) (256 * f .dense .nodes)
-  labels-at = let a = u .accepted in rw (u .frame-is) (a .DL .0, a .RL .0, labels-ranked s _ a, omega arith)
+  -- D-HasChild and its ranks
+  pub children-at : (f .dc ≤ length s) × (f .rc ≤ length s) × Ranked 64 (256 * f .dense .nodes) (drop (f .dc) s) (drop (f .rc) s)
+  children-at = let a = u .accepted in rw (u .frame-is) (a .DC .0, a .RC .0, children-ranked s _ a)
 
-  -- the ranks of DC
-  pub children-at : Ranked-at s (f .dc) (f .rc) (256 * f .dense .nodes)
-  children-at = let a = u .accepted in rw (u .frame-is) (a .DC .0, a .RC .0, children-ranked s _ a, omega arith)
+  -- the last word of D-HasChild, its rank, and that all bits end with it
+  pub last-word : (last : ℕ) → 0 < f .dense .nodes → last ≡ 4 * f .dense .nodes - 1
+      → Rank-entry 64 (drop (f .dc) s) (drop (f .rc) s) last × (last * 8 + 8 ≤ length (drop (f .dc) s)) × (64 * last + 64 ≡ 256 * f .dense .nodes)
+  last-word last h e = let r = children-at .2 in (r .1 last (omega arith), omega (arith, r .0), omega arith)
 
-  -- the ranks of DP
-  pub exacts-at : Ranked-at s (f .dp) (f .rp) (f .dense .nodes)
-  exacts-at = let a = u .accepted in rw (u .frame-is) (a .DP .0, a .RP .0, exacts-ranked s _ a, omega arith)
+  -- the entries of the dense nodes are those that the sparse nodes leave
+  pub entries-left : 0 < f .dense .nodes + f .sparse .nodes
+      → rank (drop (f .dl) s) (256 * f .dense .nodes) + rank (drop (f .dp) s) (f .dense .nodes) + f .sparse .entries + 1 ≡ f .dense .nodes + f .sparse .nodes + f .leaves
+  entries-left = let a = u .accepted in rw (u .frame-is) (λ h. omega (arith, all-entries s _ a h, a .items))
 
 module _ (s : Bytes) (h : Header) (v : verdict s ≡ 0) (r : Reads-header s h) (small : Is-bytes s) where
   laid : Laid-out s h

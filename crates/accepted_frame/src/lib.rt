@@ -1,29 +1,56 @@
 // The frame of an image that the check has accepted, read again from its header and its rank tables. It takes a constant number of steps, so that a caller may ask one question at a time without keeping the frame.
 ghost use mathlib.Core.Path.{_≡_};
+ghost use Prim.Native.Nat.{_*_};
+ghost use lib.ListN.{drop};
 ghost use Rattle.spec.specs.Check.{verdict};
+ghost use Rattle.bits_laws.specs.Bits.{rank};
 ghost use Rattle.check_frame_laws.specs.FrameLaws.{Totals};
 ghost use Rattle.nav_laws.specs.Accepted.{Accepted};
 ghost use Rattle.accepted_frame.specs.Uncounted.{Uncounted};
+use bits::numbers::read32;
+use bits_ranks::ones_word;
 use check_frame::frame_at;
 use image_records::header::read_header;
 use image_types::DenseTotals;
 use image_types::Frame;
-use image_types::ROW_BITS;
-use nav_ranks::rank_at;
 
-// The totals of the dense nodes of an accepted image, by the last entries of their rank tables. Those of the frame are not read.
+// The words of a dense node's row in D-HasChild, each of which has a rank.
+const ROW_WORDS: usize = 4;
+
+// The bytes of a rank.
+const RANK_BYTES: usize = 4;
+
+// The continuing branches of the dense nodes of an accepted image: those before the last word of D-HasChild, by its rank, and those in it.
+fn dense_children(image: &[u8], f: Frame) -> usize
+    requires { ⌜ Uncounted (now image) f ⌝ }
+    ensures { λ r. ⌜ r ≡ rank (drop (f .dc) (now (image .entry))) (256 * f .dense .nodes) ⌝ }
+{
+    let n = f.dense.nodes;
+    if n == 0 {
+        return 0;
+    }
+    let last = ROW_WORDS * n - 1;
+    let dc = f.dc;
+    let rc = f.rc;
+    let before = read32(&image[rc..], RANK_BYTES * last);
+    before + ones_word(&image[dc..], last)
+}
+
+// The totals of the dense nodes of an accepted image; those of the frame are not read. All entries together are a continuing branch for each node but the root and one for each leaf, so that the dense ones need not be counted.
 fn dense_totals(image: &[u8], f: Frame) -> DenseTotals
     requires { ⌜ Uncounted (now image) f ⌝ }
     ensures { λ r. ⌜ Totals (now (image .entry)) (f .dl) (f .dc) (f .dp) (f .dense .nodes) r ⌝ }
 {
-    let n = f.dense.nodes;
-    let bits = ROW_BITS * n;
-    let labels = rank_at(image, f.dl, f.rl, bits, bits);
-    let children = rank_at(image, f.dc, f.rc, bits, bits);
-    let exacts = rank_at(image, f.dp, f.rp, n, n);
+    let nodes = f.dense.nodes + f.sparse.nodes;
+    if nodes == 0 {
+        return DenseTotals {
+            children: 0,
+            entries: 0,
+        };
+    }
     DenseTotals {
-        children,
-        entries: labels + exacts,
+        children: dense_children(image, f),
+        entries: nodes + f.leaves - 1 - f.sparse.entries,
     }
 }
 

@@ -29,7 +29,7 @@ fn rank_64(bits: &[u8], table: &[u8], n: usize, k: usize) -> usize
 }
 
 // The ones before bit k of the n bits of the body at an offset, by the table of those before each block of 64 at another.
-pub fn rank_at(image: &[u8], body: usize, table: usize, n: usize, k: usize) -> usize
+fn rank_at(image: &[u8], body: usize, table: usize, n: usize, k: usize) -> usize
     requires { ⌜ (body ≤ length (now image)) × (table ≤ length (now image)) × Ranked 64 n (drop body (now image)) (drop table (now image)) × (k ≤ n) ⌝ }
     ensures { λ r. ⌜ r ≡ rank (drop body (now (image .entry))) k ⌝ }
 {

@@ -1,34 +1,34 @@
--- All bits of each body, by its table.
-use Prim.Native.Nat.{_*_}
+-- The continuing branches are counted, and the entries are those that the sparse nodes leave.
+use mathlib.Core.Path.{_≡_}
 use native.Mathlib.Omega.{arith}
-use lib.ListN.{drop}
-use Rattle.bits_laws.specs.RankLaws.{rank-le}
-use Rattle.accepted_frame.specs.Uncounted.{few, labels-at, children-at, exacts-at}
+use Rattle.bits_laws.specs.Bits.{rank}
+use Rattle.accepted_frame.specs.Uncounted.{some-node, few, entries-left}
 use borrow.Author.Needs.{needs}
 use Rattle.accepted_frame.proofs.dense_totals.Statement.{statement}
 use Rattle.accepted_frame.proofs.dense_totals.Tie as tie
 
-mul-bits : tie.Need-mul-bits
-mul-bits c = omega (arith, few (c .before .args .image .now) (c .before .args .f) (c .before .pre))
-
-rank-at-requires : tie.Need-rank-at-requires
-rank-at-requires c κs = labels-at (c .before .args .image .now) (c .before .args .f) (c .before .pre)
-
-rank-at-requires-2 : tie.Need-rank-at-requires-2
-rank-at-requires-2 c κs = children-at (c .before .before .args .image .now) (c .before .before .args .f) (c .before .before .pre)
-
-rank-at-requires-3 : tie.Need-rank-at-requires-3
-rank-at-requires-3 c κs = exacts-at (c .before .before .before .args .image .now) (c .before .before .before .args .f) (c .before .before .before .pre)
-
-add-t8 : tie.Need-add-t8
-add-t8 c =
-    let b = c .before .before .before .before in
-    omega (arith, few (b .args .image .now) (b .args .f) (b .pre), c .before .before .rank-at .ensures, c .rank-at3 .ensures, rank-le (drop (b .args .f .dl) (b .args .image .now)) (256 * b .args .f .dense .nodes), rank-le (drop (b .args .f .dp) (b .args .image .now)) (b .args .f .dense .nodes))
+add-nodes : tie.Need-add-nodes
+add-nodes c = let l = few (c .before .before .args .image .now) (c .before .before .args .f) (c .before .before .pre) in omega (arith, l .0, l .1)
 
 returns : tie.Need-returns
-returns c = search needs
+unfolding rank
+returns c = let z : c .before .before .before .args .f .dense .nodes ≡ 0 = omega (arith, c .if1 .taken) in record { children = rw z; entries = rw z }
+
+dense-children-requires : tie.Need-dense-children-requires
+dense-children-requires c κs = search needs
+
+add-t6 : tie.Need-add-t6
+add-t6 c = let l = few (c .before .before .before .before .before .args .image .now) (c .before .before .before .before .before .args .f) (c .before .before .before .before .before .pre) in omega (arith, l .0, l .1, l .2)
+
+sub-t7 : tie.Need-sub-t7
+sub-t7 c = search needs
+
+sub-t8 : tie.Need-sub-t8
+sub-t8 c = omega (arith, entries-left (c .before .before .before .before .before .before .args .image .now) (c .before .before .before .before .before .before .args .f) (c .before .before .before .before .before .before .pre) (some-node (c .before .before .before .if1 .left)))
+
+returns-2 : tie.Need-returns-2
+returns-2 c = record { children = c .before .before .dense-children .ensures; entries = omega (arith, entries-left (c .before .before .before .before .before .before .args .image .now) (c .before .before .before .before .before .before .args .f) (c .before .before .before .before .before .before .pre) (some-node (c .before .before .before .if1 .left))) }
 
 pub dense-totals-spec : {M : Type 1} → statement M
 dense-totals-spec =
-    tie.close
-    (tie.spec mul-bits rank-at-requires rank-at-requires-2 rank-at-requires-3 add-t8 returns)
+    tie.close (tie.spec add-nodes returns dense-children-requires add-t6 sub-t7 sub-t8 returns-2)
