@@ -1,11 +1,12 @@
 //! The package from outside: document 01's examples, refusals, leaves, damaged images, question
-//! files, the traits of its types, and its build script.
+//! files, the traits of its types, its build script, and the README's example.
 
 mod build_script;
 mod damaged_images;
 mod examples;
 mod leaves;
 mod question_files;
+mod readme;
 mod refusals;
 mod shared;
 mod traits;
