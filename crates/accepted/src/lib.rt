@@ -13,9 +13,9 @@ use keys::MAX_KEY_BYTES;
 use keys::compare::Order;
 use keys::compare::compare;
 use query_count::levels::level_starts;
-use query_point::point::descend;
-use query_point::point::rule_number;
-use query_point::point::rule_says;
+use query_point::descend;
+use query_point::rule_number;
+use query_point::rule_says;
 
 // The bytes of the buffer for a key that is found: a length byte and the key.
 pub const FOUND_BYTES: usize = 65;

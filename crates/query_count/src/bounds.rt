@@ -12,8 +12,8 @@ use nav_behind::child_and_slot;
 use nav_laws::BranchKind;
 use nav_nodes::is_exact;
 use query_laws::BoundEnd;
-use query_point::suffix::high_below;
-use query_point::suffix::low_above;
+use query_suffix::high_below;
+use query_suffix::low_above;
 
 // The bound of a key that has ended, behind its last branch, and where it ends: a node there is that of the level.
 pub struct Bound {

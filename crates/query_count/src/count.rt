@@ -15,9 +15,9 @@ use bits::numbers::one_if;
 use image_types::Frame;
 use keys::compare::shared;
 use nav_behind::slot;
+use query_follow::follow;
 use query_laws::KeyEnd;
-use query_point::follow::follow;
-use query_point::suffix::open_between;
+use query_suffix::open_between;
 
 // How much the leaves that the upper bound has reached are more than those that the lower one has passed.
 fn difference(upto: usize, below: usize) -> usize

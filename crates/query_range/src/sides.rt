@@ -14,8 +14,8 @@ use nav_behind::slot;
 use nav_edges::last_branch;
 use nav_laws::BranchKind;
 use nav_nodes::is_exact;
-use query_point::suffix::high_below;
-use query_point::suffix::low_above;
+use query_suffix::high_below;
+use query_suffix::low_above;
 
 // A branch of a node: its kind and its position.
 pub struct Branch {

@@ -20,9 +20,9 @@ use nav::branches::find;
 use nav::branches::is_there;
 use nav_behind::slot;
 use nav_edges::next_higher;
+use query_follow::follow;
 use query_laws::KeyEnd;
-use query_point::follow::follow;
-use query_point::suffix::open_between;
+use query_suffix::open_between;
 
 // The range at a node where the bounds part: a label between their bytes decides at once; else each bound is asked alone behind its own byte.
 fn apart(image: &[u8], f: Frame, lo: &[u8], hi: &[u8], node: NodeNum, depth: usize) -> bool

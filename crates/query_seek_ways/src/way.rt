@@ -17,7 +17,7 @@ use query_count::levels::AT_ROOT;
 use query_count::levels::LevelSum;
 use query_laws::BoundEnd;
 use query_laws::LastHigher;
-use query_point::suffix::high_below;
+use query_suffix::high_below;
 
 // The bound of a start, and the last higher label that was passed: an open leaf that the start has passed counts in the bound's sum, and the bound ends at no leaf there.
 pub struct Way {

@@ -8,8 +8,8 @@ ghost use Rattle.nav_laws.specs.Accepted.{Accepted};
 use super::suffix::suffix_agrees;
 use image_types::Frame;
 use nav_behind::slot;
+use query_follow::follow;
 use query_laws::KeyEnd;
-use query_point::follow::follow;
 
 // 1 if some leaf has a possible key that begins with the stem, else 0: a stem that ends at a node begins all leaves below it, and no leaf need be looked at.
 pub fn begins_with(image: &[u8], f: Frame, stem: &[u8]) -> usize

@@ -9,7 +9,7 @@ ghost use Rattle.query_laws.specs.StemLeaves.{agrees};
 use bits::numbers::wide;
 use image_types::Frame;
 use image_types::ValuePos;
-use query_point::suffix::suffix_byte;
+use query_suffix::suffix_byte;
 
 // 1 if the leaf has a possible key that begins with the stem, whose first d bytes are the cut key, else 0: the suffix and the rest of the stem agree as far as both go.
 pub fn suffix_agrees(image: &[u8], f: Frame, slot: ValuePos, stem: &[u8], d: usize) -> usize

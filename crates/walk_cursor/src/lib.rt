@@ -12,7 +12,7 @@ use image_types::ValuePos;
 use nav::branches::is_there;
 use nav_laws::LeafEnd;
 use nav_laws::LeafStop;
-use query_point::suffix::slot_bits;
+use query_suffix::slot_bits;
 use walk_levels::moves::Resume;
 use walk_levels::moves::climb;
 use walk_levels::moves::first_behind;
