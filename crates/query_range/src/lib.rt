@@ -1,5 +1,4 @@
 // The range question over an accepted image, decided where the bounds part.
 
-pub mod sides; // sides.rt: each bound alone, at or below a node and behind a branch
 pub mod together; // together.rt: the way along both bounds
 pub mod range; // range.rt: the range question

@@ -8,10 +8,6 @@ ghost use Rattle.spec.specs.Questions.{range};
 ghost use Rattle.nav_laws.specs.Accepted.{Accepted};
 ghost use Rattle.query_laws.specs.RangeWays.{Both-at, group-below, met-of};
 ghost use Rattle.query_range.specs.RangeContracts.{Parted};
-use super::sides::Branch;
-use super::sides::left_behind;
-use super::sides::reached_behind;
-use super::sides::reached_below;
 use bits::numbers::wide;
 use image_types::Frame;
 use image_types::NodeNum;
@@ -22,6 +18,10 @@ use nav_behind::slot;
 use nav_edges::next_higher;
 use query_follow::follow;
 use query_laws::KeyEnd;
+use query_range_sides::Branch;
+use query_range_sides::left_behind;
+use query_range_sides::reached_behind;
+use query_range_sides::reached_below;
 use query_suffix::open_between;
 
 // The range at a node where the bounds part: a label between their bytes decides at once; else each bound is asked alone behind its own byte.

@@ -2,8 +2,8 @@ use borrow.Author.Needs.{needs}
 use Rattle.query_laws.specs.RangeWays.{child-key, open-in, reached-nothing, reached-leaf, reached-child}
 use mathlib.Core.Path.{sym, _∙_}
 use native.Mathlib.Omega.{arith}
-use Rattle.query_range.proofs.sides.reached_behind.Statement.{statement}
-use Rattle.query_range.proofs.sides.reached_behind.Tie as tie
+use Rattle.query_range_sides.proofs.reached_behind.Statement.{statement}
+use Rattle.query_range_sides.proofs.reached_behind.Tie as tie
 
 enum-told : tie.Need-enum-told
 enum-told c = search needs

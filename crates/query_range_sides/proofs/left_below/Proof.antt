@@ -6,8 +6,8 @@ use Prim.Native.Nat.{_+_, _-_, _<_}
 use mathlib.Core.Bool.{false, not}
 use mathlib.Core.Path.{_≡_, refl, sym, ap, _∙_}
 use native.Mathlib.Omega.{arith}
-use Rattle.query_range.proofs.sides.left_below.Statement.{statement}
-use Rattle.query_range.proofs.sides.left_below.Tie as tie
+use Rattle.query_range_sides.proofs.left_below.Statement.{statement}
+use Rattle.query_range_sides.proofs.left_below.Tie as tie
 
 -- The bytes passed lead to the node, and what is left below it decides.
 abbrev Inv-loop : tie.InvT-loop

@@ -3,8 +3,8 @@ use Rattle.query_laws.specs.RangeWays.{child-key, open-in, left-nothing, left-l
 use mathlib.Core.Bool.{not}
 use mathlib.Core.Path.{sym, ap, _∙_}
 use native.Mathlib.Omega.{arith}
-use Rattle.query_range.proofs.sides.left_behind.Statement.{statement}
-use Rattle.query_range.proofs.sides.left_behind.Tie as tie
+use Rattle.query_range_sides.proofs.left_behind.Statement.{statement}
+use Rattle.query_range_sides.proofs.left_behind.Tie as tie
 
 enum-told : tie.Need-enum-told
 enum-told c = search needs

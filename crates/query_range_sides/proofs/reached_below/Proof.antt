@@ -8,8 +8,8 @@ use mathlib.Core.Bool.{Bool, true, false, _||_, true≢false}
 use mathlib.Core.Logic.{_⊎_, inl, inr, ⊎-elim}
 use mathlib.Core.Path.{_≡_, refl, sym, _∙_}
 use native.Mathlib.Omega.{arith}
-use Rattle.query_range.proofs.sides.reached_below.Statement.{statement}
-use Rattle.query_range.proofs.sides.reached_below.Tie as tie
+use Rattle.query_range_sides.proofs.reached_below.Statement.{statement}
+use Rattle.query_range_sides.proofs.reached_below.Tie as tie
 
 -- The bytes passed lead to the node, and what is reached below it decides.
 abbrev Inv-loop : tie.InvT-loop

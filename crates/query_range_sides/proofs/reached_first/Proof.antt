@@ -1,6 +1,6 @@
 use mathlib.Core.Path.{refl}
-use Rattle.query_range.proofs.sides.reached_first.Statement.{statement}
-use Rattle.query_range.proofs.sides.reached_first.Tie as tie
+use Rattle.query_range_sides.proofs.reached_first.Statement.{statement}
+use Rattle.query_range_sides.proofs.reached_first.Tie as tie
 
 returns : tie.Need-returns
 returns c = refl
