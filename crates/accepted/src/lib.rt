@@ -12,7 +12,7 @@ use bits::copy::write_bytes;
 use keys::MAX_KEY_BYTES;
 use keys::compare::Order;
 use keys::compare::compare;
-use query_count::levels::level_starts;
+use query_levels::level_starts;
 use query_point::descend;
 use query_point::rule_number;
 use query_point::rule_says;
@@ -98,7 +98,7 @@ pub fn count(image: &[u8], lo: &[u8], hi: &[u8]) -> Number
     if refusal != 0 {
         return Number::Refused(refusal);
     }
-    Number::Of(query_count::count::count(image, accepted_frame(image), lo, hi))
+    Number::Of(query_count::count(image, accepted_frame(image), lo, hi))
 }
 
 // The number in the reply to a seek; the reply's key goes to the front of `found`, behind a byte with its length.

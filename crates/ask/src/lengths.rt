@@ -18,7 +18,7 @@ use ask_replies::POINT_KEY;
 use ask_replies::seek_reply;
 use image_types::Frame;
 use keys::MAX_KEY_BYTES;
-use query_count::levels::level_starts;
+use query_levels::level_starts;
 
 // The length of the key in the reply to a question. A point's has one byte and a seek's varies, so that only a seek is answered for it; other replies have none. `starts` is the sum of slot numbers for the empty key.
 fn key_length(image: &[u8], f: Frame, starts: usize, file: &[u8], question: QuestionAt) -> usize

@@ -15,8 +15,8 @@ use image_types::ValuePos;
 use keys::compare::Order;
 use keys::compare::compare;
 use nav_laws::LeafStop;
-use query_count::levels::sum_below;
 use query_laws::SoughtLeaf;
+use query_levels::sum_below;
 use query_suffix::suffix_byte;
 
 // Behind a cut key of `depth` bytes go the bytes of an open leaf's suffix, filled up with zero bits; the length of the lowest key, which ends before trailing zero bytes and with the 64th byte.

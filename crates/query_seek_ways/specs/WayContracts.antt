@@ -10,8 +10,8 @@ use Rattle.nav_laws.specs.Accepted.{Accepted, nodes}
 use Rattle.nav_laws.specs.Slots.{slot-of}
 use Rattle.query_laws.specs.Bounds.{high-passed}
 use Rattle.query_laws.specs.Seeking.{leaf-end}
-use Rattle.query_count.specs.declared.bounds.Bound.{Bound}
-use Rattle.query_count.specs.declared.levels.LevelSum.{LevelSum}
+use Rattle.query_bounds.specs.declared.Bound.{Bound}
+use Rattle.query_levels.specs.declared.LevelSum.{LevelSum}
 
 -- The way along a start ends at the branch of an open leaf with this slot, and the start has this bound behind the branch.
 pub record Leaf-branch (s : Bytes) (f : Frame) (start : Bytes) (slot : ValuePos) (level : LevelSum) : Type 0 where

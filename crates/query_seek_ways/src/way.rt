@@ -12,11 +12,11 @@ use nav::branches::find;
 use nav::branches::has_higher;
 use nav_behind::child_and_slot;
 use nav_laws::BranchKind;
-use query_count::bounds::Bound;
-use query_count::levels::AT_ROOT;
-use query_count::levels::LevelSum;
+use query_bounds::Bound;
 use query_laws::BoundEnd;
 use query_laws::LastHigher;
+use query_levels::AT_ROOT;
+use query_levels::LevelSum;
 use query_suffix::high_below;
 
 // The bound of a start, and the last higher label that was passed: an open leaf that the start has passed counts in the bound's sum, and the bound ends at no leaf there.

@@ -13,8 +13,8 @@ use nav::branches::is_there;
 use nav::branches::next_branch;
 use nav_behind::child_and_slot;
 use nav_laws::NextBranch;
-use query_count::levels::LevelSum;
-use query_count::levels::sum_below;
+use query_levels::LevelSum;
+use query_levels::sum_below;
 
 // The labels of a byte, one more than the last.
 const LABELS: usize = 256;
