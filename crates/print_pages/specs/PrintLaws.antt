@@ -15,10 +15,10 @@ use Rattle.image_types.specs.Value.{leaf-of, value-of}
 use Rattle.walk_laws.specs.LeafValues.{leaf-of-value}
 use Rattle.walk_laws.specs.Opening.{refused-first}
 use Rattle.walk_cursor.specs.Places.{leaf-total}
-use Rattle.walk_states.specs.declared.states.Stand.the-variants as Stand
-use Rattle.walk_states.specs.declared.states.Standing.{Standing}
-use Rattle.walk_states.specs.declared.states.State.{State}
-use Rattle.walk_states.specs.declared.states.Status.the-variants as Status
+use Rattle.walk_states.specs.declared.Stand.the-variants as Stand
+use Rattle.walk_states.specs.declared.Standing.{Standing}
+use Rattle.walk_states.specs.declared.State.{State}
+use Rattle.walk_states.specs.declared.Status.the-variants as Status
 use Rattle.walk_states.specs.Walks.{Gives, Walks, Opens, Moved}
 use Rattle.walk_states.specs.StateLaws.{place-within, found-leaf, found-none, moved-on}
 use Rattle.print_laws.specs.Texts.{longest-line, head-text, refused-text, too-long-text, listing-is, length-head, length-pieces, length-line, lines-none, print-too-long, print-refused, print-accepted}

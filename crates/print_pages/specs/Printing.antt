@@ -7,8 +7,8 @@ use lib.ListN.{length, take, drop}
 use Rattle.spec.specs.Bytes.{Bytes}
 use Rattle.spec.specs.Nodes.{read-leaves}
 use Rattle.spec.specs.Print.{lines, print}
-use Rattle.walk_states.specs.declared.states.State.{State}
-use Rattle.walk_states.specs.declared.states.Status.the-variants as Status
+use Rattle.walk_states.specs.declared.State.{State}
+use Rattle.walk_states.specs.declared.Status.the-variants as Status
 use Rattle.walk_states.specs.Walks.{Walks}
 use Rattle.print_laws.specs.Texts.{longest-line}
 use Rattle.print_pages.specs.declared.opening.Follows.the-variants as Follows

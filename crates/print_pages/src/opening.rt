@@ -6,8 +6,8 @@ ghost use Rattle.print_pages.specs.Printing.{Opened};
 use print_text::lines::write_head;
 use print_text::lines::write_refused;
 use print_text::lines::write_too_long;
-use walk_states::states::State;
-use walk_states::states::Status;
+use walk_states::State;
+use walk_states::Status;
 use walk_walker::walker::open_from;
 
 // The bytes of the longest input that is taken for an image.

@@ -7,9 +7,9 @@ ghost use Rattle.print_laws.specs.Texts.{longest-line};
 ghost use Rattle.print_pages.specs.Printing.{Paged};
 use print_text::lines::LONGEST_LINE;
 use print_text::lines::write_line;
-use walk_states::states::Stand;
-use walk_states::states::State;
-use walk_states::states::Status;
+use walk_states::Stand;
+use walk_states::State;
+use walk_states::Status;
 use walk_walker::walker::move_from;
 use walk_walker::walker::stand_from;
 

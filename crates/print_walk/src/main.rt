@@ -7,8 +7,8 @@ use print_text::lines::write_line;
 use print_text::lines::write_refused;
 use walk::next;
 use walk::walk;
-use walk_states::states::Stand;
-use walk_states::states::Standing;
+use walk_states::Stand;
+use walk_states::Standing;
 
 // The places that are asked: the four leaves of list A, done, and one behind it.
 const PLACES: usize = 6;

@@ -1,7 +1,7 @@
 // The public walk over the leaves of an accepted image, in key order, through a walker: what it says at a place, and at the next.
 ghost use Rattle.spec.specs.Walk.{open-walk, next};
 ghost use Rattle.walk_states.specs.Walks.{Gives};
-use walk_states::states::Standing;
+use walk_states::Standing;
 use walk_walker::walker::move_from;
 use walk_walker::walker::open_from;
 use walk_walker::walker::stand_from;

@@ -16,10 +16,10 @@ use image_types::Leaf;
 use image_types::Written;
 use walk_cursor::advance;
 use walk_cursor::leaf_of;
-use walk_states::states::State;
-use walk_states::states::Status;
-use walk_states::states::open_accepted;
-use walk_states::value::padded;
+use walk_states::State;
+use walk_states::Status;
+use walk_states::open_accepted;
+use walk_values::padded;
 use walk_walker::walker::open_from;
 
 // The bytes of a record: kind, length, cut key and suffix.

@@ -32,10 +32,10 @@ use Rattle.walk_laws.specs.Opening.{check-refuses, place-refused, at-leaf, at-d
 use Rattle.walk_cursor.specs.declared.Cursor.{Cursor}
 use Rattle.walk_cursor.specs.Stands.{At-leaf, Stands-at}
 use Rattle.walk_cursor.specs.Places.{leaf-total, found-at}
-use Rattle.walk_states.specs.declared.states.Stand.the-variants as Stand
-use Rattle.walk_states.specs.declared.states.Standing.{Standing}
-use Rattle.walk_states.specs.declared.states.Status.the-variants as Status
-use Rattle.walk_states.specs.declared.states.State.{State}
+use Rattle.walk_states.specs.declared.Stand.the-variants as Stand
+use Rattle.walk_states.specs.declared.Standing.{Standing}
+use Rattle.walk_states.specs.declared.Status.the-variants as Status
+use Rattle.walk_states.specs.declared.State.{State}
 use Rattle.walk_states.specs.Records.{Room}
 use Rattle.walk_states.specs.Walks.{no-leaf, standing-of, Gives, At-place, Walks, Opens, Moved}
 

@@ -2,11 +2,11 @@
 ghost use mathlib.Core.Path.{_≡_};
 ghost use Rattle.spec.specs.Walk.{open-walk};
 ghost use Rattle.walk_states.specs.Walks.{Gives, Walks, Opens, Moved};
-use walk_states::states::Standing;
-use walk_states::states::State;
-use walk_states::states::next_state;
-use walk_states::states::open_state;
-use walk_states::states::stand_state;
+use walk_states::Standing;
+use walk_states::State;
+use walk_states::next_state;
+use walk_states::open_state;
+use walk_states::stand_state;
 
 // The image and where the walk over it stands.
 pub struct Walker<'a> {

@@ -35,12 +35,12 @@ use denote.Triple.Walked.{says, needs, Stays, stay-none, stay-none-slice, walkOf
 use denote.Exit.{yes}
 use denote.Triple.Clauses.{ensured}
 use Rattle.walk_states.specs.Walks.{Opens}
-use Rattle.walk_states.specs.declared.states.State.{State}
+use Rattle.walk_states.specs.declared.State.{State}
 use Rattle.walk_walker.specs.declared.walker.Walker.{Walker}
 use Rattle.walk_walker.proofs.walker.Walker as T
 use Rattle.walk_walker.proofs.walker.Walker.Laws as T′
-use Rattle.walk_states.proofs.states.State as S
-use Rattle.walk_states.proofs.states.State.Laws as S′
+use Rattle.walk_states.proofs.State as S
+use Rattle.walk_states.proofs.State.Laws as S′
 use Rattle.walk_walker.proofs.Walkers.{B, D, L, αᵉ, Open, slice, at, Own, Opened, to-open, goes-open, open-said, state, walker, state-of}
 use Rattle.walk_walker.proofs.walker.open as opening
 use Rattle.walk_walker.proofs.walker.open.Symbol as open-def

@@ -5,8 +5,8 @@ use lib.Pow.{pow-pos}
 use borrow.Author.Needs.{needs}
 use Rattle.bits_laws.specs.RankLaws.{one-shl}
 use Rattle.walk_laws.specs.LeafValues.{low-number}
-use Rattle.walk_states.proofs.value.suffix_number.Statement.{statement}
-use Rattle.walk_states.proofs.value.suffix_number.Tie as tie
+use Rattle.walk_values.proofs.suffix_number.Statement.{statement}
+use Rattle.walk_values.proofs.suffix_number.Tie as tie
 
 shl-result : tie.Need-shl-result
 shl-result c = search needs

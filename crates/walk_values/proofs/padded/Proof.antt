@@ -5,8 +5,8 @@ use borrow.Author.Needs.{needs}
 use lib.ListN.{length, length-map}
 use lib.Seq.{length-take-le}
 use Rattle.walk_laws.specs.LeafValues.{value-padded}
-use Rattle.walk_states.proofs.value.padded.Statement.{statement}
-use Rattle.walk_states.proofs.value.padded.Tie as tie
+use Rattle.walk_values.proofs.padded.Statement.{statement}
+use Rattle.walk_values.proofs.padded.Tie as tie
 
 -- the cut key's array has 64 bytes, as owning it tells
 cut-length : (c : tie.Start) → length (c .args .l .cut) ≡ 64

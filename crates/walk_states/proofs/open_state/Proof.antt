@@ -4,8 +4,8 @@ use Rattle.image_types.specs.declared.Frame.{Frame}
 use Rattle.image_types.specs.declared.Framed.the-variants.{At, Refused}
 use Rattle.check_image.specs.Answers.{Checked-as}
 use Rattle.walk_states.specs.StateLaws.{opened-unchecked, checked}
-use Rattle.walk_states.proofs.states.open_state.Statement.{statement}
-use Rattle.walk_states.proofs.states.open_state.Tie as tie
+use Rattle.walk_states.proofs.open_state.Statement.{statement}
+use Rattle.walk_states.proofs.open_state.Tie as tie
 
 accept-requires : tie.Need-accept-requires
 accept-requires c κs = search needs
