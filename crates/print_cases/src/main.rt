@@ -10,7 +10,7 @@ fn print_file(path: &[u8]) {
     }
     io::write_all(STDOUT_FILENO, path);
     io::write_all(STDOUT_FILENO, b"\n");
-    print_pages::print(fd);
+    print_output::print(fd);
     libc::close(fd);
 }
 

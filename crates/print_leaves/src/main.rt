@@ -2,5 +2,5 @@
 use libc::STDIN_FILENO;
 
 fn main() {
-    print_pages::print(STDIN_FILENO);
+    print_output::print(STDIN_FILENO);
 }

@@ -1,7 +1,6 @@
 -- What the functions of the printer ask and give: where in the text of an input each page stands.
 use Prim.Native.Nat.{ℕ, _+_, _-_, _*_, _≤_, _<_}
 use mathlib.Core.Path.{_≡_}
-use mathlib.Core.Bool.{true}
 use mathlib.Core.List.{_++_}
 use lib.ListN.{length, take, drop}
 use Rattle.spec.specs.Bytes.{Bytes}
@@ -14,7 +13,6 @@ use Rattle.print_laws.specs.Texts.{longest-line}
 use Rattle.print_pages.specs.declared.opening.Follows.the-variants as Follows
 use Rattle.print_pages.specs.declared.opening.Opening.{Opening}
 use Rattle.print_pages.specs.declared.pages.Page.{Page}
-use Rattle.print_pages.specs.declared.output.Sent.{Sent}
 
 -- the lines of the leaves from a walk's place on
 abbrev pub lines-left : Bytes → State → Bytes
@@ -51,8 +49,3 @@ pub record Paged (s : Bytes) (from : State) (page : Bytes) (r : Page) : Type 0 w
   pub none : r .len ≡ 0 → length (read-leaves s) ≤ from .place
   pub onward : from .place ≤ r .next .place
   pub short : r .len ≤ longest-line * (r .next .place - from .place)
-
--- So many first bytes of the text have been handed on, and all where it is said.
-pub record Handed (s : Bytes) (r : Sent) : Type 0 where
-  pub within : r .bytes ≤ length (print s)
-  pub whole : r .all ≡ true → r .bytes ≡ length (print s)

@@ -6,8 +6,8 @@ use borrow.Author.Needs.{needs}
 use lib.ListN.{length}
 use lib.Seq.{length-take-le}
 use Rattle.spec.specs.Print.{print}
-use Rattle.print_pages.proofs.output.write_text.Statement.{statement}
-use Rattle.print_pages.proofs.output.write_text.Tie as tie
+use Rattle.print_output.proofs.write_text.Statement.{statement}
+use Rattle.print_output.proofs.write_text.Tie as tie
 
 slice-aggregate-open : tie.Need-slice-aggregate-open
 slice-aggregate-open c = search needs

@@ -8,10 +8,10 @@ use lib.ListN.{length}
 use lib.Seq.{length-take-le}
 use Rattle.spec.specs.Nodes.{read-leaves}
 use Rattle.walk_states.specs.StateLaws.{place-within}
 use Rattle.print_pages.specs.Printing.{Progress}
 use Rattle.print_pages.specs.PrintLaws.{place-small, page-sent, all-sent, sent-within}
-use Rattle.print_pages.proofs.output.write_pages.Statement.{statement}
-use Rattle.print_pages.proofs.output.write_pages.Tie as tie
+use Rattle.print_output.proofs.write_pages.Statement.{statement}
+use Rattle.print_output.proofs.write_pages.Tie as tie
 
 abbrev Inv-loop : tie.InvT-loop
 Inv-loop image sent page₀ at₀ bytes₀ page at bytes = Progress image at bytes × (length page ≡ length page₀)

@@ -3,11 +3,12 @@
 ghost use Prim.Native.Nat.{_≤_};
 ghost use lib.ListN.{length};
 ghost use Rattle.print_laws.specs.Texts.{longest-line};
-ghost use Rattle.print_pages.specs.Printing.{Progress, Handed};
-use super::opening::Follows;
-use super::opening::open;
-use super::pages::write_page;
+ghost use Rattle.print_pages.specs.Printing.{Progress};
+ghost use Rattle.print_output.specs.Handing.{Handed};
 use libc::STDOUT_FILENO;
+use print_pages::opening::Follows;
+use print_pages::opening::open;
+use print_pages::pages::write_page;
 use walk_states::State;
 
 // The bytes of a page.
