@@ -1,4 +1,2 @@
-pub mod PlacedLaws
-pub mod AnswerLaws
 pub mod JudgeLaws
 pub mod ReadLaws

@@ -13,8 +13,8 @@ use Rattle.keys.proofs.OrderLaws.{order-is-below, order-not-below}
 use Rattle.ask_laws.specs.KeyAt.{Key-at, key-whole}
 use Rattle.ask_laws.specs.QuestionAt.{One-key, Two-keys, No-keys, one-bad, one-got, two-bad, two-bad-upper, two-turned, two-got, question-marked}
 use Rattle.ask_files.specs.Questions.{part, Reads-key, Reads-upper, Reads-bounds, Reads-question}
-use Rattle.ask_files.specs.declared.file.Read.{Read}
-use Rattle.ask_files.specs.declared.file.Read.the-variants.{End, Refused as Read-refused}
+use Rattle.ask_files.specs.declared.Read.{Read}
+use Rattle.ask_files.specs.declared.Read.the-variants.{End, Refused as Read-refused}
 
 -- ---- what was read, matched
 

@@ -1,26 +1,23 @@
--- What the answers of this crate's functions say of document 01's question files and replies.
+-- What the answers of this crate's functions say of document 01's question files.
 use Prim.Native.Nat.{ℕ, _+_, _-_, _≤_, _<_}
 use mathlib.Core.Path.{_≡_}
 use mathlib.Core.Bool.{false}
-use mathlib.Core.List.{[], _∷_, _++_}
-use lib.ListN.{length, take, drop}
-use Rattle.spec.specs.Bytes.{Bytes, le32}
+use lib.ListN.{length, drop}
+use Rattle.spec.specs.Bytes.{Bytes}
 use Rattle.spec.specs.Keys.{below}
-use Rattle.spec.specs.Questions.{Question, QP, QS, QB, QR, QC, bad, got, read-key, two-keys, read-question, Parsed-questions, refused, taken, Reply}
+use Rattle.spec.specs.Questions.{Question, QP, QS, QB, QR, QC, bad, got, read-key, two-keys, read-question, Parsed-questions, refused, taken}
 use Rattle.bits_laws.specs.Bits.{key}
 use Rattle.ask_laws.specs.QuestionAt.{One-key, Two-keys, No-keys}
 use Rattle.ask_laws.specs.AskedAt.{Key-part, Followed}
-use Rattle.ask_laws.specs.ReplyLaws.{answer}
-use Rattle.ask_files.specs.declared.file.Read.{Read}
-use Rattle.ask_files.specs.declared.file.Read.the-variants.{End, Refused as Read-refused}
-use Rattle.ask_files.specs.declared.file.Keys.{Keys}
-use Rattle.ask_files.specs.declared.file.Keys.the-variants.{One, Two, Wrong}
-use Rattle.ask_files.specs.declared.file.QuestionFile.{QuestionFile}
-use Rattle.ask_files.specs.declared.file.QuestionFile.the-variants.{Questions, Refused}
-use Rattle.ask_files.specs.declared.file.QuestionAt.{QuestionAt}
-use Rattle.ask_files.specs.declared.file.QuestionAt.the-variants.{Point, Seek, Begins, Range, Count}
-use Rattle.ask_files.specs.declared.file.Asked.{Asked}
-use Rattle.ask_files.specs.declared.reply.Answered.{Answered}
+use Rattle.ask_files.specs.declared.Read.{Read}
+use Rattle.ask_files.specs.declared.Read.the-variants.{End, Refused as Read-refused}
+use Rattle.ask_files.specs.declared.Keys.{Keys}
+use Rattle.ask_files.specs.declared.Keys.the-variants.{One, Two, Wrong}
+use Rattle.ask_files.specs.declared.QuestionFile.{QuestionFile}
+use Rattle.ask_files.specs.declared.QuestionFile.the-variants.{Questions, Refused}
+use Rattle.ask_files.specs.declared.QuestionAt.{QuestionAt}
+use Rattle.ask_files.specs.declared.QuestionAt.the-variants.{Point, Seek, Begins, Range, Count}
+use Rattle.ask_files.specs.declared.Asked.{Asked}
 
 -- the bytes from a to e
 abbrev pub part : Bytes → ℕ → ℕ → Bytes
@@ -90,22 +87,3 @@ Inside s (Count a n b m) = Bounds s a n b m
 pub record Located (file : Bytes) (at : ℕ) (r : Asked) : Type 0 where
   pub inside : Inside file (r .question)
   pub followed : Followed file at (question-of file (r .question)) (r .next)
-
--- ---- replies
-
--- a reply's mark and letter
-abbrev pub reply-mark : ℕ → Bytes
-reply-mark letter = 65 ∷ 78 ∷ letter ∷ []
-
--- a reply's bytes before a key of n bytes
-abbrev pub reply-head : ℕ → ℕ → ℕ → Bytes
-reply-head letter number n = reply-mark letter ++ le32 number ++ (n ∷ [])
-
--- a reply by value, its key at the front of a buffer, as document 01's reply
-abbrev pub reply-of : Answered → Bytes → Reply
-reply-of a key = answer (a .letter) (a .number) (take (a .n) key)
-
--- its key stands in a buffer of 64 bytes
-pub record Sized (a : Answered) (key : Bytes) : Type 0 where
-  pub small : a .n ≤ 64
-  pub buffer : length key ≡ 64
