@@ -3,9 +3,10 @@
  *
  * A filter image is a small stand-in for a sorted run of keys. It answers, from memory, whether the
  * run may hold a key, whether it may hold one in a range, how many it may hold there, and which
- * comes next. It never denies a stored key. `rt staticlib range_filter` proves the library and
- * writes target/staticlib/librange_filter.a; docs/format.md describes every byte of key lists,
- * images, questions, replies and records.
+ * comes next. It never denies a stored key. `./archives` proves the library and writes its two
+ * archives, target/staticlib/librange_filter.a and librange_filter_accepted.a, one for each group
+ * of calls below; docs/format.md describes every byte of key lists, images, questions, replies and
+ * records.
  *
  * TWO GROUPS OF CALLS
  *   Over any bytes: range_filter_image_length, range_filter_build, range_filter_check,
@@ -33,8 +34,8 @@
  *   that another one uses.
  *
  * PLATFORM
- *   The archive is machine code for any x86-64, with the calling convention of System V and SSE2
- *   registers. It calls memcpy and memset and nothing else; whoever links it provides these two.
+ *   The archives are machine code for any x86-64, with the calling convention of System V and SSE2
+ *   registers. They call memcpy and memset and nothing else; whoever links them provides these two.
  *   Numbers in images, replies and records are bytes, the low one first, so that files do not
  *   depend on the machine that wrote them.
  *
@@ -322,7 +323,7 @@ static inline const char *range_filter_refusal_text(uint32_t number) {
     case RANGE_FILTER_BOUNDS_REVERSED: return "the lower bound is above the upper one: exchange them";
     case RANGE_FILTER_TOO_MANY_QUESTIONS: return "the file has over 1,024 questions: ask in several calls";
     case RANGE_FILTER_REPLY_BUFFER_TOO_SHORT: return "the reply buffer is too short: lend 72 bytes a question";
-    default: return "the number is unknown: take header and archive of one version";
+    default: return "the number is unknown: take header and archives of one version";
     }
 }
 

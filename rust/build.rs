@@ -4,27 +4,29 @@ use std::env;
 use std::path::{Path, PathBuf};
 use std::process::ExitCode;
 
-/// The file that the main job writes.
-const ARCHIVE: &str = "librange_filter.a";
-/// The environment variable that names another folder for it.
+/// The libraries of the archives: the public calls, and the calls over an accepted image.
+const LIBRARIES: [&str; 2] = ["range_filter", "range_filter_accepted"];
+/// The environment variable that names another folder for them.
 const FOLDER_VARIABLE: &str = "RANGE_FILTER_LIB_DIR";
 
-/// Tells cargo which archive to link; stops with a sentence where there is none that fits.
+/// Tells cargo which archives to link; stops with a sentence where there are none that fit.
 fn main() -> ExitCode {
     let folder = folder();
-    let archive = folder.join(ARCHIVE);
     println!("cargo:rerun-if-env-changed={FOLDER_VARIABLE}");
-    println!("cargo:rerun-if-changed={}", archive.display());
-    if let Some(problem) = problem(&archive) {
-        eprintln!("{problem}");
-        return ExitCode::FAILURE;
-    }
     println!("cargo:rustc-link-search=native={}", folder.display());
-    println!("cargo:rustc-link-lib=static=range_filter");
+    for library in LIBRARIES {
+        let archive = folder.join(format!("lib{library}.a"));
+        println!("cargo:rerun-if-changed={}", archive.display());
+        println!("cargo:rustc-link-lib=static={library}");
+        if let Some(problem) = problem(&archive) {
+            eprintln!("{problem}");
+            return ExitCode::FAILURE;
+        }
+    }
     ExitCode::SUCCESS
 }
 
-/// Gives the folder of the archive: the one that the environment names, or `target/staticlib`
+/// Gives the folder of the archives: the one that the environment names, or `target/staticlib`
 /// at the root of the repository.
 fn folder() -> PathBuf {
     let named = env::var_os(FOLDER_VARIABLE).map(PathBuf::from);
@@ -42,7 +44,7 @@ fn problem(archive: &Path) -> Option<String> {
     let os = variable("CARGO_CFG_TARGET_OS");
     if arch != "x86_64" || os != "linux" {
         return Some(format!(
-            "The archive {ARCHIVE} is for x86-64 Linux, and this build is for {arch} {os}: \
+            "The archives are for x86-64 Linux, and this build is for {arch} {os}: \
              build for an x86_64 Linux target."
         ));
     }
@@ -50,9 +52,9 @@ fn problem(archive: &Path) -> Option<String> {
     missing.then(|| {
         format!(
             "There is no {archive}.\n\
-             Run `rt staticlib range_filter` at the root of the repository: it proves the library, \
-             which takes minutes, and writes the archive.\n\
-             Or let the environment variable {FOLDER_VARIABLE} name a folder that has one.",
+             Run `./archives` at the root of the repository: it proves the library, \
+             which takes minutes, and writes its two archives.\n\
+             Or let the environment variable {FOLDER_VARIABLE} name a folder that has both.",
             archive = archive.display()
         )
     })

@@ -1,12 +1,17 @@
-//! Says where the proved library lies.
+//! Says where the proved libraries lie.
 
 use std::env;
 
-/// Links the static library below the repository root, which `rt staticlib range_filter` makes.
+/// The static libraries, which `rt staticlib NAME` makes: the public calls, and the calls over an accepted image.
+const LIBRARIES: [&str; 2] = ["range_filter", "range_filter_accepted"];
+
+/// Links the static libraries below the repository root.
 fn main() {
     let package = env::var("CARGO_MANIFEST_DIR").expect("cargo names the package's folder");
     let folder = format!("{package}/../target/staticlib");
-    println!("cargo:rerun-if-changed={folder}/librange_filter.a");
     println!("cargo:rustc-link-search=native={folder}");
-    println!("cargo:rustc-link-lib=static=range_filter");
+    for library in LIBRARIES {
+        println!("cargo:rerun-if-changed={folder}/lib{library}.a");
+        println!("cargo:rustc-link-lib=static={library}");
+    }
 }

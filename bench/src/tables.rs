@@ -61,7 +61,7 @@ pub fn print_introduction() {
     println!(
         "# Benchmark
 
-`rt staticlib range_filter && cargo run --release --offline --manifest-path bench/Cargo.toml --target-dir target/cargo >docs/benchmark.md` writes this page. With `-- build`, `-- length`, `-- check`, `-- walk`, `-- ask`, `-- accepted`, `-- growth` or `-- filter` it writes that part of it.
+`./archives && cargo run --release --offline --manifest-path bench/Cargo.toml --target-dir target/cargo >docs/benchmark.md` writes this page. With `-- build`, `-- length`, `-- check`, `-- walk`, `-- ask`, `-- accepted`, `-- growth` or `-- filter` it writes that part of it.
 
 The library is compared with a fast implementation without proofs (`bench/src/fast`), on the same input and in the same process; both are compiled for any x86-64. A round times the library and right behind it the fast implementation, by the processor time of the thread. A figure is the median of {ROUNDS} rounds, and so is a ratio, which is taken within a round. Both are called once before the first round, and buffers are not cleared between calls.
 

@@ -9,11 +9,13 @@ use Rattle.spec.specs.Nodes.{read-leaves}
 use Rattle.spec.specs.Rules.{rule, rule-number, rule-says}
 use Rattle.spec.specs.Questions.{Question, QP, Reply, point, reply}
 use Rattle.spec.specs.OneQuestion.{question-refusal, Numbered, number, Answered, replied, ask-one, reply-number, reply-rule, key-written}
+use Rattle.spec.specs.Check.{verdict}
+use Rattle.theory.specs.Terms.{Is-bytes}
 use Rattle.theory.specs.Rules.{point-rule}
+use Rattle.theory.specs.Accept.{accepted-is-image}
+use Rattle.theory.specs.LengthBounds.{leaves-are}
 use Rattle.theory.specs.OneQuestionLaws.{one-refused, one-replied}
 use Rattle.bits_laws.specs.Bits.{placed}
-use Rattle.image_types.specs.declared.Frame.{Frame}
-use Rattle.nav_laws.specs.Accepted.{Accepted}
 use Rattle.ask_laws.specs.ReplyLaws.{point-reply}
 use Rattle.accepted.specs.declared.Number.the-variants.{Of, Refused}
 use Rattle.accepted.specs.Numbers.{numbered-of}
@@ -46,9 +48,12 @@ module _ (s : Bytes) (q : Question) where
     replied-key [] key n k size h = absurd (omega arith)
 
 -- a point: what its rule says, and the rule
-module _ (s : Bytes) (f : Frame) (a : Accepted s f) (k : Bytes) (short : length k ≤ 64) (e : question-refusal (QP k) ≡ 0) where
-  pub point-number : (x : ℕ) → x ≡ rule-says (rule (read-leaves s) k) → numbered-of (Of x) ≡ reply-number (ask-one s (QP k))
-  point-number x h = replied-number s (QP k) e x (h ∙ sym (point-rule (read-leaves s) (a .realizable) (a .well-sized) k short) ∙ sym (ap (λ (r : Reply). r .number) (point-reply (read-leaves s) k)))
+module _ (s : Bytes) (k : Bytes) (e : question-refusal (QP k) ≡ 0) where
+  pub point-number : Is-bytes s → verdict s ≡ 0 → length k ≤ 64 → (x : ℕ) → x ≡ rule-says (rule (read-leaves s) k) → numbered-of (Of x) ≡ reply-number (ask-one s (QP k))
+  point-number small v short x h =
+      let o = accepted-is-image s small v in
+      let p : point (read-leaves s) k ≡ rule-says (rule (read-leaves s) k) = rw (leaves-are s o) (point-rule (o .leaves) (o .fits .realizable) (o .fits .well-sized) k short) in
+      replied-number s (QP k) e x (h ∙ sym p ∙ sym (ap (λ (r : Reply). r .number) (point-reply (read-leaves s) k)))
 
   pub point-rule-is : (x : ℕ) → x ≡ rule-number (rule (read-leaves s) k) → numbered-of (Of x) ≡ reply-rule (ask-one s (QP k))
   point-rule-is x h = ap number (h ∙ sym (ap (λ (r : Reply). getD (r .key) 0 0) (point-reply (read-leaves s) k))) ∙ sym (ap reply-rule (one-replied s (QP k) e))

@@ -1,8 +1,13 @@
 // One question at a time over an image that the check has accepted, without a question file. What is required of the image is the check's verdict alone; any key is taken or refused.
 ghost use mathlib.Core.Path.{_≡_};
+ghost use Prim.Native.Nat.{_≤_};
+ghost use lib.ListN.{length};
 ghost use Rattle.spec.specs.Check.{verdict};
+ghost use Rattle.spec.specs.Nodes.{read-leaves};
+ghost use Rattle.spec.specs.Rules.{rule};
 ghost use Rattle.spec.specs.Questions.{QP, QS, QB, QR, QC};
 ghost use Rattle.spec.specs.OneQuestion.{bounds-refusal, ask-one, reply-number, reply-rule, key-written};
+ghost use Rattle.query_laws.specs.Rules.{rule-of};
 ghost use Rattle.accepted.specs.Numbers.{numbered-of};
 use accepted_frame::accepted_frame;
 use ask_files::BOUNDS_REVERSED;
@@ -12,6 +17,7 @@ use bits::copy::write_bytes;
 use keys::MAX_KEY_BYTES;
 use keys::compare::Order;
 use keys::compare::compare;
+use query_laws::Rule;
 use query_levels::level_starts;
 use query_point::descend;
 use query_point::rule_number;
@@ -44,6 +50,14 @@ fn bounds_refusal(lo: &[u8], hi: &[u8]) -> u32
     }
 }
 
+// The rule behind the reply to a point.
+fn rule_behind(image: &[u8], key: &[u8]) -> Rule
+    requires { ⌜ (verdict (now image) ≡ 0) × (length (now key) ≤ 64) ⌝ }
+    ensures { λ r. ⌜ rule-of r ≡ rule (read-leaves (now (image .entry))) (now (key .entry)) ⌝ }
+{
+    descend(image, accepted_frame(image), key)
+}
+
 // The number in the reply to a point: 1 if some leaf has the key among its possible keys, else 0.
 pub fn point(image: &[u8], key: &[u8]) -> Number
     requires { ⌜ verdict (now image) ≡ 0 ⌝ }
@@ -52,7 +66,7 @@ pub fn point(image: &[u8], key: &[u8]) -> Number
     if MAX_KEY_BYTES < key.len() {
         return Number::Refused(KEY_TOO_LONG);
     }
-    Number::Of(rule_says(descend(image, accepted_frame(image), key)))
+    Number::Of(rule_says(rule_behind(image, key)))
 }
 
 // The rule behind the reply to a point, 1 to 6.
@@ -63,7 +77,7 @@ pub fn rule(image: &[u8], key: &[u8]) -> Number
     if MAX_KEY_BYTES < key.len() {
         return Number::Refused(KEY_TOO_LONG);
     }
-    Number::Of(rule_number(descend(image, accepted_frame(image), key)) as usize)
+    Number::Of(rule_number(rule_behind(image, key)) as usize)
 }
 
 // The number in the reply to a begins-with question.

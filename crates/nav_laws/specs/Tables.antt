@@ -19,6 +19,10 @@ use Rattle.theory.specs.SparseBits.{length-sc, length-sb, louds-ones}
 abbrev pub Ranked : ℕ → ℕ → Bytes → Bytes → Type 0
 Ranked w n s rt = (n ≤ 8 * length s) × ((b : ℕ) → w * b < n → Rank-entry w s rt b)
 
+-- n bits with so many ones, and every 64th one's position
+abbrev pub Sampled : ℕ → ℕ → Bytes → Bytes → Type 0
+Sampled n total s st = (n ≤ 8 * length s) × (rank s n ≡ total) × ((t : ℕ) → 64 * t < total → Sample s st n t)
+
 module _ (s : Bytes) (f : Frame) (a : Accepted s f) where
   -- D-Labels
   pub labels-ranked : Ranked 64 (256 * f .dense .nodes) (drop (f .dl) s) (drop (f .rl) s)
@@ -69,7 +73,7 @@ module _ (s : Bytes) (f : Frame) (a : Accepted s f) where
       )
 
   -- S-LOUDS: as many ones as sparse nodes, and the samples
-  pub starts-sampled : (f .sparse .entries ≤ 8 * length (drop (f .sb) s)) × (rank (drop (f .sb) s) (f .sparse .entries) ≡ f .sparse .nodes) × ((t : ℕ) → 64 * t < f .sparse .nodes → Sample (drop (f .sb) s) (drop (f .ts) s) (f .sparse .entries) t)
+  pub starts-sampled : Sampled (f .sparse .entries) (f .sparse .nodes) (drop (f .sb) s) (drop (f .ts) s)
   starts-sampled =
       let bs : Bits = concat (map louds (sparse-nodes s f)) in
       let l : length (concat (map louds (sparse-nodes s f))) ≡ f .sparse .entries = length-sb (sparse-nodes s f) (a .writable .sparse-labelled) ∙ a .entry-size in

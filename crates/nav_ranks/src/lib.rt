@@ -5,7 +5,7 @@ ghost use lib.ListN.{length, drop};
 ghost use Rattle.bits_laws.specs.Bits.{rank, select};
 ghost use Rattle.nav_laws.specs.Stored.{Rank-entry, Sample};
 ghost use Rattle.nav_laws.specs.Accepted.{Accepted};
-ghost use Rattle.nav_laws.specs.Tables.{Ranked};
+ghost use Rattle.nav_laws.specs.Tables.{Ranked, Sampled};
 use bits::numbers::read32;
 use bits_ranks::rank_from;
 use bits_select::select::next_one;
@@ -96,16 +96,23 @@ fn select_64(bits: &[u8], samples: &[u8], n: usize, total: usize, m: usize) -> u
     select_from(bits, n, from, 64 * t, m)
 }
 
+// The position of one number m, from 0, of the n bits of the body at an offset, by the samples at another, or n where there is no such one. It takes plain numbers, so that no frame is copied for it.
+fn select_at(image: &[u8], body: usize, samples: usize, n: usize, total: usize, m: usize) -> usize
+    requires { ⌜ (body ≤ length (now image)) × (samples ≤ length (now image)) × Sampled n total (drop body (now image)) (drop samples (now image)) ⌝ }
+    ensures { λ r. ⌜ (r ≡ select (drop body (now (image .entry))) n m) × (r ≤ n) ⌝ }
+{
+    select_64(&image[body..], &image[samples..], n, total, m)
+}
+
 // Where sparse node m starts, or the end of the entries where there is no such one.
 pub fn node_start(image: &[u8], f: Frame, m: NodeNum) -> BitPos
     requires { ⌜ Accepted (now image) f × (f .dense .nodes ≤ m .0) ⌝ }
     ensures { λ r. ⌜ (r .0 ≡ select (drop (f .sb) (now (image .entry))) (f .sparse .entries) (m .0 - f .dense .nodes)) × (r .0 ≤ f .sparse .entries) ⌝ }
 {
-    let sb = f.sb;
-    let ts = f.ts;
-    BitPos(select_64(
-        &image[sb..],
-        &image[ts..],
+    BitPos(select_at(
+        image,
+        f.sb,
+        f.ts,
         f.sparse.entries,
         f.sparse.nodes,
         m.0 - f.dense.nodes,

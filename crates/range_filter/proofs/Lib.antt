@@ -1,1 +1,1 @@
-pub mod CodedLaws
+pub mod LengthLaws

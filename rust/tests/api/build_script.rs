@@ -33,19 +33,19 @@ fn a_missing_archive_is_named_with_the_command_that_makes_it() {
     let said = failing_build("missing", &archives, &[]);
     let archive = archives.join("librange_filter.a");
     assert!(said.contains(&format!("There is no {}.", archive.display())));
-    assert!(said.contains("Run `rt staticlib range_filter` at the root of the repository"));
+    assert!(said.contains("Run `./archives` at the root of the repository"));
     assert!(said.contains("it proves the library, which takes minutes"));
     assert!(!said.contains("panicked"));
 }
 
 #[test]
-fn another_target_is_told_what_the_archive_is_for() {
+fn another_target_is_told_what_the_archives_are_for() {
     let archives = empty_folder("no_archive");
     let said = failing_build(
         "target",
         &archives,
         &["--target", "aarch64-unknown-linux-gnu"],
     );
-    assert!(said.contains("is for x86-64 Linux, and this build is for aarch64 linux"));
+    assert!(said.contains("are for x86-64 Linux, and this build is for aarch64 linux"));
     assert!(!said.contains("panicked"));
 }

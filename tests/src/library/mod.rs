@@ -1,5 +1,5 @@
-//! The calls of the proved library, which `rt staticlib range_filter` makes, as safe
-//! functions. Those over an accepted image stand apart, since they ask for one.
+//! The calls of the proved library, whose archives `./archives` makes, as safe functions.
+//! Those over an accepted image stand apart, since they ask for one.
 
 mod accepted;
 

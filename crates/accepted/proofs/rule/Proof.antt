@@ -14,11 +14,8 @@ returns c =
     let b = c .before .before .before in
     refused-rule (b .args .image .now) (QP (b .args .key .now)) 22 (point-keys (b .args .key .now) ∙ key-long (b .args .key .now) (c .if1 .taken)) (omega arith)
 
-accepted-frame-requires : tie.Need-accepted-frame-requires
-accepted-frame-requires c κs = search needs
-
-descend-requires : tie.Need-descend-requires
-descend-requires c κs = search needs
+rule-behind-requires : tie.Need-rule-behind-requires
+rule-behind-requires c κs = search needs
 
 rule-number-requires : tie.Need-rule-number-requires
 rule-number-requires c κs = search needs
@@ -28,17 +25,16 @@ cast-t3 c = search needs
 
 returns-2 : tie.Need-returns-2
 returns-2 c =
-    let e = c .before .before .before in
+    let e = c .before .before in
     let b = e .before .before .before in
-    point-rule-is (b .args .image .now) _ (c .before .before .accepted-frame .ensures) (b .args .key .now) (e .if1 .left) (point-keys (b .args .key .now) ∙ key-fits (b .args .key .now) (e .if1 .left)) _ (c .rule-number .ensures ∙ ap rule-number (c .before .descend .ensures))
+    point-rule-is (b .args .image .now) (b .args .key .now) (point-keys (b .args .key .now) ∙ key-fits (b .args .key .now) (e .if1 .left)) _ (c .rule-number .ensures ∙ ap rule-number (c .before .rule-behind .ensures))
 
 pub rule-spec : {M : Type 1} → statement M
 rule-spec =
     tie.close
     (tie.spec
     returns
-    accepted-frame-requires
-    descend-requires
+    rule-behind-requires
     rule-number-requires
     cast-t3
     returns-2)

@@ -2,7 +2,7 @@
 use borrow.Author.Needs.{needs}
 use Rattle.theory.specs.LengthBounds.{ask-short}
 use Rattle.query_laws.specs.Answers.{all-small}
-use Rattle.range_filter.proofs.CodedLaws.{coded}
+use Rattle.range_filter_codes.proofs.CodedLaws.{coded}
 use Rattle.range_filter.proofs.range_filter_ask.Statement.{statement}
 use Rattle.range_filter.proofs.range_filter_ask.Tie as tie
 

@@ -2,7 +2,7 @@
 use borrow.Author.Needs.{needs}
 use Rattle.theory.specs.LengthBounds.{length-short}
 use Rattle.query_laws.specs.Answers.{all-small}
-use Rattle.range_filter.proofs.CodedLaws.{coded-length}
+use Rattle.range_filter.proofs.LengthLaws.{coded-length}
 use Rattle.range_filter.proofs.range_filter_image_length.Statement.{statement}
 use Rattle.range_filter.proofs.range_filter_image_length.Tie as tie
 

@@ -5,8 +5,8 @@ use borrow.Author.Needs.{needs}
 use Rattle.spec.specs.Answer.{answer-code}
 use Rattle.image_types.specs.declared.Written.{Written}
 use Rattle.image_types.specs.Outcomes.{answer-of}
-use Rattle.range_filter.proofs.code.Statement.{statement}
-use Rattle.range_filter.proofs.code.Tie as tie
+use Rattle.range_filter_codes.proofs.code.Statement.{statement}
+use Rattle.range_filter_codes.proofs.code.Tie as tie
 
 enum-known-answer : tie.Need-enum-known-answer
 enum-known-answer c = search needs

@@ -1,8 +1,8 @@
 -- The rule as one number, which is small enough to decode.
-use Rattle.range_filter.proofs.CodedLaws.{coded-number, rule-short}
+use Rattle.range_filter_accepted.proofs.NumberLaws.{coded-number, rule-short}
 use borrow.Author.Needs.{needs}
-use Rattle.range_filter.proofs.range_filter_accepted_rule.Statement.{statement}
-use Rattle.range_filter.proofs.range_filter_accepted_rule.Tie as tie
+use Rattle.range_filter_accepted.proofs.range_filter_accepted_rule.Statement.{statement}
+use Rattle.range_filter_accepted.proofs.range_filter_accepted_rule.Tie as tie
 
 rule-requires : tie.Need-rule-requires
 rule-requires c κs = search needs

@@ -1,10 +1,10 @@
 -- The number of the reply as one number, which is small enough to decode.
 use Rattle.spec.specs.Questions.{QS}
 use Rattle.query_laws.specs.Answers.{all-small}
-use Rattle.range_filter.proofs.CodedLaws.{coded-number, number-short}
+use Rattle.range_filter_accepted.proofs.NumberLaws.{coded-number, number-short}
 use borrow.Author.Needs.{needs}
-use Rattle.range_filter.proofs.range_filter_accepted_seek.Statement.{statement}
-use Rattle.range_filter.proofs.range_filter_accepted_seek.Tie as tie
+use Rattle.range_filter_accepted.proofs.range_filter_accepted_seek.Statement.{statement}
+use Rattle.range_filter_accepted.proofs.range_filter_accepted_seek.Tie as tie
 
 seek-requires : tie.Need-seek-requires
 seek-requires c κs = search needs

@@ -5,8 +5,8 @@ use Rattle.spec.specs.OneQuestion.{numbered-code}
 use Rattle.accepted.specs.declared.Number.{Number}
 use Rattle.accepted.specs.Numbers.{numbered-of}
 use borrow.Author.Needs.{needs}
-use Rattle.range_filter.proofs.code_number.Statement.{statement}
-use Rattle.range_filter.proofs.code_number.Tie as tie
+use Rattle.range_filter_accepted.proofs.code_number.Statement.{statement}
+use Rattle.range_filter_accepted.proofs.code_number.Tie as tie
 
 enum-known-answer : tie.Need-enum-known-answer
 enum-known-answer c = search needs

@@ -1,10 +1,10 @@
 -- The number of the reply as one number, which is small enough to decode.
 use Rattle.spec.specs.Questions.{QP}
 use Rattle.query_laws.specs.Answers.{all-small}
-use Rattle.range_filter.proofs.CodedLaws.{coded-number, number-short}
+use Rattle.range_filter_accepted.proofs.NumberLaws.{coded-number, number-short}
 use borrow.Author.Needs.{needs}
-use Rattle.range_filter.proofs.range_filter_accepted_point.Statement.{statement}
-use Rattle.range_filter.proofs.range_filter_accepted_point.Tie as tie
+use Rattle.range_filter_accepted.proofs.range_filter_accepted_point.Statement.{statement}
+use Rattle.range_filter_accepted.proofs.range_filter_accepted_point.Tie as tie
 
 point-requires : tie.Need-point-requires
 point-requires c κs = search needs
