@@ -17,6 +17,7 @@ use nav_ranks::exact_rank;
 use nav_ranks::label_rank;
 use nav_ranks::next_start;
 use nav_ranks::node_start;
+use nav_ranks::select_at;
 
 // The continuing branches and the leaves of the nodes before a node.
 pub struct CountsBefore {
@@ -44,11 +45,12 @@ fn sparse_before(image: &[u8], f: Frame, m: NodeNum) -> CountsBefore
     requires { ⌜ Accepted (now image) f × (f .dense .nodes ≤ m .0) × (m .0 ≤ node-count f) ⌝ }
     ensures { λ r. ⌜ Counts-before (now (image .entry)) f (m .0) (r .children) (r .leaves) ⌝ }
 {
-    let start = node_start(image, f, m);
-    let children = entry_rank(image, f, start);
+    let first = m.0 - f.dense.nodes;
+    let start = select_at(image, f.sb, f.ts, f.sparse.entries, f.sparse.nodes, first);
+    let children = entry_rank(image, f, BitPos(start));
     CountsBefore {
         children: f.totals.children + children,
-        leaves: f.totals.entries - f.totals.children + (start.0 - children),
+        leaves: f.totals.entries - f.totals.children + (start - children),
     }
 }
 

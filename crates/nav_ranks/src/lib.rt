@@ -96,8 +96,15 @@ fn select_64(bits: &[u8], samples: &[u8], n: usize, total: usize, m: usize) -> u
     select_from(bits, n, from, 64 * t, m)
 }
 
-// The position of one number m, from 0, of the n bits of the body at an offset, by the samples at another, or n where there is no such one. It takes plain numbers, so that no frame is copied for it.
-fn select_at(image: &[u8], body: usize, samples: usize, n: usize, total: usize, m: usize) -> usize
+// The position of one number m, from 0, of the n bits of the body at an offset, by the samples at another, or n where there is no such one. It takes plain numbers and has two callers, so that the compiler keeps it apart from them and copies no frame for it.
+pub fn select_at(
+    image: &[u8],
+    body: usize,
+    samples: usize,
+    n: usize,
+    total: usize,
+    m: usize,
+) -> usize
     requires { ⌜ (body ≤ length (now image)) × (samples ≤ length (now image)) × Sampled n total (drop body (now image)) (drop samples (now image)) ⌝ }
     ensures { λ r. ⌜ (r ≡ select (drop body (now (image .entry))) n m) × (r ≤ n) ⌝ }
 {

@@ -1,4 +1,5 @@
 use Rattle.nav_laws.specs.Positions.{before-sparse, few-children, dense-totals}
+use Rattle.nav_laws.specs.Tables.{starts-sampled}
 use lib.ListN.{drop}
 use Rattle.nav_laws.specs.Accepted.{nodes}
 use Rattle.nav_laws.specs.NumberBounds.{leaves-all}
@@ -10,42 +11,47 @@ use borrow.Author.Needs.{needs}
 use Rattle.nav_nodes.proofs.sparse_before.Statement.{statement}
 use Rattle.nav_nodes.proofs.sparse_before.Tie as tie
 
-node-start-requires : tie.Need-node-start-requires
-node-start-requires c κs = search needs
+sub-first : tie.Need-sub-first
+sub-first c = search needs
+
+select-at-requires : tie.Need-select-at-requires
+select-at-requires c κs =
+    let b = c .before .before .before in
+    (b .pre .0 .SB .0, b .pre .0 .TS .0, starts-sampled (b .args .image .now) (b .args .f) (b .pre .0))
 
 entry-rank-requires : tie.Need-entry-rank-requires
 entry-rank-requires c κs = search needs
 
-add-t6 : tie.Need-add-t6
-add-t6 c =
-    let a = c .before .before .before .before .args in
-    let p = c .before .before .before .before .pre .0 in
-    let n = c .before .before .node-start in
-    omega (arith, dense-totals (a .image .now) (a .f) p .0, few-children (a .image .now) (a .f) p (a .f .dense .nodes) (omega arith), c .before .entry-rank .ensures, rank-le (drop (a .f .sc) (a .image .now)) (n .result .0), n .ensures .1, p .writable .few-entries, p .entry-size)
-
-sub-t7 : tie.Need-sub-t7
-sub-t7 c =
-    let a = c .before .before .before .before .before .args in
-    omega (arith, dense-totals (a .image .now) (a .f) (c .before .before .before .before .before .pre .0) .1)
-
-sub-t8 : tie.Need-sub-t8
-sub-t8 c =
-    let a = c .before .before .before .before .before .before .args in
-    omega (arith, c .before .before .before .entry-rank .ensures, rank-le (drop (a .f .sc) (a .image .now)) (c .before .before .before .before .node-start .result .0))
-
-add-t9 : tie.Need-add-t9
-add-t9 c =
+add-t8 : tie.Need-add-t8
+add-t8 c =
     let a = c .before .before .before .before .before .before .args in
     let p = c .before .before .before .before .before .before .pre .0 in
-    omega (arith, dense-totals (a .image .now) (a .f) p .1, leaves-all (nodes (a .image .now) (a .f)) (a .f .dense .nodes), p .writable .leaf-total, p .writable .few, c .before .before .before .before .node-start .ensures .1, p .writable .few-entries, p .entry-size)
+    let n = c .before .before .select-at in
+    omega (arith, dense-totals (a .image .now) (a .f) p .0, few-children (a .image .now) (a .f) p (a .f .dense .nodes) (omega arith), c .before .entry-rank .ensures, rank-le (drop (a .f .sc) (a .image .now)) (n .result), n .ensures .1, p .writable .few-entries, p .entry-size)
+
+sub-t9 : tie.Need-sub-t9
+sub-t9 c =
+    let a = c .before .before .before .before .before .before .before .args in
+    omega (arith, dense-totals (a .image .now) (a .f) (c .before .before .before .before .before .before .before .pre .0) .1)
+
+sub-t10 : tie.Need-sub-t10
+sub-t10 c =
+    let a = c .before .before .before .before .before .before .before .args in
+    omega (arith, c .before .before .entry-rank .ensures, rank-le (drop (a .f .sc) (a .image .now)) (c .before .before .before .select-at .result))
+
+add-t11 : tie.Need-add-t11
+add-t11 c =
+    let a = c .before .before .before .before .before .before .before .args in
+    let p = c .before .before .before .before .before .before .before .pre .0 in
+    omega (arith, dense-totals (a .image .now) (a .f) p .1, leaves-all (nodes (a .image .now) (a .f)) (a .f .dense .nodes), p .writable .leaf-total, p .writable .few, c .before .before .before .select-at .ensures .1, p .writable .few-entries, p .entry-size)
 
 returns : tie.Need-returns
 returns c =
-    let a = c .before .before .before .before .before .before .args in
-    let p = c .before .before .before .before .before .before .pre in
+    let a = c .before .before .before .before .before .before .before .args in
+    let p = c .before .before .before .before .before .before .before .pre in
     let d = dense-totals (a .image .now) (a .f) (p .0) in
-    let k = c .before .before .before .entry-rank .ensures in
-    let n = c .before .before .before .before .node-start .ensures .0 in
+    let k = c .before .before .entry-rank .ensures in
+    let n = c .before .before .before .select-at .ensures .0 in
     let q = before-sparse (a .image .now) (a .f) (p .0) (a .m .0) (p .1) (p .2) in
     let e = ap (rank (drop (a .f .sc) (a .image .now))) n in
     record { children-are = omega (arith, q .0); leaves-are = omega (arith, q .1) }
@@ -53,4 +59,12 @@ returns c =
 pub sparse-before-spec : {M : Type 1} → statement M
 sparse-before-spec =
     tie.close
-    (tie.spec node-start-requires entry-rank-requires add-t6 sub-t7 sub-t8 add-t9 returns)
+    (tie.spec
+    sub-first
+    select-at-requires
+    entry-rank-requires
+    add-t8
+    sub-t9
+    sub-t10
+    add-t11
+    returns)
