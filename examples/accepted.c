@@ -68,14 +68,14 @@ static void show_refusals(const uint8_t *image, size_t length) {
 
 int main(void) {
     uint8_t image[IMAGE_ROOM];
-    size_t length = build_image(LIST_A, 0, image);
+    size_t length = build_image(LIST_A, 1, 0, image);
     if (range_filter_check(image, length) != 0) {
         return 1;
     }
     ask_list_a(image, length);
     show_refusals(image, length);
 
-    length = build_image(LIST_VAN, 8, image);
+    length = build_image(LIST_VAN, 1, 8, image);
     if (range_filter_check(image, length) != 0) {
         return 1;
     }

@@ -8,14 +8,14 @@
 #define LIST RANGE_FILTER_TEXT("KY\x02" "D1" "KY\x03" "D12" "KY\x02" "D2" "KY\x01" "V")
 
 int main(void) {
-    /* Ask for the image's length, take memory, and build: no dense levels, no suffix bits. */
-    uint64_t length = range_filter_image_length(LIST, 0, 0);
+    /* Ask for the image's length, take memory, and build: version 1, dense levels 0, n 0. */
+    uint64_t length = range_filter_image_length(LIST, 1, 0, 0);
     if (range_filter_refusal_of(length) != 0) {
         fprintf(stderr, "%s\n", range_filter_refusal_text(range_filter_refusal_of(length)));
         return 1;
     }
     uint8_t *image = malloc(length);
-    if (image == NULL || range_filter_build(LIST, 0, 0, length, image, length) != length) {
+    if (image == NULL || range_filter_build(LIST, 1, 0, 0, length, image, length) != length) {
         return 1;
     }
     printf("image: %zu bytes\n", range_filter_bytes_of(length));

@@ -58,9 +58,9 @@ static void show_places(const uint8_t *image, size_t length) {
 
 int main(void) {
     uint8_t image[IMAGE_ROOM];
-    size_t length = build_image(LIST_VAN, 8, image);
+    size_t length = build_image(LIST_VAN, 1, 8, image);
     show("leaves with 8 suffix bits", print_leaves(image, length, 8), 4);
-    length = build_image(LIST_A, 0, image);
+    length = build_image(LIST_A, 1, 0, image);
     show("leaves of A", print_leaves(image, length, 0), 4);
     if (range_filter_check(image, length) != 0) {
         return 1;

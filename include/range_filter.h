@@ -28,6 +28,13 @@
  *   may be NULL. Any alignment will do. An output must not overlap an input. Inputs are never
  *   written to, and may overlap one another.
  *
+ * VERSIONS
+ *   An image has version 1 or 2, which is a setting of the build and stands in the image's header.
+ *   Version 2 has a record more, the first node of each level of the trie, so that counts and seeks
+ *   need not find it; the image is 6 bytes longer, and 4 for each level. Every call takes both
+ *   versions, and both images of a list, other settings equal, get the same answers. Programs from
+ *   before version 2 read version 1 alone.
+ *
  * THREADS
  *   The library has no state, takes no memory from the heap, and makes no system call. Any thread
  *   may call it, any number of them at once, over one image too, as long as none writes to a buffer
@@ -66,6 +73,9 @@ extern "C" {
 /* The most questions of a question file. */
 #define RANGE_FILTER_MAX_QUESTIONS 1024
 
+/* The newest version of an image. The first one is 1. */
+#define RANGE_FILTER_MAX_VERSION 2
+
 /* The most dense levels of an image. */
 #define RANGE_FILTER_MAX_DENSE_LEVELS 4
 
@@ -98,14 +108,14 @@ enum range_filter_refusal {
     RANGE_FILTER_KEY_LENGTH_WRONG = 2,        /* a key to store with no bytes or over 64 */
     RANGE_FILTER_KEYS_UNORDERED = 3,          /* a key that is not above the one before it */
     RANGE_FILTER_TOO_MANY_KEYS = 4,           /* a record behind 65,535 others */
-    RANGE_FILTER_SETTING_OUT_OF_RANGE = 5,    /* over 4 dense levels or over 16 suffix bits */
+    RANGE_FILTER_SETTING_OUT_OF_RANGE = 5,    /* version, dense levels or suffix bits */
     RANGE_FILTER_OUTPUT_TOO_SHORT = 7,        /* the output is shorter than the image */
     RANGE_FILTER_STATED_LENGTH_WRONG = 8,     /* the stated length is not the image's */
     RANGE_FILTER_FRAME_WRONG = 11,            /* no image's header and records, or bytes behind */
     RANGE_FILTER_HEADER_WRONG = 12,           /* version, settings, counts or a body's length */
     RANGE_FILTER_SPARE_BIT_SET = 13,          /* a bit set behind the last one of a body */
     RANGE_FILTER_TRIE_WRONG = 14,             /* not a trie that a builder writes */
-    RANGE_FILTER_RANK_WRONG = 15,             /* a rank or a sample that does not fit its body */
+    RANGE_FILTER_RANK_WRONG = 15,             /* a rank, a sample or a level start */
     RANGE_FILTER_SLOT_WRONG = 16,             /* a suffix bit set where none can be */
     RANGE_FILTER_PLACE_OUT_OF_RANGE = 17,     /* a place above the number of leaves */
     RANGE_FILTER_QUESTION_MALFORMED = 21,     /* a question cut off, or another mark */
@@ -159,30 +169,32 @@ typedef char range_filter_key_has_65_bytes[sizeof(range_filter_key) == 65 ? 1 : 
 /*
  * Gives the exact length of the image of a key list, and writes nothing.
  *   list      records KY, length byte, key; keys strictly ascending by unsigned bytes
+ *   version   which version the image has, 1 or 2
  *   dense     how many levels of the trie from the root on are dense, 0 to 4
  *   n         how many suffix bits are kept of each key, 0 to 16
  * Answer: the bytes of the image; or 5; or, for the first record at fault, 4, 1, 2 or 3. A record's
  * bytes are judged in the order 4, 1 (fewer than three bytes, or another mark), 2, 1 (key bytes
  * missing), 3.
  */
-uint64_t range_filter_image_length(const uint8_t *list, size_t list_len, uint64_t dense,
-                                   uint64_t n);
+uint64_t range_filter_image_length(const uint8_t *list, size_t list_len, uint64_t version,
+                                   uint64_t dense, uint64_t n);
 
 /*
  * Builds the image of a key list at the front of the output.
- *   list, dense, n   as above; they are judged again
- *   stated           the length that range_filter_image_length gave for them
- *   out              gets the image; it may be longer, and the bytes behind the image stay
+ *   list, version, dense, n   as above; they are judged again
+ *   stated                    the length that range_filter_image_length gave for them
+ *   out                       gets the image; it may be longer, and the bytes behind the image stay
  * Answer: the bytes written, which are the stated length; or 5, or 4, 1, 2, 3 as above; then 8, and
  * last 7. What it writes is accepted by range_filter_check.
  */
-uint64_t range_filter_build(const uint8_t *list, size_t list_len, uint64_t dense, uint64_t n,
-                            uint64_t stated, uint8_t *out, size_t out_len);
+uint64_t range_filter_build(const uint8_t *list, size_t list_len, uint64_t version, uint64_t dense,
+                            uint64_t n, uint64_t stated, uint8_t *out, size_t out_len);
 
 /*
  * Judges whether some key list builds just these bytes.
- *   image     the image, with its own length and not that of a longer buffer
- * Answer: 0 for an accepted image, or the smallest of 11 to 16 that applies.
+ *   image     the image, of either version, with its own length and not that of a longer buffer
+ * Answer: 0 for an accepted image, or the smallest of 11 to 16 that applies. Where the version byte
+ * is 2, 11 asks for the thirteen records of version 2, else for the twelve of version 1.
  */
 uint32_t range_filter_check(const uint8_t *image, size_t image_len);
 
@@ -308,14 +320,14 @@ static inline const char *range_filter_refusal_text(uint32_t number) {
     case RANGE_FILTER_KEY_LENGTH_WRONG: return "a key has no bytes or over 64: store keys of 1 to 64 bytes";
     case RANGE_FILTER_KEYS_UNORDERED: return "a key is not above the last: sort by unsigned bytes, drop doubles";
     case RANGE_FILTER_TOO_MANY_KEYS: return "the list has over 65,535 keys: build several images";
-    case RANGE_FILTER_SETTING_OUT_OF_RANGE: return "a setting is out of range: take dense 0 to 4 and n 0 to 16";
+    case RANGE_FILTER_SETTING_OUT_OF_RANGE: return "a setting is out of range: take version 1 or 2, dense 0 to 4 and n 0 to 16";
     case RANGE_FILTER_OUTPUT_TOO_SHORT: return "the output is too short: lend what range_filter_image_length gives";
     case RANGE_FILTER_STATED_LENGTH_WRONG: return "the stated length is wrong: state what range_filter_image_length gives";
     case RANGE_FILTER_FRAME_WRONG: return "these bytes are not one whole image: load it again, with its own length";
     case RANGE_FILTER_HEADER_WRONG: return "the image's header or a record's length is wrong: load or build it again";
     case RANGE_FILTER_SPARE_BIT_SET: return "a spare bit of the image is set: load or build it again";
     case RANGE_FILTER_TRIE_WRONG: return "the image's trie is not a builder's: load or build it again";
-    case RANGE_FILTER_RANK_WRONG: return "a rank or sample of the image is wrong: load or build it again";
+    case RANGE_FILTER_RANK_WRONG: return "a rank, sample or level start of the image is wrong: load or build it again";
     case RANGE_FILTER_SLOT_WRONG: return "a suffix slot of the image is wrong: load or build it again";
     case RANGE_FILTER_PLACE_OUT_OF_RANGE: return "the place is past the end of the walk: take 0 up to the number of leaves";
     case RANGE_FILTER_QUESTION_MALFORMED: return "a question is malformed: write QP, QR, QB, QC or QS and its keys";

@@ -1,62 +1,74 @@
 //! The measurements of calls over an accepted image: the library has checked it before, and
 //! the fast implementation has opened its trie.
 
-use crate::measure::{List, Setting};
+use crate::measure::List;
 use crate::timing::{compare, Effort, Figures};
 use range_filter_bench::fast::accepted::Opened;
 use range_filter_bench::fast::check;
 use range_filter_bench::questions::{Kind, POINT};
 use range_filter_tests::accepted::AcceptedCalls;
+use range_filter_tests::generate::in_both_versions;
 use range_filter_tests::library;
 use range_filter_tests::reference::questions::{Question, MAX_QUESTIONS};
 use range_filter_tests::reference::walk::RECORD_BYTES;
+use range_filter_tests::settings::Settings;
 
 /// The calls of a round: as many as a question file has questions at most.
 pub const CALLS: usize = MAX_QUESTIONS;
 
 /// A call over an accepted image.
-enum Call {
+pub enum Call {
     Question(Question),
     Rule(Vec<u8>),
     Leaf(u64),
 }
 
-/// Measures calls with one question of a kind each.
-pub fn question(list: &List, setting: Setting, kind: &Kind) -> Figures {
+/// Gives calls with one question of a kind each.
+pub fn questions(list: &List, kind: &Kind) -> Vec<Call> {
     let asked = list.questions(kind, CALLS).into_iter();
-    let calls: Vec<Call> = asked.map(Call::Question).collect();
-    measure(list, setting, &calls)
+    asked.map(Call::Question).collect()
 }
 
-/// Measures calls that give the rule behind a point each.
-pub fn rule(list: &List, setting: Setting) -> Figures {
+/// Gives calls for the rule behind a point each.
+pub fn rules(list: &List) -> Vec<Call> {
     let asked = list.questions(&POINT, CALLS);
     let key = |point: &Question| point.keys()[0].to_vec();
-    let calls: Vec<Call> = asked.iter().map(key).map(Call::Rule).collect();
-    measure(list, setting, &calls)
+    asked.iter().map(key).map(Call::Rule).collect()
 }
 
-/// Measures calls that give the leaf at a place each.
-pub fn leaf(list: &List, setting: Setting) -> Figures {
+/// Gives calls for the leaf at a place each.
+pub fn leaves(list: &List) -> Vec<Call> {
     let places = list.places(CALLS).into_iter();
-    let calls: Vec<Call> = places.map(Call::Leaf).collect();
-    measure(list, setting, &calls)
+    places.map(Call::Leaf).collect()
 }
 
-/// Measures calls by call, after both implementations have said and written the same.
-fn measure(list: &List, setting: Setting, calls: &[Call]) -> Figures {
-    let image = list.image(setting);
-    let accepted = check::accept(&image).expect("a built image is accepted");
-    let fast = Opened::new(&accepted);
-    let library = library::accept(&image).expect("and so it is by the library");
+/// Measures calls of the library against those of the fast implementation.
+pub fn against_fast(list: &List, settings: Settings, calls: &[Call]) -> Figures {
+    let image = list.image(settings);
+    let library = library::accept(&image).expect("a built image is accepted");
+    let accepted = check::accept(&image).expect("and so it is by the fast check");
+    measure(&library, &Opened::new(&accepted), calls)
+}
+
+/// Measures calls of the library over version 2 against those over version 1, other settings
+/// equal.
+pub fn by_version(list: &List, settings: Settings, calls: &[Call]) -> Figures {
+    let images = in_both_versions(settings).map(|settings| list.image(settings));
+    let accept = |image| library::accept(image).expect("a built image is accepted");
+    let [version_1, version_2] = images.each_ref().map(|image| accept(image));
+    measure(&version_2, &version_1, calls)
+}
+
+/// Measures calls by call, after both have said and written the same.
+fn measure(first: &impl AcceptedCalls, second: &impl AcceptedCalls, calls: &[Call]) -> Figures {
     for call in calls {
-        assert_eq!(outcome(&library, call), outcome(&fast, call));
+        assert_eq!(outcome(first, call), outcome(second, call));
     }
     let effort = Effort {
         calls: 1,
         units: calls.len(),
     };
-    compare(effort, || sum(&library, calls), || sum(&fast, calls))
+    compare(effort, || sum(first, calls), || sum(second, calls))
 }
 
 /// Gives what a call says and writes.

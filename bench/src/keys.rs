@@ -2,6 +2,7 @@
 
 use range_filter_tests::generate::keys::many_keys;
 use range_filter_tests::random::Random;
+use range_filter_tests::reference::keys::MAX_KEY;
 use std::collections::BTreeSet;
 
 /// The stations that station keys come from.
@@ -42,6 +43,29 @@ const USERS: [&str; 16] = [
     "anna", "anne", "ben", "carla", "carlos", "dora", "emil", "emily", "frank", "greta", "ida",
     "jan", "jana", "maria", "mario", "paul",
 ];
+
+/// The parts that path keys are made of, and how many years and files there are.
+const SITES: [&str; 8] = [
+    "antwerp-north",
+    "antwerp-south",
+    "hamburg-altona",
+    "hamburg-harburg",
+    "rotterdam-east",
+    "rotterdam-west",
+    "wien-freudenau",
+    "wien-nordwest",
+];
+const CLASSES: [&str; 5] = ["invoices", "manifests", "planning", "positions", "weights"];
+const FIRST_YEAR: usize = 2023;
+const YEARS: usize = 3;
+const FILES: usize = 1_000_000;
+
+/// The bytes that begin all keys of a kind, and how many random ones are behind them.
+const COMMON: &[u8; 40] = b"urn:freight:wagon-position:v1:eu:region:";
+const BEHIND_COMMON: usize = 8;
+
+/// The bytes of the shortest key that begins others of its kind.
+const SHORTEST_BEGINNING: usize = 3;
 
 /// A named way to make so many keys, at most 65,535.
 pub struct KeySet {
@@ -85,6 +109,26 @@ pub const TEXT: KeySet = KeySet {
     make: |random, count| distinct(count, || text_key(random)),
 };
 
+/// Further ways to make keys, whose tries have many levels.
+pub const MANY_LEVELS: [KeySet; 3] = [
+    KeySet {
+        name: "paths",
+        make: |random, count| distinct(count, || path_key(random)),
+    },
+    KeySet {
+        name: "40 equal bytes, then 8 random ones",
+        make: |random, count| {
+            distinct(count, || {
+                [&COMMON[..], &random.bytes(BEHIND_COMMON, BEHIND_COMMON)].concat()
+            })
+        },
+    },
+    KeySet {
+        name: "random 64 bytes and all that begin them",
+        make: nested_keys,
+    },
+];
+
 /// Gives so many different keys in ascending order.
 fn distinct(count: usize, mut key: impl FnMut() -> Vec<u8>) -> Vec<Vec<u8>> {
     let mut keys = BTreeSet::new();
@@ -110,6 +154,31 @@ fn station_keys(random: &mut Random, count: usize) -> Vec<Vec<u8>> {
         let kind = random.below(KINDS) as u8;
         let station = (station as u32).to_be_bytes();
         [&station[..], &time.to_be_bytes(), &[kind]].concat()
+    })
+}
+
+/// Gives a path of a file, by site, month and class.
+fn path_key(random: &mut Random) -> Vec<u8> {
+    let [site, class] = [*random.pick(&SITES), *random.pick(&CLASSES)];
+    let year = FIRST_YEAR + random.below(YEARS);
+    let month = 1 + random.below(12);
+    let file = random.below(FILES);
+    let key = format!("/srv/archive/{site}/{year}/{month:02}/{class}/{file:06}.csv");
+    key.into_bytes()
+}
+
+/// Gives keys of 64 random bytes with all their beginnings of three bytes or more, so that
+/// each level has many nodes with an exact leaf and one branch.
+fn nested_keys(random: &mut Random, count: usize) -> Vec<Vec<u8>> {
+    let mut longest = Vec::new();
+    let mut length = MAX_KEY;
+    distinct(count, || {
+        if length == MAX_KEY {
+            longest = random.bytes(MAX_KEY, MAX_KEY);
+            length = SHORTEST_BEGINNING - 1;
+        }
+        length += 1;
+        longest[..length].to_vec()
     })
 }
 

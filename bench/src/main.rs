@@ -1,11 +1,14 @@
-//! Compares the proved library with a fast implementation without proofs, and prints the
-//! report, or the part of it that is named. The module `timing` says how times are taken.
+//! Compares the proved library with a fast implementation without proofs, and version 2 of
+//! the image with version 1, and prints the report, or the part of it that is named. The
+//! module `timing` says how times are taken.
 
 mod accepted;
 mod markdown;
 mod measure;
 mod tables;
 mod timing;
+mod version_tables;
+mod versions;
 
 use std::env;
 use std::process::ExitCode;
@@ -17,7 +20,7 @@ struct Part {
 }
 
 /// The parts of the report.
-const PARTS: [Part; 8] = [
+const PARTS: [Part; 9] = [
     Part {
         name: "build",
         print: tables::print_build,
@@ -41,6 +44,10 @@ const PARTS: [Part; 8] = [
     Part {
         name: "accepted",
         print: tables::print_accepted,
+    },
+    Part {
+        name: "versions",
+        print: version_tables::print_versions,
     },
     Part {
         name: "growth",

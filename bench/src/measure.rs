@@ -1,5 +1,6 @@
-//! The measurements: two calls that are compared on one list with one setting, of the
-//! library and of the fast implementation, or two of the library.
+//! The measurements of the library against the fast implementation: two calls that are
+//! compared on one list with the same settings; and of a build's first call against its
+//! second.
 
 use crate::timing::{compare, Effort, Figures};
 use range_filter_bench::fast;
@@ -12,6 +13,7 @@ use range_filter_tests::reference::keys::{self, MAX_KEY};
 use range_filter_tests::reference::questions::{write, Question};
 use range_filter_tests::reference::replies::REPLY_HEAD;
 use range_filter_tests::reference::walk::RECORD_BYTES;
+use range_filter_tests::settings::Settings;
 
 /// The seeds of the keys in a list, of those that are only asked for, and of questions.
 const SEED: u64 = 1;
@@ -21,25 +23,19 @@ const QUESTION_SEED: u64 = 3;
 /// The keys of a round: lists with fewer keys are taken several times.
 const KEYS_A_ROUND: usize = 1 << 16;
 
-/// How often a round makes calls that are short.
-const SHORT_CALLS: usize = 16;
+/// How often a round makes calls that are short, and the most questions of a short ask.
+pub const SHORT_CALLS: usize = 16;
+const SHORT_ASK: usize = 16;
 
 /// More bytes than the dense nodes of an image take.
 const DENSE_ROOM: usize = 1 << 16;
-
-/// Dense levels and suffix width.
-#[derive(Clone, Copy)]
-pub struct Setting {
-    pub dense_levels: u64,
-    pub n: u64,
-}
 
 /// Keys with the list of them, and as many other keys that are made like them.
 pub struct List {
     pub name: &'static str,
     keys: Vec<Vec<u8>>,
     others: Vec<Vec<u8>>,
-    bytes: Vec<u8>,
+    pub bytes: Vec<u8>,
 }
 
 impl List {
@@ -56,7 +52,7 @@ impl List {
     }
 
     /// Gives the effort of a measurement by key whose calls are made so often.
-    fn effort(&self, times: usize) -> Effort {
+    pub fn effort(&self, times: usize) -> Effort {
         Effort {
             calls: times * (KEYS_A_ROUND / self.keys.len()),
             units: self.keys.len(),
@@ -64,16 +60,20 @@ impl List {
     }
 
     /// Gives a buffer that holds the image.
-    fn room(&self) -> Vec<u8> {
+    pub fn room(&self) -> Vec<u8> {
         vec![0; 2 * self.bytes.len() + DENSE_ROOM]
     }
 
+    /// Gives a buffer that holds the records of all leaves.
+    pub fn record_room(&self) -> Vec<u8> {
+        vec![0; self.keys.len() * RECORD_BYTES]
+    }
+
     /// Gives the image.
-    pub fn image(&self, setting: Setting) -> Vec<u8> {
+    pub fn image(&self, settings: Settings) -> Vec<u8> {
         let mut image = self.room();
-        let Setting { dense_levels, n } = setting;
-        let stated = self.stated(setting);
-        let answer = fast::build::build(&self.bytes, dense_levels, n, stated, &mut image);
+        let stated = self.stated(settings);
+        let answer = fast::build::build(&self.bytes, settings, stated, &mut image);
         image.truncate(answer.length());
         image
     }
@@ -92,52 +92,80 @@ impl List {
     }
 
     /// Gives the length of the image, as the library tells it.
-    fn stated(&self, Setting { dense_levels, n }: Setting) -> u64 {
-        let length = library::image_length(&self.bytes, dense_levels, n);
+    pub fn stated(&self, settings: Settings) -> u64 {
+        let length = library::image_length(&self.bytes, settings);
         length.expect("the keys make a list") as u64
+    }
+}
+
+/// A file with questions of one kind.
+pub struct QuestionFile {
+    pub bytes: Vec<u8>,
+    count: usize,
+}
+
+impl QuestionFile {
+    /// Writes so many questions about keys of a list and about others.
+    pub fn new(list: &List, kind: &Kind, count: usize) -> Self {
+        QuestionFile {
+            bytes: write(&list.questions(kind, count)),
+            count,
+        }
+    }
+
+    /// Gives a buffer that holds the replies.
+    pub fn reply_room(&self) -> Vec<u8> {
+        vec![0; self.count * (REPLY_HEAD + MAX_KEY)]
+    }
+
+    /// Gives the effort of a measurement by question.
+    pub fn effort(&self) -> Effort {
+        let is_short = self.count <= SHORT_ASK;
+        Effort {
+            calls: if is_short { SHORT_CALLS } else { 1 },
+            units: self.count,
+        }
     }
 }
 
 /// Gives how often the image is wrong about questions of a kind, points or ranges, about keys
 /// that are made like those of the list.
-pub fn rate(list: &List, setting: Setting, kind: &Kind) -> Rate {
-    false_positives(&list.image(setting), &list.keys, &kind.about(&list.others))
+pub fn rate(list: &List, settings: Settings, kind: &Kind) -> Rate {
+    false_positives(&list.image(settings), &list.keys, &kind.about(&list.others))
 }
 
 /// Gives the bytes of the image by key.
-pub fn image_bytes(list: &List, setting: Setting) -> f64 {
-    list.image(setting).len() as f64 / list.keys.len() as f64
+pub fn image_bytes(list: &List, settings: Settings) -> f64 {
+    list.image(settings).len() as f64 / list.keys.len() as f64
 }
 
 /// Measures build by key, with the image's length known before.
-pub fn build(list: &List, setting: Setting) -> Figures {
+pub fn build(list: &List, settings: Settings) -> Figures {
     let [mut image, mut library_image] = [list.room(), list.room()];
-    let Setting { dense_levels, n } = setting;
-    let (bytes, stated) = (list.bytes.as_slice(), list.stated(setting));
+    let (bytes, stated) = (list.bytes.as_slice(), list.stated(settings));
     let figures = compare(
         list.effort(1),
-        || library::build(bytes, dense_levels, n, stated, &mut library_image).length(),
-        || fast::build::build(bytes, dense_levels, n, stated, &mut image).length(),
+        || library::build(bytes, settings, stated, &mut library_image).length(),
+        || fast::build::build(bytes, settings, stated, &mut image).length(),
     );
     assert_eq!(library_image, image);
     figures
 }
 
 /// Measures the call that gives the image's length against the one that builds, by key.
-pub fn length(list: &List, setting: Setting) -> Figures {
+pub fn length(list: &List, settings: Settings) -> Figures {
     let mut image = list.room();
-    let Setting { dense_levels, n } = setting;
-    let (bytes, stated) = (list.bytes.as_slice(), list.stated(setting));
+    let (bytes, stated) = (list.bytes.as_slice(), list.stated(settings));
     compare(
         list.effort(1),
-        || library::image_length(bytes, dense_levels, n).expect("the keys make a list"),
-        || library::build(bytes, dense_levels, n, stated, &mut image).length(),
+        || library::image_length(bytes, settings).expect("the keys make a list"),
+        || library::build(bytes, settings, stated, &mut image).length(),
     )
 }
 
 /// Measures check by key.
-pub fn check(list: &List, setting: Setting) -> Figures {
-    let image = list.image(setting);
+pub fn check(list: &List, settings: Settings) -> Figures {
+    let image = list.image(settings);
     compare(
         list.effort(SHORT_CALLS),
         || library::check(&image),
@@ -146,10 +174,9 @@ pub fn check(list: &List, setting: Setting) -> Figures {
 }
 
 /// Measures a walk over all leaves in one call by leaf, the check of the image included.
-pub fn walk(list: &List, setting: Setting) -> Figures {
-    let image = list.image(setting);
-    let mut records = vec![0; list.keys.len() * RECORD_BYTES];
-    let mut library_records = records.clone();
+pub fn walk(list: &List, settings: Settings) -> Figures {
+    let image = list.image(settings);
+    let [mut records, mut library_records] = [list.record_room(), list.record_room()];
     let figures = compare(
         list.effort(1),
         || library::walk(&image, 0, &mut library_records).length(),
@@ -161,19 +188,14 @@ pub fn walk(list: &List, setting: Setting) -> Figures {
 
 /// Measures a call with so many questions of a kind by question, the check of the image
 /// included.
-pub fn ask(list: &List, setting: Setting, kind: &Kind, count: usize) -> Figures {
-    let image = list.image(setting);
-    let file = write(&list.questions(kind, count));
-    let mut replies = vec![0; count * (REPLY_HEAD + MAX_KEY)];
-    let mut library_replies = replies.clone();
-    let effort = Effort {
-        calls: if count == 1 { SHORT_CALLS } else { 1 },
-        units: count,
-    };
+pub fn ask(list: &List, settings: Settings, kind: &Kind, count: usize) -> Figures {
+    let image = list.image(settings);
+    let file = QuestionFile::new(list, kind, count);
+    let [mut replies, mut library_replies] = [file.reply_room(), file.reply_room()];
     let figures = compare(
-        effort,
-        || library::ask(&image, &file, &mut library_replies).length(),
-        || fast::ask::ask(&image, &file, &mut replies).length(),
+        file.effort(),
+        || library::ask(&image, &file.bytes, &mut library_replies).length(),
+        || fast::ask::ask(&image, &file.bytes, &mut replies).length(),
     );
     assert_eq!(library_replies, replies);
     figures

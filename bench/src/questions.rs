@@ -20,16 +20,19 @@ pub const KEY_KINDS: [Kind; 3] = [
         name: "begins-with",
         make: |keys, number| Question::BeginsWith(stem(&keys[number])),
     },
-    Kind {
-        name: "seek",
-        make: |keys, number| Question::Seek(keys[number].clone()),
-    },
+    SEEK,
 ];
 
 /// The question whether there is a key.
 pub const POINT: Kind = Kind {
     name: "point",
     make: |keys, number| Question::Point(keys[number].clone()),
+};
+
+/// The question for the first key that is not below another.
+const SEEK: Kind = Kind {
+    name: "seek",
+    make: |keys, number| Question::Seek(keys[number].clone()),
 };
 
 /// The kinds of questions about what is between two bounds.
@@ -43,19 +46,28 @@ pub const RANGE_KINDS: [Kind; 6] = [
         name: "range, wide",
         make: |keys, number| range(further(keys, number, keys.len() / WIDE_SHARE)),
     },
-    Kind {
-        name: "count, short",
-        make: |keys, number| count(short(keys, number)),
-    },
-    Kind {
-        name: "count, middle",
-        make: |keys, number| count(further(keys, number, MIDDLE)),
-    },
-    Kind {
-        name: "count, wide",
-        make: |keys, number| count(further(keys, number, keys.len() / WIDE_SHARE)),
-    },
+    SHORT_COUNT,
+    MIDDLE_COUNT,
+    WIDE_COUNT,
 ];
+
+/// The questions how many keys there are in a short, a middle and a wide range.
+const SHORT_COUNT: Kind = Kind {
+    name: "count, short",
+    make: |keys, number| count(short(keys, number)),
+};
+const MIDDLE_COUNT: Kind = Kind {
+    name: "count, middle",
+    make: |keys, number| count(further(keys, number, MIDDLE)),
+};
+const WIDE_COUNT: Kind = Kind {
+    name: "count, wide",
+    make: |keys, number| count(further(keys, number, keys.len() / WIDE_SHARE)),
+};
+
+/// The kinds of questions by which versions are compared: those that take leaves together
+/// level by level, and a point, which does not.
+pub const VERSION_KINDS: [Kind; 5] = [POINT, SEEK, SHORT_COUNT, MIDDLE_COUNT, WIDE_COUNT];
 
 /// The question whether there is a key from one to the same with its last byte FF.
 pub const SHORT_RANGE: Kind = Kind {

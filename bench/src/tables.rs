@@ -1,8 +1,8 @@
 //! The tables of the report, in Markdown.
 
-use crate::accepted;
+use crate::accepted::{self, Call};
 use crate::markdown::{number, print_head, print_heading, print_row, print_text, with_commas};
-use crate::measure::{self, List, Setting};
+use crate::measure::{self, List};
 use crate::timing::{Figures, ROUNDS};
 use range_filter_bench::keys::{
     KeySet, BURST, KEY_SETS, RANDOM_13, RANDOM_8, STATION, STATIONS, TEXT,
@@ -10,22 +10,28 @@ use range_filter_bench::keys::{
 use range_filter_bench::questions::{Kind, KEY_KINDS, POINT, RANGE_KINDS, SHORT_RANGE};
 use range_filter_tests::reference::keys::MAX_KEYS;
 use range_filter_tests::reference::questions::MAX_QUESTIONS;
+use range_filter_tests::settings::{version_1, Settings};
 
 /// The settings that build, check and walk are measured with.
-const SETTINGS: [Setting; 6] = [
-    setting(0, 0),
-    setting(0, 4),
-    setting(0, 8),
-    setting(2, 0),
-    setting(2, 4),
-    setting(2, 8),
+const SETTINGS: [Settings; 6] = [
+    version_1(0, 0),
+    version_1(0, 4),
+    version_1(0, 8),
+    version_1(2, 0),
+    version_1(2, 4),
+    version_1(2, 8),
 ];
 
 /// The settings that ask, and calls over an accepted image, are measured with.
-const ASK_SETTINGS: [Setting; 4] = [setting(0, 0), setting(0, 8), setting(2, 0), setting(2, 8)];
+const ASK_SETTINGS: [Settings; 4] = [
+    version_1(0, 0),
+    version_1(0, 8),
+    version_1(2, 0),
+    version_1(2, 8),
+];
 
-/// The settings of the table that shows how costs grow.
-const FEW_SETTINGS: [Setting; 2] = [setting(0, 0), setting(2, 8)];
+/// The settings of the tables that show how costs grow and compare versions.
+pub const FEW_SETTINGS: [Settings; 2] = [version_1(0, 0), version_1(2, 8)];
 
 /// The key sets and the numbers of keys of the table that shows how costs grow.
 const GROWING: [KeySet; 2] = [RANDOM_13, STATION];
@@ -41,7 +47,7 @@ const CHOICE_LEVELS: [u64; 2] = [0, 2];
 const RANGES: &str = "A short range goes from a key to the same with its last byte FF, a middle one from a key to the second behind it in its list, a wide one over one hundredth of the list.";
 
 /// A measurement by key.
-type Measure = fn(&List, Setting) -> Figures;
+type Measure = fn(&List, Settings) -> Figures;
 
 /// The calls that are measured by key.
 const CALLS: [(&str, Measure); 3] = [
@@ -50,18 +56,13 @@ const CALLS: [(&str, Measure); 3] = [
     ("walk", measure::walk),
 ];
 
-/// Makes a setting.
-const fn setting(dense_levels: u64, n: u64) -> Setting {
-    Setting { dense_levels, n }
-}
-
 /// Prints what stands before the tables.
 pub fn print_introduction() {
     let keys = with_commas(MAX_KEYS);
     println!(
         "# Benchmark
 
-`./archives && cargo run --release --offline --manifest-path bench/Cargo.toml --target-dir target/cargo >docs/benchmark.md` writes this page. With `-- build`, `-- length`, `-- check`, `-- walk`, `-- ask`, `-- accepted`, `-- growth` or `-- filter` it writes that part of it.
+`./archives && cargo run --release --offline --manifest-path bench/Cargo.toml --target-dir target/cargo >docs/benchmark.md` writes this page. With `-- build`, `-- length`, `-- check`, `-- walk`, `-- ask`, `-- accepted`, `-- versions`, `-- growth` or `-- filter` it writes that part of it.
 
 The library is compared with a fast implementation without proofs (`bench/src/fast`), on the same input and in the same process; both are compiled for any x86-64. A round times the library and right behind it the fast implementation, by the processor time of the thread. A figure is the median of {ROUNDS} rounds, and so is a ratio, which is taken within a round. Both are called once before the first round, and buffers are not cleared between calls.
 
@@ -101,8 +102,8 @@ pub fn print_walk() {
 
 /// Prints a table of the times of a call by key.
 fn print_calls(measure: Measure) {
-    print_by_setting(&SETTINGS, |list, setting| {
-        cell(&measure(list, setting), 1.0)
+    print_by_setting(&SETTINGS, |list, settings| {
+        cell(&measure(list, settings), 1.0)
     });
 }
 
@@ -110,11 +111,11 @@ fn print_calls(measure: Measure) {
 pub fn print_ask() {
     let questions = with_commas(MAX_QUESTIONS);
     print_heading("Ask", &format!("Calls with {questions} questions of one kind, half of them about keys of the list and half of them about keys of another list made like it, the check of the image included; nanoseconds a question: library, fast, ratio. A stem is the first half of a key. The last column is a call with one question, for a point: its microseconds."));
-    let ask = |list: &List, setting, kind: &Kind| {
-        cell(&measure::ask(list, setting, kind, MAX_QUESTIONS), 1.0)
+    let ask = |list: &List, settings, kind: &Kind| {
+        cell(&measure::ask(list, settings, kind, MAX_QUESTIONS), 1.0)
     };
-    print_by_kind(&KEY_KINDS, &["one question"], ask, |list, setting| {
-        vec![cell(&measure::ask(list, setting, &POINT, 1), 1e3)]
+    print_by_kind(&KEY_KINDS, &["one question"], ask, |list, settings| {
+        vec![cell(&measure::ask(list, settings, &POINT, 1), 1e3)]
     });
     print_text(&format!("Ranges and counts, likewise. {RANGES}"));
     print_by_kind(&RANGE_KINDS, &[], ask, |_, _| Vec::new());
@@ -124,38 +125,43 @@ pub fn print_ask() {
 pub fn print_accepted() {
     let calls = with_commas(accepted::CALLS);
     print_heading("One question a call, over an accepted image", &format!("Calls over an image that the check has accepted before, one question each, without a question file; the fast implementation has opened its trie before. A round makes {calls} calls, with the questions that the tables of ask have; nanoseconds a call: library, fast, ratio. The rule is the one behind a point. A leaf is the one at any place: a walk with room for one record."));
-    let ask =
-        |list: &List, setting, kind: &Kind| cell(&accepted::question(list, setting, kind), 1.0);
-    print_by_kind(&KEY_KINDS, &["rule", "leaf"], ask, |list, setting| {
-        let figures = [accepted::rule(list, setting), accepted::leaf(list, setting)];
-        figures.iter().map(|figures| cell(figures, 1.0)).collect()
+    let measure = |list: &List, settings, calls: Vec<Call>| {
+        cell(&accepted::against_fast(list, settings, &calls), 1.0)
+    };
+    let ask = |list: &List, settings, kind: &Kind| {
+        measure(list, settings, accepted::questions(list, kind))
+    };
+    print_by_kind(&KEY_KINDS, &["rule", "leaf"], ask, |list, settings| {
+        let calls = [accepted::rules(list), accepted::leaves(list)];
+        Vec::from(calls.map(|calls| measure(list, settings, calls)))
     });
     print_text(&format!("Ranges and counts, likewise. {RANGES}"));
     print_by_kind(&RANGE_KINDS, &[], ask, |_, _| Vec::new());
     print_text("A point over an accepted image beside a call of ask with one point, which checks the image, both of the library; nanoseconds: accepted, ask, and how many times as long ask takes.");
-    print_by_setting(&ASK_SETTINGS, |list, setting| {
-        let accepted = accepted::question(list, setting, &POINT).library;
-        let ask = measure::ask(list, setting, &POINT, 1).library;
+    print_by_setting(&ASK_SETTINGS, |list, settings| {
+        let calls = accepted::questions(list, &POINT);
+        let accepted = accepted::against_fast(list, settings, &calls).first;
+        let ask = measure::ask(list, settings, &POINT, 1).first;
         [accepted, ask, ask / accepted].map(number).join(", ")
     });
 }
 
-/// Prints a table with a row for each key set and setting, with a column for each kind of
-/// questions and further ones.
+/// Prints a table with a row for each key set with some settings, with a column for each kind
+/// of questions and further ones.
 fn print_by_kind(
     kinds: &[Kind],
     further: &[&str],
-    cell: impl Fn(&List, Setting, &Kind) -> String,
-    further_cells: impl Fn(&List, Setting) -> Vec<String>,
+    cell: impl Fn(&List, Settings, &Kind) -> String,
+    further_cells: impl Fn(&List, Settings) -> Vec<String>,
 ) {
     let names = kinds.iter().map(|kind| kind.name);
     print_head(&keys_heading(), names.chain(further.iter().copied()));
     for key_set in &KEY_SETS {
         let list = List::new(key_set, MAX_KEYS);
-        for setting in ASK_SETTINGS {
-            let name = format!("{}, {}", list.name, setting_name(setting));
-            let cells = kinds.iter().map(|kind| cell(&list, setting, kind));
-            print_row(&name, cells.chain(further_cells(&list, setting)));
+        for settings in ASK_SETTINGS {
+            let name = format!("{}, {}", list.name, settings_name(settings));
+            let cells = kinds.iter().map(|kind| cell(&list, settings, kind));
+            print_row(&name, cells.chain(further_cells(&list, settings)));
         }
     }
 }
@@ -180,18 +186,17 @@ pub fn print_filter() {
 /// Gives the bits of a list's image a key and its rates of false positives, with some
 /// suffix width.
 fn choice_cells(list: &List, n: u64) -> Vec<String> {
-    let bits = |levels| 8.0 * measure::image_bytes(list, setting(levels, n));
-    let rate = |kind: &Kind| measure::rate(list, setting(CHOICE_LEVELS[0], n), kind).percent();
+    let bits = |levels| 8.0 * measure::image_bytes(list, version_1(levels, n));
+    let rate = |kind: &Kind| measure::rate(list, version_1(CHOICE_LEVELS[0], n), kind).percent();
     let bits = CHOICE_LEVELS.map(|levels| format!("{:.1}", bits(levels)));
     let rates = [POINT, SHORT_RANGE].map(|kind| format!("{:.2}", rate(&kind)));
     bits.into_iter().chain(rates).collect()
 }
 
-/// Gives a cell with the figures of the library and the fast implementation in a unit of
-/// so many nanoseconds, and their ratio.
-fn cell(figures: &Figures, unit: f64) -> String {
-    let [library, fast] = [figures.library, figures.fast].map(|time| number(time / unit));
-    format!("{library}, {fast}, {:.2}", figures.ratio)
+/// Gives a cell with the figures of two in a unit of so many nanoseconds, and their ratio.
+pub fn cell(figures: &Figures, unit: f64) -> String {
+    let [first, second] = [figures.first, figures.second].map(|time| number(time / unit));
+    format!("{first}, {second}, {:.2}", figures.ratio)
 }
 
 /// Prints the table of costs against the number of keys.
@@ -203,37 +208,36 @@ pub fn print_growth() {
     print_head("keys", COUNTS.map(with_commas));
     for key_set in &GROWING {
         let lists = COUNTS.map(|count| List::new(key_set, count));
-        for setting in FEW_SETTINGS {
-            let name = format!("{}, {}", key_set.name, setting_name(setting));
-            let bytes = lists.iter().map(|list| measure::image_bytes(list, setting));
+        for settings in FEW_SETTINGS {
+            let name = format!("{}, {}", key_set.name, settings_name(settings));
+            let bytes = lists
+                .iter()
+                .map(|list| measure::image_bytes(list, settings));
             print_row(&format!("{name}: image bytes"), bytes.map(number));
             for (call, measure) in CALLS {
-                let times = lists.iter().map(|list| measure(list, setting).library);
+                let times = lists.iter().map(|list| measure(list, settings).first);
                 print_row(&format!("{name}: {call}"), times.map(number));
             }
         }
     }
 }
 
-/// Prints a table with a row for each key set and a column for each setting.
-fn print_by_setting(settings: &[Setting], cell: impl Fn(&List, Setting) -> String) {
-    let names = settings.iter().map(|&setting| setting_name(setting));
-    print_head(&keys_heading(), names);
+/// Prints a table with a row for each key set and a column for each of some settings.
+fn print_by_setting(columns: &[Settings], cell: impl Fn(&List, Settings) -> String) {
+    print_head(&keys_heading(), columns.iter().copied().map(settings_name));
     for key_set in &KEY_SETS {
         let list = List::new(key_set, MAX_KEYS);
-        print_row(
-            list.name,
-            settings.iter().map(|&setting| cell(&list, setting)),
-        );
+        let cells = columns.iter().map(|&settings| cell(&list, settings));
+        print_row(list.name, cells);
     }
 }
 
 /// Gives the head of the column that names key sets.
-fn keys_heading() -> String {
+pub fn keys_heading() -> String {
     format!("{} keys", with_commas(MAX_KEYS))
 }
 
-/// Gives the name of a setting.
-fn setting_name(Setting { dense_levels, n }: Setting) -> String {
-    format!("dense {dense_levels}, n {n}")
+/// Gives the name of settings, the version aside.
+pub fn settings_name(settings: Settings) -> String {
+    format!("dense {}, n {}", settings.dense_levels, settings.n)
 }

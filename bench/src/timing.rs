@@ -1,10 +1,11 @@
 //! Timing two ways of doing the same work.
 //!
-//! A round times the library and right behind it the fast implementation, in the same
-//! process and on the same input. Times are medians over the rounds, and so is the ratio,
-//! which is taken within each round. Both are called once before the first round, so that
-//! their pages are mapped. Each has an output of its own, which is not cleared between
-//! calls; what a call clears or allocates is part of its time.
+//! A round times the one and right behind it the other, in the same process and on the same
+//! input: the library and the fast implementation, or two calls of the library. Times are
+//! medians over the rounds, and so is the ratio, which is taken within each round. Both are
+//! called once before the first round, so that their pages are mapped. Each has an output of
+//! its own, which is not cleared between calls; what a call clears or allocates is part of
+//! its time.
 
 use std::fmt::Debug;
 use std::hint::black_box;
@@ -27,37 +28,38 @@ extern "C" {
     fn clock_gettime(clock: i32, time: *mut Timespec) -> i32;
 }
 
-/// How much a round does: the calls of each implementation, and the units of work of one
-/// call, by which times are divided.
+/// How much a round does: the calls of each of the two, and the units of work of one call, by
+/// which times are divided.
 #[derive(Clone, Copy)]
 pub struct Effort {
     pub calls: usize,
     pub units: usize,
 }
 
-/// Nanoseconds a unit, and the library's divided by the fast implementation's.
+/// Nanoseconds a unit of the first and of the second of two, and the first's divided by the
+/// second's.
 pub struct Figures {
-    pub library: f64,
-    pub fast: f64,
+    pub first: f64,
+    pub second: f64,
     pub ratio: f64,
 }
 
-/// Times the library and the fast implementation, whose answers must be the same.
+/// Times two ways of doing the same work, whose answers must be the same.
 pub fn compare<R: PartialEq + Debug>(
     effort: Effort,
-    mut library: impl FnMut() -> R,
-    mut fast: impl FnMut() -> R,
+    mut first: impl FnMut() -> R,
+    mut second: impl FnMut() -> R,
 ) -> Figures {
-    assert_eq!(library(), fast());
-    let rounds = [(); ROUNDS].map(|()| [time(effort, &mut library), time(effort, &mut fast)]);
+    assert_eq!(first(), second());
+    let rounds = [(); ROUNDS].map(|()| [time(effort, &mut first), time(effort, &mut second)]);
     Figures {
-        library: median(rounds.map(|[library, _]| library)),
-        fast: median(rounds.map(|[_, fast]| fast)),
-        ratio: median(rounds.map(|[library, fast]| library / fast)),
+        first: median(rounds.map(|[first, _]| first)),
+        second: median(rounds.map(|[_, second]| second)),
+        ratio: median(rounds.map(|[first, second]| first / second)),
     }
 }
 
-/// Gives the nanoseconds a unit of the calls of one implementation in a round.
+/// Gives the nanoseconds a unit of the calls of one of the two in a round.
 fn time<R>(Effort { calls, units }: Effort, call: &mut impl FnMut() -> R) -> f64 {
     let start = now();
     for _ in 0..calls {

@@ -11,6 +11,7 @@ use range_filter_tests::random::Random;
 use range_filter_tests::reference::leaves::leaves;
 use range_filter_tests::reference::questions::Question;
 use range_filter_tests::reference::replies::replies;
+use range_filter_tests::settings::version_1;
 
 const KEYS: usize = 1_500;
 
@@ -68,7 +69,7 @@ fn rates_agree_with_the_reference_at_every_number_of_dense_levels() {
                 let expected = reference_rate(&keys, n, &asked);
                 *taken += expected.taken;
                 for dense_levels in 0..=4 {
-                    let image = built(&keys, dense_levels, n as u64);
+                    let image = built(&keys, version_1(dense_levels, n as u64));
                     assert_eq!(false_positives(&image, &keys, &asked), expected);
                 }
             }

@@ -3,7 +3,7 @@
 
 use range_filter_bench::fast;
 use range_filter_bench::fast::accepted::Opened;
-use range_filter_bench::keys::KEY_SETS;
+use range_filter_bench::keys::{KEY_SETS, MANY_LEVELS};
 use range_filter_bench::questions::{questions, KEY_KINDS, RANGE_KINDS};
 use range_filter_tests::answer::Answer;
 use range_filter_tests::compare::{self, AcceptedCase, Case};
@@ -14,13 +14,15 @@ use range_filter_tests::generate::keys::{
 };
 use range_filter_tests::generate::places::{far_places, ROOMS};
 use range_filter_tests::generate::questions::{any_question, key_near, keys_about, questions_near};
-use range_filter_tests::generate::{any_settings, damaged, every_setting};
+use range_filter_tests::generate::{any_settings, damaged, every_setting, in_both_versions};
 use range_filter_tests::random::Random;
 use range_filter_tests::reference::check::accepted_leaves;
+use range_filter_tests::reference::format::VERSIONS;
 use range_filter_tests::reference::keys::{self, MAX_KEYS};
 use range_filter_tests::reference::questions::{write, Question, MAX_QUESTIONS};
 use range_filter_tests::reference::replies::POINT_REPLY;
 use range_filter_tests::reference::walk::RECORD_BYTES;
+use range_filter_tests::settings::{version_1, version_2, Settings};
 use range_filter_tests::tally::{judge_changed_images, Tally};
 
 const LISTS: usize = 4_000;
@@ -41,7 +43,7 @@ const ACCEPTED_LISTS_A_SETTING: usize = 20;
 const ROOM: usize = 1 << 20;
 
 /// Compares a build, and gives the answer.
-fn compare_build(list: &[u8], settings: (u64, u64), room: usize) -> Answer {
+fn compare_build(list: &[u8], settings: Settings, room: usize) -> Answer {
     compare::build(fast::build::build, list, settings, room)
 }
 
@@ -130,11 +132,24 @@ fn one_of_each_kind() -> Vec<u8> {
 }
 
 /// Gives some hundred keys, of which some begin others, with settings that go round.
-fn large_list(random: &mut Random, round: usize) -> (Vec<Vec<u8>>, (u64, u64)) {
+fn large_list(random: &mut Random, round: usize) -> (Vec<Vec<u8>>, Settings) {
     let count = 200 + random.below(1_000);
     let length = 2 + random.below(5);
     let keys = many_mixed_keys(random, count, length);
-    (keys, ((round % 5) as u64, (round % 17) as u64))
+    let settings = Settings {
+        version: VERSIONS[round % 2],
+        dense_levels: (round % 5) as u64,
+        n: (round % 17) as u64,
+    };
+    (keys, settings)
+}
+
+/// Gives dense levels and suffix widths as settings in both versions.
+fn in_versions(pairs: &[(u64, u64)]) -> Vec<Settings> {
+    let settings = pairs
+        .iter()
+        .map(|&(dense_levels, n)| version_1(dense_levels, n));
+    settings.flat_map(in_both_versions).collect()
 }
 
 #[test]
@@ -158,9 +173,12 @@ fn damaged_lists_are_refused_alike() {
     let tally = Tally::of(2, DAMAGED_LISTS, |random| {
         let list = keys::write(&any_keys(random));
         let list = damaged(random, &list);
-        let dense_levels = *random.pick(&[0, 2, 4, 5, 256]);
-        let n = *random.pick(&[0, 8, 16, 17, 1 << 32]);
-        compare_build(&list, (dense_levels, n), ROOM).number()
+        let settings = Settings {
+            version: *random.pick(&[1, 1, 2, 2, 0, 3, 257]),
+            dense_levels: *random.pick(&[0, 2, 4, 5, 256]),
+            n: *random.pick(&[0, 8, 16, 17, 1 << 32]),
+        };
+        compare_build(&list, settings, ROOM).number()
     });
     assert_eq!(tally.numbers(), [0, 1, 2, 3, 5]);
 }
@@ -178,10 +196,13 @@ fn large_lists_build_alike() {
 fn longest_list_builds_and_checks_alike() {
     let keys = many_keys(&mut Random::new(4), MAX_KEYS, 4);
     let mut list = keys::write(&keys);
-    compare_build(&list, (1, 9), ROOM).length();
-    assert_eq!(compare_check(&built(&keys, 1, 9)), 0);
+    for settings in in_both_versions(version_1(1, 9)) {
+        compare_build(&list, settings, ROOM).length();
+        assert_eq!(compare_check(&built(&keys, settings)), 0);
+    }
     list.push(0);
-    assert_eq!(compare_build(&list, (1, 9), ROOM), Answer::Refused(4));
+    let longer = compare_build(&list, version_2(1, 9), ROOM);
+    assert_eq!(longer, Answer::Refused(4));
 }
 
 #[test]
@@ -208,8 +229,8 @@ fn large_images_are_judged_alike() {
     let mut random = Random::new(10);
     let mut tally = Tally::default();
     for round in 0..LARGE_LISTS {
-        let (keys, (dense_levels, n)) = large_list(&mut random, round);
-        let image = built(&keys, dense_levels, n);
+        let (keys, settings) = large_list(&mut random, round);
+        let image = built(&keys, settings);
         assert_eq!(compare_check(&image), 0);
         for change in &CHANGES {
             for _ in 0..CHANGES_A_LARGE_IMAGE {
@@ -241,8 +262,7 @@ fn points_of_every_rule_are_replied_to_alike() {
     let mut random = Random::new(25);
     for _ in 0..QUESTION_FILES {
         let list = random.pick(&[any_keys, ff_keys, growing_keys, no_keys])(&mut random);
-        let (dense_levels, n) = any_settings(&mut random);
-        let image = built(&list, dense_levels, n);
+        let image = built(&list, any_settings(&mut random));
         let leaves = accepted_leaves(&image).expect("a built image is accepted");
         let keys = keys_about(&mut random, &leaves).into_iter();
         let asked: Vec<Question> = keys.take(MAX_QUESTIONS).map(Question::Point).collect();
@@ -255,8 +275,8 @@ fn points_of_every_rule_are_replied_to_alike() {
 fn questions_over_large_images_are_replied_to_alike() {
     let mut random = Random::new(12);
     for round in 0..LARGE_QUESTION_FILES {
-        let (keys, (dense_levels, n)) = large_list(&mut random, round);
-        let image = built(&keys, dense_levels, n);
+        let (keys, settings) = large_list(&mut random, round);
+        let image = built(&keys, settings);
         let mut file = write(&questions_near(&mut random, &image, MAX_QUESTIONS));
         compare_ask(&image, &file, ROOM).length();
         file.push(b'Q');
@@ -293,8 +313,8 @@ fn changed_images_are_asked_or_refused_alike() {
 
 #[test]
 fn empty_images_are_asked_alike() {
-    for dense_levels in 0..=4 {
-        let image = built(&[], dense_levels, 8);
+    for settings in every_setting() {
+        let image = built(&[], settings);
         compare_ask(&image, &one_of_each_kind(), ROOM).length();
     }
 }
@@ -312,11 +332,11 @@ fn close_bounds_are_replied_to_alike() {
 fn questions_over_nodes_of_any_size_are_replied_to_alike() {
     let mut random = Random::new(20);
     for most in NODE_SIZES {
-        for settings in [(0, 0), (0, 8), (1, 3), (2, 16)] {
+        for settings in in_versions(&[(0, 0), (0, 8), (1, 3), (2, 16)]) {
             let mut keys = keys_by_node_size(&mut random, most);
             let exact = (0..=u8::MAX).filter(|_| random.once_in(3));
             keys.extend(exact.map(|first| vec![first]));
-            let image = built(&ascending(keys), settings.0, settings.1);
+            let image = built(&ascending(keys), settings);
             compare_questions(&mut random, &image, 200);
         }
     }
@@ -329,8 +349,8 @@ fn questions_at_the_end_of_a_whole_block_are_replied_to_alike() {
         let node = (0..=u8::MAX).map(|second| vec![first, second]);
         let others = (0..=u8::MAX).filter(|&other| other != first);
         let keys = ascending(node.chain(others.map(|other| vec![other])).collect());
-        for settings in [(0, 0), (0, 8), (1, 8), (2, 8)] {
-            let image = built(&keys, settings.0, settings.1);
+        for settings in in_versions(&[(0, 0), (0, 8), (1, 8), (2, 8)]) {
+            let image = built(&keys, settings);
             compare_questions(&mut random, &image, 200);
         }
     }
@@ -338,10 +358,10 @@ fn questions_at_the_end_of_a_whole_block_are_replied_to_alike() {
 
 #[test]
 fn measured_questions_are_replied_to_alike() {
-    for key_set in &KEY_SETS {
+    for key_set in KEY_SETS.iter().chain(&MANY_LEVELS) {
         let [keys, others] = [22, 23].map(|seed| (key_set.make)(&mut Random::new(seed), 1_000));
-        for settings in [(0, 0), (0, 8), (2, 0), (2, 8)] {
-            let image = built(&keys, settings.0, settings.1);
+        for settings in in_versions(&[(0, 0), (0, 8), (2, 0), (2, 8)]) {
+            let image = built(&keys, settings);
             for kind in KEY_KINDS.iter().chain(&RANGE_KINDS) {
                 let mut random = Random::new(24);
                 let asked = questions(&mut random, [&keys, &others], kind, MEASURED_QUESTIONS);
@@ -369,8 +389,8 @@ fn large_images_are_walked_alike() {
         assert_eq!(leaves, WALKED_KEYS);
     }
     for round in 0..LARGE_LISTS {
-        let (keys, (dense_levels, n)) = large_list(&mut random, round);
-        compare_walks(&mut random, &built(&keys, dense_levels, n), 3);
+        let (keys, settings) = large_list(&mut random, round);
+        compare_walks(&mut random, &built(&keys, settings), 3);
     }
 }
 
@@ -392,12 +412,12 @@ fn changed_images_are_walked_or_refused_alike() {
 #[test]
 fn measured_lists_are_built_checked_and_walked_alike() {
     let mut random = Random::new(17);
-    for key_set in &KEY_SETS {
+    for key_set in KEY_SETS.iter().chain(&MANY_LEVELS) {
         let keys = (key_set.make)(&mut random, WALKED_KEYS);
         assert_eq!(keys.len(), WALKED_KEYS);
-        for settings in [(0, 0), (0, 4), (2, 8)] {
+        for settings in in_versions(&[(0, 0), (0, 4), (2, 8)]) {
             compare_build(&keys::write(&keys), settings, ROOM).length();
-            let image = built(&keys, settings.0, settings.1);
+            let image = built(&keys, settings);
             assert_eq!(compare_check(&image), 0);
             compare_walks(&mut random, &image, 1);
         }
@@ -408,10 +428,10 @@ fn measured_lists_are_built_checked_and_walked_alike() {
 fn accepted_images_are_asked_and_walked_alike() {
     let mut random = Random::new(26);
     let mut tally = Tally::default();
-    for (dense_levels, n) in every_setting() {
+    for settings in every_setting() {
         for _ in 0..ACCEPTED_LISTS_A_SETTING {
             let keys = random.pick(&[any_keys, ff_keys, growing_keys, no_keys])(&mut random);
-            let image = built(&keys, dense_levels, n);
+            let image = built(&keys, settings);
             let leaves = accepted_leaves(&image).expect("a built image is accepted");
             let asked = [(); 40].map(|()| any_question(&mut random, &leaves));
             compare_accepted(&image, &asked, 1, &mut tally);
@@ -426,8 +446,8 @@ fn large_accepted_images_are_asked_and_walked_alike() {
     let mut tally = Tally::default();
     let mut images: Vec<Vec<u8>> = large_images(&mut random, WALKED_KEYS).collect();
     for round in 0..LARGE_LISTS {
-        let (keys, (dense_levels, n)) = large_list(&mut random, round);
-        images.push(built(&keys, dense_levels, n));
+        let (keys, settings) = large_list(&mut random, round);
+        images.push(built(&keys, settings));
     }
     for image in images {
         let asked = questions_near(&mut random, &image, 200);

@@ -16,6 +16,7 @@ extern "C" {
     fn range_filter_image_length(
         list: *const u8,
         list_len: usize,
+        version: u64,
         dense_levels: u64,
         n: u64,
     ) -> u64;
@@ -23,6 +24,7 @@ extern "C" {
     fn range_filter_build(
         list: *const u8,
         list_len: usize,
+        version: u64,
         dense_levels: u64,
         n: u64,
         stated: u64,
@@ -104,6 +106,7 @@ pub(crate) fn image_length(list: &[u8], settings: Settings) -> Result<u32, Refus
         range_filter_image_length(
             list.as_ptr(),
             list.len(),
+            settings.version().into(),
             settings.dense_levels().into(),
             settings.suffix_bits().into(),
         )
@@ -119,6 +122,7 @@ pub(crate) fn build(list: &[u8], settings: Settings, out: &mut [u8]) -> Result<u
         range_filter_build(
             list.as_ptr(),
             list.len(),
+            settings.version().into(),
             settings.dense_levels().into(),
             settings.suffix_bits().into(),
             out.len() as u64,

@@ -5,6 +5,8 @@ use crate::leaf::RECORD_BYTES;
 use crate::{questions, Key, Leaf, Leaves, Refusal, Rule, Settings};
 use std::fmt;
 
+/// The header's byte with the version.
+const VERSION_AT: usize = 2;
 /// The header's byte with the dense levels.
 const DENSE_LEVELS_AT: usize = 3;
 /// The header's byte with the suffix width.
@@ -76,15 +78,16 @@ impl<'a> Filter<'a> {
     /// ```
     /// use range_filter::{build, Filter, Settings};
     ///
-    /// let image = build(["D1", "D12", "D2", "V"], Settings::default().with_dense_levels(1))?;
-    /// let settings = Filter::open(&image)?.settings();
-    /// assert_eq!((settings.dense_levels(), settings.suffix_bits()), (1, 0));
+    /// let settings = Settings::default().with_version(2).with_dense_levels(1);
+    /// let image = build(["D1", "D12", "D2", "V"], settings)?;
+    /// assert_eq!(Filter::open(&image)?.settings(), settings);
     /// # Ok::<(), range_filter::Refusal>(())
     /// ```
     #[must_use]
     pub fn settings(&self) -> Settings {
         let header = self.image();
         Settings::default()
+            .with_version(header[VERSION_AT])
             .with_dense_levels(header[DENSE_LEVELS_AT])
             .with_suffix_bits(header[SUFFIX_BITS_AT])
     }

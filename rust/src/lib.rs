@@ -43,6 +43,12 @@
 //!
 //! Suffix bits ([`Settings::with_suffix_bits`]) make fewer keys possible that are not stored.
 //!
+//! # Versions
+//!
+//! An image has version 1 or 2 ([`Settings::with_version`]); every call takes both. Two images of
+//! one list that differ in the version alone get the same answers, counts and seeks faster over
+//! version 2 where levels are many.
+//!
 //! # Checked once, asked often
 //!
 //! [`Filter::open`] takes any bytes and checks them. It borrows them, so that they stay as they

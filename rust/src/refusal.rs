@@ -66,7 +66,8 @@ refusals! {
         "there are over 65,535 keys: share them out among several images",
     /// 5: a setting is out of range.
     SettingOutOfRange = 5 =>
-        "a setting is out of range: take 0 to 4 dense levels and 0 to 16 suffix bits",
+        "a setting is out of range: \
+         take version 1 or 2, 0 to 4 dense levels and 0 to 16 suffix bits",
     /// 7: the image is longer than the output. No function of this crate gives it.
     OutputTooShort = 7 =>
         "the image is longer than the output: give it as many bytes as the image has",
@@ -74,7 +75,7 @@ refusals! {
     StatedLengthWrong = 8 =>
         "the stated length is not the image's: \
          state the length that was given for this list and these settings",
-    /// 11: the bytes are not the header and the records of an image.
+    /// 11: the bytes are not the header of an image and the records of its version.
     FrameWrong = 11 =>
         "these are not the bytes of one whole image: \
          take the file that a build wrote, from its first byte to its last",
@@ -91,9 +92,10 @@ refusals! {
     TrieWrong = 14 =>
         "the image's trie is not one that keys give: \
          copy the image again, or build it anew",
-    /// 15: a rank or a select sample of an image is wrong.
+    /// 15: a rank, a select sample or a level start of an image is wrong, or there are more or
+    /// fewer level starts than levels.
     RankWrong = 15 =>
-        "a rank or a select sample of the image is wrong: \
+        "a rank, a select sample or a level start of the image is wrong: \
          copy the image again, or build it anew",
     /// 16: a suffix slot of an image has a bit that no key gives it.
     SlotWrong = 16 =>

@@ -1,9 +1,9 @@
 //! The settings of a build.
 
-/// How an image is built: its dense levels and its suffix bits.
+/// How an image is built: its version, its dense levels and its suffix bits.
 ///
-/// The default has none of either, which gives the smallest image. A value out of range is taken
-/// here and refused by the build.
+/// The default is version 1, which every reader takes, with no dense levels and no suffix bits,
+/// which gives the smallest image. A value out of range is taken here and refused by the build.
 ///
 /// ```
 /// use range_filter::{build, Filter, Refusal, Settings};
@@ -16,13 +16,21 @@
 /// assert_eq!(build(["D1"], wrong), Err(Refusal::SettingOutOfRange));
 /// # Ok::<(), Refusal>(())
 /// ```
-#[derive(Clone, Copy, Debug, Default, PartialEq, Eq, Hash)]
+#[derive(Clone, Copy, Debug, PartialEq, Eq, Hash)]
 pub struct Settings {
+    version: u8,
     dense_levels: u8,
     suffix_bits: u8,
 }
 
 impl Settings {
+    /// The newest version that a build takes. The first one is 1.
+    ///
+    /// ```
+    /// assert_eq!(range_filter::Settings::MAX_VERSION, 2);
+    /// ```
+    pub const MAX_VERSION: u8 = 2;
+
     /// The most dense levels that a build takes.
     ///
     /// ```
@@ -36,6 +44,27 @@ impl Settings {
     /// assert_eq!(range_filter::Settings::MAX_SUFFIX_BITS, 16);
     /// ```
     pub const MAX_SUFFIX_BITS: u8 = 16;
+
+    /// Gives these settings with a version of the image, 1 or 2.
+    ///
+    /// An image of version 2 also stores the first node of each level, which version 1 leaves to
+    /// be found: counts and seeks are faster where levels are many. It has 6 bytes more, and 4 for
+    /// each level. The answers are the same. Programs from before version 2 read version 1 alone.
+    ///
+    /// ```
+    /// use range_filter::{build, Filter, Settings};
+    ///
+    /// let keys = ["D1", "D12", "D2", "V"];
+    /// let first = build(keys, Settings::default())?;
+    /// let second = build(keys, Settings::default().with_version(2))?;
+    /// assert_eq!((first.len(), second.len()), (110, 128)); // three levels
+    /// assert_eq!(Filter::open(&second)?.count("D11", "D13")?, 1);
+    /// # Ok::<(), range_filter::Refusal>(())
+    /// ```
+    #[must_use]
+    pub const fn with_version(self, version: u8) -> Self {
+        Settings { version, ..self }
+    }
 
     /// Gives these settings with so many dense levels, 0 to 4.
     ///
@@ -81,6 +110,19 @@ impl Settings {
         }
     }
 
+    /// Gives the version of the image.
+    ///
+    /// ```
+    /// use range_filter::Settings;
+    ///
+    /// assert_eq!(Settings::default().version(), 1);
+    /// assert_eq!(Settings::default().with_version(2).version(), 2);
+    /// ```
+    #[must_use]
+    pub const fn version(self) -> u8 {
+        self.version
+    }
+
     /// Gives the number of dense levels.
     ///
     /// ```
@@ -105,5 +147,16 @@ impl Settings {
     #[must_use]
     pub const fn suffix_bits(self) -> u8 {
         self.suffix_bits
+    }
+}
+
+impl Default for Settings {
+    /// Gives version 1 without dense levels and suffix bits.
+    fn default() -> Self {
+        Settings {
+            version: 1,
+            dense_levels: 0,
+            suffix_bits: 0,
+        }
     }
 }

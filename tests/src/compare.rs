@@ -8,6 +8,7 @@ use crate::reference::build;
 use crate::reference::leaves::Leaf;
 use crate::reference::questions::Question;
 use crate::reference::replies::{Filter, Reply};
+use crate::settings::Settings;
 use std::fmt::Debug;
 
 /// The bytes before and behind a buffer that no call may touch.
@@ -20,29 +21,27 @@ const UNTOUCHED: u8 = 0xA5;
 /// number of their fault.
 pub struct Case<'a> {
     list: &'a [u8],
-    settings: (u64, u64),
+    settings: Settings,
     image: Result<Vec<u8>, u32>,
 }
 
 impl<'a> Case<'a> {
     /// Takes a list and settings to the reference.
-    pub fn new(list: &'a [u8], settings: (u64, u64)) -> Self {
-        let (dense_levels, n) = settings;
+    pub fn new(list: &'a [u8], settings: Settings) -> Self {
         Case {
             list,
             settings,
-            image: build::image(list, dense_levels, n),
+            image: build::image(list, settings),
         }
     }
 
     /// Compares the length of the image, and gives it.
     pub fn length(
         &self,
-        other: impl Fn(&[u8], u64, u64) -> Result<usize, u32>,
+        other: impl Fn(&[u8], Settings) -> Result<usize, u32>,
     ) -> Result<usize, u32> {
-        let (dense_levels, n) = self.settings;
         let length = build::length(&self.image);
-        let found = other(self.list, dense_levels, n);
+        let found = other(self.list, self.settings);
         assert_eq!(found, length, "{:?}", (self.settings, self.list));
         length
     }
@@ -51,13 +50,12 @@ impl<'a> Case<'a> {
     /// answer.
     pub fn build(
         &self,
-        other: impl Fn(&[u8], u64, u64, u64, &mut [u8]) -> Answer,
+        other: impl Fn(&[u8], Settings, u64, &mut [u8]) -> Answer,
         stated: u64,
         room: usize,
     ) -> Answer {
-        let (dense_levels, n) = self.settings;
         let expected = |out: &mut [u8]| build::write(self.image.clone(), stated, out);
-        let found = |out: &mut [u8]| other(self.list, dense_levels, n, stated, out);
+        let found = |out: &mut [u8]| other(self.list, self.settings, stated, out);
         same(room, expected, found, &(self.settings, stated, self.list))
     }
 }
@@ -138,9 +136,9 @@ fn found_bytes(reply: &Result<Reply, u32>) -> usize {
 /// Compares a build with the length of its image, 0 where there is none, into an output of
 /// some length, and gives the answer.
 pub fn build(
-    other: impl Fn(&[u8], u64, u64, u64, &mut [u8]) -> Answer,
+    other: impl Fn(&[u8], Settings, u64, &mut [u8]) -> Answer,
     list: &[u8],
-    settings: (u64, u64),
+    settings: Settings,
     room: usize,
 ) -> Answer {
     let case = Case::new(list, settings);

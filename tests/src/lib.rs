@@ -11,4 +11,6 @@ pub mod library;
 pub mod printer;
 pub mod random;
 pub mod reference;
+pub mod refused;
+pub mod settings;
 pub mod tally;

@@ -1,9 +1,11 @@
-//! The bytes on the page docs/format.md: list A's key list, its image byte by byte, and the
-//! questions with their replies. The reference and the proved library both have to give them.
+//! The bytes on the page docs/format.md: list A's key list, its images in both versions byte by
+//! byte, and the questions with their replies. The reference and the proved library both have
+//! to give them.
 
 use range_filter_tests::answer::Answer;
 use range_filter_tests::examples::{list_a, IMAGE_A};
 use range_filter_tests::reference::{keys, print, replies};
+use range_filter_tests::settings::{version_1, version_2, Settings};
 use range_filter_tests::{compare, library};
 use std::fs;
 
@@ -39,19 +41,39 @@ fn key_list_is_list_a() {
     assert_eq!(list, keys::write(&list_a()));
 }
 
-#[test]
-fn dump_is_the_image_of_list_a() {
+/// Gives the bytes of the page's dump behind a heading, whose first line has the offset `start`.
+fn dump(heading: &str, start: usize) -> Vec<u8> {
     let mut dump = Vec::new();
-    for line in block(&page(), "### List A, byte by byte\n") {
+    for line in block(&page(), heading) {
         let (offset, rest) = line.trim_start().split_once(' ').expect("an offset");
-        assert_eq!(offset.parse(), Ok(dump.len()), "{line}");
+        assert_eq!(offset.parse(), Ok(start + dump.len()), "{line}");
         dump.extend(bytes(rest));
     }
+    dump
+}
+
+/// Asserts that the library builds an image of list A.
+fn assert_built(settings: Settings, expected: &[u8]) {
     let list = keys::write(&list_a());
-    let mut image = vec![0; dump.len()];
-    let answer = library::build(&list, 0, 0, dump.len() as u64, &mut image);
-    assert_eq!(answer, Answer::Written(dump.len()));
-    assert_eq!([image.as_slice(), IMAGE_A], [dump.as_slice(); 2]);
+    let mut image = vec![0; expected.len()];
+    let answer = library::build(&list, settings, expected.len() as u64, &mut image);
+    assert_eq!(answer, Answer::Written(expected.len()));
+    assert_eq!(image, expected);
+}
+
+#[test]
+fn dump_is_the_image_of_list_a() {
+    let dump = dump("### List A, byte by byte\n", 0);
+    assert_built(version_1(0, 0), &dump);
+    assert_eq!(dump, IMAGE_A);
+}
+
+#[test]
+fn version_2_has_the_dump_of_lv_more() {
+    let lv = dump("### List A in version 2\n", IMAGE_A.len());
+    let mut image = [IMAGE_A, &lv].concat();
+    image[2] = 2;
+    assert_built(version_2(0, 0), &image);
 }
 
 #[test]

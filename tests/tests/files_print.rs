@@ -5,6 +5,7 @@ use range_filter_tests::examples::{list_a, list_van};
 use range_filter_tests::generate::images::built;
 use range_filter_tests::reference::check::check;
 use range_filter_tests::reference::print::{print, MAX_INPUT};
+use range_filter_tests::settings::version_1;
 use std::collections::BTreeSet;
 use std::fs;
 use std::path::PathBuf;
@@ -56,11 +57,14 @@ fn images_are_built_from_their_lists() {
     let long_keys: Vec<Vec<u8>> = (0..128)
         .map(|last| [&[b'k'; 63][..], &[last]].concat())
         .collect();
-    assert_eq!(file("print_leaves/stdin"), built(&list_a(), 0, 0));
-    assert_eq!(case("empty_list"), built(&[], 0, 0));
-    assert_eq!(case("dense_levels"), built(&list_a(), 3, 0));
-    assert_eq!(case("suffixes"), built(&list_van(), 0, 8));
-    assert_eq!(case("pages"), built(&long_keys, 4, 16));
+    assert_eq!(
+        file("print_leaves/stdin"),
+        built(&list_a(), version_1(0, 0))
+    );
+    assert_eq!(case("empty_list"), built(&[], version_1(0, 0)));
+    assert_eq!(case("dense_levels"), built(&list_a(), version_1(3, 0)));
+    assert_eq!(case("suffixes"), built(&list_van(), version_1(0, 8)));
+    assert_eq!(case("pages"), built(&long_keys, version_1(4, 16)));
 }
 
 #[test]

@@ -23,17 +23,18 @@ use range_filter_tests::reference::leaves::{highest, lowest, Leaf};
 use range_filter_tests::reference::questions::{write, Question};
 use range_filter_tests::reference::replies::{self, Reply, NONE, REPLY_HEAD};
 use range_filter_tests::reference::walk::RECORD_BYTES;
+use range_filter_tests::settings::{version_1, version_2};
 use range_filter_tests::tally::Tally;
 use std::collections::BTreeMap;
 use std::slice;
 
-const LISTS_A_SETTING: usize = 30;
+const LISTS_A_SETTING: usize = 15;
 const QUESTIONS_AN_IMAGE: usize = 80;
-const CHANGES_A_KIND: usize = 10_000;
+const CHANGES_A_KIND: usize = 7_500;
 const LARGE_KEYS: usize = 5_000;
 const LARGE_QUESTIONS: usize = 600;
 const LISTS_BY_NODE_SIZE: usize = 12;
-const WALKED_LISTS_A_SETTING: usize = 8;
+const WALKED_LISTS_A_SETTING: usize = 4;
 const PLACES_A_LARGE_IMAGE: usize = 200;
 const ADDRESSES: usize = 80;
 const OFTEN: usize = 500;
@@ -189,7 +190,8 @@ fn all_lists_of_small_universes_are_asked_alike() {
     for (dense_levels, universe) in (0..).zip(&universes) {
         for (number, list) in universe.lists.iter().enumerate() {
             let n = [0, 1, 8, 9, 16][number % 5];
-            coverage.compare(&built(list, dense_levels, n), &universe.questions);
+            let version = [version_1, version_2][number % 2];
+            coverage.compare(&built(list, version(dense_levels, n)), &universe.questions);
         }
     }
     coverage.assert_full(&[0]);
@@ -199,10 +201,10 @@ fn all_lists_of_small_universes_are_asked_alike() {
 fn images_of_every_setting_are_asked_alike() {
     let mut random = Random::new(111);
     let mut coverage = Coverage::default();
-    for (dense_levels, n) in every_setting() {
+    for settings in every_setting() {
         for _ in 0..LISTS_A_SETTING {
             let keys = random.pick(&[any_keys, ff_keys, growing_keys, no_keys])(&mut random);
-            let image = built(&keys, dense_levels, n);
+            let image = built(&keys, settings);
             let asked = any_questions(&mut random, &image, QUESTIONS_AN_IMAGE);
             coverage.compare(&image, &asked);
         }
@@ -233,9 +235,9 @@ fn images_at_any_address_are_asked_alike() {
 fn keys_around_every_end_are_asked_for_alike() {
     let mut random = Random::new(112);
     let mut coverage = Coverage::default();
-    for (dense_levels, n) in every_setting() {
+    for settings in every_setting() {
         let stored = random.pick(&[any_keys, any_keys, any_keys, no_keys])(&mut random);
-        let image = built(&stored, dense_levels, n);
+        let image = built(&stored, settings);
         let keys = keys_around(&stored, &leaves(&image));
         coverage.compare(&image, &questions_about(&keys));
     }
@@ -247,9 +249,9 @@ fn keys_around_every_end_are_asked_for_alike() {
 fn stems_before_runs_of_ff_are_asked_for_alike() {
     let mut random = Random::new(113);
     let mut coverage = Coverage::default();
-    for (dense_levels, n) in every_setting() {
+    for settings in every_setting() {
         let stored = ff_keys(&mut random);
-        let image = built(&stored, dense_levels, n);
+        let image = built(&stored, settings);
         let leaves = leaves(&image);
         let ends = leaves.iter().flat_map(|leaf| [lowest(leaf), highest(leaf)]);
         for key in stored.iter().cloned().chain(ends) {
@@ -264,14 +266,14 @@ fn stems_before_runs_of_ff_are_asked_for_alike() {
 fn each_rule_comes_at_dense_and_at_sparse_nodes() {
     let mut random = Random::new(114);
     let mut coverages: [Coverage; 2] = Default::default();
-    for (dense_levels, n) in every_setting() {
+    for settings in every_setting() {
         for _ in 0..LISTS_A_SETTING {
             let keys = random.pick(&[any_keys, ff_keys, growing_keys, no_keys])(&mut random);
-            let image = built(&keys, dense_levels, n);
+            let image = built(&keys, settings);
             let mut keys = keys_about(&mut random, &leaves(&image));
-            keys.retain(|key| decided_at_dense(key, dense_levels).is_some());
+            keys.retain(|key| decided_at_dense(key, settings.dense_levels).is_some());
             let asked: Vec<Question> = keys.into_iter().map(Question::Point).collect();
-            coverages[usize::from(dense_levels > 0)].compare(&image, &asked);
+            coverages[usize::from(settings.dense_levels > 0)].compare(&image, &asked);
         }
     }
     for coverage in &coverages {
@@ -285,10 +287,11 @@ fn large_images_are_asked_alike() {
     let mut random = Random::new(115);
     let mut coverage = Coverage::default();
     let mut images: Vec<Vec<u8>> = large_images(&mut random, LARGE_KEYS).collect();
-    images.push(built(&many_keys(&mut random, MAX_KEYS, 6), 2, 5));
+    images.push(built(&many_keys(&mut random, MAX_KEYS, 6), version_2(2, 5)));
     for number in 0..LISTS_BY_NODE_SIZE {
         let keys = keys_by_node_size(&mut random, [2, 6, 24, 256][number % 4]);
-        images.push(built(&keys, (number % 3) as u64, 4));
+        let version = [version_1, version_2][number % 2];
+        images.push(built(&keys, version((number % 3) as u64, 4)));
     }
     for image in images {
         let asked = questions_near(&mut random, &image, LARGE_QUESTIONS);
@@ -319,7 +322,11 @@ fn accepted_images_that_were_changed_are_asked_alike() {
 fn keys_over_64_bytes_are_refused_with_22() {
     let mut random = Random::new(117);
     let mut coverage = Coverage::default();
-    for image in [IMAGE_A, &built(&[], 2, 8), &any_image(&mut random)] {
+    for image in [
+        IMAGE_A,
+        &built(&[], version_2(2, 8)),
+        &any_image(&mut random),
+    ] {
         let leaves = leaves(image);
         for length in LONG_LENGTHS {
             let mut long = key_near(&mut random, &leaves);
@@ -336,7 +343,7 @@ fn bounds_out_of_order_are_refused_with_23() {
     let mut coverage = Coverage::default();
     for _ in 0..OFTEN {
         let keys = random.pick(&[any_keys, any_keys, no_keys])(&mut random);
-        let image = built(&keys, 1, 3);
+        let image = built(&keys, version_2(1, 3));
         let mut bounds = [(); 2].map(|()| key_near(&mut random, &leaves(&image)));
         bounds.sort();
         let [lower, upper] = bounds;
@@ -354,12 +361,12 @@ fn images_of_every_setting_are_walked_from_every_place() {
     let mut random = Random::new(119);
     let mut tally = Tally::default();
     let mut leaves = 0;
-    for (dense_levels, n) in every_setting() {
+    for settings in every_setting() {
         for _ in 0..WALKED_LISTS_A_SETTING {
-            let image = built(&any_keys(&mut random), dense_levels, n);
+            let image = built(&any_keys(&mut random), settings);
             leaves += walk_from_everywhere(&image, &mut tally);
         }
-        let empty = built(&[], dense_levels, n);
+        let empty = built(&[], settings);
         assert_eq!(walk_from_everywhere(&empty, &mut tally), 0);
     }
     assert_eq!(tally.numbers(), [0, 17]);

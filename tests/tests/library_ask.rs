@@ -15,12 +15,13 @@ use range_filter_tests::reference::keys::MAX_KEY;
 use range_filter_tests::reference::leaves::{highest, lowest};
 use range_filter_tests::reference::questions::{write, Question, MAX_QUESTIONS};
 use range_filter_tests::reference::replies::REPLY_HEAD;
+use range_filter_tests::settings::{version_1, version_2};
 use range_filter_tests::tally::Tally;
 use range_filter_tests::{compare, library};
 
 const IMAGES: usize = 3_000;
 const QUESTIONS_AN_IMAGE: usize = 50;
-const LISTS_A_SETTING: usize = 4;
+const LISTS_A_SETTING: usize = 2;
 const DAMAGED_FILES: usize = 20_000;
 const DAMAGED_IMAGES: usize = 20_000;
 const LARGE_KEYS: usize = 5_000;
@@ -65,7 +66,8 @@ fn all_lists_of_small_universes_get_the_reference_replies() {
     for (dense_levels, universe) in (0..).zip(&universes) {
         for (number, list) in universe.lists.iter().enumerate() {
             let n = [0, 1, 8, 9, 16][number % 5];
-            compare_replies(&built(list, dense_levels, n), &universe.questions);
+            let version = [version_1, version_2][number % 2];
+            compare_replies(&built(list, version(dense_levels, n)), &universe.questions);
         }
     }
 }
@@ -83,9 +85,9 @@ fn random_questions_get_the_reference_replies() {
 #[test]
 fn every_setting_gets_the_reference_replies() {
     let mut random = Random::new(62);
-    for (dense_levels, n) in every_setting() {
+    for settings in every_setting() {
         for _ in 0..LISTS_A_SETTING {
-            let image = built(&any_keys(&mut random), dense_levels, n);
+            let image = built(&any_keys(&mut random), settings);
             let asked = questions_near(&mut random, &image, QUESTIONS_AN_IMAGE);
             compare_replies(&image, &asked);
         }
@@ -96,9 +98,9 @@ fn every_setting_gets_the_reference_replies() {
 fn keys_around_every_end_get_the_reference_replies() {
     let mut random = Random::new(70);
     let mut count = 0;
-    for (dense_levels, n) in every_setting() {
+    for settings in every_setting() {
         let stored = any_keys(&mut random);
-        let image = built(&stored, dense_levels, n);
+        let image = built(&stored, settings);
         let leaves = accepted_leaves(&image).expect("a built image is accepted");
         let asked = questions_about(&keys_around(&stored, &leaves));
         compare_replies(&image, &asked);
@@ -111,10 +113,10 @@ fn keys_around_every_end_get_the_reference_replies() {
 fn stems_before_runs_of_ff_get_the_reference_replies() {
     let mut random = Random::new(73);
     let mut kinds = [0, 0];
-    for (dense_levels, n) in every_setting() {
+    for settings in every_setting() {
         for _ in 0..LISTS_A_SETTING {
             let stored = ff_keys(&mut random);
-            let image = built(&stored, dense_levels, n);
+            let image = built(&stored, settings);
             let leaves = accepted_leaves(&image).expect("a built image is accepted");
             let ends = leaves.iter().flat_map(|leaf| [lowest(leaf), highest(leaf)]);
             for key in stored.iter().cloned().chain(ends) {
@@ -164,7 +166,8 @@ fn every_byte_of_s_louds_gets_the_reference_replies() {
     let mut met = [false; 256];
     for number in 0..LISTS_BY_NODE_SIZE {
         let keys = keys_by_node_size(&mut random, [2, 4, 6, 24][number % 4]);
-        let image = built(&keys, 0, 0);
+        let version = [version_1, version_2][number % 2];
+        let image = built(&keys, version(0, 0));
         for &byte in frame(&image).expect("a built image has a frame").bodies[SB] {
             met[usize::from(byte)] = true;
         }

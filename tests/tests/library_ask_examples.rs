@@ -2,11 +2,12 @@
 //! with values written by hand; the reference and the proved library both have to give them.
 
 use range_filter_tests::answer::Answer;
-use range_filter_tests::examples::{list_a, list_van, IMAGE_A};
-use range_filter_tests::generate::every_setting;
-use range_filter_tests::generate::images::built;
+use range_filter_tests::examples::{list_a, list_van, IMAGE_A, IMAGE_A_2};
+use range_filter_tests::generate::every_setting_of_version_1;
+use range_filter_tests::generate::images::{built, in_other_version};
 use range_filter_tests::generate::keys::owned;
 use range_filter_tests::reference::replies::NONE;
+use range_filter_tests::settings::version_1;
 use range_filter_tests::{compare, library};
 
 /// Compares the replies to a question file in a buffer of some length.
@@ -14,18 +15,23 @@ fn ask(image: &[u8], file: &[u8], room: usize) -> Answer {
     compare::ask(library::ask, image, file, room)
 }
 
-/// Asserts that a question file gets just these replies.
+/// Asserts that a question file gets just these replies over an image, and over that of the
+/// other version.
 fn assert_replies(image: &[u8], file: &[u8], replies: &[u8]) {
-    assert_eq!(ask(image, file, 100_000), Answer::Written(replies.len()));
-    let mut found = vec![0; replies.len()];
-    library::ask(image, file, &mut found);
-    assert_eq!(found, replies, "{file:?}");
+    for image in [image, &in_other_version(image)] {
+        assert_eq!(ask(image, file, 100_000), Answer::Written(replies.len()));
+        let mut found = vec![0; replies.len()];
+        library::ask(image, file, &mut found);
+        assert_eq!(found, replies, "{file:?}");
+    }
 }
 
-/// Asserts the number of a question file over list A's image that is refused.
+/// Asserts the number of a question file over list A's images that is refused.
 fn assert_refused(file: &[u8], number: u32) {
-    let answer = ask(IMAGE_A, file, 100_000);
-    assert_eq!(answer, Answer::Refused(number), "{file:?}");
+    for image in [IMAGE_A, IMAGE_A_2] {
+        let answer = ask(image, file, 100_000);
+        assert_eq!(answer, Answer::Refused(number), "{file:?}");
+    }
 }
 
 /// Gives a question of one key.
@@ -74,7 +80,7 @@ fn assert_seek(image: &[u8], start: &[u8], number: u32, key: &[u8]) {
 #[test]
 fn points_of_list_a() {
     for dense_levels in 0..=4 {
-        let image = built(&list_a(), dense_levels, 0);
+        let image = built(&list_a(), version_1(dense_levels, 0));
         assert_point(&image, b"D1", 1, 3);
         assert_point(&image, b"D10", 0, 1);
         assert_point(&image, b"D", 0, 2);
@@ -133,9 +139,9 @@ fn stem_s017_covers_the_key_s017_ff_01() {
         owned(&[b"S017\xFF\x01", b"S017\xFF\x02"]),
         owned(&[b"S016", b"S017\xFF\x01", b"S018"]),
     ];
-    for (dense_levels, n) in every_setting() {
+    for settings in every_setting_of_version_1() {
         for list in &lists {
-            let image = built(list, dense_levels, n);
+            let image = built(list, settings);
             for stem in [b"S".as_slice(), b"S017", b"S017\xFF", b"S017\xFF\x01"] {
                 assert_begins(&image, stem, 1);
             }
@@ -147,16 +153,16 @@ fn stem_s017_covers_the_key_s017_ff_01() {
 
 #[test]
 fn an_empty_stem_covers_every_key() {
-    let image = built(&owned(&[&[0xFF; 63], &[0xFF; 64]]), 0, 0);
+    let image = built(&owned(&[&[0xFF; 63], &[0xFF; 64]]), version_1(0, 0));
     assert_begins(&image, b"", 1);
-    assert_begins(&built(&owned(&[b"\x00"]), 0, 0), b"", 1);
-    assert_begins(&built(&[], 0, 0), b"", 0);
+    assert_begins(&built(&owned(&[b"\x00"]), version_1(0, 0)), b"", 1);
+    assert_begins(&built(&[], version_1(0, 0)), b"", 0);
 }
 
 #[test]
 fn begins_with_a_full_stem_asks_for_the_stem_alone() {
     let stem = |last: u8| [&[b'k'; 63][..], &[last]].concat();
-    let image = built(&[stem(b'k'), stem(b'l')], 0, 0);
+    let image = built(&[stem(b'k'), stem(b'l')], version_1(0, 0));
     assert_begins(&image, &stem(b'k'), 1);
     assert_begins(&image, &stem(b'j'), 0);
 }
@@ -165,7 +171,7 @@ fn begins_with_a_full_stem_asks_for_the_stem_alone() {
 fn begins_with_a_stem_of_63_bytes_ends_at_64() {
     let stem = [b'k'; 63];
     let key = |last: u8| [&stem[..], &[last]].concat();
-    let image = built(&[key(0xFE), key(0xFF)], 0, 0);
+    let image = built(&[key(0xFE), key(0xFF)], version_1(0, 0));
     assert_begins(&image, &stem, 1);
     assert_begins(&image, &key(0xFF), 1);
     assert_begins(&image, &key(0xFD), 0);
@@ -173,7 +179,7 @@ fn begins_with_a_stem_of_63_bytes_ends_at_64() {
 
 #[test]
 fn begins_with_goes_on_behind_one_ff() {
-    let image = built(&owned(&[b"a\xFF\xFFb", b"a\xFF\xFFc"]), 0, 0);
+    let image = built(&owned(&[b"a\xFF\xFFb", b"a\xFF\xFFc"]), version_1(0, 0));
     assert_begins(&image, b"a", 1);
     assert_begins(&image, b"a\xFF", 1);
     assert_begins(&image, b"a\xFF\xFF", 1);
@@ -183,7 +189,7 @@ fn begins_with_goes_on_behind_one_ff() {
 
 #[test]
 fn suffix_bits_deny_a_stem() {
-    let image = built(&list_van(), 0, 8);
+    let image = built(&list_van(), version_1(0, 8));
     assert_begins(&image, b"V", 1);
     assert_begins(&image, b"VA", 1);
     assert_begins(&image, b"VA\xFF", 1);
@@ -193,7 +199,7 @@ fn suffix_bits_deny_a_stem() {
 
 #[test]
 fn suffix_of_van_decides() {
-    let image = built(&list_van(), 0, 8);
+    let image = built(&list_van(), version_1(0, 8));
     assert_point(&image, b"VAX", 1, 4);
     assert_point(&image, b"VB", 0, 5);
     assert_seek(&image, b"VB", NONE, b"");
@@ -203,7 +209,7 @@ fn suffix_of_van_decides() {
 #[test]
 fn suffix_of_van_is_the_rule() {
     for dense_levels in 0..=4 {
-        let image = built(&list_van(), dense_levels, 8);
+        let image = built(&list_van(), version_1(dense_levels, 8));
         assert_point(&image, b"VAX", 1, 4);
         assert_point(&image, b"VA", 1, 4);
         assert_point(&image, b"VB", 0, 5);
@@ -218,7 +224,7 @@ fn suffix_of_van_is_the_rule() {
 #[test]
 fn points_of_ff_and_ff_ff() {
     for dense_levels in 0..=4 {
-        let image = built(&owned(&[b"\xFF", b"\xFF\xFF"]), dense_levels, 0);
+        let image = built(&owned(&[b"\xFF", b"\xFF\xFF"]), version_1(dense_levels, 0));
         assert_point(&image, b"\xFF", 1, 3);
         assert_point(&image, b"\xFF\xFF", 1, 4);
         assert_point(&image, b"\xFF\xFE", 0, 1);
@@ -236,9 +242,9 @@ fn ff_behind_an_exact_leaf_is_no_branch_unless_a_key_has_it() {
         (&[b"D1", b"D12", b"D1\xFFa", b"D1\xFFb"], (0, 2)),
         (&[b"D1", b"D1\xFF", b"D1\xFFa"], (1, 3)),
     ];
-    for (dense_levels, n) in every_setting() {
+    for settings in every_setting_of_version_1() {
         for (list, (number, rule)) in lists {
-            let image = built(&owned(list), dense_levels, n);
+            let image = built(&owned(list), settings);
             assert_point(&image, b"D1\xFF", number, rule);
             assert_point(&image, b"D1\xFE", 0, 1);
             assert_point(&image, b"D1", 1, 3);
@@ -250,7 +256,7 @@ fn ff_behind_an_exact_leaf_is_no_branch_unless_a_key_has_it() {
 fn past_an_exact_leaf_a_key_takes_the_branch_or_misses_it() {
     let list = owned(&[b"D1", b"D12", b"D1\xFF", b"D1\xFFa"]);
     for dense_levels in 0..=4 {
-        let image = built(&list, dense_levels, 0);
+        let image = built(&list, version_1(dense_levels, 0));
         assert_point(&image, b"D12", 1, 4);
         assert_point(&image, b"D12\xFF", 1, 4);
         assert_point(&image, b"D1\xFFab", 1, 4);
@@ -262,8 +268,8 @@ fn past_an_exact_leaf_a_key_takes_the_branch_or_misses_it() {
 
 #[test]
 fn points_of_the_empty_image_are_decided_by_no_nodes() {
-    for (dense_levels, n) in every_setting() {
-        let image = built(&[], dense_levels, n);
+    for settings in every_setting_of_version_1() {
+        let image = built(&[], settings);
         for key in [b"".as_slice(), b"\x00", b"D1", b"\xFF", &[0xFF; 64]] {
             assert_point(&image, key, 0, 6);
         }
@@ -272,7 +278,7 @@ fn points_of_the_empty_image_are_decided_by_no_nodes() {
 
 #[test]
 fn empty_image_has_no_key() {
-    let image = built(&[], 0, 0);
+    let image = built(&[], version_1(0, 0));
     assert_seek(&image, b"", NONE, b"");
     assert_range(&image, b"", &[0xFF; 64], 0);
     assert_count(&image, b"", &[0xFF; 64], 0);
@@ -281,7 +287,7 @@ fn empty_image_has_no_key() {
 
 #[test]
 fn empty_key_is_a_key_like_another() {
-    let image = built(&owned(&[b"b\x01", b"c"]), 0, 8);
+    let image = built(&owned(&[b"b\x01", b"c"]), version_1(0, 8));
     assert_point(&image, b"", 0, 2);
     assert_range(&image, b"", b"", 0);
     assert_seek(&image, b"", 0, b"b\x01");
@@ -301,8 +307,10 @@ fn several_questions_have_their_replies_in_order() {
 
 #[test]
 fn empty_file_has_no_replies() {
-    assert_eq!(ask(IMAGE_A, b"", 0), Answer::Written(0));
-    assert_eq!(ask(IMAGE_A, b"", 7), Answer::Written(0));
+    for image in [IMAGE_A, IMAGE_A_2] {
+        assert_eq!(ask(image, b"", 0), Answer::Written(0));
+        assert_eq!(ask(image, b"", 7), Answer::Written(0));
+    }
 }
 
 #[test]
@@ -359,8 +367,10 @@ fn bounds_out_of_order_are_refused_with_23() {
 #[test]
 fn replies_longer_than_the_buffer_are_refused_with_25() {
     let file = one_key(b"QS", b"D2a");
-    assert_eq!(ask(IMAGE_A, &file, 11), Answer::Written(11));
-    assert_eq!(ask(IMAGE_A, &file, 10), Answer::Refused(25));
     let late_fault = [&file[..], b"Q"].concat();
-    assert_eq!(ask(IMAGE_A, &late_fault, 0), Answer::Refused(21));
+    for image in [IMAGE_A, IMAGE_A_2] {
+        assert_eq!(ask(image, &file, 11), Answer::Written(11));
+        assert_eq!(ask(image, &file, 10), Answer::Refused(25));
+        assert_eq!(ask(image, &late_fault, 0), Answer::Refused(21));
+    }
 }

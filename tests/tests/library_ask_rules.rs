@@ -8,15 +8,16 @@ use range_filter_tests::generate::keys::{any_keys, ff_keys, growing_keys, no_key
 use range_filter_tests::generate::questions::{decided_at_dense, keys_about};
 use range_filter_tests::random::Random;
 use range_filter_tests::reference::check::accepted_leaves;
-use range_filter_tests::reference::format::MAX_DENSE_LEVELS;
+use range_filter_tests::reference::format::{MAX_DENSE_LEVELS, VERSIONS};
 use range_filter_tests::reference::leaves::Leaf;
 use range_filter_tests::reference::questions::{write, Question, MAX_QUESTIONS};
 use range_filter_tests::reference::replies::{POINT_REPLY, REPLY_HEAD};
+use range_filter_tests::settings::{version_2, Settings};
 use range_filter_tests::tally::Tally;
 use range_filter_tests::{compare, library};
 
 const WIDTHS: [u64; 5] = [0, 1, 8, 9, 16];
-const LISTS_A_SETTING: usize = 500;
+const LISTS_A_SETTING: usize = 250;
 const RULE_TIMES: usize = 2_000;
 
 /// Compares the replies to points about some keys in a buffer of some length, and gives the
@@ -41,10 +42,17 @@ fn rules(image: &[u8], keys: &[Vec<u8>]) -> Vec<u32> {
     replies.map(|reply| reply[REPLY_HEAD].into()).collect()
 }
 
-/// Gives every number of dense levels with some suffix widths.
-fn settings() -> impl Iterator<Item = (u64, u64)> {
-    let dense_levels = 0..=u64::from(MAX_DENSE_LEVELS);
-    dense_levels.flat_map(|levels| WIDTHS.map(|n| (levels, n)))
+/// Gives every number of dense levels with some suffix widths, in both versions.
+fn settings() -> impl Iterator<Item = Settings> {
+    let settings = |version, n| {
+        (0..=MAX_DENSE_LEVELS).map(move |dense_levels| Settings {
+            version,
+            dense_levels,
+            n,
+        })
+    };
+    let versions = VERSIONS.into_iter();
+    versions.flat_map(move |version| WIDTHS.into_iter().flat_map(move |n| settings(version, n)))
 }
 
 /// Notes the rules of keys about the leaves of a list: by dense or sparse nodes, and by
@@ -52,29 +60,29 @@ fn settings() -> impl Iterator<Item = (u64, u64)> {
 fn note_rules(
     random: &mut Random,
     list: &[Vec<u8>],
-    (dense_levels, n): (u64, u64),
+    settings: Settings,
     tallies: &mut [[Tally; 2]; 2],
 ) {
-    let image = built(list, dense_levels, n);
+    let image = built(list, settings);
     let leaves = accepted_leaves(&image).expect("a built image is accepted");
     let mut keys = keys_about(random, &leaves);
     keys.truncate(MAX_QUESTIONS);
     for (key, rule) in keys.iter().zip(rules(&image, &keys)) {
-        if let Some(dense) = decided_at_dense(key, dense_levels) {
-            tallies[usize::from(dense)][usize::from(n > 0)].note(rule);
+        if let Some(dense) = decided_at_dense(key, settings.dense_levels) {
+            tallies[usize::from(dense)][usize::from(settings.n > 0)].note(rule);
         }
     }
 }
 
 /// Notes the rules of exact leaves' keys with FF behind them: by dense or sparse nodes.
-fn note_rules_of_ff(list: &[Vec<u8>], (dense_levels, n): (u64, u64), tallies: &mut [Tally; 2]) {
-    let image = built(list, dense_levels, n);
+fn note_rules_of_ff(list: &[Vec<u8>], settings: Settings, tallies: &mut [Tally; 2]) {
+    let image = built(list, settings);
     let mut leaves = accepted_leaves(&image).expect("a built image is accepted");
     leaves.retain(|leaf| leaf.exact);
     let longer = |leaf: &Leaf| [&leaf.cut_key, b"\xFF".as_slice()].concat();
     let keys: Vec<Vec<u8>> = leaves.iter().map(longer).collect();
     for (leaf, rule) in leaves.iter().zip(rules(&image, &keys)) {
-        let dense = leaf.cut_key.len() < dense_levels as usize;
+        let dense = leaf.cut_key.len() < settings.dense_levels as usize;
         tallies[usize::from(dense)].note(rule);
     }
 }
@@ -121,7 +129,7 @@ fn ff_behind_an_exact_leaf_takes_a_branch_of_that_label_alone() {
 #[test]
 fn buffers_that_held_points_without_rules_are_refused_with_25() {
     let keys = [b"D1".as_slice(), b"D10", b"D", b"D2x", b"", b"D1\xFF"].map(<[u8]>::to_vec);
-    for image in [IMAGE_A, &built(&[], 2, 8)] {
+    for image in [IMAGE_A, &built(&[], version_2(2, 8))] {
         for count in [1, 2, 6, 7, 1_000, MAX_QUESTIONS] {
             let keys: Vec<Vec<u8>> = keys.iter().cycle().take(count).cloned().collect();
             for room in [8 * count, 9 * count - 1] {

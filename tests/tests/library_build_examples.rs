@@ -1,32 +1,33 @@
-//! Document 01's examples and refusals of build, with values written by hand; the
-//! reference and the proved library both have to give them.
+//! Document 01's examples and refusals of build, in version 1, with values written by hand;
+//! the reference and the proved library both have to give them.
 
 use range_filter_tests::answer::Answer;
 use range_filter_tests::examples::{list_a, list_van, IMAGE_A};
-use range_filter_tests::generate::every_setting;
 use range_filter_tests::generate::images::built;
 use range_filter_tests::generate::keys::owned;
+use range_filter_tests::generate::{every_setting, every_setting_of_version_1};
 use range_filter_tests::reference::format::{
     frame, DC, DL, DP, RC, RL, RP, RS, SB, SC, SL, SV, TS,
 };
 use range_filter_tests::reference::keys::{self, MAX_KEYS};
+use range_filter_tests::settings::{version_1, Settings};
 use range_filter_tests::{compare, library};
 
 /// Gives the answer of a build into an output of some length.
-fn build(list: &[u8], dense_levels: u64, n: u64, room: usize) -> Answer {
-    compare::build(library::build, list, (dense_levels, n), room)
+fn build(list: &[u8], settings: Settings, room: usize) -> Answer {
+    compare::build(library::build, list, settings, room)
 }
 
 /// Gives the answer of a build with dense levels 0 and n 0 into an output that takes every
 /// image of these examples.
 fn build_plain(list: &[u8]) -> Answer {
-    build(list, 0, 0, 1 << 20)
+    build(list, version_1(0, 0), 1 << 20)
 }
 
 /// Gives the image of keys that make a list.
-fn image(keys: &[Vec<u8>], dense_levels: u64, n: u64) -> Vec<u8> {
-    let image = built(keys, dense_levels, n);
-    let answer = build(&keys::write(keys), dense_levels, n, image.len());
+fn image(keys: &[Vec<u8>], settings: Settings) -> Vec<u8> {
+    let image = built(keys, settings);
+    let answer = build(&keys::write(keys), settings, image.len());
     assert_eq!(answer, Answer::Written(image.len()));
     image
 }
@@ -44,13 +45,13 @@ fn table(numbers: &[u32]) -> Vec<u8> {
 
 #[test]
 fn list_a_has_its_bytes() {
-    assert_eq!(image(&list_a(), 0, 0), IMAGE_A);
+    assert_eq!(image(&list_a(), version_1(0, 0)), IMAGE_A);
     assert_eq!(IMAGE_A.len(), 110);
 }
 
 #[test]
 fn list_a_with_a_dense_level_has_its_bodies() {
-    let image = image(&list_a(), 1, 0);
+    let image = image(&list_a(), version_1(1, 0));
     let mut labels = [0; 32];
     labels[8] = 0x10;
     labels[10] = 0x40;
@@ -67,35 +68,33 @@ fn list_a_with_a_dense_level_has_its_bodies() {
 
 #[test]
 fn van_for_v_has_the_same_image() {
-    assert_eq!(image(&list_van(), 0, 0), IMAGE_A);
+    assert_eq!(image(&list_van(), version_1(0, 0)), IMAGE_A);
 }
 
 #[test]
 fn suffix_of_van_has_eight_bits() {
-    assert_eq!(
-        body(&image(&list_van(), 0, 8), SV),
-        [0x82, 0x00, 0x00, 0x00]
-    );
+    let image = image(&list_van(), version_1(0, 8));
+    assert_eq!(body(&image, SV), [0x82, 0x00, 0x00, 0x00]);
 }
 
 #[test]
 fn empty_list_has_94_bytes_at_every_setting() {
-    for (dense_levels, n) in every_setting() {
-        assert_eq!(build(b"", dense_levels, n, 94), Answer::Written(94));
-        assert_eq!(build(b"", dense_levels, n, 93), Answer::Refused(7));
+    for settings in every_setting_of_version_1() {
+        assert_eq!(build(b"", settings, 94), Answer::Written(94));
+        assert_eq!(build(b"", settings, 93), Answer::Refused(7));
     }
 }
 
 #[test]
 fn key_ff_alone_is_a_real_label() {
-    let image = image(&owned(&[b"\xFF"]), 0, 0);
+    let image = image(&owned(&[b"\xFF"]), version_1(0, 0));
     assert_eq!(body(&image, SL), [0xFF]);
     assert_eq!(body(&image, SC), [0x00]);
 }
 
 #[test]
 fn ff_and_ff_ff_have_an_extra_ff() {
-    let image = image(&owned(&[b"\xFF", b"\xFF\xFF"]), 0, 0);
+    let image = image(&owned(&[b"\xFF", b"\xFF\xFF"]), version_1(0, 0));
     assert_eq!(body(&image, SL), [0xFF, 0xFF, 0xFF]);
     assert_eq!(body(&image, SC), [0x01]);
     assert_eq!(body(&image, SB), [0x03]);
@@ -106,8 +105,8 @@ fn document_lists_are_built_at_every_setting() {
     let ff = owned(&[b"\xFF"]);
     let ff_and_ff_ff = owned(&[b"\xFF", b"\xFF\xFF"]);
     for keys in [list_a(), list_van(), ff, ff_and_ff_ff] {
-        for (dense_levels, n) in every_setting() {
-            image(&keys, dense_levels, n);
+        for settings in every_setting() {
+            image(&keys, settings);
         }
     }
 }
@@ -115,7 +114,7 @@ fn document_lists_are_built_at_every_setting() {
 #[test]
 fn sparse_ranks_and_samples_have_a_number_for_each_begun_block() {
     let pairs = (0..=0xFF).flat_map(|first| [vec![first, 1], vec![first, 2]]);
-    let image = image(&pairs.collect::<Vec<_>>(), 0, 0);
+    let image = image(&pairs.collect::<Vec<_>>(), version_1(0, 0));
     assert_eq!(body(&image, SL).len(), 768);
     assert_eq!(body(&image, RS), table(&[0, 256]));
     assert_eq!(body(&image, TS), table(&[0, 382, 510, 638, 766]));
@@ -124,7 +123,7 @@ fn sparse_ranks_and_samples_have_a_number_for_each_begun_block() {
 #[test]
 fn dense_ranks_have_a_number_for_each_begun_block() {
     let pairs = (0..=0xFF).flat_map(|first| [vec![first], vec![first, 1]]);
-    let image = image(&pairs.collect::<Vec<_>>(), 2, 0);
+    let image = image(&pairs.collect::<Vec<_>>(), version_1(2, 0));
     let is_prefix_key = [&[0xFE], &[0xFF; 31][..], &[0x01]].concat();
     assert_eq!(body(&image, DP), is_prefix_key);
     assert_eq!(body(&image, RP), table(&[0, 63, 127, 191, 255]));
@@ -144,7 +143,7 @@ fn chains_of_nodes_are_sampled() {
         key(b'b', b'b'),
         key(b'b', b'z'),
     ];
-    let image = image(&keys, 0, 0);
+    let image = image(&keys, version_1(0, 0));
     assert_eq!(body(&image, SL).len(), 2 + 2 * 62 + 4);
     assert_eq!(body(&image, TS), table(&[0, 65]));
 }
@@ -152,21 +151,23 @@ fn chains_of_nodes_are_sampled() {
 #[test]
 fn output_of_110_bytes_takes_list_a() {
     let list = keys::write(&list_a());
-    assert_eq!(build(&list, 0, 0, 110), Answer::Written(110));
-    assert_eq!(build(&list, 0, 0, 200), Answer::Written(110));
-    assert_eq!(build(&list, 0, 0, 109), Answer::Refused(7));
-    assert_eq!(build(&list, 0, 0, 0), Answer::Refused(7));
+    let settings = version_1(0, 0);
+    assert_eq!(build(&list, settings, 110), Answer::Written(110));
+    assert_eq!(build(&list, settings, 200), Answer::Written(110));
+    assert_eq!(build(&list, settings, 109), Answer::Refused(7));
+    assert_eq!(build(&list, settings, 0), Answer::Refused(7));
 }
 
 #[test]
 fn settings_out_of_range_are_refused_with_5_before_the_list_is_read() {
     let too_many = [5, 17, 255, 256, 65_536, 1 << 32, u64::MAX];
     for setting in too_many {
-        assert_eq!(build(b"bad", setting, 0, 0), Answer::Refused(5));
-        assert_eq!(build(b"bad", 0, setting.max(17), 0), Answer::Refused(5));
-        assert_eq!(build(b"KY\x01a", setting, 16, 200), Answer::Refused(5));
+        let [levels, width] = [version_1(setting, 16), version_1(0, setting.max(17))];
+        assert_eq!(build(b"bad", levels, 0), Answer::Refused(5));
+        assert_eq!(build(b"bad", width, 0), Answer::Refused(5));
+        assert_eq!(build(b"KY\x01a", levels, 200), Answer::Refused(5));
     }
-    assert_eq!(build(b"", 4, 16, 94), Answer::Written(94));
+    assert_eq!(build(b"", version_1(4, 16), 94), Answer::Written(94));
 }
 
 #[test]

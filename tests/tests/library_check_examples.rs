@@ -1,28 +1,21 @@
-//! Document 01's refusals of an image, with images written by hand; the reference and the
-//! proved library both have to give the number, by every call that takes an image.
+//! Document 01's refusals of an image, in version 1, with images written by hand; the
+//! reference and the proved library both have to give the number, by every call that takes an
+//! image.
 
-use range_filter_tests::answer::Answer;
 use range_filter_tests::examples::{list_a, list_van, IMAGE_A};
-use range_filter_tests::generate::images::built;
+use range_filter_tests::generate::images::{body_start, built, with_byte};
 use range_filter_tests::generate::keys::owned;
 use range_filter_tests::reference::format::{
-    assemble, Header, Settings, DP, RECORDS, RECORD_HEAD, RP, RS, SB, SC, SL, TS,
+    assemble, Header, DP, RECORDS, RP, RS, SB, SC, SL, TS,
 };
 use range_filter_tests::reference::rebuild::accepts;
+use range_filter_tests::refused::assert_refused;
+use range_filter_tests::settings::version_1;
 use range_filter_tests::{compare, library};
 
 /// Compares a check, and gives the number.
 fn check(image: &[u8]) -> u32 {
     compare::check(library::check, image)
-}
-
-/// Asserts the number that every call gives for an image that is refused.
-fn assert_refused(image: &[u8], number: u32) {
-    assert_eq!(check(image), number);
-    assert!(!accepts(image));
-    let asked = compare::ask(library::ask, image, b"??", 100);
-    let walked = compare::walk(library::walk, image, u64::MAX, 100);
-    assert_eq!([asked, walked], [Answer::Refused(number); 2]);
 }
 
 /// Gives an image without dense levels and with n 0, whose tables are those of at most 64
@@ -32,10 +25,7 @@ fn sparse_image(leaves: u32, nodes: u32, labels: &[u8], has_child: &[u8], louds:
         leaves,
         sparse_entries: labels.len() as u32,
         sparse_nodes: nodes,
-        ..Header::new(Settings {
-            dense_levels: 0,
-            width: 0,
-        })
+        ..Header::new(version_1(0, 0))
     };
     let mut bodies: [Vec<u8>; RECORDS] = Default::default();
     bodies[SL] = labels.to_vec();
@@ -44,20 +34,6 @@ fn sparse_image(leaves: u32, nodes: u32, labels: &[u8], has_child: &[u8], louds:
     bodies[RS] = vec![0; 4];
     bodies[TS] = vec![0; 4];
     assemble(&header, &bodies)
-}
-
-/// Changes one byte of an image.
-fn with_byte(image: &[u8], at: usize, byte: u8) -> Vec<u8> {
-    let mut image = image.to_vec();
-    assert_ne!(image[at], byte);
-    image[at] = byte;
-    image
-}
-
-/// Gives the offset of the body with a mark that stands nowhere before it.
-fn body_start(image: &[u8], mark: &[u8; 2]) -> usize {
-    let at = image.windows(2).position(|pair| pair == mark);
-    at.expect("the image has the mark") + RECORD_HEAD
 }
 
 #[test]
@@ -75,7 +51,7 @@ fn wrong_frames_are_refused_with_11() {
 
 #[test]
 fn frame_is_judged_before_the_version() {
-    let image = with_byte(&with_byte(IMAGE_A, 2, 2), 22, b'S');
+    let image = with_byte(&with_byte(IMAGE_A, 2, 3), 22, b'S');
     assert_refused(&image, 11);
 }
 
@@ -83,7 +59,8 @@ fn frame_is_judged_before_the_version() {
 fn wrong_headers_are_refused_with_12() {
     for (at, byte) in [
         (2, 0),
-        (2, 2),
+        (2, 3),
+        (2, 255),
         (3, 5),
         (4, 17),
         (5, 1),
@@ -98,7 +75,7 @@ fn wrong_headers_are_refused_with_12() {
 
 #[test]
 fn settings_of_an_empty_image_are_judged() {
-    let empty = built(&[], 0, 0);
+    let empty = built(&[], version_1(0, 0));
     assert_refused(&with_byte(&empty, 3, 5), 12);
     assert_refused(&with_byte(&empty, 4, 17), 12);
     assert_eq!(check(&with_byte(&empty, 3, 4)), 0);
@@ -107,7 +84,7 @@ fn settings_of_an_empty_image_are_judged() {
 
 #[test]
 fn leaf_counts_over_65535_are_refused_with_12() {
-    let empty = built(&[], 0, 0);
+    let empty = built(&[], version_1(0, 0));
     assert_refused(&with_byte(&empty, 8, 1), 12);
     let most = with_byte(&with_byte(&empty, 6, 0xFF), 7, 0xFF);
     assert_refused(&most, 14);
@@ -117,10 +94,7 @@ fn leaf_counts_over_65535_are_refused_with_12() {
 fn body_lengths_are_exact_products() {
     let header = Header {
         dense_nodes: 1 << 28,
-        ..Header::new(Settings {
-            dense_levels: 4,
-            width: 0,
-        })
+        ..Header::new(version_1(4, 0))
     };
     let mut bodies: [Vec<u8>; RECORDS] = Default::default();
     bodies[DP] = vec![0; 1 << 25];
@@ -136,7 +110,7 @@ fn spare_bits_are_refused_with_13() {
     let louds = body_start(IMAGE_A, b"SB");
     assert_refused(&with_byte(IMAGE_A, has_child, 0x45), 13);
     assert_refused(&with_byte(IMAGE_A, louds, 0x95), 13);
-    let narrow = built(&list_a(), 1, 1);
+    let narrow = built(&list_a(), version_1(1, 1));
     let slots = body_start(&narrow, b"SV");
     assert_refused(&with_byte(&narrow, slots, 0x10), 13);
     let is_prefix_key = body_start(&narrow, b"DP");
@@ -211,30 +185,30 @@ fn sole_entry_that_ends_is_refused_with_14() {
 #[test]
 fn dense_levels_that_do_not_fit_are_refused_with_14() {
     assert_refused(&with_byte(IMAGE_A, 3, 1), 14);
-    let one_level = built(&list_a(), 1, 0);
+    let one_level = built(&list_a(), version_1(1, 0));
     assert_refused(&with_byte(&one_level, 3, 0), 14);
     assert_refused(&with_byte(&one_level, 3, 2), 14);
-    let all_dense = built(&list_a(), 3, 0);
+    let all_dense = built(&list_a(), version_1(3, 0));
     assert_eq!(check(&with_byte(&all_dense, 3, 4)), 0);
 }
 
 #[test]
 fn child_without_a_label_is_refused_with_14() {
-    let image = built(&list_a(), 1, 0);
+    let image = built(&list_a(), version_1(1, 0));
     let has_child = body_start(&image, b"DC");
     assert_refused(&with_byte(&image, has_child, 0x01), 14);
 }
 
 #[test]
 fn dense_root_that_is_an_exact_leaf_is_refused_with_14() {
-    let image = built(&owned(&[b"a"]), 1, 0);
+    let image = built(&owned(&[b"a"]), version_1(1, 0));
     let marked = with_byte(&image, body_start(&image, b"DP"), 1);
     assert_refused(&with_byte(&marked, 6, 2), 14);
 }
 
 #[test]
 fn dense_node_without_a_label_is_refused_with_14() {
-    let image = built(&owned(&[b"a", b"aa"]), 2, 0);
+    let image = built(&owned(&[b"a", b"aa"]), version_1(2, 0));
     let second = body_start(&image, b"DL") + 32;
     let bare = with_byte(&image, second + 12, 0);
     assert_refused(&with_byte(&bare, 6, 1), 14);
@@ -264,7 +238,7 @@ fn node_on_level_63_is_accepted() {
 
 #[test]
 fn wrong_ranks_and_samples_are_refused_with_15() {
-    let dense = built(&list_a(), 1, 0);
+    let dense = built(&list_a(), version_1(1, 0));
     for mark in [b"RL", b"RC", b"RP", b"RS", b"TS"] {
         let table = body_start(&dense, mark);
         assert_refused(&with_byte(&dense, table, 1), 15);
@@ -274,7 +248,7 @@ fn wrong_ranks_and_samples_are_refused_with_15() {
 
 #[test]
 fn slot_of_an_exact_leaf_is_refused_with_16() {
-    let image = built(&list_van(), 0, 8);
+    let image = built(&list_van(), version_1(0, 8));
     let exact_slot = body_start(&image, b"SV") + 2;
     assert_refused(&with_byte(&image, exact_slot, 0x01), 16);
     assert_eq!(check(&with_byte(&image, exact_slot - 1, 0x01)), 0);
@@ -283,10 +257,10 @@ fn slot_of_an_exact_leaf_is_refused_with_16() {
 #[test]
 fn suffix_past_the_64th_byte_is_refused_with_16() {
     let keys = |shared: usize| [0x10, 0x20].map(|last| [vec![b'k'; shared], vec![last]].concat());
-    let full = built(&keys(63), 0, 1);
+    let full = built(&keys(63), version_1(0, 1));
     let slots = body_start(&full, b"SV");
     assert_refused(&with_byte(&full, slots, 0x01), 16);
-    let shorter = built(&keys(62), 0, 9);
+    let shorter = built(&keys(62), version_1(0, 9));
     let slots = body_start(&shorter, b"SV");
     assert_eq!(check(&with_byte(&shorter, slots, 0x80)), 0);
     assert_refused(&with_byte(&shorter, slots + 1, 0x01), 16);
@@ -294,7 +268,7 @@ fn suffix_past_the_64th_byte_is_refused_with_16() {
 
 #[test]
 fn smaller_numbers_come_first() {
-    let image = built(&list_van(), 0, 8);
+    let image = built(&list_van(), version_1(0, 8));
     let slot = body_start(&image, b"SV") + 2;
     let has_child = body_start(&image, b"SC");
     let with_16 = with_byte(&image, slot, 1);

@@ -3,7 +3,7 @@
 //! leaf at a place, and at the place behind it the next leaf.
 
 use range_filter_tests::answer::Answer;
-use range_filter_tests::examples::IMAGE_A;
+use range_filter_tests::examples::{IMAGE_A, IMAGE_A_2};
 use range_filter_tests::generate::every_setting;
 use range_filter_tests::generate::images::{any_image, built, large_images, small_frame, CHANGES};
 use range_filter_tests::generate::keys::{any_keys, many_mixed_keys};
@@ -12,27 +12,27 @@ use range_filter_tests::random::Random;
 use range_filter_tests::reference::check::accepted_leaves;
 use range_filter_tests::reference::leaves::Leaf;
 use range_filter_tests::reference::walk::{at, next, record, Stand, RECORD_BYTES};
+use range_filter_tests::settings::{version_1, version_2, Settings};
 use range_filter_tests::tally::Tally;
 use range_filter_tests::{compare, library};
 
 const IMAGES: usize = 1_500;
 const STEPPED_IMAGES: usize = 400;
-const LISTS_A_SETTING: usize = 3;
-const CHANGES_A_KIND: usize = 20_000;
+const LISTS_A_SETTING: usize = 2;
+const CHANGES_A_KIND: usize = 15_000;
 const SMALL_FRAMES: usize = 60_000;
 const LARGE_KEYS: usize = 5_000;
 const PLACES_A_LARGE_IMAGE: usize = 20;
 const MOST_RECORDS: usize = 40;
 
-/// The images that are walked from every place: dense levels, n, key length and about so
-/// many keys.
-const EVERY_PLACE: [(u64, u64, usize, usize); 6] = [
-    (0, 0, 8, 2_000),
-    (2, 8, 8, 1_000),
-    (3, 16, 4, 2_000),
-    (4, 16, 13, 600),
-    (0, 9, 63, 200),
-    (1, 16, 64, 200),
+/// The images that are walked from every place: settings, key length and about so many keys.
+const EVERY_PLACE: [(Settings, usize, usize); 6] = [
+    (version_1(0, 0), 8, 2_000),
+    (version_2(2, 8), 8, 1_000),
+    (version_1(3, 16), 4, 2_000),
+    (version_2(4, 16), 13, 600),
+    (version_2(0, 9), 63, 200),
+    (version_2(1, 16), 64, 200),
 ];
 
 /// Compares the records from a place in a buffer of some length.
@@ -104,12 +104,14 @@ fn compare_at(image: &[u8], whole: &[u8], place: usize, many: usize) {
 fn list_a_is_walked() {
     let mut last = [0; RECORD_BYTES];
     last[..3].copy_from_slice(b"\x02\x01V");
-    let mut found = [0; RECORD_BYTES];
-    library::walk(IMAGE_A, 3, &mut found);
-    assert_eq!(found, last);
-    assert_eq!(walk_from_everywhere(IMAGE_A), 4);
-    assert_eq!(compare(IMAGE_A, 4, RECORD_BYTES), Answer::Written(0));
-    assert_eq!(compare(IMAGE_A, 5, RECORD_BYTES), Answer::Refused(17));
+    for image in [IMAGE_A, IMAGE_A_2] {
+        let mut found = [0; RECORD_BYTES];
+        library::walk(image, 3, &mut found);
+        assert_eq!(found, last);
+        assert_eq!(walk_from_everywhere(image), 4);
+        assert_eq!(compare(image, 4, RECORD_BYTES), Answer::Written(0));
+        assert_eq!(compare(image, 5, RECORD_BYTES), Answer::Refused(17));
+    }
 }
 
 #[test]
@@ -123,11 +125,11 @@ fn random_images_are_walked_from_every_place() {
 #[test]
 fn images_of_every_setting_are_walked_from_every_place() {
     let mut random = Random::new(72);
-    for (dense_levels, n) in every_setting() {
+    for settings in every_setting() {
         for _ in 0..LISTS_A_SETTING {
-            walk_from_everywhere(&built(&any_keys(&mut random), dense_levels, n));
+            walk_from_everywhere(&built(&any_keys(&mut random), settings));
         }
-        assert_eq!(walk_from_everywhere(&built(&[], dense_levels, n)), 0);
+        assert_eq!(walk_from_everywhere(&built(&[], settings)), 0);
     }
 }
 
@@ -151,7 +153,8 @@ fn steps_go_from_leaf_to_leaf_as_next_says() {
 fn done_stays_done() {
     let mut random = Random::new(77);
     let images = (0..STEPPED_IMAGES).map(|_| any_image(&mut random));
-    for image in images.chain([built(&[], 0, 0), built(&[], 4, 16)]) {
+    let empty = [version_1(0, 0), version_2(4, 16)].map(|settings| built(&[], settings));
+    for image in images.chain(empty) {
         let done = leaves(&image).len() as u64;
         assert_eq!(next(&image, done), Ok(done));
         for room in ROOMS.into_iter().chain([10 * RECORD_BYTES]) {
@@ -165,9 +168,9 @@ fn done_stays_done() {
 #[test]
 fn every_place_of_large_images_is_opened() {
     let mut random = Random::new(78);
-    for (dense_levels, n, length, count) in EVERY_PLACE {
+    for (settings, length, count) in EVERY_PLACE {
         let keys = many_mixed_keys(&mut random, count, length);
-        let image = built(&keys, dense_levels, n);
+        let image = built(&keys, settings);
         let whole = records(&leaves(&image));
         for place in 0..=keys.len() {
             let many = random.below(MOST_RECORDS * RECORD_BYTES);

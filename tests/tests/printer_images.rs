@@ -1,19 +1,20 @@
 //! The leaf printer's program against the reference's text, on generated images, on
 //! changed ones, and on inputs at and over the longest that it takes.
 
-use range_filter_tests::examples::{list_a, list_van, IMAGE_A};
-use range_filter_tests::generate::every_setting;
+use range_filter_tests::examples::{list_a, list_van, IMAGE_A, IMAGE_A_2};
 use range_filter_tests::generate::images::{any_image, built, small_frame, Change, CHANGES};
-use range_filter_tests::generate::keys::{many_mixed_keys, owned};
+use range_filter_tests::generate::keys::{any_keys, many_mixed_keys, owned};
+use range_filter_tests::generate::{every_setting, every_setting_of_version_1, in_both_versions};
 use range_filter_tests::printer;
 use range_filter_tests::random::Random;
 use range_filter_tests::reference::check::check;
 use range_filter_tests::reference::print::{print, MAX_INPUT};
+use range_filter_tests::settings::{version_1, version_2, Settings};
 use range_filter_tests::tally::Tally;
 
-const IMAGES: usize = 600;
-const CHANGES_A_KIND: usize = 20_000;
-const PRINTED_A_NUMBER: usize = 200;
+const IMAGES: usize = 400;
+const CHANGES_A_KIND: usize = 15_000;
+const PRINTED_A_NUMBER: usize = 160;
 const SMALL_FRAMES: usize = 1_000;
 
 /// Asserts that the program prints the reference's text, and gives the text.
@@ -25,8 +26,8 @@ fn compare(input: &[u8]) -> String {
 
 /// Gives the image of as many keys of a list as the printer takes, and the image of one key
 /// more, which is too long.
-fn images_at_the_limit(keys: &[Vec<u8>], dense_levels: u64, n: u64) -> [Vec<u8>; 2] {
-    let image = |count: usize| built(&keys[..count], dense_levels, n);
+fn images_at_the_limit(keys: &[Vec<u8>], settings: Settings) -> [Vec<u8>; 2] {
+    let image = |count: usize| built(&keys[..count], settings);
     let counts: Vec<usize> = (0..=keys.len()).collect();
     let too_many = counts.partition_point(|&count| image(count).len() <= MAX_INPUT);
     assert!(
@@ -57,21 +58,25 @@ fn print_changed_images(change: &Change) {
 fn list_a_is_printed() {
     let text = "leaves 4\n0 E 4431 -\n1 O 443132 -\n2 O 4432 -\n3 O 56 -\n";
     assert_eq!(compare(IMAGE_A), text);
+    assert_eq!(compare(IMAGE_A_2), text);
 }
 
 #[test]
 fn suffix_bits_are_printed_first_bit_first() {
     let lines = "0 E 4431 -\n1 O 443132 00000000\n2 O 4432 00000000\n3 O 56 01000001\n";
     let text = format!("leaves 4\n{lines}");
-    assert_eq!(compare(&built(&list_van(), 0, 8)), text);
+    assert_eq!(compare(&built(&list_van(), version_1(0, 8))), text);
 }
 
 #[test]
 fn an_extra_ff_is_printed_as_an_exact_leaf() {
     let text = "leaves 1\n0 O FF -\n";
-    assert_eq!(compare(&built(&owned(&[b"\xFF"]), 0, 0)), text);
+    assert_eq!(compare(&built(&owned(&[b"\xFF"]), version_1(0, 0))), text);
     let text = "leaves 2\n0 E FF -\n1 O FFFF -\n";
-    assert_eq!(compare(&built(&owned(&[b"\xFF", b"\xFF\xFF"]), 0, 0)), text);
+    assert_eq!(
+        compare(&built(&owned(&[b"\xFF", b"\xFF\xFF"]), version_1(0, 0))),
+        text
+    );
 }
 
 #[test]
@@ -81,15 +86,27 @@ fn the_empty_input_is_refused() {
 
 #[test]
 fn empty_images_are_printed() {
-    for (dense_levels, n) in every_setting() {
-        assert_eq!(compare(&built(&[], dense_levels, n)), "leaves 0\n");
+    for settings in every_setting() {
+        assert_eq!(compare(&built(&[], settings)), "leaves 0\n");
     }
 }
 
 #[test]
 fn list_a_is_printed_at_every_setting() {
-    for (dense_levels, n) in every_setting() {
-        compare(&built(&list_a(), dense_levels, n));
+    for settings in every_setting() {
+        compare(&built(&list_a(), settings));
+    }
+}
+
+#[test]
+fn both_versions_are_printed_alike() {
+    let mut random = Random::new(87);
+    for settings in every_setting_of_version_1() {
+        let keys = any_keys(&mut random);
+        let images = in_both_versions(settings).map(|settings| built(&keys, settings));
+        let [one, two] = images.map(|image| printer::print(&image));
+        assert_eq!(one.lines().count(), 1 + keys.len());
+        assert_eq!(one, two);
     }
 }
 
@@ -125,19 +142,22 @@ fn shortened_images_are_refused() {
     for length in 0..IMAGE_A.len() {
         assert_eq!(compare(&IMAGE_A[..length]), "refused 11\n");
     }
+    for length in IMAGE_A.len()..IMAGE_A_2.len() {
+        assert_eq!(compare(&IMAGE_A_2[..length]), "refused 11\n");
+    }
 }
 
 #[test]
 fn images_at_the_limit_are_printed_and_longer_ones_are_too_long() {
     let mut random = Random::new(85);
-    for (dense_levels, n, length, count) in [
-        (0, 0, 3, 40_000),
-        (1, 16, 5, 20_000),
-        (4, 7, 8, 2_000),
-        (0, 9, 64, 4_000),
+    for (settings, length, count) in [
+        (version_1(0, 0), 3, 40_000),
+        (version_2(1, 16), 5, 20_000),
+        (version_1(4, 7), 8, 2_000),
+        (version_2(0, 9), 64, 4_000),
     ] {
         let keys = many_mixed_keys(&mut random, count, length);
-        let [taken, too_long] = images_at_the_limit(&keys, dense_levels, n);
+        let [taken, too_long] = images_at_the_limit(&keys, settings);
         assert!(compare(&taken).starts_with("leaves "));
         assert_eq!(check(&too_long), 0);
         assert_eq!(compare(&too_long), "too long\n");
@@ -160,7 +180,7 @@ fn inputs_over_65536_bytes_are_too_long() {
 fn inputs_that_come_in_pieces_are_read_whole() {
     let mut random = Random::new(86);
     let keys = many_mixed_keys(&mut random, 20_000, 5);
-    let [longest, too_long] = images_at_the_limit(&keys, 0, 9);
+    let [longest, too_long] = images_at_the_limit(&keys, version_2(0, 9));
     let inputs = [IMAGE_A.to_vec(), any_image(&mut random), longest, too_long];
     for input in &inputs {
         for piece in [input.len() / 300 + 1, input.len() / 2 + 1, input.len() - 1] {

@@ -8,11 +8,12 @@ use range_filter_tests::random::Random;
 use range_filter_tests::reference::check::check;
 use range_filter_tests::reference::keys::MAX_KEYS;
 use range_filter_tests::reference::rebuild::accepts;
+use range_filter_tests::settings::{version_1, version_2};
 use range_filter_tests::tally::{judge_changed_images, Tally};
 
 const BUILT_IMAGES: usize = 3_000;
 const FLIPPED_IMAGES: usize = 24;
-const CHANGES_A_KIND: usize = 30_000;
+const CHANGES_A_KIND: usize = 22_000;
 const SMALL_FRAMES: usize = 200_000;
 const LARGE_IMAGES: usize = 60;
 const FLIPS_A_LARGE_IMAGE: usize = 20;
@@ -84,7 +85,8 @@ fn large_images_are_judged_alike() {
         let count = 600 + random.below(600);
         let length = 3 + random.below(4);
         let keys = many_keys(&mut random, count, length);
-        let mut image = built(&keys, (round % 5) as u64, (round % 17) as u64);
+        let version = [version_1, version_2][round % 2];
+        let mut image = built(&keys, version((round % 5) as u64, (round % 17) as u64));
         tally.note(compare(&image));
         for _ in 0..FLIPS_A_LARGE_IMAGE {
             let position = random.below(image.len() * 8);
@@ -98,5 +100,5 @@ fn large_images_are_judged_alike() {
 #[test]
 fn longest_list_is_judged_alike() {
     let keys = many_keys(&mut Random::new(9), MAX_KEYS, 8);
-    assert_eq!(compare(&built(&keys, 2, 7)), 0);
+    assert_eq!(compare(&built(&keys, version_2(2, 7))), 0);
 }

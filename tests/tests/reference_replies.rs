@@ -27,6 +27,7 @@ use range_filter_tests::reference::leaves::{is_possible, leaves, lowest, Leaf};
 use range_filter_tests::reference::questions::Question;
 use range_filter_tests::reference::replies::{replies, Reply, NONE};
 use range_filter_tests::reference::rule_sentences::rules;
+use range_filter_tests::settings::{version_1, version_2, Settings};
 use std::collections::HashMap;
 
 const WIDTHS: [u64; 5] = [0, 1, 8, 9, 16];
@@ -34,10 +35,10 @@ const ATTAINED_LISTS: usize = 400;
 const QUESTIONS_A_LIST: usize = 40;
 
 /// Groups lists by the image they build.
-fn grouped(lists: &[List], dense_levels: u64, n: u64) -> HashMap<Vec<u8>, Vec<&List>> {
+fn grouped(lists: &[List], settings: Settings) -> HashMap<Vec<u8>, Vec<&List>> {
     let mut groups: HashMap<Vec<u8>, Vec<&List>> = HashMap::new();
     for list in lists {
-        let image = built(list, dense_levels, n);
+        let image = built(list, settings);
         groups.entry(image).or_default().push(list);
     }
     groups
@@ -94,9 +95,9 @@ fn brute_reply(group: &[&List], leaves: &[Leaf], question: &Question) -> Reply {
 }
 
 /// Compares the replies over every image of a universe with the lists that build it.
-fn compare_universe(universe: &Universe, dense_levels: u64) {
+fn compare_universe(universe: &Universe, settings: fn(u64) -> Settings) {
     for n in WIDTHS {
-        for (image, group) in grouped(&universe.lists, dense_levels, n) {
+        for (image, group) in grouped(&universe.lists, settings(n)) {
             let leaves = accepted_leaves(&image).expect("a built image is accepted");
             let replies = replies(&leaves, &universe.questions);
             for (question, reply) in universe.questions.iter().zip(replies) {
@@ -111,17 +112,17 @@ fn compare_universe(universe: &Universe, dense_levels: u64) {
 fn replies_agree_over_all_lists_of_two_byte_keys() {
     let universe = Universe::of_two_byte_keys();
     assert_eq!(universe.lists.len(), 1 << 12);
-    compare_universe(&universe, 0);
+    compare_universe(&universe, |n| version_1(0, n));
 }
 
 #[test]
 fn replies_agree_over_all_lists_of_three_byte_keys() {
-    compare_universe(&Universe::of_three_byte_keys(), 1);
+    compare_universe(&Universe::of_three_byte_keys(), |n| version_2(1, n));
 }
 
 #[test]
 fn replies_agree_over_all_short_lists_of_three_byte_keys() {
-    compare_universe(&Universe::of_short_lists(), 2);
+    compare_universe(&Universe::of_short_lists(), |n| version_2(2, n));
 }
 
 /// Gives a list with the same image that has as many keys from a bound on as it can: each
@@ -142,13 +143,13 @@ fn replies_over_long_keys_are_attained() {
     let mut random = Random::new(13);
     for _ in 0..ATTAINED_LISTS {
         let list = any_keys(&mut random);
-        let (dense_levels, n) = any_settings(&mut random);
-        let image = built(&list, dense_levels, n);
-        let leaves = leaves(&list, n as usize);
+        let settings = any_settings(&mut random);
+        let image = built(&list, settings);
+        let leaves = leaves(&list, settings.n as usize);
         for _ in 0..QUESTIONS_A_LIST {
             let question = question_near(&mut random, &leaves);
             let fullest = fullest_list(&list, &leaves, question.keys()[0]);
-            assert_eq!(built(&fullest, dense_levels, n), image);
+            assert_eq!(built(&fullest, settings), image);
             let brute = brute_reply(&[&fullest, &list], &leaves, &question);
             assert_eq!(replies(&leaves, &[question]), [brute], "{list:?}");
         }
@@ -157,8 +158,7 @@ fn replies_over_long_keys_are_attained() {
 
 /// Asserts that none of some questions about a list's keys is denied over its image.
 fn assert_none_denied(random: &mut Random, list: &List, asked: &[Question]) {
-    let (dense_levels, n) = any_settings(random);
-    let image = built(list, dense_levels, n);
+    let image = built(list, any_settings(random));
     let leaves = accepted_leaves(&image).expect("a built image is accepted");
     let replies = replies(&leaves, asked);
     assert_eq!(replies.len(), asked.len());

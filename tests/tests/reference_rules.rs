@@ -71,8 +71,8 @@ fn one_rule_holds_of_each_key_about_random_leaves() {
     let mut tally = Tally::default();
     for _ in 0..LISTS {
         let list = random.pick(&[any_keys, ff_keys, growing_keys, no_keys])(&mut random);
-        let (_, n) = any_settings(&mut random);
-        let leaves = leaves(&list, n as usize);
+        let settings = any_settings(&mut random);
+        let leaves = leaves(&list, settings.n as usize);
         compare_rules(&mut tally, &leaves, &keys_about(&mut random, &leaves));
     }
     let often = |rule: Rule| tally.times(rule.number().into()) >= RULE_TIMES;

@@ -16,8 +16,9 @@ fn try_images(seed: u64, mut trial: impl FnMut(&[u8], &[Leaf])) {
     let mut random = Random::new(seed);
     for _ in 0..LISTS {
         let list = any_keys(&mut random);
-        let (dense_levels, n) = any_settings(&mut random);
-        trial(&built(&list, dense_levels, n), &leaves(&list, n as usize));
+        let settings = any_settings(&mut random);
+        let leaves = leaves(&list, settings.n as usize);
+        trial(&built(&list, settings), &leaves);
     }
 }
 

@@ -6,10 +6,11 @@ use super::bits::{load, ones, ones_of, select_in_word, word};
 use range_filter_tests::answer::Answer;
 use range_filter_tests::reference::build::EXTRA_LABEL;
 use range_filter_tests::reference::format::{
-    Header, Settings, DENSE_BLOCK, HEADER_LENGTH, MARKS, MAX_DENSE_LEVELS, MAX_WIDTH, NODE_BITS,
-    RECORDS, RECORD_HEAD, SAMPLE, SPARSE_BLOCK,
+    settings_are_valid, Header, DENSE_BLOCK, HEADER_LENGTH, LV, NODE_BITS, RECORDS, RECORD_HEAD,
+    SAMPLE, SPARSE_BLOCK,
 };
 use range_filter_tests::reference::keys::{MAX_KEY, MAX_KEYS};
+use range_filter_tests::settings::Settings;
 
 /// The levels that nodes stand on.
 const LEVELS: usize = MAX_KEY;
@@ -35,11 +36,13 @@ struct Plan {
     ends: [u32; LEVELS + 1],
 }
 
-/// The next dense node, sparse entry and slot to be written on each level.
+/// The next node, sparse entry and slot to be written on each level, and how many levels have
+/// nodes.
 struct Cursors {
     nodes: [u32; LEVELS],
     entries: [u32; LEVELS],
     slots: [u32; LEVELS],
+    levels: usize,
 }
 
 /// The labels of a batch of keys, by level.
@@ -50,34 +53,33 @@ struct Batch {
 
 /// Builds the image of a key list, whose length is stated, at the start of the output; a
 /// refusal leaves the output as it was.
-pub fn build(list: &[u8], dense_levels: u64, n: u64, stated: u64, out: &mut [u8]) -> Answer {
-    match fill(list, dense_levels, n, stated, out) {
+pub fn build(list: &[u8], settings: Settings, stated: u64, out: &mut [u8]) -> Answer {
+    match fill(list, settings, stated, out) {
         Ok(length) => Answer::Written(length),
         Err(number) => Answer::Refused(number),
     }
 }
 
 /// Judges everything and then fills the bodies.
-fn fill(list: &[u8], dense_levels: u64, n: u64, stated: u64, out: &mut [u8]) -> Result<usize, u32> {
-    if dense_levels > u64::from(MAX_DENSE_LEVELS) || n > u64::from(MAX_WIDTH) {
+fn fill(list: &[u8], settings: Settings, stated: u64, out: &mut [u8]) -> Result<usize, u32> {
+    if !settings_are_valid(&settings) {
         return Err(5);
     }
     let plan = Plan::of_list(list)?;
-    let settings = Settings {
-        dense_levels: dense_levels as u8,
-        width: n as u8,
-    };
     let (header, cursors) = plan.lay_out(settings);
-    let lengths = header.body_bits().map(|bits| bits.div_ceil(8) as usize);
-    let length = HEADER_LENGTH + RECORDS * RECORD_HEAD + lengths.iter().sum::<usize>();
+    let lengths = body_lengths(&header, &cursors);
+    let heads = header.marks().len() * RECORD_HEAD;
+    let length = HEADER_LENGTH + heads + lengths.iter().sum::<usize>();
     if stated != length as u64 {
         return Err(8);
     }
     let image = out.get_mut(..length).ok_or(7_u32)?;
-    let [dl, dc, dp, sl, sc, sb, sv, rl, rc, rp, rs, ts] = write_frame(image, &header, &lengths);
+    let [dl, dc, dp, sl, sc, sb, sv, rl, rc, rp, rs, ts, lv] =
+        write_frame(image, &header, &lengths);
     fill_dense(list, &plan.records, &header, &cursors, [dl, dc, dp]);
     fill_sparse(list, &plan.records, &header, &cursors, [sl, sc, sb]);
-    fill_slots(list, &plan.records, n as usize, &cursors, sv);
+    fill_slots(list, &plan.records, settings.n as usize, &cursors, sv);
+    fill_level_starts(&cursors, lv);
     fill_ranks(dl, rl, DENSE_BLOCK);
     fill_ranks(dc, rc, DENSE_BLOCK);
     fill_ranks(dp, rp, DENSE_BLOCK);
@@ -167,18 +169,20 @@ impl Plan {
             nodes: [0; LEVELS],
             entries: [0; LEVELS],
             slots: [0; LEVELS],
+            levels: 0,
         };
         let mut entries = 0;
         let mut slots = 0;
         for level in 0..LEVELS {
-            cursors.nodes[level] = header.dense_nodes;
+            cursors.nodes[level] = header.dense_nodes + header.sparse_nodes;
             cursors.entries[level] = header.sparse_entries;
             cursors.slots[level] = slots;
             entries -= self.ends[level];
             let nodes = entries + u32::from(level == 0 && !self.records.is_empty());
             entries += self.starts[level];
             slots += self.ends[level + 1];
-            if level < usize::from(settings.dense_levels) {
+            cursors.levels += usize::from(nodes > 0);
+            if level < settings.dense_levels as usize {
                 header.dense_nodes += nodes;
             } else {
                 header.sparse_nodes += nodes;
@@ -218,7 +222,20 @@ fn shared_prefix(list: &[u8], one: usize, other: usize, limit: usize) -> usize {
     limit
 }
 
-/// Writes the header and each record's mark and body length, and gives the bodies.
+/// Gives the length of each body, 0 for LV in a version without it.
+fn body_lengths(header: &Header, cursors: &Cursors) -> [usize; RECORDS] {
+    let mut lengths = [0; RECORDS];
+    for (length, bits) in lengths.iter_mut().zip(header.body_bits()) {
+        *length = bits.div_ceil(8) as usize;
+    }
+    if header.has_level_starts() {
+        lengths[LV] = 4 * cursors.levels;
+    }
+    lengths
+}
+
+/// Writes the header and each record's mark and body length, and gives the bodies; a record
+/// that the image does not have has an empty one.
 fn write_frame<'a>(
     image: &'a mut [u8],
     header: &Header,
@@ -226,10 +243,14 @@ fn write_frame<'a>(
 ) -> [&'a mut [u8]; RECORDS] {
     let (head, mut rest) = image.split_at_mut(HEADER_LENGTH);
     head.copy_from_slice(&header.bytes());
+    let marks = header.marks();
     std::array::from_fn(|record| {
-        let (mark, behind) = std::mem::take(&mut rest).split_at_mut(RECORD_HEAD);
-        mark[..2].copy_from_slice(MARKS[record]);
-        mark[2..].copy_from_slice(&(lengths[record] as u32).to_le_bytes());
+        let Some(mark) = marks.get(record) else {
+            return Default::default();
+        };
+        let (head, behind) = std::mem::take(&mut rest).split_at_mut(RECORD_HEAD);
+        head[..2].copy_from_slice(*mark);
+        head[2..].copy_from_slice(&(lengths[record] as u32).to_le_bytes());
         let body;
         (body, rest) = behind.split_at_mut(lengths[record]);
         body
@@ -244,7 +265,7 @@ fn fill_dense(
     cursors: &Cursors,
     [labels, has_child, is_prefix_key]: [&mut [u8]; 3],
 ) {
-    let dense_levels = usize::from(header.settings.dense_levels);
+    let dense_levels = header.settings.dense_levels as usize;
     if dense_levels == 0 {
         return;
     }
@@ -285,7 +306,7 @@ fn fill_sparse(
     };
     has_child.fill(0xFF);
     louds.fill(0xFF);
-    let dense_levels = usize::from(header.settings.dense_levels);
+    let dense_levels = header.settings.dense_levels as usize;
     let mut entries = cursors.entries;
     let mut batch = Batch {
         labels: [[0; BATCH]; LEVELS],
@@ -397,6 +418,13 @@ fn fill_samples(body: &[u8], table: &mut [u8]) {
             let entry = entries.next().expect("there is an entry for each sample");
             entry.copy_from_slice(&(position as u32).to_le_bytes());
         }
+    }
+}
+
+/// Fills LV, where there is one, with the first node of each level.
+fn fill_level_starts(cursors: &Cursors, table: &mut [u8]) {
+    for (entry, node) in table.chunks_exact_mut(4).zip(cursors.nodes) {
+        entry.copy_from_slice(&node.to_le_bytes());
     }
 }
 

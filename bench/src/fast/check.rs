@@ -5,7 +5,7 @@ use super::bits::{below, bit, entry, gather, is_clear_from, load, ones, select_i
 use range_filter_tests::reference::build::EXTRA_LABEL;
 use range_filter_tests::reference::check::{header_is_valid, lengths_are_valid};
 use range_filter_tests::reference::format::{
-    frame, Frame, DC, DENSE_BLOCK, DL, DP, NODE_BITS, RC, RL, RP, RS, SAMPLE, SB, SC, SL,
+    frame, Frame, DC, DENSE_BLOCK, DL, DP, LV, NODE_BITS, RC, RL, RP, RS, SAMPLE, SB, SC, SL,
     SPARSE_BLOCK, SV, TS,
 };
 use range_filter_tests::reference::keys::MAX_KEY;
@@ -79,7 +79,7 @@ pub fn accept(image: &[u8]) -> Result<Accepted<'_>, u32> {
     }
     let mut pass = Pass::new(&frame);
     let dense = pass.trie().ok_or(14_u32)?;
-    if pass.rank_is_wrong {
+    if pass.rank_is_wrong || !level_starts_are_valid(&frame, &pass.levels) {
         return Err(15);
     }
     if pass.slot_is_wrong || !late_slots_are_valid(&frame, &pass.levels) {
@@ -93,7 +93,16 @@ pub fn accept(image: &[u8]) -> Result<Accepted<'_>, u32> {
     })
 }
 
-/// Judges the bits behind each body's last one.
+/// Judges that LV, if the image has it, is the first node of each level.
+fn level_starts_are_valid(frame: &Frame, levels: &Levels) -> bool {
+    let starts = &levels.starts[..levels.count];
+    let mut numbered = starts.iter().enumerate();
+    !frame.header.has_level_starts()
+        || frame.bodies[LV].len() == 4 * starts.len()
+            && numbered.all(|(level, start)| entry(frame.bodies[LV], level) == start.nodes)
+}
+
+/// Judges the bits behind the last one of each body before LV.
 fn spare_bits_are_clear(frame: &Frame) -> bool {
     let mut bodies = frame.header.body_bits().into_iter().zip(frame.bodies);
     bodies.all(|(bits, body)| bits % 8 == 0 || body[body.len() - 1] >> (bits % 8) == 0)
@@ -102,7 +111,7 @@ fn spare_bits_are_clear(frame: &Frame) -> bool {
 /// Reads a suffix slot, the first bit lowest.
 #[inline]
 pub fn slot(frame: &Frame, number: usize) -> u64 {
-    let width = usize::from(frame.header.settings.width);
+    let width = frame.header.settings.n as usize;
     if width == 0 {
         return 0;
     }
@@ -116,7 +125,7 @@ fn late_slots_are_valid(frame: &Frame, levels: &Levels) -> bool {
     let starts = &levels.starts[..levels.count];
     let start = |level: usize| starts.get(level).map_or(leaves, |start| start.leaves);
     let [of_63_bytes, of_64_bytes] = [start(MAX_KEY - 2), start(MAX_KEY - 1)];
-    let width = usize::from(frame.header.settings.width);
+    let width = frame.header.settings.n as usize;
     is_clear_from(frame.bodies[SV], of_64_bytes * width)
         && (width <= 8 || (of_63_bytes..of_64_bytes).all(|number| slot(frame, number) >> 8 == 0))
 }
@@ -208,7 +217,7 @@ impl<'a> Pass<'a> {
     fn dense_level(&mut self, node: usize) -> bool {
         node != self.levels.next
             || self.levels.enter(self.counts)
-                && self.levels.count <= usize::from(self.frame.header.settings.dense_levels)
+                && self.levels.count <= self.frame.header.settings.dense_levels as usize
     }
 
     /// Passes the bit of D-IsPrefixKey of a dense node.
@@ -231,7 +240,7 @@ impl<'a> Pass<'a> {
         header.sparse_entries == 0
             || bit(self.frame.bodies[SB], 0)
                 && self.levels.next == self.counts.nodes
-                && self.levels.count == usize::from(header.settings.dense_levels)
+                && self.levels.count == header.settings.dense_levels as usize
     }
 
     /// Passes a word of sparse entries.

@@ -317,7 +317,7 @@ impl<'a> Trie<'a> {
     /// there are no suffixes no slot is looked for.
     #[inline]
     pub fn compare_leaf(&self, leaf: Branch, behind_cut: &[u8]) -> Ordering {
-        match self.image.frame.header.settings.width {
+        match self.image.frame.header.settings.n {
             0 => Ordering::Equal,
             _ => self.compare_slot(self.before(leaf).slots, behind_cut),
         }
@@ -327,7 +327,7 @@ impl<'a> Trie<'a> {
     #[inline]
     pub fn compare_slot(&self, number: usize, behind_cut: &[u8]) -> Ordering {
         let byte = |at: usize| behind_cut.get(at).copied().unwrap_or(0);
-        let kept = !(0xFFFF_u32 >> self.image.frame.header.settings.width) as u16;
+        let kept = !(0xFFFF_u32 >> self.image.frame.header.settings.n) as u16;
         let bits = u16::from_be_bytes([byte(0), byte(1)]) & kept;
         self.suffix(number).cmp(&bits)
     }

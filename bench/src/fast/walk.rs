@@ -80,7 +80,7 @@ impl<'a> Walk<'a> {
     fn new(image: &'a Accepted<'a>) -> Self {
         Walk {
             image,
-            dense_levels: usize::from(image.frame.header.settings.dense_levels),
+            dense_levels: image.frame.header.settings.dense_levels as usize,
             cursors: [Cursor::default(); MAX_KEY],
             open: 0,
             labels: [0; MAX_KEY],
@@ -170,7 +170,7 @@ impl<'a> Walk<'a> {
         (!bit(children, entry)).then(|| self.leaf(level, more && label == EXTRA_LABEL))
     }
 
-    /// Gives one of the twelve bodies.
+    /// Gives one of the bodies.
     #[inline]
     fn body(&self, body: usize) -> &'a [u8] {
         self.image.frame.bodies[body]

@@ -8,7 +8,7 @@ use Rattle.build_image.specs.declared.Settings.{Settings as Values}
 
 -- the settings that a struct of numbers stands for
 abbrev pub settings-of : Values → Settings
-settings-of v = settings (v .levels) (v .width)
+settings-of v = settings (v .version) (v .levels) (v .width)
 
 -- the image of a list's keys
 abbrev pub image-of : Bytes → Settings → Bytes

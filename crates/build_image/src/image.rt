@@ -1,11 +1,13 @@
 // The plan of an image, its length, and the image: its header, and its records behind it.
 ghost use mathlib.Core.Path.{_≡_};
-ghost use lib.ListN.{length};
+ghost use mathlib.Core.List.{_++_};
+ghost use Prim.Native.Nat.{_+_, _≤_, _<_};
+ghost use lib.ListN.{length, drop};
 ghost use Rattle.spec.specs.Keys.{keys-of};
 ghost use Rattle.spec.specs.Build.{write-stated};
 ghost use Rattle.image_types.specs.Outcomes.{outcome};
 ghost use Rattle.build_laws.specs.CountPass.{level-counts, no-counts, list-counts};
-ghost use Rattle.build_laws.specs.Plan.{Ready, Planned, plan-settings};
+ghost use Rattle.build_laws.specs.Plan.{Ready, Planned, plan-settings, start-at, plan-image, plan-levels};
 ghost use Rattle.build_image.specs.Image.{settings-of, image-of};
 use super::Settings;
 use build_laws::COUNTERS;
@@ -13,6 +15,8 @@ use build_laws::Counters;
 use build_laws::Plan;
 use build_passes::count::count_levels;
 use build_passes::starts::total;
+use build_records::levels::levels_size;
+use build_records::levels::write_levels;
 use build_records::records::write_records;
 use image_records::header::write_header;
 use image_records::table::RECORDS;
@@ -43,6 +47,7 @@ fn lay_out(
 {
     count_levels(entries, nodes, leaves, list);
     let h = Header {
+        version: st.version,
         width: st.width,
         leaves: count,
         dense: Dense {
@@ -60,7 +65,16 @@ fn lay_out(
     }
 }
 
-// The length of the image of an accepted list of so many keys: the end of its last record.
+// Where the image of a plan ends: behind the twelve records, and those of its version behind them.
+fn image_end(plan: Plan, nodes: &Counters) -> usize
+    requires { ⌜ start-at plan 12 + length (plan-levels plan (now nodes)) < 18446744073709551616 ⌝ }
+    ensures { λ r. ⌜ r ≡ start-at plan 12 + length (plan-levels plan (now (nodes .entry))) ⌝ }
+{
+    let starts = plan.starts;
+    starts[RECORDS] + levels_size(plan.header.version, nodes)
+}
+
+// The length of the image of an accepted list of so many keys: where it ends.
 pub fn measure_image(list: &[u8], st: Settings, count: usize) -> usize
     requires { ⌜ Ready (now list) (settings-of st) × (count ≡ length (keys-of (now list))) ⌝ }
     ensures { λ r. ⌜ r ≡ length (image-of (now (list .entry)) (settings-of st)) ⌝ }
@@ -69,8 +83,26 @@ pub fn measure_image(list: &[u8], st: Settings, count: usize) -> usize
     let mut nodes = [0u32; COUNTERS];
     let mut leaves = [0u32; COUNTERS];
     let plan = lay_out(&mut entries, &mut nodes, &mut leaves, list, st, count);
+    image_end(plan, &nodes)
+}
+
+// The image of a plan goes to the front of out, and all else stays: its header, the twelve records, and those of its version behind them. The counters are the list's.
+fn write_image(
+    out: &mut [u8],
+    list: &[u8],
+    plan: Plan,
+    entries: &Counters,
+    nodes: &Counters,
+    leaves: &Counters,
+)
+    requires { ⌜ Planned (now list) plan × (length (plan-image (now list) plan) ≤ length (now out)) × (level-counts (now entries) (now nodes) (now leaves) ≡ list-counts (keys-of (now list))) ⌝ }
+    ensures { λ _. ⌜ now (out .exit) ≡ plan-image (now (list .entry)) plan ++ drop (length (plan-image (now (list .entry)) plan)) (now (out .entry)) ⌝ }
+{
+    let h = plan.header;
     let starts = plan.starts;
-    starts[RECORDS]
+    write_header(out, h);
+    write_records(out, list, plan, entries, nodes, leaves);
+    write_levels(out, starts[RECORDS], h.version, nodes);
 }
 
 // The image of an accepted list of so many keys goes to the front of out; or the answer is 8, the stated length is not the image's, or 7, the image is longer than the output.
@@ -82,16 +114,13 @@ pub fn build_image(list: &[u8], st: Settings, count: usize, stated: u64, out: &m
     let mut nodes = [0u32; COUNTERS];
     let mut leaves = [0u32; COUNTERS];
     let plan = lay_out(&mut entries, &mut nodes, &mut leaves, list, st, count);
-    let starts = plan.starts;
-    let end = starts[RECORDS];
+    let end = image_end(plan, &nodes);
     if stated != (end as u64) {
         return Written::Refused(LENGTH_NOT_STATED);
     }
     if out.len() < end {
         return Written::Refused(IMAGE_TOO_LONG);
     }
-    let h = plan.header;
-    write_header(out, h);
-    write_records(out, list, plan, &entries, &nodes, &leaves);
+    write_image(out, list, plan, &entries, &nodes, &leaves);
     Written::Bytes(end)
 }

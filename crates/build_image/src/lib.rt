@@ -2,8 +2,9 @@
 
 pub mod image; // image.rt: the plan of an image, its length, its header and its records
 
-// Dense levels and the suffix width, in range.
+// The version, dense levels and the suffix width, in range.
 pub struct Settings {
+    pub version: usize,
     pub levels: usize,
     pub width: usize,
 }

@@ -1,17 +1,21 @@
 -- The image of a key list as header and records, with the counts and the lengths of the bodies by the counters of the counting pass. Used by the plan of an image.
 use Prim.Native.Nat.{ℕ, _*_}
-use mathlib.Core.Path.{_≡_, refl, ap}
+use mathlib.Core.Path.{_≡_, ap₂, _∙_}
 use mathlib.Core.List.{List, _++_, map}
 use native.Mathlib.Omega.{arith}
 use lib.ListN.{length}
-use Rattle.spec.specs.Bytes.{Bytes, blocks, le32}
+use Rattle.spec.specs.Bytes.{Bytes, blocks}
 use Rattle.spec.specs.Leaves.{leaves}
-use Rattle.spec.specs.Image.{Settings, Counts, rows, sizes, in-order, write-records, header, counts, bodies, image}
+use Rattle.spec.specs.Image.{Settings, Counts, Row, rows, level-rows, version-rows, level-widths, level-bodies, sizes, in-order, write-records, header, counts, bodies, image}
+use Rattle.theory.specs.Frame.{Paired, records-append}
+use Rattle.theory.specs.LevelStarts.{version-rows-are}
 use Rattle.theory.specs.BuildLaws.{Built-from}
 use Rattle.theory.specs.KeyLeaves.{leaves-length}
 use Rattle.build_laws.specs.Cursors.{sums}
 use Rattle.build_laws.specs.Counters.{entry-counts, node-counts}
 use Rattle.build_laws.specs.KeyBits.{key-bodies}
+use Rattle.build_laws.specs.LevelWidths.{widths, widths-are}
+use Rattle.build_laws.specs.LevelRecord.{level-bytes}
 use Rattle.build_laws.specs.Lengths.{dense-nodes-total, sparse-nodes-total, length-SL, length-DL, length-DC, length-DP, length-SC, length-SB, length-SV, length-RL, length-RC, length-RP, length-RS, length-TS}
 
 -- the counts of a key list's image, by the counters
@@ -32,10 +36,21 @@ module _ (st : Settings) (ks : List Bytes) (b : Built-from st ks) where
   unfolding counts bodies
   counts-are = rw (leaves-length (st .width) ks, dense-nodes-total st ks b, length-SL st ks b, sparse-nodes-total st ks b)
 
+  twelve-paired : Paired rows (in-order (key-bodies st ks))
+  unfolding rows
+  twelve-paired = tt
+
+  -- The twelve records of either version, and those of its own behind them.
+  records-both : write-records (version-rows (st .version)) (in-order (key-bodies st ks) ++ level-bodies (st .version) (level-widths (leaves (st .width) ks)))
+      ≡ write-records rows (in-order (key-bodies st ks)) ++ level-bytes (st .version) (node-counts ks)
+  records-both =
+      ap₂ (λ (rs : List Row) (ws : List ℕ). write-records rs (in-order (key-bodies st ks) ++ level-bodies (st .version) ws)) (version-rows-are (st .version)) (widths-are st ks b)
+      ∙ records-append rows (level-rows (st .version)) (in-order (key-bodies st ks)) (level-bodies (st .version) (widths (node-counts ks))) twelve-paired
+
   -- The image is its header, by the counters, and the records one behind the other.
-  pub image-is : image st (leaves (st .width) ks) ≡ header st (key-counts st ks) ++ write-records rows (in-order (key-bodies st ks))
+  pub image-is : image st (leaves (st .width) ks) ≡ header st (key-counts st ks) ++ (write-records rows (in-order (key-bodies st ks)) ++ level-bytes (st .version) (node-counts ks))
   unfolding image
-  image-is = ap (λ (c : Counts). header st c ++ write-records rows (in-order (key-bodies st ks))) counts-are
+  image-is = ap₂ (λ (c : Counts) (bs : Bytes). header st c ++ bs) counts-are records-both
 
   -- Each body has the length that its row gives by the counters.
   pub body-sizes : map length (in-order (key-bodies st ks)) ≡ sizes st (key-counts st ks)

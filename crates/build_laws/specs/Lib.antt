@@ -19,6 +19,8 @@ pub mod Counters
 pub mod KeyBits
 pub mod Lengths
 pub mod BodyLaws
+pub mod LevelWidths
+pub mod LevelRecord
 pub mod ImageRecords
 pub mod SmallCounters
 pub mod CounterRoom

@@ -2,7 +2,7 @@
 use Prim.Native.Nat.{ℕ, zero, suc, _+_, _*_, _-_, _/_, _≤_, _<_}
 use mathlib.Core.Path.{_≡_, refl, sym, ap, ap₂, subst, _∙_}
 use mathlib.Core.Bool.{Bool, true, false}
-use mathlib.Core.List.{List, [], _∷_, _++_, map}
+use mathlib.Core.List.{List, [], _∷_, _++_, map, append-assoc}
 use native.Mathlib.Omega.{arith}
 use lib.ListN.{length, getD, drop, length-append}
 use lib.Seq.{take-all}
@@ -11,7 +11,7 @@ use borrow.Author.Tests.{ltb-true, ltb-false}
 use Rattle.spec.specs.Bytes.{Bytes, blocks, le32}
 use Rattle.spec.specs.Keys.{keys-of}
 use Rattle.spec.specs.Leaves.{leaves}
-use Rattle.spec.specs.Image.{Settings, Counts, Row, Bodies, rows, sizes, in-order, marked, write-records, header, image}
+use Rattle.spec.specs.Image.{Settings, Counts, Row, rows, sizes, in-order, marked, write-records, header, image}
 use Rattle.theory.specs.BuildLaws.{Built-from}
 use Rattle.bits_laws.specs.Bits.{part, placed, rank}
 use Rattle.bits_laws.specs.Placing.{length-placed, placed-nil, placed-behind}
@@ -27,6 +27,8 @@ use Rattle.build_laws.specs.KeyBits.{key-bodies}
 use Rattle.build_laws.specs.CountPass.{Level-counts, list-counts}
 use Rattle.build_laws.specs.BodyChoice.{body-of, counters-of}
 use Rattle.build_laws.specs.BodyRoom.{counters-few}
+use Rattle.theory.specs.ImageBytes.{known-few}
+use Rattle.build_laws.specs.LevelRecord.{level-bytes}
 use Rattle.build_laws.specs.ImageRecords.{key-counts, image-is, body-sizes}
 use Rattle.build_laws.specs.TableBodies.{RL-entries, RC-entries, RP-entries, RS-entries, SB-rank, TS-entries}
 use Rattle.build_laws.specs.RecordsWritten.{start-of, start-first, start-after, first-records, record-bytes, first-none, first-more, first-all, first-length}
@@ -37,7 +39,7 @@ use Rattle.build_laws.specs.declared.Source.{Source}
 use Rattle.build_laws.specs.declared.Source.the-variants.{Keys, Ranks, Samples}
 use Rattle.build_laws.specs.declared.Plan.{Plan}
 use Rattle.rank_tables_laws.specs.declared.Span.{Span}
-use Rattle.theory.specs.LengthBounds.{header-length}
+use Rattle.theory.specs.LengthBounds.{header-length, image-short}
 
 -- an accepted list, with settings in range
 pub record Ready (list : Bytes) (st : Settings) : Type 0 where
@@ -102,6 +104,7 @@ module _ (list : Bytes) (p : Plan) (w : Planned list p) where
   -- the fields of the header fit
   pub plan-short : Short-fields (p .header)
   plan-short = record {
+    version = omega (arith, known-few (p .header .version) (w .ready .built .version-known));
     levels = omega (arith, w .ready .built .dense-range);
     width = omega (arith, w .ready .built .width-range);
     leaves = omega (arith, ap (λ (c : Counts). c .leaves) (w .counts), w .ready .built .few);
@@ -134,6 +137,7 @@ module _ (list : Bytes) (p : Plan) (w : Planned list p) where
 -- a header by its values
 abbrev pub header-with : Settings → ℕ → ℕ → ℕ → ℕ → Header
 header-with st leaves dense nodes entries = record {
+  version = st .version;
   width = st .width;
   leaves = leaves;
   dense = record { levels = st .dense-levels; nodes = dense };
@@ -157,6 +161,7 @@ module _ (list : Bytes) (st : Settings) (r : Ready list st) (c : Level-counts) (
     -- the fields of its header fit
     pub header-short : Short-fields (header-with st count dense nodes entries)
     header-short = record {
+      version = omega (arith, known-few (st .version) (r .built .version-known));
       levels = omega (arith, r .built .dense-range);
       width = omega (arith, r .built .width-range);
       leaves = omega (arith, r .built .few);
@@ -428,29 +433,56 @@ module _ (list : Bytes) (p : Plan) (w : Planned list p) (was : Bytes) (room : st
 abbrev pub plan-image : Bytes → Plan → Bytes
 plan-image list p = image (plan-settings p) (leaves (p .header .width) (keys-of list))
 
-module _ (list : Bytes) (p : Plan) (w : Planned list p) where
-  -- the header and the records, one behind the other
-  image-text : plan-image list p ≡ header (plan-settings p) (plan-counts p) ++ write-records rows (plan-bodies list p)
-  image-text = image-is (plan-settings p) (keys-of list) (w .ready .built) ∙ ap (λ (c : Counts). header (plan-settings p) c ++ write-records rows (plan-bodies list p)) (sym (w .counts))
+-- the records behind the twelve, by the counters of the nodes
+abbrev pub plan-levels : Plan → List ℕ → Bytes
+plan-levels p c = level-bytes (p .header .version) c
 
-  -- it ends where the last record does
-  pub plan-end : start-at p 12 ≡ length (plan-image list p)
-  plan-end =
+module _ (list : Bytes) (p : Plan) (w : Planned list p) (c : Level-counts) (e : c ≡ list-counts (keys-of list)) where
+  abbrev the-header : Bytes
+  the-header = header (plan-settings p) (plan-counts p)
+
+  abbrev twelve : Bytes
+  twelve = write-records rows (plan-bodies list p)
+
+  -- the header and the records, one behind the other
+  image-text : plan-image list p ≡ (the-header ++ twelve) ++ plan-levels p (c .nodes)
+  image-text =
+      image-is (plan-settings p) (keys-of list) (w .ready .built)
+      ∙ ap₂ (λ (k : Counts) (x : Level-counts). header (plan-settings p) k ++ (twelve ++ plan-levels p (x .nodes))) (sym (w .counts)) (sym e)
+      ∙ sym (append-assoc the-header twelve (plan-levels p (c .nodes)))
+
+  -- the twelve records end where the plan says
+  twelve-end : 22 + length twelve ≡ start-at p 12
+  twelve-end =
       omega (
         arith,
         start-is list p w 12,
         first-length (plan-settings p) (plan-counts p) (plan-bodies list p) refl (λ j l. body-size list p w j) 12 (omega arith),
         ap length (first-all (plan-bodies list p) refl),
+      )
+
+  -- the image ends where the records behind them do
+  pub plan-end : start-at p 12 + length (plan-levels p (c .nodes)) ≡ length (plan-image list p)
+  plan-end =
+      omega (
+        arith,
+        twelve-end,
         ap length image-text,
-        length-append (header (plan-settings p) (plan-counts p)) (write-records rows (plan-bodies list p)),
+        length-append (the-header ++ twelve) (plan-levels p (c .nodes)),
+        length-append the-header twelve,
         header-length (plan-settings p) (plan-counts p),
       )
 
-  -- the header written at the front, and the records behind it, are the image
-  pub image-written : (out o q : Bytes) → start-at p 12 ≤ length out → o ≡ placed out 0 (header (plan-settings p) (plan-counts p)) → q ≡ placed o 22 (write-records rows (plan-bodies list p))
-      → q ≡ plan-image list p ++ drop (length (plan-image list p)) out
-  image-written out o q h e f =
+  -- at an offset that a number holds
+  pub plan-fits : start-at p 12 + length (plan-levels p (c .nodes)) < 18446744073709551616
+  plan-fits = omega (arith, plan-end, image-short (plan-settings p) (keys-of list) (w .ready .built))
+
+  -- the header written at the front, the twelve records behind it, and those of the version behind them, are the image
+  pub image-written : (out o q r : Bytes) → length (plan-image list p) ≤ length out → o ≡ placed out 0 the-header → q ≡ placed o 22 twelve → r ≡ placed q (start-at p 12) (plan-levels p (c .nodes))
+      → r ≡ plan-image list p ++ drop (length (plan-image list p)) out
+  image-written out o q r h f g k =
       let z : 0 + length (plan-image list p) ≡ length (plan-image list p) = omega arith in
-      placed-behind out o q (header (plan-settings p) (plan-counts p)) (write-records rows (plan-bodies list p)) 0 22 (omega (arith, header-length (plan-settings p) (plan-counts p)))
-      (omega (arith, plan-end, ap length image-text, length-append (header (plan-settings p) (plan-counts p)) (write-records rows (plan-bodies list p)), header-length (plan-settings p) (plan-counts p))) e f
+      let front : length (the-header ++ twelve) ≡ start-at p 12 = omega (arith, twelve-end, length-append the-header twelve, header-length (plan-settings p) (plan-counts p)) in
+      placed-behind out q r (the-header ++ twelve) (plan-levels p (c .nodes)) 0 (start-at p 12) (omega (arith, front)) (omega (arith, plan-end))
+      (placed-behind out o q the-header twelve 0 22 (omega (arith, header-length (plan-settings p) (plan-counts p))) (omega (arith, plan-end, twelve-end)) f g) k
       ∙ ap (placed out 0) (sym image-text) ∙ ap (λ (n : ℕ). plan-image list p ++ drop n out) z

@@ -3,12 +3,14 @@ use Prim.Native.Nat.{ℕ, zero, suc, _+_, _≤_, _<_}
 use mathlib.Core.Path.{_≡_, refl, sym, ap, ap₂, _∙_}
 use mathlib.Core.List.{List, [], _∷_, _++_, append-assoc, append-nil}
 use native.Mathlib.Omega.{arith}
-use native.Mathlib.Numerals.{add-one}
 use lib.ListN.{length, getD, take, drop, length-append}
 use lib.Seq.{getD-drop, drop-drop, drop-cons, take-all}
-use Rattle.spec.specs.Bytes.{Bytes}
+use Rattle.spec.specs.Bytes.{Bytes, le32}
 use Rattle.spec.specs.Image.{Settings, Counts, Row, rows, marked, write-records}
-use Rattle.image_types.specs.Records.{row-at, twelve-rows, rows-from, starts, length-marked}
+use Rattle.bits_laws.specs.Bits.{placed}
+use Rattle.bits_laws.specs.Placing.{placed-behind, length-le32}
+use Rattle.image_types.specs.Header.{mark-bytes}
+use Rattle.image_types.specs.Records.{row-at, row-mark, twelve-rows, rows-from, starts, length-marked}
 
 -- ---- starts
 
@@ -110,3 +112,15 @@ first-length st c bs l f (suc i) h =
       start-next st c i (omega arith),
       first-length st c bs l f i (omega arith),
     ))
+
+-- a mark and a length have six bytes
+pub length-begin : (m : Bytes) (n : ℕ) → length (mark-bytes m ++ le32 n) ≡ 6
+length-begin m n = omega (arith, length-append (mark-bytes m) (le32 n), length-le32 n)
+
+-- a mark, a length and a body, one behind the other, are a record
+pub record-done : (out o p : Bytes) (i at : ℕ) (m body : Bytes) (len : ℕ) → m ≡ row-mark i → len ≡ length body → at + 6 + length body ≤ length out → o ≡ placed out at (mark-bytes m ++ le32 len) → p ≡ placed o (at + 6) body
+    → p ≡ placed out at (record-bytes i body)
+unfolding marked
+record-done out o p i at m body len e f h g k =
+    placed-behind out o p (mark-bytes m ++ le32 len) body at (at + 6) (omega (arith, length-begin m len)) (omega arith) g k
+    ∙ ap₂ (λ (x : Bytes) (n : ℕ). placed out at ((mark-bytes x ++ le32 n) ++ body)) e f

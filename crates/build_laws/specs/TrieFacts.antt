@@ -38,7 +38,7 @@ pub record Trie-facts (n count : ℕ) (ds ss : List Node) : Type 0 where
   pub wide : All (Slots-width n) (ds ++ ss)
   pub leaf-total : leaf-count (ds ++ ss) ≡ count
 
-all-split : {A : Type 0} (P : A → Type 0) (a b : List A) → All P (a ++ b) → All P a × All P b
+pub all-split : {A : Type 0} (P : A → Type 0) (a b : List A) → All P (a ++ b) → All P a × All P b
 all-split P [] b h = (tt, h)
 all-split P (x ∷ a) b h = let q = all-split P a b (h .1) in ((h .0, q .0), q .1)
 

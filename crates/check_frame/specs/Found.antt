@@ -1,13 +1,17 @@
 -- What the reader of the frame answers.
-use Prim.Native.Nat.{ℕ}
-use mathlib.Core.Path.{_≡_}
+use Prim.Native.Nat.{ℕ, _≤_}
+use mathlib.Core.Path.{_≡_, sym, ap, _∙_}
 use mathlib.Core.Bool.{true, false}
 use mathlib.Core.Option.{Option, none, some}
+use lib.ListN.{length, getD}
 use Rattle.spec.specs.Bytes.{Bytes}
+use Rattle.spec.specs.Image.{rows}
+use Rattle.spec.specs.Frame.{rows-of}
 use Rattle.theory.specs.Terms.{From}
 use Rattle.theory.specs.Demands.{Check-refusal}
-use Rattle.image_types.specs.Records.{row-at, stands, record-end}
+use Rattle.image_types.specs.Records.{row-at, stands, record-end, records-end}
 use Rattle.image_types.specs.FrameOf.{FrameOf}
+use Rattle.check_frame_laws.specs.FrameLaws.{end-level}
 use Rattle.check_tables_laws.specs.Tables.{dense-agrees}
 use Rattle.check_frame.specs.declared.RankedFrame.{RankedFrame}
 use Rattle.check_frame.specs.declared.FrameRead.{FrameRead}
@@ -24,6 +28,16 @@ Record-found s i at Missing = stands (row-at i) s at ≡ false
 abbrev pub end-found : RecordEnd → Option ℕ
 end-found (At e) = some e
 end-found Missing = none
+
+-- where the twelve records end, if they stand: within the image
+abbrev pub Twelve-found : Bytes → RecordEnd → Type 0
+Twelve-found s (At e) = (records-end rows s 22 ≡ some e) × (e ≤ length s)
+Twelve-found s Missing = records-end rows s 22 ≡ none
+
+-- In version 2 what is found of LV behind the twelve is what is found of all.
+pub level-found : (s : Bytes) (e : ℕ) → records-end rows s 22 ≡ some e → getD s 2 0 ≡ 2 → (r : RecordEnd) → Record-found s 12 e r → end-found r ≡ records-end (rows-of s) s 22
+level-found s e h v (At m) q = ap some (q .1) ∙ sym (end-level s e h v true (q .0))
+level-found s e h v Missing q = sym (end-level s e h v false q)
 
 -- a frame of the image, and whether the rank tables of its dense nodes are right
 abbrev pub Ranked-frame : Bytes → RankedFrame → Type 0

@@ -4,17 +4,20 @@ ghost use mathlib.Core.Path.{_≡_};
 ghost use Prim.Native.Nat.{_≤_, _<_};
 ghost use lib.ListN.{length};
 ghost use Rattle.spec.specs.Image.{rows};
+ghost use Rattle.spec.specs.Frame.{rows-of};
+ghost use Rattle.image_types.specs.FrameOf.{level-gap};
 ghost use Rattle.image_types.specs.Header.{settings-of, counts-of, Short-fields};
 ghost use Rattle.image_types.specs.Records.{records-end, lengths-agree};
 ghost use Rattle.check_frame_laws.specs.FrameLaws.{settings-valid, Records-stand, Laid-out, frame-at, header-starts, uncounted, Dense-placed, Totals};
 ghost use Rattle.check_tables_laws.specs.Tables.{dense-agrees};
-ghost use Rattle.check_frame.specs.Found.{Record-found, end-found, Ranked-frame, Read-as};
+ghost use Rattle.check_frame.specs.Found.{Record-found, Twelve-found, end-found, Ranked-frame, Read-as};
 use bits::numbers::read32;
+use bits::numbers::wide;
 use check_tables::judge::ranks_at;
+use image_records::header::FIRST_VERSION;
 use image_records::header::MAX_DENSE_LEVELS;
 use image_records::header::MAX_LEAVES;
 use image_records::header::MAX_SUFFIX_BITS;
-use image_records::header::VERSION;
 use image_records::header::VERSION_AT;
 use image_records::header::ZERO_AT;
 use image_records::header::read_header;
@@ -29,6 +32,7 @@ use image_types::DENSE_BLOCK_WORDS;
 use image_types::DenseTotals;
 use image_types::Frame;
 use image_types::Header;
+use image_types::LEVELED_VERSION;
 use image_types::ROW_BITS;
 
 // The number of an image whose header or records do not stand.
@@ -45,7 +49,7 @@ pub enum RecordEnd {
 
 // Where record number i ends, if it stands at an offset: its mark, its length, and its body within the image.
 fn record_end(image: &[u8], i: usize, at: usize) -> RecordEnd
-    requires { ⌜ (i < 12) × (at ≤ length (now image)) ⌝ }
+    requires { ⌜ (i < 13) × (at ≤ length (now image)) ⌝ }
     ensures { λ r. ⌜ Record-found (now (image .entry)) i at r ⌝ }
 {
     let mark = mark(i);
@@ -66,10 +70,10 @@ fn record_end(image: &[u8], i: usize, at: usize) -> RecordEnd
     RecordEnd::At(at + BEFORE_BODY + len)
 }
 
-// Where the last record ends, if all stand behind the header.
-fn last_end(image: &[u8]) -> RecordEnd
+// Where the last of the twelve records ends, if all stand behind the header.
+fn twelve_end(image: &[u8]) -> RecordEnd
     requires { ⌜ 22 ≤ length (now image) ⌝ }
-    ensures { λ r. ⌜ end-found r ≡ records-end rows (now (image .entry)) 22 ⌝ }
+    ensures { λ r. ⌜ Twelve-found (now (image .entry)) r ⌝ }
 {
     let mut at = HEADER;
     let mut i = 0usize;
@@ -83,19 +87,33 @@ fn last_end(image: &[u8]) -> RecordEnd
     RecordEnd::At(at)
 }
 
+// Where the last record ends, if all of the version stand: in the version that has it, LV behind the twelve.
+fn last_end(image: &[u8]) -> RecordEnd
+    requires { ⌜ 22 ≤ length (now image) ⌝ }
+    ensures { λ r. ⌜ end-found r ≡ records-end (rows-of (now (image .entry))) (now (image .entry)) 22 ⌝ }
+{
+    let RecordEnd::At(end) = twelve_end(image) else {
+        return RecordEnd::Missing;
+    };
+    if wide(image[VERSION_AT]) != LEVELED_VERSION {
+        return RecordEnd::At(end);
+    }
+    record_end(image, RECORDS, end)
+}
+
 // The version, the settings, the zero byte and the leaf count are in range.
 fn settings_valid(image: &[u8], h: Header) -> bool
     requires { ⌜ 22 ≤ length (now image) ⌝ }
     ensures { λ r. ⌜ r ≡ settings-valid (now (image .entry)) h ⌝ }
 {
-    (image[VERSION_AT] == VERSION)
+    ((h.version == FIRST_VERSION) | (h.version == LEVELED_VERSION))
         & (h.dense.levels <= MAX_DENSE_LEVELS)
         & (h.width <= MAX_SUFFIX_BITS)
         & (image[ZERO_AT] == 0)
         & (h.leaves <= MAX_LEAVES)
 }
 
-// Each record has just the body length that the header gives.
+// Each of the twelve records has just the body length that the header gives.
 fn lengths_valid(image: &[u8], h: Header) -> bool
     requires { ⌜ Short-fields h × Records-stand (now image) ⌝ }
     ensures { λ r. ⌜ r ≡ lengths-agree (settings-of h) (counts-of h) rows (now (image .entry)) 22 ⌝ }
@@ -145,6 +163,16 @@ pub struct RankedFrame {
     pub agrees: bool,
 }
 
+// The bytes between the twelve records and the body of LV, or none where the version has no LV.
+fn level_gap(version: usize) -> usize
+    ensures { λ r. ⌜ r ≡ level-gap version ⌝ }
+{
+    if version == LEVELED_VERSION {
+        return BEFORE_BODY;
+    }
+    0
+}
+
 // The frame of a header: what it says, and the offset of each body by the table of the records. The totals of the dense nodes are left at 0.
 pub fn frame_at(h: Header) -> Frame
     requires { ⌜ Short-fields h ⌝ }
@@ -154,6 +182,7 @@ pub fn frame_at(h: Header) -> Frame
     let dense = h.dense;
     let sparse = h.sparse;
     Frame {
+        version: h.version,
         width: h.width,
         leaves: h.leaves,
         dense,
@@ -174,6 +203,7 @@ pub fn frame_at(h: Header) -> Frame
         rp: starts[9] + BEFORE_BODY,
         rs: starts[10] + BEFORE_BODY,
         ts: starts[11] + BEFORE_BODY,
+        lv: starts[RECORDS] + level_gap(h.version),
     }
 }
 

@@ -7,17 +7,18 @@ use check_frame::FrameRead;
 use check_frame::RankedFrame;
 use check_frame::read_frame;
 use check_slots::judge::slots_valid;
+use check_starts::starts_valid;
 use check_tables::judge::count_sparse;
 use check_tables::spare::spare_clear;
 use check_trie::trie::trie_valid;
 use image_types::Framed;
 
-// The numbers of the stages behind the frame: a spare bit is set; the bits are not a builder's trie; a rank or sample is wrong; a slot has a bit that must be clear.
+// The numbers of the stages behind the frame: a spare bit is set; the bits are not a builder's trie; a rank, a sample or LV is wrong; a slot has a bit that must be clear.
 const SPARE_SET: u32 = 13;
 
 const NO_TRIE: u32 = 14;
 
-const RANK_WRONG: u32 = 15;
+const TABLE_WRONG: u32 = 15;
 
 const SLOT_SET: u32 = 16;
 
@@ -41,7 +42,10 @@ fn judge(image: &[u8], read: RankedFrame) -> Framed
         return Framed::Refused(NO_TRIE);
     }
     if !(read.agrees & counts.agrees) {
-        return Framed::Refused(RANK_WRONG);
+        return Framed::Refused(TABLE_WRONG);
+    }
+    if !starts_valid(image, f) {
+        return Framed::Refused(TABLE_WRONG);
     }
     if !slots_valid(image, f) {
         return Framed::Refused(SLOT_SET);

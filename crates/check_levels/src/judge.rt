@@ -20,7 +20,7 @@ fn pick(first: bool, x: usize, y: usize) -> usize
 }
 
 // The level that starts at a node, by the tables of the sparse bodies where these are right, else counted on from a level at or before it.
-fn next_level(image: &[u8], f: Frame, agrees: bool, from: Level, node: NodeNum) -> Level
+pub fn next_level(image: &[u8], f: Frame, agrees: bool, from: Level, node: NodeNum) -> Level
     requires { ⌜ Louds-valid (now image) f × (agrees ≡ sparse-agrees (now image) f) × LevelOf (now image) f from × (from .node .0 ≤ node .0) × (node .0 < node-count f) ⌝ }
     ensures { λ r. ⌜ LevelOf (now (image .entry)) f r × (r .node .0 ≡ node .0) ⌝ }
 {

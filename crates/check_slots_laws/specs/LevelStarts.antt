@@ -8,10 +8,11 @@ use lib.ListN.{length, take}
 use lib.Seq.{take-all, take-append-add}
 use lib.Dec.{leb, ltb, eqb}
 use borrow.Author.Tests.{eqb-true, eqb-false, eq-eqb, le-leb, lt-ltb}
-use Rattle.spec.specs.Bytes.{Bytes, concat, ones}
+use Rattle.spec.specs.Bytes.{Bytes, concat, ones, le32}
+use Rattle.spec.specs.Image.{level-starts}
 use Rattle.spec.specs.Frame.{Parts}
 use Rattle.spec.specs.Nodes.{Shape, Node, zip-entries, split, sparse-shape, sparse-nodes, nodes-of, dense-shapes, children-of, total, later, levels-of}
-use Rattle.spec.specs.Trie.{nodes-valid}
+use Rattle.spec.specs.Trie.{nodes-valid, leaf-count}
 use Rattle.bits_laws.specs.Bits.{rank, select}
 use Rattle.bits_laws.specs.PartLaws.{bits-room}
 use Rattle.bits_laws.specs.RankLaws.{rank-le, rank-zero}
@@ -32,10 +33,12 @@ use Rattle.check_slots_laws.specs.LevelSlots.{above, above-up}
 use Rattle.check_slots_laws.specs.SparseExact.{sparse-slot}
 use Rattle.check_slots_laws.specs.LeavesBefore.{sparse-leaves}
 use Rattle.check_slots_laws.specs.Passed.{Passed-to-15, Bits-valid, trie-valid, bits-pass}
-use Rattle.theory.specs.TrieTests.{nodes-valid-none, nodes-valid-true, nodes-valid-levels}
+use Rattle.theory.specs.TrieTests.{nodes-valid-none, nodes-valid-true, nodes-valid-levels, nodes-valid-leaves}
 use Rattle.theory.specs.Lists.{and-both}
 use Rattle.theory.specs.NodeBits.{length-slotted}
-use Rattle.theory.specs.Levels.{total-append}
+use Rattle.theory.specs.LinkedLevels.{Linked, first-width}
+use Rattle.theory.specs.Levels.{total-append, nodes-bound}
+use Rattle.theory.specs.LevelStarts.{starts-from, starts-ext, root-starts}
 
 -- ---- ends of levels, from the last
 
@@ -61,6 +64,8 @@ module _ (K : ℕ → ℕ) (N : ℕ) where
 -- ---- the levels of nodes that pass number 14
 
 record Levels-of-nodes (ns : List Node) : Type 0 where
+  linked : Linked (levels-of ns)
+  root : first-width (levels-of ns) ≡ 1
   whole : concat (levels-of ns) ≡ ns
   shallow : length (levels-of ns) ≤ 64
   ends : (t : ℕ) → t ≤ 64 → above (levels-of ns) t ≡ nodes-above (before children-of ns) (length ns) t
@@ -70,8 +75,11 @@ unfolding levels-of
 node-levels levels dense leaves [] h l = absurd (omega (arith, eqb-true leaves 0 (sym (nodes-valid-none levels dense leaves) ∙ h)))
 node-levels levels dense leaves (r ∷ ns) h l =
     let b = nodes-valid-true levels dense leaves r ns h in
+    let o = nodes-valid-levels r ns b in
     record {
-      whole = nodes-valid-levels r ns b .whole;
+      linked = o .linked;
+      root = o .wide;
+      whole = o .whole;
       shallow = b .shallow;
       ends = λ t u.
           let e : ℕ = above (levels-of (r ∷ ns)) t in
@@ -106,6 +114,32 @@ pub record Counts-agree (s : Bytes) (f : Frame) : Type 0 where
   pub node-total : node-count f ≡ child-count s f + 1
   -- the dense nodes are those above the first sparse level
   pub top : level-start s f (f .dense .levels) ≡ f .dense .nodes
+
+-- the branches that continue before node e of an image, by its bits
+module _ (s : Bytes) (f : Frame) (j : Passed-to-15 s f) where
+  abbrev q : Parts
+  q = frame-parts s f
+
+  bits-good : Bits-valid s f
+  bits-good = bits-pass s f j
+
+  set-count : ones (q .sb) ≡ f .sparse .nodes
+  set-count = ones-all (sb-body s f) (f .sparse .entries) ∙ bits-good .louds .count
+
+  -- as many nodes as the counts say
+  pub nodes-long : length (nodes-of (frame-parts s f)) ≡ node-count f
+  unfolding nodes-of sparse-nodes
+  nodes-long =
+      length-slotted (q .settings .width) (dense-shapes (q .dl) (q .dc) (q .dp) ++ map sparse-shape (split (zip-entries (q .sl) (q .sc)) (q .sb))) (q .sv)
+      ∙ long q (parts-sized s f (j .frame)) (bits-good .louds .first) set-count (bits-good .within) (bits-good .extra)
+
+  -- the branches that continue before a node
+  pub nodes-before : (e : ℕ) → before children-of (nodes-of (frame-parts s f)) e ≡ branches-before s f e
+  unfolding nodes-of sparse-nodes
+  nodes-before e =
+      before-slotted (q .settings .width) (dense-shapes (q .dl) (q .dc) (q .dp) ++ map sparse-shape (split (zip-entries (q .sl) (q .sc)) (q .sb))) (q .sv) e
+      ∙ before-all q (parts-sized s f (j .frame)) (bits-good .louds .first) set-count (bits-good .within) (bits-good .extra) e
+      ∙ branches-are (f .dense .nodes) (f .sparse .entries) (dc-body s f) (sc-body s f) (sb-body s f) (bits-room (f .sparse .entries) (sb-body s f) (bodies-sized s f (j .frame) .sb)) e
 
 module _ (s : Bytes) (f : Frame) (j : Passed-to-15 s f) (some : 0 < f .leaves) where
   abbrev p : Parts
@@ -154,12 +188,8 @@ module _ (s : Bytes) (f : Frame) (j : Passed-to-15 s f) (some : 0 < f .leaves) w
   pass : Bits-valid s f
   pass = bits-pass s f j
 
-  set : ones (p .sb) ≡ f .sparse .nodes
-  set = ones-all (sb-body s f) (f .sparse .entries) ∙ pass .louds .count
-
   node-long : length (nodes-of p) ≡ N
-  unfolding nodes-of sparse-nodes
-  node-long = length-slotted (p .settings .width) (dense-part ++ sparse-part) (p .sv) ∙ long p (parts-sized s f (j .frame)) (pass .louds .first) set (pass .within) (pass .extra)
+  node-long = nodes-long s f j
 
   in-levels : Levels-of-nodes (nodes-of p)
   in-levels = node-levels (f .dense .levels) (f .dense .nodes) (f .leaves) (nodes-of p) (pass .nodes) some
@@ -168,13 +198,25 @@ module _ (s : Bytes) (f : Frame) (j : Passed-to-15 s f) (some : 0 < f .leaves) w
   pub levels-whole : (concat (levels-of (nodes-of (frame-parts s f))) ≡ nodes-of (frame-parts s f)) × (length (levels-of (nodes-of (frame-parts s f))) ≤ 64)
   levels-whole = (in-levels .whole, in-levels .shallow)
 
+  -- they are few
+  pub nodes-few : node-count f ≤ 4194240
+  nodes-few =
+      let l : leaf-count (concat (levels-of (nodes-of p))) ≤ 65535 = rw (in-levels .whole) (omega (arith, nodes-valid-leaves (f .dense .levels) (f .dense .nodes) (f .leaves) (nodes-of p) (pass .nodes), j .frame .leaves)) in
+      let e : length (concat (take 64 (levels-of (nodes-of p)))) ≡ node-count f = ap (λ (ls : List (List Node)). length (concat ls)) (take-all 64 (levels-of (nodes-of p)) (in-levels .shallow)) ∙ ap length (in-levels .whole) ∙ node-long in
+      omega (arith, nodes-bound 64 65535 (levels-of (nodes-of p)) (in-levels .linked) l, e)
+
   -- the nodes on the first t levels
   pub start-is : (t : ℕ) → t ≤ 64 → above (levels-of (nodes-of (frame-parts s f))) t ≡ level-start s f t
-  unfolding level-start nodes-of sparse-nodes
-  start-is t u =
-      in-levels .ends t u ∙ ap (λ (m : ℕ). nodes-above (before children-of (nodes-of p)) m t) node-long
-      ∙ nodes-above-ext (before children-of (nodes-of p)) K N
-      (λ e l. before-slotted (p .settings .width) (dense-part ++ sparse-part) (p .sv) e ∙ before-all p (parts-sized s f (j .frame)) (pass .louds .first) set (pass .within) (pass .extra) e ∙ branches-are (f .dense .nodes) (f .sparse .entries) (dc-body s f) (sc-body s f) (sb-body s f) (bits-room (f .sparse .entries) (sb-body s f) (bodies-sized s f (j .frame) .sb)) e) t
+  unfolding level-start
+  start-is t u = in-levels .ends t u ∙ ap (λ (m : ℕ). nodes-above (before children-of (nodes-of p)) m t) node-long ∙ nodes-above-ext (before children-of (nodes-of p)) K N (λ e l. nodes-before s f j e) t
+
+  -- the first nodes of the levels, one from another
+  pub starts-are : level-starts (map length (levels-of (nodes-of (frame-parts s f)))) ≡ concat (map le32 (starts-from (branches-before s f) (node-count f) 64 0))
+  starts-are =
+      root-starts (levels-of (nodes-of p)) (in-levels .linked) (in-levels .root) (in-levels .shallow)
+      ∙ ap (λ (ns : List Node). concat (map le32 (starts-from (before children-of ns) (length ns) 64 0))) (in-levels .whole)
+      ∙ ap (λ (m : ℕ). concat (map le32 (starts-from (before children-of (nodes-of p)) m 64 0))) node-long
+      ∙ ap (λ (xs : List ℕ). concat (map le32 xs)) (starts-ext (before children-of (nodes-of p)) K N (λ e l. nodes-before s f j e) 64 0)
 
   K-root : K 0 ≡ 0
   K-root = branches-dense (f .dense .nodes) (f .sparse .entries) (dc-body s f) (sc-body s f) (sb-body s f) 0 (omega arith) ∙ rank-zero (dc-body s f)

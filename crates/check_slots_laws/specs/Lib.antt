@@ -5,11 +5,13 @@ pub mod LeavesBefore
 pub mod LevelSlots
 pub mod SparseExact
 pub mod LevelStarts
+pub mod LevelBytes
 pub mod TableEntries
 pub mod DenseSlots
 pub mod SlotBits
 pub mod SlotWords
 pub mod SlotTests
 pub mod LastLevels
+pub mod LevelsLeft
 pub mod WordDigits
 pub mod SparseWords

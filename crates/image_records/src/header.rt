@@ -15,8 +15,8 @@ use image_types::Dense;
 use image_types::Header;
 use image_types::Sparse;
 
-// The version of the format, which the header says.
-pub const VERSION: u8 = 1;
+// The first version of the format; the other one is LEVELED_VERSION.
+pub const FIRST_VERSION: usize = 1;
 
 // No image has more dense levels.
 pub const MAX_DENSE_LEVELS: usize = 4;
@@ -70,12 +70,12 @@ pub fn begin_record(out: &mut [u8], at: usize, mark: &[u8; MARK_BYTES], len: usi
 }
 
 // The header's first six bytes: its mark, the version, the settings and a zero byte.
-fn write_settings(out: &mut [u8], dense: u8, n: u8)
+fn write_settings(out: &mut [u8], version: u8, dense: u8, n: u8)
     requires { ⌜ 6 ≤ length (now out) ⌝ }
-    ensures { λ _. ⌜ now (out .exit) ≡ placed (now (out .entry)) 0 (first-bytes dense n) ⌝ }
+    ensures { λ _. ⌜ now (out .exit) ≡ placed (now (out .entry)) 0 (first-bytes version dense n) ⌝ }
 {
     write_mark(out, 0, b"HD");
-    out[VERSION_AT] = VERSION;
+    out[VERSION_AT] = version;
     out[DENSE_LEVELS_AT] = dense;
     out[WIDTH_AT] = n;
     out[ZERO_AT] = 0;
@@ -86,7 +86,7 @@ pub fn write_header(out: &mut [u8], h: Header)
     requires { ⌜ Short-fields h × (22 ≤ length (now out)) ⌝ }
     ensures { λ _. ⌜ now (out .exit) ≡ placed (now (out .entry)) 0 (header (settings-of h) (counts-of h)) ⌝ }
 {
-    write_settings(out, h.dense.levels as u8, h.width as u8);
+    write_settings(out, h.version as u8, h.dense.levels as u8, h.width as u8);
     write32(out, LEAVES_AT, h.leaves);
     write32(out, DENSE_NODES_AT, h.dense.nodes);
     write32(out, SPARSE_ENTRIES_AT, h.sparse.entries);
@@ -99,6 +99,7 @@ pub fn read_header(image: &[u8]) -> Header
     ensures { λ r. ⌜ Reads-header (now (image .entry)) r ⌝ }
 {
     Header {
+        version: wide(image[VERSION_AT]),
         width: wide(image[WIDTH_AT]),
         leaves: read32(image, LEAVES_AT),
         dense: Dense {

@@ -15,7 +15,7 @@ use image_types::SAMPLE_RATE;
 use image_types::SPARSE_BLOCK_BITS;
 use image_types::STARTS;
 
-// The number of records.
+// The number of records of both versions. Behind them stands LV, in the version that has it.
 pub const RECORDS: usize = 12;
 
 // The bytes of a header, behind which the first record starts.
@@ -27,9 +27,9 @@ pub const MARK_BYTES: usize = 2;
 // The bytes before a record's body: its mark and its length.
 pub const BEFORE_BODY: usize = 6;
 
-// The mark of record i, from 0.
+// The mark of record i, from 0; behind the twelve, that of LV.
 pub fn mark(i: usize) -> [u8; MARK_BYTES]
-    requires { ⌜ i < 12 ⌝ }
+    requires { ⌜ i < 13 ⌝ }
     ensures { λ r. ⌜ r ≡ row-mark i ⌝ }
 {
     match i {
@@ -44,7 +44,8 @@ pub fn mark(i: usize) -> [u8; MARK_BYTES]
         8 => *b"RC",
         9 => *b"RP",
         10 => *b"RS",
-        _ => *b"TS",
+        11 => *b"TS",
+        _ => *b"LV",
     }
 }
 
@@ -56,7 +57,7 @@ fn table_size(w: usize, n: usize) -> usize
     4 * blocks_for(w, n)
 }
 
-// The length of the body of record i, from 0, by the header.
+// The length of the body of record i of the twelve, from 0, by the header.
 pub fn body_size(h: Header, i: usize) -> usize
     requires { ⌜ Short-fields h × (i < 12) ⌝ }
     ensures { λ r. ⌜ (r ≡ row-at i .size (settings-of h) (counts-of h)) × (r < 2 ^ 40) ⌝ }
@@ -77,7 +78,7 @@ pub fn body_size(h: Header, i: usize) -> usize
     }
 }
 
-// Where each record starts, and where the last one ends.
+// Where each of the twelve records starts, and where the last one ends.
 pub fn record_starts(h: Header) -> [usize; STARTS]
     requires { ⌜ Short-fields h ⌝ }
     ensures { λ r. ⌜ r ≡ starts (settings-of h) (counts-of h) rows 22 ⌝ }

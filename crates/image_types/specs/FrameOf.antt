@@ -1,16 +1,17 @@
 -- What is known of a frame that was read, for every reader of an image: the settings and counts, the offset of each body, and that document 01's
 -- reading of the image has just these bodies and parts. That each body lies within the image is one law, `within`.
-use Prim.Native.Nat.{_+_, _*_, _≤_, _<_}
+use Prim.Native.Nat.{ℕ, _+_, _*_, _≤_, _<_}
 use mathlib.Core.Path.{_≡_}
-use mathlib.Core.Bool.{true}
-use mathlib.Core.List.{List, [], _∷_}
+use mathlib.Core.Bool.{true, cond}
+use mathlib.Core.List.{List, [], _∷_, _++_}
 use mathlib.Core.Option.{some}
 use native.Mathlib.Omega.{arith}
 use native.Mathlib.Nat.{mul-le-mul}
 use lib.ListN.{length, take, drop}
+use lib.Dec.{eqb}
 use Rattle.spec.specs.Bytes.{Bytes, blocks, unpack}
-use Rattle.spec.specs.Image.{rows, Bodies}
-use Rattle.spec.specs.Frame.{has-header, read-bodies, named, Parts, parts}
+use Rattle.spec.specs.Image.{Bodies}
+use Rattle.spec.specs.Frame.{has-header, rows-of, read-bodies, named, Parts, parts}
 use Rattle.spec.specs.Check.{header-valid}
 use Rattle.bits_laws.specs.Bits.{part, rank}
 use Rattle.image_types.specs.Header.{settings-of, counts-of}
@@ -19,11 +20,11 @@ use Rattle.image_types.specs.declared.Frame.{Frame}
 
 -- what a frame's header says
 abbrev pub header-of : Frame → Header
-header-of f = record { width = f .width; leaves = f .leaves; dense = f .dense; sparse = f .sparse }
+header-of f = record { version = f .version; width = f .width; leaves = f .leaves; dense = f .dense; sparse = f .sparse }
 
--- the bodies at a frame's offsets, of the lengths that its counts give
-abbrev pub frame-bodies : Bytes → Frame → List Bytes
-frame-bodies s f =
+-- the twelve bodies at a frame's offsets, of the lengths that its counts give
+abbrev pub twelve-bodies : Bytes → Frame → List Bytes
+twelve-bodies s f =
     part s (f .dl) (32 * f .dense .nodes)
     ∷ part s (f .dc) (32 * f .dense .nodes)
     ∷ part s (f .dp) (blocks 8 (f .dense .nodes))
@@ -38,7 +39,11 @@ frame-bodies s f =
     ∷ part s (f .ts) (4 * blocks 64 (f .sparse .nodes))
     ∷ []
 
--- the same under their marks
+-- and LV behind them, up to the end, where the version has it
+abbrev pub frame-bodies : Bytes → Frame → List Bytes
+frame-bodies s f = twelve-bodies s f ++ cond (eqb (f .version) 2) (drop (f .lv) s ∷ []) []
+
+-- the twelve under their marks
 abbrev pub frame-named : Bytes → Frame → Bodies
 frame-named s f = named (frame-bodies s f)
 
@@ -56,6 +61,10 @@ frame-parts s f = record {
   sv = take (f .leaves * f .width) (unpack (part s (f .sv) (blocks 8 (f .leaves * f .width))));
 }
 
+-- the bytes before the body of LV: the six of its record, where the version has it
+abbrev pub level-gap : ℕ → ℕ
+level-gap v = cond (eqb v 2) 6 0
+
 -- each body starts behind the one before it and the six bytes of its record
 pub record Chained (f : Frame) : Type 0 where
   pub dl : f .dl ≡ 28
@@ -70,12 +79,13 @@ pub record Chained (f : Frame) : Type 0 where
   pub rp : f .rp ≡ f .rc + 4 * blocks 64 (256 * f .dense .nodes) + 6
   pub rs : f .rs ≡ f .rp + 4 * blocks 64 (f .dense .nodes) + 6
   pub ts : f .ts ≡ f .rs + 4 * blocks 512 (f .sparse .entries) + 6
+  pub lv : f .lv ≡ f .ts + 4 * blocks 64 (f .sparse .nodes) + level-gap (f .version)
 
--- a frame of an image: each body stands at its offset with the length that the counts give, the last one up to the end, neither 11 nor 12 applies,
+-- a frame of an image: each of the twelve bodies stands at its offset with the length that the counts give, LV's is the rest, neither 11 nor 12 applies,
 -- and the totals are the ones of DC, and those of DL and DP
 pub record FrameOf (s : Bytes) (f : Frame) : Type 0 where
   pub header : has-header s ≡ true
-  pub bodies : read-bodies rows (drop 22 s) ≡ some (frame-bodies s f)
+  pub bodies : read-bodies (rows-of s) (drop 22 s) ≡ some (frame-bodies s f)
   pub parts-are : parts s (frame-named s f) ≡ frame-parts s f
   pub valid : header-valid s (parts s (frame-named s f)) (frame-bodies s f) ≡ true
   pub levels : f .dense .levels ≤ 4
@@ -85,7 +95,7 @@ pub record FrameOf (s : Bytes) (f : Frame) : Type 0 where
   pub entries : f .sparse .entries < 4294967296
   pub sparse : f .sparse .nodes < 4294967296
   pub chained : Chained f
-  pub end : f .ts + 4 * blocks 64 (f .sparse .nodes) ≡ length s
+  pub end : f .lv ≤ length s
   pub children : f .totals .children ≡ rank (drop (f .dc) s) (256 * f .dense .nodes)
   pub dense-entries : f .totals .entries ≡ rank (drop (f .dl) s) (256 * f .dense .nodes) + rank (drop (f .dp) s) (f .dense .nodes)
 
@@ -108,7 +118,7 @@ pub record Within (s : Bytes) (f : Frame) : Type 0 where
 -- A frame of an image tells so of each body.
 pub within : (s : Bytes) (f : Frame) → FrameOf s f → Within s f
 within s f o =
-    let ts : f .ts + 4 * blocks 64 (f .sparse .nodes) ≤ length s = omega (arith, o .end) in
+    let ts : f .ts + 4 * blocks 64 (f .sparse .nodes) ≤ length s = omega (arith, o .end, o .chained .lv) in
     let rs : f .rs + 4 * blocks 512 (f .sparse .entries) ≤ length s = omega (arith, o .chained .ts) in
     let rp : f .rp + 4 * blocks 64 (f .dense .nodes) ≤ length s = omega (arith, o .chained .rs) in
     let rc : f .rc + 4 * blocks 64 (256 * f .dense .nodes) ≤ length s = omega (arith, o .chained .rp) in

@@ -10,13 +10,13 @@ use Rattle.spec.specs.Image.{Settings, Counts}
 use Rattle.spec.specs.Frame.{read-settings, read-counts}
 use Rattle.image_types.specs.declared.Header.{Header}
 
--- dense levels and suffix width, as settings
-abbrev pub settings : ℕ → ℕ → Settings
-settings dense n = record { dense-levels = dense; width = n }
+-- version, dense levels and suffix width, as settings
+abbrev pub settings : ℕ → ℕ → ℕ → Settings
+settings version dense n = record { version = version; dense-levels = dense; width = n }
 
 -- the settings that a header says
 abbrev pub settings-of : Header → Settings
-settings-of h = settings (h .dense .levels) (h .width)
+settings-of h = settings (h .version) (h .dense .levels) (h .width)
 
 -- the counts that a header says
 abbrev pub counts-of : Header → Counts
@@ -24,6 +24,7 @@ counts-of h = record { leaves = h .leaves; dense-nodes = h .dense .nodes; sparse
 
 -- the fields of a header fit the bytes that hold them: one byte for each setting, four for each count
 pub record Short-fields (h : Header) : Type 0 where
+  pub version : h .version < 256
   pub levels : h .dense .levels < 256
   pub width : h .width < 256
   pub leaves : h .leaves < 4294967296
@@ -46,5 +47,5 @@ abbrev pub mark-bytes : Bytes → Bytes
 mark-bytes m = getD m 0 0 ∷ getD m 1 0 ∷ []
 
 -- the header's bytes before its counts
-abbrev pub first-bytes : ℕ → ℕ → Bytes
-first-bytes dense n = letter "H" ∷ letter "D" ∷ 1 ∷ dense ∷ n ∷ 0 ∷ []
+abbrev pub first-bytes : ℕ → ℕ → ℕ → Bytes
+first-bytes version dense n = letter "H" ∷ letter "D" ∷ version ∷ dense ∷ n ∷ 0 ∷ []

@@ -12,27 +12,23 @@ use lib.Seq.{take-all, take-suc-set, drop-cons, drop-drop, getD-drop, length-tak
 use lib.Dec.{leb, eqb}
 use borrow.Author.Tests.{leb-true, le-leb, lt-leb, eqb-true, eqb-false, eq-eqb, ne-eqb}
 use Rattle.spec.specs.Bytes.{Bytes, every, le32, from32}
-use Rattle.spec.specs.Image.{Settings, Counts, Row, rows, marked, write-records}
+use Rattle.spec.specs.Image.{Settings, Counts, Row, rows, level-row, marked, write-records}
 use Rattle.spec.specs.Frame.{is-record, read-bodies}
 use Rattle.spec.specs.Check.{sized}
 use Rattle.bits_laws.specs.Bits.{part}
 
 -- ---- the table
 
--- a row of no record, for numbers past the table
-abbrev no-row : Row
-no-row = record { first = 0; second = 0; size = λ st c. 0 }
-
--- row number i, from 0
+-- row number i, from 0; behind the twelve, that of LV
 unfoldable pub row-at : ℕ → Row
-unfolding rows
-row-at i = getD rows i no-row
+unfolding rows level-row
+row-at i = getD rows i level-row
 
 -- the two letters of its mark
 abbrev pub row-mark : ℕ → Bytes
 row-mark i = row-at i .first ∷ row-at i .second ∷ []
 
--- twelve records
+-- twelve records of both versions
 pub twelve-rows : length rows ≡ 12
 unfolding rows
 twelve-rows = refl
@@ -40,7 +36,7 @@ twelve-rows = refl
 -- the rows from number i on: that one, and those behind it
 pub rows-from : (i : ℕ) → i < 12 → drop i rows ≡ row-at i ∷ drop (i + 1) rows
 unfolding row-at
-rows-from i h = let e : i + 1 ≡ suc i = omega arith in rw e (drop-cons rows i no-row (rw twelve-rows h))
+rows-from i h = let e : i + 1 ≡ suc i = omega arith in rw e (drop-cons rows i level-row (rw twelve-rows h))
 
 -- no row behind the last
 pub rows-end : drop 12 rows ≡ []
@@ -56,9 +52,16 @@ none-below i = omega arith
 eleventh : (i : ℕ) → 11 ≤ i → i < 12 → i ≡ 11
 eleventh i l h = omega arith
 
+twelfth : (i : ℕ) → 12 ≤ i → i < 13 → i ≡ 12
+twelfth i l h = omega arith
+
 -- the number of a row that is none of the first eleven
 pub last-row : (i : ℕ) → i < 12 → (((((((((((Unit {0} × (i ≡ 0 → ⊥)) × (i ≡ 1 → ⊥)) × (i ≡ 2 → ⊥)) × (i ≡ 3 → ⊥)) × (i ≡ 4 → ⊥)) × (i ≡ 5 → ⊥)) × (i ≡ 6 → ⊥)) × (i ≡ 7 → ⊥)) × (i ≡ 8 → ⊥)) × (i ≡ 9 → ⊥)) × (i ≡ 10 → ⊥)) → i ≡ 11
 last-row i h r = eleventh i (next-row i 10 (next-row i 9 (next-row i 8 (next-row i 7 (next-row i 6 (next-row i 5 (next-row i 4 (next-row i 3 (next-row i 2 (next-row i 1 (next-row i 0 (none-below i) (r .0 .0 .0 .0 .0 .0 .0 .0 .0 .0 .1)) (r .0 .0 .0 .0 .0 .0 .0 .0 .0 .1)) (r .0 .0 .0 .0 .0 .0 .0 .0 .1)) (r .0 .0 .0 .0 .0 .0 .0 .1)) (r .0 .0 .0 .0 .0 .0 .1)) (r .0 .0 .0 .0 .0 .1)) (r .0 .0 .0 .0 .1)) (r .0 .0 .0 .1)) (r .0 .0 .1)) (r .0 .1)) (r .1)) h
+
+-- the number of a row that is none of the twelve
+pub level-row-last : (i : ℕ) → i < 13 → ((((((((((((Unit {0} × (i ≡ 0 → ⊥)) × (i ≡ 1 → ⊥)) × (i ≡ 2 → ⊥)) × (i ≡ 3 → ⊥)) × (i ≡ 4 → ⊥)) × (i ≡ 5 → ⊥)) × (i ≡ 6 → ⊥)) × (i ≡ 7 → ⊥)) × (i ≡ 8 → ⊥)) × (i ≡ 9 → ⊥)) × (i ≡ 10 → ⊥)) × (i ≡ 11 → ⊥)) → i ≡ 12
+level-row-last i h r = twelfth i (next-row i 11 (next-row i 10 (next-row i 9 (next-row i 8 (next-row i 7 (next-row i 6 (next-row i 5 (next-row i 4 (next-row i 3 (next-row i 2 (next-row i 1 (next-row i 0 (none-below i) (r .0 .0 .0 .0 .0 .0 .0 .0 .0 .0 .0 .1)) (r .0 .0 .0 .0 .0 .0 .0 .0 .0 .0 .1)) (r .0 .0 .0 .0 .0 .0 .0 .0 .0 .1)) (r .0 .0 .0 .0 .0 .0 .0 .0 .1)) (r .0 .0 .0 .0 .0 .0 .0 .1)) (r .0 .0 .0 .0 .0 .0 .1)) (r .0 .0 .0 .0 .0 .1)) (r .0 .0 .0 .0 .1)) (r .0 .0 .0 .1)) (r .0 .0 .1)) (r .0 .1)) (r .1)) h
 
 -- ---- one record
 
@@ -176,6 +179,35 @@ first-stands r rs s at e h = go (stands r s at) h
     go : (t : Bool) → cond t (records-end rs s (record-end s at)) none ≡ some e → t ≡ true
     go true h = refl
     go false h = let z : _≡_ {A = ℕ} 0 1 = cc in absurd (omega arith)
+
+-- where more records end, behind those that end here
+abbrev pub ends-behind : List Row → Bytes → Option ℕ → Option ℕ
+ends-behind qs s none = none
+ends-behind qs s (some m) = records-end qs s m
+
+-- records in two parts end where the second part does
+pub end-append : (rs qs : List Row) (s : Bytes) (at : ℕ) → records-end (rs ++ qs) s at ≡ ends-behind qs s (records-end rs s at)
+unfolding records-end
+end-append [] qs s at = refl
+end-append (r ∷ rs) qs s at = go (stands r s at) (end-append rs qs s (record-end s at))
+  where
+    go : (t : Bool) → records-end (rs ++ qs) s (record-end s at) ≡ ends-behind qs s (records-end rs s (record-end s at))
+        → cond t (records-end (rs ++ qs) s (record-end s at)) none ≡ ends-behind qs s (cond t (records-end rs s (record-end s at)) none)
+    go true e = e
+    go false e = refl
+
+-- and their bodies are those of both parts
+pub bodies-append : (rs qs : List Row) (s : Bytes) (at m : ℕ) → records-end rs s at ≡ some m → bodies-at (rs ++ qs) s at ≡ bodies-at rs s at ++ bodies-at qs s m
+unfolding records-end bodies-at
+bodies-append [] qs s at m h = let z : at ≡ m = cc in ap (bodies-at qs s) z
+bodies-append (r ∷ rs) qs s at m h =
+    ap (λ (z : List Bytes). part s (at + 6) (body-length s at) ∷ z) (bodies-append rs qs s (record-end s at) m (sym (end-more r rs s at (first-stands r rs s at m h)) ∙ h))
+
+-- as many bodies as records
+pub bodies-count : (rs : List Row) (s : Bytes) (at : ℕ) → length (bodies-at rs s at) ≡ length rs
+unfolding bodies-at
+bodies-count [] s at = refl
+bodies-count (r ∷ rs) s at = ap suc (bodies-count rs s (record-end s at))
 
 -- a body before those behind it
 abbrev body-before : Bytes → Option (List Bytes) → Option (List Bytes)

@@ -1,5 +1,11 @@
 // The types and the numbers of an image: the three kinds of positions, what a header says, the frame, the answers of a call that reads one and of a call that writes, and a leaf by value. No function is declared here, so that laws may rest on them.
 
+// The version of the format whose images have a thirteenth record, LV: the first node of each level.
+pub const LEVELED_VERSION: usize = 2;
+
+// The bytes of a level's first node in LV.
+pub const LEVEL_START_BYTES: usize = 4;
+
 // No trie has more levels, and no cut key more bytes.
 pub const MAX_LEVELS: usize = 64;
 
@@ -27,7 +33,7 @@ pub const SPARSE_BLOCK_WORDS: usize = 8;
 // S-LOUDS has a sample for every 64th set bit, from the first on.
 pub const SAMPLE_RATE: usize = 64;
 
-// A start for each of the 12 records, and the end of the last.
+// A start for each of the twelve records of both versions, and the end of the last.
 pub const STARTS: usize = 13;
 
 // A bit position.
@@ -51,8 +57,9 @@ pub struct Sparse {
     pub entries: usize,
 }
 
-// What a header says: the suffix width, the leaves, and the dense and sparse nodes.
+// What a header says: the version, the suffix width, the leaves, and the dense and sparse nodes.
 pub struct Header {
+    pub version: usize,
     pub width: usize,
     pub leaves: usize,
     pub dense: Dense,
@@ -65,8 +72,9 @@ pub struct DenseTotals {
     pub entries: usize,
 }
 
-// The frame of an image: what its header says, the totals of its dense nodes, and the offset of each record's body.
+// The frame of an image: what its header says, the totals of its dense nodes, and the offset of each record's body. LV's goes up to the end of the image; where the version has none, its offset is that end.
 pub struct Frame {
+    pub version: usize,
     pub width: usize,
     pub leaves: usize,
     pub dense: Dense,
@@ -84,6 +92,7 @@ pub struct Frame {
     pub rp: usize,
     pub rs: usize,
     pub ts: usize,
+    pub lv: usize,
 }
 
 // What reading an image gives: its frame, or the number with which it is refused.

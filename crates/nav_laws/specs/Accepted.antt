@@ -3,7 +3,7 @@ use Prim.Native.Nat.{ℕ, _+_, _*_, _<_, _≤_}
 use mathlib.Core.Path.{_≡_}
 use mathlib.Core.List.{List, _++_, map}
 use lib.ListN.{length, take, drop}
-use Rattle.spec.specs.Bytes.{Bytes, concat, pack}
+use Rattle.spec.specs.Bytes.{Bytes, concat, pack, le32}
 use Rattle.spec.specs.Image.{ranks, samples}
 use Rattle.spec.specs.Leaves.{Leaf}
 use Rattle.spec.specs.Nodes.{Node, is-exact, read-nodes, read-leaves, total, children-of}
@@ -14,6 +14,7 @@ use Rattle.theory.specs.LeafLists.{Realizable, All-well-sized}
 use Rattle.theory.specs.ImageParts.{Writable}
 use Rattle.theory.specs.NodeBits.{sparse-labels, dense-labels, dense-has-child, sparse-has-child, louds, slots}
 use Rattle.theory.specs.LevelTrie.{trie}
+use Rattle.theory.specs.LevelStarts.{starts-from, children-to}
 
 -- the dense nodes of an image, by its frame's count
 abbrev pub dense-nodes : Bytes → Frame → List Node
@@ -32,6 +33,7 @@ abbrev pub Body : Bytes → Bytes → ℕ → Type 0
 Body b s at = (at ≤ length s) × Starts b (drop at s)
 
 -- What the image s with the frame f holds: the bodies are those of the dense nodes ds and the sparse nodes ss, the counts and the totals agree,
+-- LV, in the version that has it, is the first nodes of the levels, each one behind the branches that continue before the last,
 -- nodes are continuing branches plus one, and they are the trie of the leaf list ls.
 pub record Holds (s : Bytes) (f : Frame) (ds ss : List Node) (ls : List Leaf) : Type 0 where
   pub writable : Writable (f .width) (f .leaves) ds ss
@@ -54,6 +56,7 @@ pub record Holds (s : Bytes) (f : Frame) (ds ss : List Node) (ls : List Leaf) : 
   pub RP : Body (ranks 64 (map is-exact ds)) s (f .rp)
   pub RS : Body (ranks 512 (concat (map sparse-has-child ss))) s (f .rs)
   pub TS : Body (samples (concat (map louds ss))) s (f .ts)
+  pub LV : f .version ≡ 2 → (f .lv ≤ length s) × (drop (f .lv) s ≡ concat (map le32 (starts-from (children-to (ds ++ ss)) (length (ds ++ ss)) 64 0)))
   pub children : f .totals .children ≡ rank (drop (f .dc) s) (256 * f .dense .nodes)
   pub items : f .totals .entries ≡ rank (drop (f .dl) s) (256 * f .dense .nodes) + rank (drop (f .dp) s) (f .dense .nodes)
 

@@ -1,28 +1,33 @@
 -- An image that the check takes, with its frame, is accepted: where the facts that this crate asks for come from.
 use Prim.Native.Nat.{ℕ, _*_, _≤_}
 use mathlib.Core.Path.{_≡_, refl, sym, ap, ap₂, subst, _∙_}
-use mathlib.Core.List.{List, [], _++_, map}
-use mathlib.Core.Option.{Option, none, some}
+use mathlib.Core.Bool.{Bool, true, cond}
+use mathlib.Core.List.{List, [], _∷_, _++_, map}
+use mathlib.Core.Option.{some}
 use native.Mathlib.Omega.{arith}
 use lib.ListN.{length, getD, take, drop, length-append, take-append-drop}
 use lib.Seq.{take-at, drop-at}
-use Rattle.spec.specs.Bytes.{Bytes, blocks, concat}
+use lib.Dec.{eqb}
+use borrow.Author.Tests.{eq-eqb}
+use Rattle.spec.specs.Bytes.{Bytes, blocks, concat, le32}
 use Rattle.spec.specs.Leaves.{Leaf}
-use Rattle.spec.specs.Image.{Settings, rows, in-order}
-use Rattle.spec.specs.Frame.{read-bodies, Parts, parts, named}
-use Rattle.spec.specs.Nodes.{Node, is-exact, nodes-of, read-nodes, read-leaves}
+use Rattle.spec.specs.Image.{Settings, in-order, level-starts, level-bodies}
+use Rattle.spec.specs.Frame.{rows-of, read-bodies, Parts, parts, named}
+use Rattle.spec.specs.Nodes.{Node, is-exact, levels-of, nodes-of, read-nodes, read-leaves}
 use Rattle.spec.specs.Check.{verdict}
 use Rattle.image_types.specs.declared.Frame.{Frame}
 use Rattle.bits_laws.specs.Bits.{part}
-use Rattle.image_types.specs.FrameOf.{FrameOf, Within, within, frame-bodies, frame-parts}
+use Rattle.image_types.specs.FrameOf.{FrameOf, Within, within, twelve-bodies, frame-bodies, frame-parts}
 use Rattle.nav_laws.specs.NumberBounds.{node-total}
 use Rattle.nav_laws.specs.Accepted.{Body, Holds, Accepted, dense-nodes, sparse-nodes}
 use Rattle.theory.specs.LeafLists.{Realizable, All-well-sized}
 use Rattle.theory.specs.Terms.{Is-bytes}
 use Rattle.theory.specs.ReadBack.{read-back}
 use Rattle.theory.specs.ImageParts.{Writable, node-image-bodies, parts-of-nodes, parts-back, nodes-back, image-holds}
-use Rattle.theory.specs.NodeBits.{node-image, bodies, bodies-of, dense-labels, dense-has-child, sparse-labels, sparse-has-child, louds, slots, bodies-bits}
+use Rattle.theory.specs.NodeBits.{node-image, version-bodies, bodies, bodies-of, dense-labels, dense-has-child, sparse-labels, sparse-has-child, louds, slots, bodies-bits}
 use Rattle.theory.specs.LevelTrie.{trie}
+use Rattle.theory.specs.LevelStarts.{starts-from, children-to, trie-level-starts}
+use Rattle.theory.specs.TrieTests.{realizable-trie}
 use Rattle.theory.specs.Accept.{accepted-is-image}
 use Rattle.theory.specs.ReadBack.{read-nodes-bodies}
 
@@ -39,16 +44,42 @@ body-same cs bs e i = ap (λ (z : List Bytes). getD z i []) e
 
 module _ (s : Bytes) (f : Frame) (fr : FrameOf s f) (st : Settings) (ls : List Leaf) (ds ss : List Node) (w : Writable (st .width) (length ls) ds ss) (is : s ≡ node-image st (length ls) ds ss)
     (whole : ds ++ ss ≡ concat (trie ls)) (good : Realizable (st .width) ls) (ok : All-well-sized (st .width) ls) where
-  framed : read-bodies rows (drop 22 s) ≡ some (in-order (bodies ds ss))
+  framed : read-bodies (rows-of s) (drop 22 s) ≡ some (version-bodies (st .version) ds ss)
   framed = rw is (node-image-bodies st (length ls) ds ss w)
 
-  bodies-same : frame-bodies s f ≡ in-order (bodies-of (concat (map dense-labels ds)) (concat (map dense-has-child ds)) (map is-exact ds) (concat (map sparse-labels ss)) (concat (map sparse-has-child ss)) (concat (map louds ss)) (concat (map slots (ds ++ ss))))
-  bodies-same = some-same (frame-bodies s f) (in-order (bodies ds ss)) (sym (fr .bodies) ∙ framed) ∙ ap in-order (bodies-bits ds ss)
+  -- the bodies of the image are those of its nodes
+  all-same : frame-bodies s f ≡ version-bodies (st .version) ds ss
+  all-same = some-same (frame-bodies s f) (version-bodies (st .version) ds ss) (sym (fr .bodies) ∙ framed)
+
+  bodies-same : twelve-bodies s f ≡ in-order (bodies-of (concat (map dense-labels ds)) (concat (map dense-has-child ds)) (map is-exact ds) (concat (map sparse-labels ss)) (concat (map sparse-has-child ss)) (concat (map louds ss)) (concat (map slots (ds ++ ss))))
+  bodies-same = ap (take 12) all-same ∙ ap in-order (bodies-bits ds ss)
 
   parts-same : frame-parts s f ≡ parts-of-nodes st (length ls) ds ss
   parts-same =
-      sym (fr .parts-are) ∙ ap (λ (bs : List Bytes). parts s (named bs)) (some-same (frame-bodies s f) (in-order (bodies ds ss)) (sym (fr .bodies) ∙ framed))
-      ∙ ap (λ (z : Bytes). parts z (named (in-order (bodies ds ss)))) is ∙ parts-back st (length ls) ds ss w
+      sym (fr .parts-are) ∙ ap (λ (bs : List Bytes). parts s (named bs)) all-same
+      ∙ ap (λ (z : Bytes). parts z (named (version-bodies (st .version) ds ss))) is ∙ parts-back st (length ls) ds ss w
+
+  version-same : f .version ≡ st .version
+  version-same = ap (λ (p : Parts). p .settings .version) parts-same
+
+  -- LV holds the first nodes of the levels
+  level-body : f .version ≡ 2 → (f .lv ≤ length s) × (drop (f .lv) s ≡ concat (map le32 (starts-from (children-to (ds ++ ss)) (length (ds ++ ss)) 64 0)))
+  unfolding level-bodies
+  level-body v = (fr .end, ap first-body behind ∙ ap (λ (ns : List Node). level-starts (map length (levels-of ns))) whole ∙ trie-level-starts (realizable-trie (st .width) ls good ok) ∙ ap (λ (ns : List Node). concat (map le32 (starts-from (children-to ns) (length ns) 64 0))) (sym whole))
+    where
+      first-body : List Bytes → Bytes
+      first-body bs = getD bs 0 []
+
+      here : eqb (f .version) 2 ≡ true
+      here = eq-eqb (f .version) 2 v
+
+      there : eqb (st .version) 2 ≡ true
+      there = eq-eqb (st .version) 2 (sym version-same ∙ v)
+
+      behind : drop (f .lv) s ∷ [] ≡ level-starts (map length (levels-of (ds ++ ss))) ∷ []
+      behind =
+          ap (λ (t : Bool). cond t (drop (f .lv) s ∷ []) []) (sym here) ∙ ap (drop 12) all-same
+          ∙ ap (λ (t : Bool). cond t (level-starts (map length (levels-of (ds ++ ss))) ∷ []) []) there
 
   width-same : f .width ≡ st .width
   width-same = ap (λ (p : Parts). p .settings .width) parts-same
@@ -66,9 +97,9 @@ module _ (s : Bytes) (f : Frame) (fr : FrameOf s f) (st : Settings) (ls : List L
   sparse-same = ap (λ (p : Parts). p .counts .sparse-nodes) parts-same
 
   nodes-same : read-nodes s ≡ ds ++ ss
-  nodes-same = read-nodes-bodies s (in-order (bodies ds ss)) framed ∙ ap (λ (z : Bytes). nodes-of (parts z (named (in-order (bodies ds ss))))) is ∙ ap nodes-of (parts-back st (length ls) ds ss w) ∙ nodes-back st (length ls) ds ss w
+  nodes-same = read-nodes-bodies s (version-bodies (st .version) ds ss) framed ∙ ap (λ (z : Bytes). nodes-of (parts z (named (version-bodies (st .version) ds ss)))) is ∙ ap nodes-of (parts-back st (length ls) ds ss w) ∙ nodes-back st (length ls) ds ss w
 
-  body : (i : ℕ) → getD (frame-bodies s f) i [] ≡ getD (in-order (bodies-of (concat (map dense-labels ds)) (concat (map dense-has-child ds)) (map is-exact ds) (concat (map sparse-labels ss)) (concat (map sparse-has-child ss)) (concat (map louds ss)) (concat (map slots (ds ++ ss))))) i []
+  body : (i : ℕ) → getD (twelve-bodies s f) i [] ≡ getD (in-order (bodies-of (concat (map dense-labels ds)) (concat (map dense-has-child ds)) (map is-exact ds) (concat (map sparse-labels ss)) (concat (map sparse-has-child ss)) (concat (map louds ss)) (concat (map slots (ds ++ ss))))) i []
   body i = body-same _ _ bodies-same i
 
   inside : Within s f
@@ -96,6 +127,7 @@ module _ (s : Bytes) (f : Frame) (fr : FrameOf s f) (st : Settings) (ls : List L
     RP = body-at s _ (f .rp) (4 * blocks 64 (f .dense .nodes)) (omega (arith, inside .rp)) (body 9);
     RS = body-at s _ (f .rs) (4 * blocks 512 (f .sparse .entries)) (omega (arith, inside .rs)) (body 10);
     TS = body-at s _ (f .ts) (4 * blocks 64 (f .sparse .nodes)) (omega (arith, inside .ts)) (body 11);
+    LV = level-body;
     children = fr .children;
     items = fr .dense-entries;
   }

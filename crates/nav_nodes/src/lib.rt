@@ -1,8 +1,9 @@
 // Nodes of an accepted image: what stands before one in level order, the entries of a sparse one, and whether it is an exact leaf. The search for branches, the questions and the walk rest on these.
 ghost use mathlib.Core.Path.{_≡_};
-ghost use Prim.Native.Nat.{_≤_};
+ghost use Prim.Native.Nat.{_+_, _≤_};
 ghost use Rattle.spec.specs.Nodes.{is-exact};
-ghost use Rattle.nav_laws.specs.Slots.{node-at};
+ghost use Rattle.nav_laws.specs.Slots.{node-at, leaves-before};
+ghost use Rattle.nav_laws.specs.Descent.{children-before};
 ghost use Rattle.nav_laws.specs.Accepted.{Accepted, nodes};
 ghost use Rattle.nav_laws.specs.FoundBranch.{node-count, Is-node, Is-sparse, Counts-before, Entries-at};
 use bits_ranks::bit_at;
@@ -63,6 +64,20 @@ pub fn counts_before(image: &[u8], f: Frame, m: NodeNum) -> CountsBefore
         return dense_before(image, f, m);
     }
     sparse_before(image, f, m)
+}
+
+// The entries of the nodes before a node, or of all nodes: branches and exact leaves together. Where it is known how many of them continue, the leaves follow without a rank of those.
+pub fn entries_before(image: &[u8], f: Frame, m: NodeNum) -> usize
+    requires { ⌜ Accepted (now image) f × (m .0 ≤ node-count f) ⌝ }
+    ensures { λ r. ⌜ r ≡ leaves-before (nodes (now (image .entry)) f) (m .0) + children-before (nodes (now (image .entry)) f) (m .0) ⌝ }
+{
+    if m.0 < f.dense.nodes {
+        let labels = label_rank(image, f, BitPos(ROW_BITS * m.0));
+        let exacts = exact_rank(image, f, m);
+        return labels + exacts;
+    }
+    let start = node_start(image, f, m);
+    f.totals.entries + start.0
 }
 
 // The entries of a sparse node: whether the first is the extra one of an exact leaf, the first entry of its branches, and the entry behind the last.

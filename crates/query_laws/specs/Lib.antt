@@ -24,3 +24,5 @@ pub mod SuffixBits
 pub mod Sought
 pub mod Summed
 pub mod FirstLeaf
+pub mod LevelTable
+pub mod Runs

@@ -1,4 +1,4 @@
-// The types that the laws of questions speak of: where the bytes of a key lead, the rule behind a point's reply, the last higher label that a key has passed, where the bound of a key ends, and the leaf that a seek finds. No function is declared here.
+// The types that the laws of questions speak of: where the bytes of a key lead, the rule behind a point's reply, the last higher label that a key has passed, where the bound of a key ends, a run of levels without leaves, and the leaf that a seek finds. No function is declared here.
 use image_types::BitPos;
 use image_types::NodeNum;
 use image_types::ValuePos;
@@ -33,6 +33,14 @@ pub enum BoundEnd {
     NoLeaf,
     Node,
     Leaf(ValuePos),
+}
+
+// A run of levels on which every node has one branch alone, which continues: the first node of its first level, the nodes of each level, how many levels they are, and the leaves before that node. None has no levels.
+pub struct Run {
+    pub start: usize,
+    pub width: usize,
+    pub levels: usize,
+    pub leaves: usize,
 }
 
 // The leaf that a seek finds: none, or the one with this number in key order.

@@ -1,9 +1,12 @@
 -- What a bound asks and gives that goes down level by level once its key has ended.
 use Prim.Native.Nat.{ℕ, _+_, _-_, _*_, _<_, _≤_}
 use mathlib.Core.Path.{_≡_, refl, sym, ap, _∙_}
+use mathlib.Core.Bool.{Bool, true, false, _&&_}
 use mathlib.Core.List.{[]}
-use native.Mathlib.Nat.{mul-le-mul-left, add-mul}
+use native.Mathlib.Nat.{mul-le-mul-left, mul-le-mul-right, add-mul}
 use native.Mathlib.Omega.{arith}
+use lib.Dec.{leb, ltb}
+use borrow.Author.Tests.{leb-true, ltb-true}
 use Rattle.spec.specs.Bytes.{Bytes}
 use Rattle.image_types.specs.declared.Frame.{Frame}
 use Rattle.nav_laws.specs.Accepted.{Accepted, nodes}
@@ -12,6 +15,10 @@ use Rattle.nav_laws.specs.Descent.{children-before}
 use Rattle.nav_laws.specs.FoundBranch.{node-count}
 use Rattle.query_laws.specs.LevelSums.{slots-below, slots-past, slots-ended}
 use Rattle.query_laws.specs.Summed.{rest-full, rest-node, rest-leaves}
+use Rattle.query_laws.specs.Runs.{Run-of, Flat, run-end, run-sum}
+use Rattle.query_laws.specs.LevelTable.{nodes-few}
+use Rattle.query_laws.specs.Followed.{node-length}
+use Rattle.query_laws.specs.declared.Run.{Run}
 use Rattle.query_levels.specs.declared.LevelSum.{LevelSum}
 use Rattle.query_levels.specs.declared.BoundSums.{BoundSums}
 
@@ -38,6 +45,16 @@ pub record Gone-down (s : Bytes) (f : Frame) (from : LevelSum) (depth : ℕ) (to
   pub sums : from .sum + slots-below (nodes s f) (64 - from .depth) (from .node .0) [] ≡ to .sum + slots-below (nodes s f) (64 - depth) (to .node .0) []
   -- the sum is small
   pub small : to .sum ≤ from .sum + (depth - from .depth) * 65535
+
+-- The sum over all levels, for a bound whose key has ended.
+abbrev pub Summed-below : Bytes → Frame → LevelSum → ℕ → Type 0
+Summed-below s f from r = (r ≡ from .sum + slots-below (nodes s f) (64 - from .depth) (from .node .0) []) × (r ≤ from .sum + (64 - from .depth) * 65535)
+
+-- The bound on some level further down.
+pub record Lowered (s : Bytes) (f : Frame) (from to : LevelSum) : Type 0 where
+  pub deeper : from .depth < to .depth
+  pub depth-in : to .depth ≤ 64
+  pub gone : Gone-down s f from (to .depth) to
 
 -- The sums of two bounds whose keys have ended, up to what both have in common.
 pub record Sums-apart (s : Bytes) (f : Frame) (a b : LevelSum) (r : BoundSums) : Type 0 where
@@ -82,6 +99,83 @@ module _ (s : Bytes) (f : Frame) (a : Accepted s f) (from : LevelSum) where
       where
         split : (64 - b .depth) * f .leaves ≡ (depth - b .depth) * f .leaves + (64 - depth) * f .leaves
         split = let e : 64 - b .depth ≡ (depth - b .depth) + (64 - depth) = omega arith in ap (λ (l : ℕ). l * f .leaves) e ∙ add-mul (depth - b .depth) (64 - depth) (f .leaves)
+
+-- a bound on the next level has been lowered
+pub lowered-next : (s : Bytes) (f : Frame) (from to : LevelSum) → from .depth < 64 → Gone-down s f from (from .depth + 1) to → Lowered s f from to
+lowered-next s f from to h g = record {
+  deeper = omega (arith, g .depth-is);
+  depth-in = omega (arith, g .depth-is);
+  gone = record { node-in = g .node-in; depth-is = refl; sums = g .sums ∙ ap (λ (l : ℕ). to .sum + slots-below (nodes s f) (64 - l) (to .node .0) []) (sym (g .depth-is)); small = omega (arith, g .small, g .depth-is) };
+}
+
+-- ---- runs
+
+-- whether a node lies on the first level of a run, or just behind that level
+abbrev pub On-run : Run → ℕ → Bool → Type 0
+On-run r n true = (0 < r .levels) × (r .start ≤ n) × (n ≤ r .start + r .width)
+On-run r n false = Unit
+
+-- it does if it is not before the run and not past the level
+pub on-run-by : (r : Run) (n : ℕ) → r .start ≤ n → On-run r n (ltb 0 (r .levels) && leb (n - r .start) (r .width))
+on-run-by r n h = go (ltb 0 (r .levels)) (leb (n - r .start) (r .width)) refl refl
+  where
+    go : (a b : Bool) → ltb 0 (r .levels) ≡ a → leb (n - r .start) (r .width) ≡ b → On-run r n (a && b)
+    go true true e g = (ltb-true 0 (r .levels) e, h, omega (arith, leb-true (n - r .start) (r .width) g))
+    go true false e g = tt
+    go false b e g = tt
+
+-- the bound behind a run
+abbrev pub passed : LevelSum → Run → LevelSum
+passed from r = record { node = record { 0 = from .node .0 + r .levels * r .width }; depth = from .depth + r .levels; sum = from .sum + r .levels * r .leaves }
+
+-- its numbers are short
+pub record Passable (from : LevelSum) (r : Run) : Type 0 where
+  pub node : from .node .0 + r .levels * r .width < 1099511627776
+  pub depth : from .depth + r .levels ≤ 64
+  pub sum : from .sum + r .levels * r .leaves < 1099511627776
+
+module _ (s : Bytes) (f : Frame) (from : LevelSum) (p : Down-to s f from 64) (r : Run) (q : Run-of s f (from .depth) r) (on : On-run r (from .node .0) true) where
+  flat : Flat s f r
+  flat = q .flat (on .0)
+
+  few : r .leaves ≤ 65535
+  few = omega (arith, flat .leaves-are (r .start) (omega arith) (omega arith), rest-leaves s f (p .accepted) (r .start))
+
+  -- behind the run the bound's node is one of the nodes, or behind the last
+  node-end : from .node .0 + r .levels * r .width ≤ node-count f
+  node-end = omega (arith, on .2, flat .next-is (run-end r) (omega arith) (omega arith), rest-node s f (p .accepted) (run-end r) some-node)
+    where
+      some-node : 0 < node-count f
+      some-node = omega (arith, flat .inside, flat .next-is (r .start) (omega arith) (omega arith), mul-le-mul-right {m = 1} {n = r .levels} (r .width) (on .0))
+
+  leaves-few : r .levels * r .leaves ≤ r .levels * 65535
+  leaves-few = mul-le-mul-left (r .levels) few
+
+  pub run-passable : Passable from r
+  run-passable = record {
+    node = omega (arith, node-end, nodes-few s f (p .accepted), node-length s f (p .accepted));
+    depth = q .deep;
+    sum = omega (arith, leaves-few, p .small, q .deep);
+  }
+
+  -- a bound on a run passes it
+  pub run-passed : Lowered s f from (passed from r)
+  run-passed = record {
+    deeper = omega (arith, on .0);
+    depth-in = q .deep;
+    gone = record {
+      node-in = node-end;
+      depth-is = refl;
+      sums = omega (arith, run-sum s f r flat (from .node .0) (on .1) (on .2) (r .levels) (64 - from .depth) (omega arith) (omega (arith, q .deep)), ap (λ (l : ℕ). slots-below (nodes s f) l (from .node .0 + r .levels * r .width) []) levels);
+      small = omega (arith, leaves-few, ap (λ (n : ℕ). n * 65535) depth);
+    };
+  }
+    where
+      levels : 64 - from .depth - r .levels ≡ 64 - (from .depth + r .levels)
+      levels = omega arith
+
+      depth : from .depth + r .levels - from .depth ≡ r .levels
+      depth = omega arith
 
 -- ---- two bounds
 

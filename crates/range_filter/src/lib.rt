@@ -30,24 +30,25 @@ fn code_length(length: Length) -> u64
 
 // Gives the exact length of the image of a key list, and writes nothing. The answer is one number: its quotient by 2^32 is the number of a refusal, 0 for a length, and its rest the bytes, 0 for a refusal.
 #[no_mangle]
-pub extern "C" fn range_filter_image_length(list: &[u8], dense: u64, n: u64) -> u64
-    ensures { λ r. ⌜ Coded-length r (image-length (now (list .entry)) (settings dense n)) ⌝ }
+pub extern "C" fn range_filter_image_length(list: &[u8], version: u64, dense: u64, n: u64) -> u64
+    ensures { λ r. ⌜ Coded-length r (image-length (now (list .entry)) (settings version dense n)) ⌝ }
 {
-    code_length(image_length(list, dense, n))
+    code_length(image_length(list, version, dense, n))
 }
 
 // Builds the image of a key list, whose length is stated, into the output. The answer is one number: its quotient by 2^32 is the number of a refusal, 0 for success, and its rest the bytes written, 0 for a refusal.
 #[no_mangle]
 pub extern "C" fn range_filter_build(
     list: &[u8],
+    version: u64,
     dense: u64,
     n: u64,
     stated: u64,
     out: &mut [u8],
 ) -> u64
-    ensures { λ r. ⌜ Coded r (now (out .exit)) (build (now (list .entry)) (settings dense n) stated (now (out .entry))) ⌝ }
+    ensures { λ r. ⌜ Coded r (now (out .exit)) (build (now (list .entry)) (settings version dense n) stated (now (out .entry))) ⌝ }
 {
-    code(build(list, dense, n, stated, out))
+    code(build(list, version, dense, n, stated, out))
 }
 
 // Judges an image. The answer is 0 for an accepted one, else the number of the refusal.

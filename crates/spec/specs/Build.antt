@@ -1,4 +1,4 @@
--- Document 01, "Turning a file down", as orders 5 and 9 change it: building in two public calls. The first takes a key list and settings and gives the image's length;
+-- Document 01, "Turning a file down", as orders 5, 8 and 9 change it: building in two public calls. The first takes a key list and settings and gives the image's length;
 -- the second takes that length and an output too, and gives the answer and the output's final bytes.
 use Prim.Native.Nat.{ℕ, _+_, _*_}
 use mathlib.Core.Bool.{Bool, true, false, _&&_}
@@ -8,13 +8,14 @@ use lib.Dec.{leb, eqb}
 use Rattle.spec.specs.Bytes.{Bytes, concat}
 use Rattle.spec.specs.Keys.{keys, parse-keys}
 use Rattle.spec.specs.Leaves.{Leaf, leaves}
-use Rattle.spec.specs.Image.{Settings, nodes, sparse-labels, image}
+use Rattle.spec.specs.Image.{Settings, known-version, nodes, sparse-labels, image}
 use Rattle.spec.specs.Answer.{Outcome, refusal-weight, refuse, write}
 use Rattle.spec.specs.Keys as Keys
 
--- dense levels 0 to 4, suffix width 0 to 16
+-- version 1 or 2, dense levels 0 to 4, suffix width 0 to 16
 unfoldable pub in-range : Settings → Bool
-in-range st = leb (st .dense-levels) 4 && leb (st .width) 16
+unfolding known-version
+in-range st = known-version (st .version) && leb (st .dense-levels) 4 && leb (st .width) 16
 
 -- the trie's entries: branches and exact leaves together
 unfoldable pub trie-entries : List Leaf → ℕ

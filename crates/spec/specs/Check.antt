@@ -1,13 +1,13 @@
--- Document 01, "Turning a file down": the public call check. The first of 11 to 16 that applies, each judged over the whole image before the next.
-use Prim.Native.Nat.{ℕ, zero, suc, _+_, _-_, _*_}
-use mathlib.Core.Bool.{Bool, true, false, _&&_}
-use mathlib.Core.List.{List, [], _∷_}
+-- Document 01, "Turning a file down", as order 8 changes it: the public call check. The first of 11 to 16 that applies, each judged over the whole image before the next.
+use Prim.Native.Nat.{ℕ, zero, suc, _-_, _*_}
+use mathlib.Core.Bool.{Bool, true, false, cond, _&&_}
+use mathlib.Core.List.{List, [], _∷_, map}
 use mathlib.Core.Option.{Option, none, some}
-use lib.ListN.{length, getD, drop}
+use lib.ListN.{length, getD, take, drop}
 use lib.Dec.{leb, eqb}
-use Rattle.spec.specs.Bytes.{Bytes, Bits, all, every, blocks, equal, from32, clear, unpack}
-use Rattle.spec.specs.Image.{rows, sizes, Bodies, ranks, samples}
-use Rattle.spec.specs.Frame.{has-header, read-bodies, named, read-settings, read-counts, Parts, parts}
+use Rattle.spec.specs.Bytes.{Bytes, Bits, all, every, equal, from32, clear, unpack}
+use Rattle.spec.specs.Image.{known-version, version-rows, sizes, Bodies, ranks, samples, level-starts}
+use Rattle.spec.specs.Frame.{has-header, rows-of, read-bodies, named, read-settings, read-counts, Parts, parts}
 use Rattle.spec.specs.Nodes.{Node, slot, branches-of, exact-slot, levels-of, nodes-of}
 use Rattle.spec.specs.Trie.{builders-trie}
 
@@ -20,16 +20,16 @@ sized [] (b ∷ bs) = false
 sized (n ∷ ns) [] = false
 sized (n ∷ ns) (b ∷ bs) = eqb (length b) n && sized ns bs
 
--- 12 does not apply: version 1, settings in range, a zero byte, at most 65,535 leaves, body lengths as the counts give
+-- 12 does not apply: version 1 or 2, settings in range, a zero byte, at most 65,535 leaves, the lengths of the twelve bodies as the counts give
 unfoldable pub header-valid : Bytes → Parts → List Bytes → Bool
-unfolding every sizes sized
+unfolding every known-version sizes sized
 header-valid s p bs = every (
-    eqb (getD s 2 0) 1
+    known-version (p .settings .version)
     ∷ leb (p .settings .dense-levels) 4
     ∷ leb (p .settings .width) 16
     ∷ eqb (getD s 5 0) 0
     ∷ leb (p .counts .leaves) 65535
-    ∷ sized (sizes (p .settings) (p .counts)) bs
+    ∷ sized (sizes (p .settings) (p .counts)) (take 12 bs)
     ∷ [])
 
 -- ---- 13
@@ -51,7 +51,7 @@ spare-clear p b = every (
 
 -- ---- 15
 
--- 15 does not apply: RL, RC, RP and RS are the ranks of DL, DC, DP and SC, and TS the samples of SB
+-- 15 does not apply to the twelve bodies: RL, RC, RP and RS are the ranks of DL, DC, DP and SC, and TS the samples of SB
 unfoldable pub ranks-valid : Parts → Bodies → Bool
 unfolding every equal ranks samples
 ranks-valid p b = every (
@@ -61,6 +61,16 @@ ranks-valid p b = every (
     ∷ equal (b .RS) (ranks 512 (p .sc))
     ∷ equal (b .TS) (samples (p .sb))
     ∷ [])
+
+-- Nor to LV, in the version that has it: it holds the first nodes of the levels, and nothing else.
+unfoldable pub starts-valid : Parts → List Bytes → Bool
+unfolding equal level-starts levels-of nodes-of
+starts-valid p bs = cond (eqb (p .settings .version) 2) (equal (getD bs 12 []) (level-starts (map length (levels-of (nodes-of p))))) true
+
+-- 15 does not apply
+unfoldable pub tables-valid : Parts → List Bytes → Bool
+unfolding ranks-valid starts-valid named
+tables-valid p bs = ranks-valid p (named bs) && starts-valid p bs
 
 -- ---- 16
 
@@ -86,7 +96,7 @@ slots-valid d (ns ∷ ls) = all (slot-valid d) ns && slots-valid (suc d) ls
 
 -- the first of 12 to 16 that applies to a header and bodies, or 0
 unfoldable pub judge-bodies : Bytes → List Bytes → ℕ
-unfolding from32 unpack read-settings read-counts named parts header-valid spare-clear builders-trie ranks-valid slots-valid levels-of nodes-of
+unfolding from32 unpack read-settings read-counts named parts header-valid spare-clear builders-trie tables-valid slots-valid levels-of nodes-of
 judge-bodies s bs =
     let b : Bodies = named bs in
     let p : Parts = parts s b in
@@ -99,7 +109,7 @@ judge-bodies s bs =
                 elim (builders-trie p) [
                   | false ↦ 14
                   | true ↦
-                      elim (ranks-valid p b) [
+                      elim (tables-valid p bs) [
                         | false ↦ 15
                         | true ↦
                             elim (slots-valid 0 (levels-of (nodes-of p))) [ false ↦ 16 | true ↦ 0 ]
@@ -110,9 +120,9 @@ judge-bodies s bs =
 
 -- the first of 11 to 16 that applies, or 0
 unfoldable pub verdict : Bytes → ℕ
-unfolding rows read-bodies judge-bodies has-header
+unfolding version-rows read-bodies judge-bodies has-header
 verdict s =
-    let f : Option (List Bytes) = read-bodies rows (drop 22 s) in
+    let f : Option (List Bytes) = read-bodies (rows-of s) (drop 22 s) in
     elim (has-header s) [ false ↦ 11 | true ↦ elim f [ none ↦ 11 | some bs ↦ judge-bodies s bs ] ]
 
 -- what check answers: accepted, or a refusal's number

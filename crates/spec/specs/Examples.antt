@@ -7,7 +7,7 @@ use lib.ListN.{length, getD, replicate}
 use Rattle.spec.specs.Bytes.{Bytes, count, concat, bit, ascii}
 use Rattle.spec.specs.Keys.{within}
 use Rattle.spec.specs.Leaves.{Leaf, leaves}
-use Rattle.spec.specs.Image.{Bodies, bodies, image}
+use Rattle.spec.specs.Image.{level-starts, level-widths, Bodies, bodies, image}
 use Rattle.spec.specs.Nodes.{read-leaves}
 use Rattle.spec.specs.Rules.{no-nodes, rule-number, rule}
 use Rattle.spec.specs.Questions.{point, counted, seek, begins-with, none, found}
@@ -48,15 +48,20 @@ unfoldable pub bodies-of : ℕ → ℕ → List Bytes → Bodies
 unfolding bodies leaves
 bodies-of dense n ks = bodies dense (leaves n ks)
 
--- a list's image, by dense levels and n
-unfoldable pub image-of : ℕ → ℕ → List Bytes → Bytes
+-- a list's image, by version, dense levels and n
+unfoldable pub image-of : ℕ → ℕ → ℕ → List Bytes → Bytes
 unfolding image leaves
-image-of dense n ks = image (record { dense-levels = dense; width = n }) (leaves n ks)
+image-of version dense n ks = image (record { version = version; dense-levels = dense; width = n }) (leaves n ks)
 
--- the leaves read back from a list's image without dense levels
+-- the body of LV, without suffixes
+unfoldable pub starts-of : List Bytes → Bytes
+unfolding level-starts level-widths leaves
+starts-of ks = level-starts (level-widths (leaves 0 ks))
+
+-- the leaves read back from a list's image of version 1 without dense levels
 unfoldable pub leaves-read : ℕ → List Bytes → List Leaf
 unfolding image-of read-leaves
-leaves-read n ks = read-leaves (image-of 0 n ks)
+leaves-read n ks = read-leaves (image-of 1 0 n ks)
 
 -- the point replies to keys, in their order
 unfoldable pub points : List Leaf → List Bytes → List ℕ
@@ -97,9 +102,9 @@ computed (a is b) = a
 abbrev pub said : Row → Bytes
 said (a is b) = b
 
--- the starred examples, and those of orders 2 and 3
+-- the starred examples, and those of orders 2, 3 and 8
 unfoldable pub table : List Row
-unfolding A VAN S017 bodies-of image-of leaves-read leaves points rules counted sought-at begins-with suffix-of cut-keys ascii
+unfolding A VAN S017 bodies-of image-of starts-of leaves-read read-leaves leaves points rules counted sought-at begins-with suffix-of cut-keys ascii
 table =
     -- A: SL 44 56 31 32 FF 32, SC 05, SB 15, RS and TS one zero entry each; 110 bytes
     (bodies-of 0 0 A .SL is 0x44 ∷ 0x56 ∷ 0x31 ∷ 0x32 ∷ 0xFF ∷ 0x32 ∷ [])
@@ -107,7 +112,7 @@ table =
     ∷ (bodies-of 0 0 A .SB is 0x15 ∷ [])
     ∷ (bodies-of 0 0 A .RS is 0 ∷ 0 ∷ 0 ∷ 0 ∷ [])
     ∷ (bodies-of 0 0 A .TS is 0 ∷ 0 ∷ 0 ∷ 0 ∷ [])
-    ∷ (length (image-of 0 0 A) ∷ [] is 110 ∷ [])
+    ∷ (length (image-of 1 0 0 A) ∷ [] is 110 ∷ [])
     -- A, dense 1: DL byte 8 is 10 and byte 10 is 40; DC byte 8 is 10; SL 31 32 FF 32, SC 01, SB 05; RL 0 0 2 2, RC 0 0 1 1
     ∷ (bodies-of 1 0 A .DL is replicate 8 0 ++ (0x10 ∷ 0 ∷ 0x40 ∷ replicate 21 0))
     ∷ (bodies-of 1 0 A .DC is replicate 8 0 ++ (0x10 ∷ replicate 23 0))
@@ -117,7 +122,7 @@ table =
     ∷ (bodies-of 1 0 A .RL is 0 ∷ 0 ∷ 0 ∷ 0 ∷ 0 ∷ 0 ∷ 0 ∷ 0 ∷ 2 ∷ 0 ∷ 0 ∷ 0 ∷ 2 ∷ 0 ∷ 0 ∷ 0 ∷ [])
     ∷ (bodies-of 1 0 A .RC is 0 ∷ 0 ∷ 0 ∷ 0 ∷ 0 ∷ 0 ∷ 0 ∷ 0 ∷ 1 ∷ 0 ∷ 0 ∷ 0 ∷ 1 ∷ 0 ∷ 0 ∷ 0 ∷ [])
     -- the empty list: 94 bytes
-    ∷ (length (image-of 0 0 []) ∷ [] is 94 ∷ [])
+    ∷ (length (image-of 1 0 0 []) ∷ [] is 94 ∷ [])
     -- the key FF alone: SL FF, a real label
     ∷ (bodies-of 0 0 FF .SL is 0xFF ∷ [])
     ∷ (cut-keys (leaves-read 0 FF) is 0xFF ∷ [])
@@ -131,7 +136,7 @@ table =
     ∷ (counted (leaves-read 0 A) (ascii "D12Z") (ascii "D2") ∷ [] is 2 ∷ [])
     ∷ (counted (leaves-read 0 A) (ascii "D11") (ascii "D13") ∷ [] is 1 ∷ [])
     -- with VAN for V the image is the same; D2a to V counts 2
-    ∷ (image-of 0 0 VAN is image-of 0 0 A)
+    ∷ (image-of 1 0 0 VAN is image-of 1 0 0 A)
     ∷ (counted (leaves-read 0 VAN) (ascii "D2a") (ascii "V") ∷ [] is 2 ∷ [])
     -- A, seeks: empty gives 0 D1; D13 gives 2 D2; D2a gives 2 D2a; W none
     ∷ (sought-at (leaves-read 0 A) [] is 0 ∷ ascii "D1")
@@ -152,6 +157,11 @@ table =
     ∷ (rules (leaves-read 0 A) (ascii "D1" ∷ ascii "D10" ∷ ascii "D" ∷ ascii "D2x" ∷ [] ∷ (ascii "D1" ++ (0xFF ∷ [])) ∷ []) is 3 ∷ 1 ∷ 2 ∷ 4 ∷ 2 ∷ 1 ∷ [])
     ∷ (rules (leaves-read 8 VAN) (ascii "VAX" ∷ ascii "VB" ∷ []) is 4 ∷ 5 ∷ [])
     ∷ (rules (leaves-read 0 FF-FF) ((0xFF ∷ []) ∷ (0xFF ∷ 0xFF ∷ []) ∷ (0xFF ∷ 0xFE ∷ []) ∷ []) is 3 ∷ 4 ∷ 1 ∷ [])
+    -- order 8: A has its levels' first nodes 0, 1 and 2; in version 2 it has 128 bytes, and the empty list 100; the cut keys read back, with a dense level, are the same
+    ∷ (starts-of A is 0 ∷ 0 ∷ 0 ∷ 0 ∷ 1 ∷ 0 ∷ 0 ∷ 0 ∷ 2 ∷ 0 ∷ 0 ∷ 0 ∷ [])
+    ∷ (length (image-of 2 0 0 A) ∷ [] is 128 ∷ [])
+    ∷ (length (image-of 2 0 0 []) ∷ [] is 100 ∷ [])
+    ∷ (cut-keys (read-leaves (image-of 2 1 0 A)) is cut-keys (leaves-read 0 A))
     ∷ []
 
 -- Each row's two sides are equal; over the empty list every point is 0, by rule 6, for every key; and the list with VAN has no key from D2a to V.

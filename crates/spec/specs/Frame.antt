@@ -1,4 +1,4 @@
--- Document 01, "Records of an image", read: the header's fields and the bodies of the twelve records.
+-- Document 01, "Records of an image", read: the header's fields and the bodies of the records.
 use Prim.Native.Nat.{ℕ, _+_, _*_}
 use mathlib.Core.Bool.{Bool, true, false}
 use mathlib.Core.List.{List, [], _∷_}
@@ -6,7 +6,7 @@ use mathlib.Core.Option.{Option, none, some}
 use lib.ListN.{length, getD, take, drop}
 use lib.Dec.{leb, eqb}
 use Rattle.spec.specs.Bytes.{Bytes, Bits, every, letter, from32, unpack}
-use Rattle.spec.specs.Image.{Settings, Counts, Row, Bodies}
+use Rattle.spec.specs.Image.{Settings, Counts, Row, version-rows, Bodies}
 
 -- 22 bytes, and "HD"
 unfoldable pub has-header : Bytes → Bool
@@ -29,7 +29,7 @@ read-bodies (r ∷ rs) s =
     elim (is-record (r .first) (r .second) s)
     [ true ↦ elim o [ none ↦ none | some bs ↦ some (take n (drop 6 s) ∷ bs) ] | false ↦ none ]
 
--- bodies in the order of their records, under their marks
+-- the first twelve bodies in the order of their records, under their marks
 unfoldable pub named : List Bytes → Bodies
 named bs = record {
   DL = getD bs 0 [];
@@ -46,9 +46,13 @@ named bs = record {
   TS = getD bs 11 [];
 }
 
+-- Order 8: bytes whose version byte is 2 have the records of version 2, all others those of version 1.
+abbrev pub rows-of : Bytes → List Row
+rows-of s = version-rows (getD s 2 0)
+
 -- the settings in a header
 unfoldable pub read-settings : Bytes → Settings
-read-settings s = record { dense-levels = getD s 3 0; width = getD s 4 0 }
+read-settings s = record { version = getD s 2 0; dense-levels = getD s 3 0; width = getD s 4 0 }
 
 -- the counts in a header
 unfoldable pub read-counts : Bytes → Counts

@@ -1,17 +1,22 @@
--- Document 01, "Records of an image": the trie's nodes in level order, the twelve bodies, the header and the image.
+-- Document 01, "Records of an image", as order 8 changes it: the trie's nodes in level order, the bodies, the header and the image of each version.
 use Prim.Native.Nat.{ℕ, suc, _+_, _-_, _*_}
 use Prim.Native.Char.{Char}
-use mathlib.Core.Bool.{Bool, true, false, cond, not, _&&_}
+use mathlib.Core.Bool.{Bool, true, false, cond, not, _&&_, _||_}
 use mathlib.Core.List.{List, [], _∷_, _++_, map}
 use lib.ListN.{length, getD, take, replicate}
 use lib.Dec.{ltb, eqb}
 use Rattle.spec.specs.Bytes.{Bytes, Bits, any, filter, concat, iota, blocks, letter, dedup, equal, begins, ones, pack, le32}
 use Rattle.spec.specs.Leaves.{Leaf}
 
--- dense levels, and the suffix width n
+-- the version of the format, dense levels, and the suffix width n
 pub record Settings : Type 0 where
+  pub version : ℕ
   pub dense-levels : ℕ
   pub width : ℕ
+
+-- there are versions 1 and 2
+unfoldable pub known-version : ℕ → Bool
+known-version v = eqb v 1 || eqb v 2
 
 -- the header's four counts
 pub record Counts : Type 0 where
@@ -118,6 +123,23 @@ samples bs =
     let xs : List ℕ = positions 0 bs in
     concat (map (λ t. le32 (getD xs (64 * t) 0)) (iota 0 (blocks 64 (length xs))))
 
+-- ---- level starts
+
+-- the first node number of each level, from the number i on, by how many nodes each level has
+unfoldable pub first-nodes : ℕ → List ℕ → List ℕ
+first-nodes i [] = []
+first-nodes i (w ∷ ws) = i ∷ first-nodes (i + w) ws
+
+-- "a 32-bit first node number for each level that has nodes", by how many nodes each level has
+unfoldable pub level-starts : List ℕ → Bytes
+unfolding concat filter first-nodes le32
+level-starts ws = concat (map le32 (first-nodes 0 (filter (ltb 0) ws)))
+
+-- how many nodes a leaf list has on each level
+unfoldable pub level-widths : List Leaf → List ℕ
+unfolding iota on-level
+level-widths ls = map (λ d. length (on-level ls d)) (iota 0 64)
+
 -- ---- the records
 
 -- a record of an image: the two letters of its mark, and the length of its body by the settings and the counts
@@ -130,7 +152,7 @@ pub record Row : Type 0 where
 abbrev row : Char → Char → (Settings → Counts → ℕ) → Row
 row a b size = record { first = letter a; second = letter b; size = size }
 
--- The twelve records behind the header, in their order. The builder lays an image out by this table, and the check finds the bodies and their lengths by it.
+-- The twelve records behind the header of either version, in their order. The builder lays an image out by this table, and the check finds the bodies and their lengths by it.
 unfoldable pub rows : List Row
 rows =
     row "D" "L" (λ st c. 32 * c .dense-nodes)
@@ -147,7 +169,21 @@ rows =
     ∷ row "T" "S" (λ st c. 4 * blocks 64 (c .sparse-nodes))
     ∷ []
 
--- the body lengths that the settings and the counts give
+-- Order 8: "Version 2 has a thirteenth record, "LV", behind "TS"". The counts do not give the length of its body, which is judged with the body: no test reads this size.
+unfoldable pub level-row : Row
+level-row = row "L" "V" (λ st c. 0)
+
+-- the records behind the twelve, of a version
+unfoldable pub level-rows : ℕ → List Row
+unfolding level-row
+level-rows v = cond (eqb v 2) (level-row ∷ []) []
+
+-- the records of a version
+unfoldable pub version-rows : ℕ → List Row
+unfolding rows level-rows
+version-rows v = rows ++ level-rows v
+
+-- the lengths of the twelve bodies that the settings and the counts give
 unfoldable pub sizes : Settings → Counts → List ℕ
 unfolding rows
 sizes st c = map (λ r. r .size st c) rows
@@ -170,6 +206,11 @@ pub record Bodies : Type 0 where
 -- the bodies in the order of their records
 abbrev pub in-order : Bodies → List Bytes
 in-order b = b .DL ∷ b .DC ∷ b .DP ∷ b .SL ∷ b .SC ∷ b .SB ∷ b .SV ∷ b .RL ∷ b .RC ∷ b .RP ∷ b .RS ∷ b .TS ∷ []
+
+-- the bodies behind the twelve, of a version, by how many nodes each level has
+unfoldable pub level-bodies : ℕ → List ℕ → List Bytes
+unfolding level-starts
+level-bodies v ws = cond (eqb v 2) (level-starts ws ∷ []) []
 
 -- a record's bytes: a two-byte mark, a 32-bit body length and a body
 unfoldable pub marked : ℕ → ℕ → Bytes → Bytes
@@ -221,14 +262,14 @@ counts dense ls = record {
   sparse-nodes = length (nodes ls dense 64);
 }
 
--- the header, 22 bytes: "HD", version 1, dense levels, n, a zero byte, then the counts of leaves, dense nodes, sparse entries and sparse nodes
+-- the header, 22 bytes: "HD", version, dense levels, n, a zero byte, then the counts of leaves, dense nodes, sparse entries and sparse nodes
 unfoldable pub header : Settings → Counts → Bytes
 unfolding le32
 header st c =
-    letter "H" ∷ letter "D" ∷ 1 ∷ st .dense-levels ∷ st .width ∷ 0
+    letter "H" ∷ letter "D" ∷ st .version ∷ st .dense-levels ∷ st .width ∷ 0
     ∷ le32 (c .leaves) ++ (le32 (c .dense-nodes) ++ (le32 (c .sparse-entries) ++ le32 (c .sparse-nodes)))
 
--- the image of a leaf list: the header and the twelve records
+-- the image of a leaf list: the header and the records of its version
 unfoldable pub image : Settings → List Leaf → Bytes
-unfolding counts header bodies rows write-records
-image st ls = header st (counts (st .dense-levels) ls) ++ write-records rows (in-order (bodies (st .dense-levels) ls))
+unfolding counts header bodies version-rows level-widths level-bodies write-records
+image st ls = header st (counts (st .dense-levels) ls) ++ write-records (version-rows (st .version)) (in-order (bodies (st .dense-levels) ls) ++ level-bodies (st .version) (level-widths ls))

@@ -7,8 +7,8 @@ use lib.ListN.{take, drop}
 use lib.Dec.{leb, eqb}
 use Rattle.spec.specs.Bytes.{Bytes, Bits, concat, from32, unpack}
 use Rattle.spec.specs.Leaves.{Leaf}
-use Rattle.spec.specs.Image.{rows}
-use Rattle.spec.specs.Frame.{read-settings, read-counts, Parts, parts, named, read-bodies}
+use Rattle.spec.specs.Image.{version-rows}
+use Rattle.spec.specs.Frame.{rows-of, read-settings, read-counts, Parts, parts, named, read-bodies}
 
 -- ---- entries
 
@@ -226,8 +226,8 @@ leaves-of t = concat (groups t)
 
 -- the nodes in level order, from the records behind the header; none where the records do not stand
 unfoldable pub read-nodes : Bytes → List Node
-unfolding rows read-bodies from32 unpack read-settings read-counts named parts nodes-of
-read-nodes s = elim (read-bodies rows (drop 22 s)) [ none ↦ [] | some bs ↦ nodes-of (parts s (named bs)) ]
+unfolding version-rows read-bodies from32 unpack read-settings read-counts named parts nodes-of
+read-nodes s = elim (read-bodies (rows-of s) (drop 22 s)) [ none ↦ [] | some bs ↦ nodes-of (parts s (named bs)) ]
 
 -- the leaf list: cut keys, kinds and suffixes in key order
 unfoldable pub read-leaves : Bytes → List Leaf

@@ -1,29 +1,30 @@
 -- Acceptance, one half: a byte string that the check accepts is the image of a buildable leaf list (`accepted-is-image`).
 -- Used by the buyer's demands.
-use Prim.Native.Nat.{ℕ, suc, zero, _*_, _≤_}
+use Prim.Native.Nat.{ℕ, suc, zero, _+_, _*_, _≤_}
 use mathlib.Core.Path.{_≡_, refl, sym, ap, _∙_, subst, ap₂}
-use mathlib.Core.Bool.{true, true≢false}
+use mathlib.Core.Bool.{true, _&&_, true≢false}
 use mathlib.Core.List.{List, [], _∷_, map, _++_}
 use native.Mathlib.Omega.{arith}
 use lib.ListN.{drop, length, getD, drop-of-length-le, take, length-map, take-append-drop}
-use lib.Seq.{take-length}
+use lib.Seq.{take-length, getD-drop}
 use lib.Dec.{eqb, leb}
 use borrow.Author.Tests.{eqb-true, leb-true}
 use Rattle.spec.specs.Bytes.{Bytes, iota, clear, unpack, pack, blocks, ones, all, concat, equal}
 use Rattle.spec.specs.Leaves.{Leaf}
-use Rattle.spec.specs.Image.{Settings, image, ranks, samples, header, rows, in-order, write-records, sizes, Counts, Bodies}
-use Rattle.spec.specs.Frame.{parts, has-header, Parts, named}
+use Rattle.spec.specs.Image.{Settings, known-version, image, ranks, samples, header, rows, level-rows, version-rows, in-order, level-bodies, write-records, sizes, Counts, Bodies}
+use Rattle.spec.specs.Frame.{parts, has-header, rows-of, read-settings, Parts, named}
 use Rattle.spec.specs.Nodes.{levels-of, nodes-of, Node, slotted, dense-shapes, sparse-shape, sparse-nodes, extra-ends, Sparse, zip-entries, entry-label, continues, is-exact}
 use Rattle.spec.specs.Trie.{builders-trie, first-set, covered, nodes-valid, leaf-count}
-use Rattle.spec.specs.Check.{header-valid, spare-clear, ranks-valid, slots-valid, verdict, sized, no-spare}
-use Rattle.theory.specs.ImageParts.{twelve-paired}
+use Rattle.spec.specs.Check.{header-valid, spare-clear, ranks-valid, starts-valid, tables-valid, slots-valid, verdict, sized, no-spare}
+use Rattle.theory.specs.ImageParts.{named-twelve}
 use Rattle.theory.specs.Lists.{bytes-drop, and-both, first-members, Passed, every-true, all-append}
 use Rattle.theory.specs.Order.{equal-true}
 use Rattle.theory.specs.Terms.{All, Is-bytes}
-use Rattle.theory.specs.Frame.{header-from-fields, bytes-bodies, Paired, read-bodies-some}
+use Rattle.theory.specs.Frame.{header-from-fields, bytes-bodies, Paired, paired-split, read-paired, read-bodies-some}
 use Rattle.theory.specs.Bits.{length-unpack, pack-unpack}
 use Rattle.theory.specs.TrieTests.{nodes-valid-leaves}
 use Rattle.theory.specs.NodeBits.{past-nodes, slotted-append, Slots-width, slots-width, slots, slot-bits, bodies, bodies-of, sparse-labels, sparse-has-child, louds, Byte-labels, bodies-bits, length-slotted}
+use Rattle.theory.specs.LevelStarts.{version-rows-are, level-bodies-are}
 use Rattle.theory.specs.LiteralImage.{Buildable, image-of-trie}
 use Rattle.theory.specs.DenseBits.{dense-bits, dense-byte-labels}
 use Rattle.theory.specs.SparseBits.{sparse-bits, zip-entries-back, split-back, sparse-byte-labels}
@@ -82,9 +83,9 @@ record Bits-read (p : Parts) (b : Bodies) : Type 0 where
   SV-is : pack (p .sv) ≡ b .SV
 
 header-tests : (s : Bytes) (p : Parts) (bs : List Bytes) → header-valid s p bs ≡ true
-    → Passed (eqb (getD s 2 0) 1 ∷ leb (p .settings .dense-levels) 4 ∷ leb (p .settings .width) 16 ∷ eqb (getD s 5 0) 0 ∷ leb (p .counts .leaves) 65535 ∷ sized (sizes (p .settings) (p .counts)) bs ∷ [])
+    → Passed (known-version (p .settings .version) ∷ leb (p .settings .dense-levels) 4 ∷ leb (p .settings .width) 16 ∷ eqb (getD s 5 0) 0 ∷ leb (p .counts .leaves) 65535 ∷ sized (sizes (p .settings) (p .counts)) (take 12 bs) ∷ [])
 unfolding header-valid
-header-tests s p bs h = every-true (eqb (getD s 2 0) 1 ∷ leb (p .settings .dense-levels) 4 ∷ leb (p .settings .width) 16 ∷ eqb (getD s 5 0) 0 ∷ leb (p .counts .leaves) 65535 ∷ sized (sizes (p .settings) (p .counts)) bs ∷ []) h
+header-tests s p bs h = every-true (known-version (p .settings .version) ∷ leb (p .settings .dense-levels) 4 ∷ leb (p .settings .width) 16 ∷ eqb (getD s 5 0) 0 ∷ leb (p .counts .leaves) 65535 ∷ sized (sizes (p .settings) (p .counts)) (take 12 bs) ∷ []) h
 
 spare-tests : (p : Parts) (b : Bodies) → spare-clear p b ≡ true
     → Passed (no-spare (p .counts .dense-nodes) (b .DP) ∷ no-spare (p .counts .sparse-entries) (b .SC) ∷ no-spare (p .counts .sparse-entries) (b .SB) ∷ no-spare (p .counts .leaves * p .settings .width) (b .SV) ∷ [])
@@ -94,13 +95,23 @@ spare-tests p b h = every-true (no-spare (p .counts .dense-nodes) (b .DP) ∷ no
 dense-body : (n : ℕ) (s : Bytes) → Is-bytes s → length s ≡ 32 * n → (length (take (256 * n) (unpack s)) ≡ 256 * n) × (pack (take (256 * n) (unpack s)) ≡ s)
 dense-body n s w h = pack-unpack (256 * n) s w (omega arith) (no-spare-whole (256 * n) s (omega arith))
 
-body-sizes : (st : Settings) (c : Counts) (bs : List Bytes) → sized (sizes st c) bs ≡ true
+twelve-sizes : (st : Settings) (c : Counts) (bs : List Bytes) → sized (sizes st c) bs ≡ true
     → (length (named bs .DL) ≡ 32 * c .dense-nodes) × (length (named bs .DC) ≡ 32 * c .dense-nodes) × (length (named bs .DP) ≡ blocks 8 (c .dense-nodes)) × (length (named bs .SL) ≡ c .sparse-entries)
     × (length (named bs .SC) ≡ blocks 8 (c .sparse-entries)) × (length (named bs .SB) ≡ blocks 8 (c .sparse-entries)) × (length (named bs .SV) ≡ blocks 8 (c .leaves * st .width)) × (length bs ≡ 12)
 unfolding sizes rows named
-body-sizes st c bs h = (sized-at 0 _ bs h, sized-at 1 _ bs h, sized-at 2 _ bs h, sized-at 3 _ bs h, sized-at 4 _ bs h, sized-at 5 _ bs h, sized-at 6 _ bs h, sized-length _ bs h)
+twelve-sizes st c bs h = (sized-at 0 _ bs h, sized-at 1 _ bs h, sized-at 2 _ bs h, sized-at 3 _ bs h, sized-at 4 _ bs h, sized-at 5 _ bs h, sized-at 6 _ bs h, sized-length _ bs h)
 
-bits-read : (s : Bytes) (bs : List Bytes) → All Is-bytes bs → sized (sizes (parts s (named bs) .settings) (parts s (named bs) .counts)) bs ≡ true → spare-clear (parts s (named bs)) (named bs) ≡ true
+-- the names are those of the first twelve
+named-first : (bs : List Bytes) → length (take 12 bs) ≡ 12 → named bs ≡ named (take 12 bs)
+named-first bs h =
+    ap named (sym (take-append-drop 12 bs)) ∙ ap (λ (z : List Bytes). named (z ++ drop 12 bs)) (twelve-all (take 12 bs) h) ∙ named-twelve (named (take 12 bs)) (drop 12 bs) ∙ ap named (sym (twelve-all (take 12 bs) h))
+
+body-sizes : (st : Settings) (c : Counts) (bs : List Bytes) → sized (sizes st c) (take 12 bs) ≡ true
+    → (length (named bs .DL) ≡ 32 * c .dense-nodes) × (length (named bs .DC) ≡ 32 * c .dense-nodes) × (length (named bs .DP) ≡ blocks 8 (c .dense-nodes)) × (length (named bs .SL) ≡ c .sparse-entries)
+    × (length (named bs .SC) ≡ blocks 8 (c .sparse-entries)) × (length (named bs .SB) ≡ blocks 8 (c .sparse-entries)) × (length (named bs .SV) ≡ blocks 8 (c .leaves * st .width)) × (length (take 12 bs) ≡ 12)
+body-sizes st c bs h = let z = twelve-sizes st c (take 12 bs) h in rw (named-first bs (z .7)) z
+
+bits-read : (s : Bytes) (bs : List Bytes) → All Is-bytes bs → sized (sizes (parts s (named bs) .settings) (parts s (named bs) .counts)) (take 12 bs) ≡ true → spare-clear (parts s (named bs)) (named bs) ≡ true
     → Bits-read (parts s (named bs)) (named bs)
 unfolding parts named
 bits-read s bs a h t =
@@ -164,6 +175,7 @@ record Nodes-read (p : Parts) : Type 0 where
   D : List Node
   S : List Node
   bits : bodies D S ≡ bodies-of (p .dl) (p .dc) (p .dp) (p .sl) (p .sc) (p .sb) (p .sv)
+  whole : nodes-of p ≡ D ++ S
   dense-size : length D ≡ p .counts .dense-nodes
   sparse-size : length S ≡ p .counts .sparse-nodes
   tree : Trie-of-list (p .settings .dense-levels) (p .settings .width) (p .counts .leaves) D S
@@ -193,6 +205,7 @@ nodes-read p v u h c =
       D = D;
       S = S;
       bits = bodies-bits D S ∙ rw (dense .labels, dense .children, dense .prefix-keys, labels, children, louds, slot-all);
+      whole = split;
       dense-size = size;
       sparse-size = length-slotted (p .settings .width) (map sparse-shape cs) _ ∙ length-map cs sparse-shape ∙ k .2 ∙ eqb-true (ones (p .sb)) (p .counts .sparse-nodes) (t .1 .0);
       tree = trie-of-list (p .settings .dense-levels) (p .settings .width) (p .counts .leaves) D S (rw (size, ← split) b) (rw split at wide) small (rw split at c);
@@ -235,23 +248,38 @@ records-are p b u h =
       ← equal-true (b .TS) (samples (p .sb)) (r .1 .1 .1 .1 .0),
     )
 
+tables-are : (p : Parts) (bs : List Bytes) → tables-valid p bs ≡ true → (ranks-valid p (named bs) && starts-valid p bs) ≡ true
+unfolding tables-valid
+tables-are p bs h = h
+
+version-is : (s : Bytes) (b : Bodies) → getD s 2 0 ≡ parts s b .settings .version
+unfolding parts read-settings
+version-is s b = refl
+
 header-of : (s : Bytes) (b : Bodies) (bs : List Bytes) → Is-bytes s → has-header s ≡ true → header-valid s (parts s b) bs ≡ true → take 22 s ≡ header (parts s b .settings) (parts s b .counts)
 unfolding parts
 header-of s b bs w h t =
     let a = has-header-tests s h in
     let v = header-tests s (parts s b) bs t in
-    header-from-fields s w (leb-true 22 (length s) (a .0)) (eqb-true (getD s 0 0) 72 (a .1 .0)) (eqb-true (getD s 1 0) 68 (a .1 .1 .0)) (eqb-true (getD s 2 0) 1 (v .0)) (eqb-true (getD s 5 0) 0 (v .1 .1 .1 .0))
+    header-from-fields s w (leb-true 22 (length s) (a .0)) (eqb-true (getD s 0 0) 72 (a .1 .0)) (eqb-true (getD s 1 0) 68 (a .1 .1 .0)) (eqb-true (getD s 5 0) 0 (v .1 .1 .1 .0))
 
-twelve-bytes : (bs : List Bytes) → bs ≡ in-order (named bs) → Is-bytes (write-records rows bs) → All Is-bytes bs
-twelve-bytes bs e s = bytes-bodies rows bs (subst (λ (z : List Bytes). Paired rows z) (sym e) (twelve-paired (named bs))) s
+-- the bodies of a version: the twelve, and the one behind them where it passed
+bodies-whole : (p : Parts) (bs : List Bytes) → Paired (version-rows (p .settings .version)) bs → starts-valid p bs ≡ true → bs ≡ take 12 bs ++ level-bodies (p .settings .version) (map length (levels-of (nodes-of p)))
+unfolding starts-valid rows
+bodies-whole p bs q h =
+    let v : ℕ = p .settings .version in
+    let behind = paired-split rows (level-rows v) bs (rw (version-rows-are v) at q) .1 in
+    let z : 12 + 0 ≡ 12 = omega arith in
+    sym (take-append-drop 12 bs) ∙ ap (λ (x : List Bytes). take 12 bs ++ x) (level-bodies-are v (map length (levels-of (nodes-of p))) (drop 12 bs) behind (rw (getD-drop 12 bs 0 [], z) h))
 
 image-parts : (p : Parts) (bs : List Bytes) (r : Nodes-read p) → Buildable (p .settings) (r .tree .leaves) → in-order (bodies-of (p .dl) (p .dc) (p .dp) (p .sl) (p .sc) (p .sb) (p .sv)) ≡ bs → length (p .sl) ≡ p .counts .sparse-entries
-    → image (p .settings) (r .tree .leaves) ≡ header (p .settings) (p .counts) ++ write-records rows bs
+    → image (p .settings) (r .tree .leaves) ≡ header (p .settings) (p .counts) ++ write-records (version-rows (p .settings .version)) (bs ++ level-bodies (p .settings .version) (map length (levels-of (nodes-of p))))
 image-parts p bs r f e z =
     let g = r .tree in
     let l : length (concat (map sparse-labels (r .S))) ≡ p .counts .sparse-entries = ap (λ (b : Bodies). length (b .SL)) (sym (bodies-bits (r .D) (r .S)) ∙ r .bits) ∙ z in
     image-of-trie (p .settings) (g .leaves) f
-    ∙ rw (g .dense-nodes, g .sparse-nodes, g .size, r .bits, r .dense-size, r .sparse-size, l, e)
+    ∙ rw (g .dense-nodes, g .sparse-nodes, g .size, r .bits, r .dense-size, r .sparse-size, l)
+    (ap₂ (λ (z : List Bytes) (ns : List Node). header (p .settings) (p .counts) ++ write-records (version-rows (p .settings .version)) (z ++ level-bodies (p .settings .version) (map length (levels-of ns)))) e (sym (r .whole)))
 
 -- A byte string that the check accepts is the image of a buildable leaf list.
 pub accepted-is-image : (b : Bytes) → Is-bytes b → verdict b ≡ 0 → Image-of-leaves b
@@ -264,21 +292,27 @@ accepted-is-image s w h =
     let p13 = p15 .before .before in
     let p12 = p13 .before in
     let t = header-tests s p bs (p12 .header) in
-    let sz : sized (sizes (p .settings) (p .counts)) bs ≡ true = t .1 .1 .1 .1 .1 .0 in
-    let rest : drop 22 s ≡ write-records rows bs = read-bodies-some rows (drop 22 s) bs (bytes-drop 22 s w) (p12 .before .bodies) in
-    let all-twelve : bs ≡ in-order b = twelve-all bs (body-sizes (p .settings) (p .counts) bs sz .7) in
-    let smalls : All Is-bytes bs = twelve-bytes bs all-twelve (rw rest at (bytes-drop 22 s w)) in
+    let sz : sized (sizes (p .settings) (p .counts)) (take 12 bs) ≡ true = t .1 .1 .1 .1 .1 .0 in
+    let few = body-sizes (p .settings) (p .counts) bs sz .7 in
+    let paired : Paired (rows-of s) bs = read-paired (rows-of s) (drop 22 s) bs (p12 .before .bodies) in
+    let rest : drop 22 s ≡ write-records (rows-of s) bs = read-bodies-some (rows-of s) (drop 22 s) bs (bytes-drop 22 s w) (p12 .before .bodies) in
+    let all-twelve : take 12 bs ≡ in-order b = twelve-all (take 12 bs) few ∙ ap in-order (sym (named-first bs few)) in
+    let smalls : All Is-bytes bs = bytes-bodies (rows-of s) bs paired (rw rest at (bytes-drop 22 s w)) in
+    let tables = and-both (ranks-valid p b) (starts-valid p bs) (tables-are p bs (p15 .tables)) in
     let u = bits-read s bs smalls sz (p13 .spare) in
     let r = nodes-read p b u (p15 .before .trie) (v .1 .slots) in
     let g = r .tree in
     let f : Buildable (p .settings) (g .leaves) = record {
+      version-known = t .0;
       dense-range = leb-true (p .settings .dense-levels) 4 (t .1 .0);
       width-range = leb-true (p .settings .width) 16 (t .1 .1 .0);
       few = let e : length (g .leaves) ≡ p .counts .leaves = g .size in omega (arith, leb-true (p .counts .leaves) 65535 (t .1 .1 .1 .1 .0));
       realizable = g .realizable;
       well-sized = g .well-sized;
     } in
-    let laid-out : image (p .settings) (g .leaves) ≡ header (p .settings) (p .counts) ++ write-records rows bs = image-parts p bs r f (records-are p b u (p15 .ranks) ∙ sym all-twelve) (u .sl-size) in
+    let whole = bodies-whole p bs (subst (λ (v : ℕ). Paired (version-rows v) bs) (version-is s b) paired) (tables .1) in
+    let laid-out : image (p .settings) (g .leaves) ≡ header (p .settings) (p .counts) ++ write-records (rows-of s) bs =
+    image-parts p (take 12 bs) r f (records-are p b u (tables .0) ∙ sym all-twelve) (u .sl-size) ∙ ap₂ (λ (v : ℕ) (z : List Bytes). header (p .settings) (p .counts) ++ write-records (version-rows v) z) (sym (version-is s b)) (sym whole) in
     record {
       settings = p .settings;
       leaves = g .leaves;

@@ -5,16 +5,16 @@ use mathlib.Core.Path.{_≡_, sym, ap, refl, _∙_}
 use mathlib.Core.Bool.{true}
 use mathlib.Core.List.{List, [], _∷_, map, _++_}
 use native.Mathlib.Omega.{arith}
-use lib.ListN.{length, length-map, getD}
+use lib.ListN.{length, length-map, getD, take}
 use lib.Dec.{leb, eqb}
 use borrow.Author.Tests.{eq-eqb, le-leb}
 use Rattle.spec.specs.Bytes.{Bytes, Bits, pack, blocks, concat, ones, all, equal}
 use Rattle.spec.specs.Leaves.{Leaf}
-use Rattle.spec.specs.Image.{ranks, Settings, samples, image, rows, in-order, write-records, sizes}
+use Rattle.spec.specs.Image.{ranks, Settings, known-version, samples, image, rows, version-rows, in-order, write-records, sizes}
 use Rattle.spec.specs.Frame.{has-header, parts, Parts, named}
 use Rattle.spec.specs.Nodes.{levels-of, nodes-of, Node, is-exact, extra-ends, sparse-nodes, total}
 use Rattle.spec.specs.Trie.{builders-trie, nodes-valid, first-set, covered}
-use Rattle.spec.specs.Check.{verdict, header-valid, spare-clear, ranks-valid, slots-valid, sized, no-spare}
+use Rattle.spec.specs.Check.{verdict, header-valid, spare-clear, ranks-valid, starts-valid, tables-valid, slots-valid, sized, no-spare}
 use Rattle.theory.specs.Terms.{All}
 use Rattle.theory.specs.Demands.{Passes-11, Passes-12, Passes-13, Passes-14, Passes-15}
 use Rattle.theory.specs.CheckStages.{passes-verdict}
@@ -26,7 +26,8 @@ use Rattle.theory.specs.LevelTrie.{Node-group, trie, trie-dense, trie-sp
 use Rattle.theory.specs.LinkedLevels.{levels-back}
 use Rattle.theory.specs.Levels.{levels-of-concat, node-group-leaf}
 use Rattle.theory.specs.TrieTests.{Trie-valid, root-nodes-valid, root-first-width, nodes-valid-none, realizable-trie, Empty-or-valid, empty-list, valid-trie}
-use Rattle.theory.specs.NodeBits.{bodies, bodies-bits, bodies-of, dense-labels, dense-has-child, sparse-labels, sparse-has-child, louds, slots, node-image, node-counts}
+use Rattle.theory.specs.NodeBits.{bodies, bodies-bits, bodies-of, dense-labels, dense-has-child, sparse-labels, sparse-has-child, louds, slots, node-image, version-bodies, node-counts}
+use Rattle.theory.specs.LevelStarts.{level-bodies-pass}
 use Rattle.theory.specs.LiteralImage.{Buildable, image-of-trie}
 use Rattle.theory.specs.DenseBits.{length-dl, length-dc, dense-covered}
 use Rattle.theory.specs.SparseBits.{length-sc, length-sb, louds-ones, sparse-shapes-back}
@@ -60,7 +61,7 @@ no-spare-at k bs e = ap (λ (z : ℕ). no-spare z (pack bs)) (sym e) ∙ unpack-
 rank-size : (w k : ℕ) (bs : Bits) → length bs ≡ k → length (ranks w bs) ≡ 4 * ((k + (w - 1)) / w)
 rank-size w k bs e = length-ranks w bs ∙ ap (λ (z : ℕ). 4 * ((z + (w - 1)) / w)) e
 
-node-image-sized : (st : Settings) (count : ℕ) (ds ss : List Node) → Writable (st .width) count ds ss → sized (sizes st (node-counts count ds ss)) (in-order (bodies ds ss)) ≡ true
+node-image-sized : (st : Settings) (count : ℕ) (ds ss : List Node) → Writable (st .width) count ds ss → sized (sizes st (node-counts count ds ss)) (take 12 (version-bodies (st .version) ds ss)) ≡ true
 unfolding sizes rows
 node-image-sized st count ds ss w =
     let dl = length-dl ds in
@@ -112,18 +113,19 @@ unfolding has-header
 node-image-has-header st count ds ss w =
     let h = node-image-header st count ds ss w in
     let s : Bytes = node-image st count ds ss in
-    let l : 22 ≤ length s = drop-header st (node-counts count ds ss) (write-records rows (in-order (bodies ds ss))) .5 in
+    let l : 22 ≤ length s = drop-header st (node-counts count ds ss) (write-records (version-rows (st .version)) (version-bodies (st .version) ds ss)) .5 in
     true-every (leb 22 (length s) ∷ eqb (getD s 0 0) 72 ∷ eqb (getD s 1 0) 68 ∷ []) (le-leb 22 (length s) l, (eq-eqb (getD s 0 0) 72 (h .mark-one), (eq-eqb (getD s 1 0) 68 (h .mark-two), tt)))
 
-node-image-header-valid : (st : Settings) (count : ℕ) (ds ss : List Node) → Writable (st .width) count ds ss → st .dense-levels ≤ 4 → header-valid (node-image st count ds ss) (parts-of-nodes st count ds ss) (in-order (bodies ds ss)) ≡ true
+node-image-header-valid : (st : Settings) (count : ℕ) (ds ss : List Node) → Writable (st .width) count ds ss → known-version (st .version) ≡ true → st .dense-levels ≤ 4
+    → header-valid (node-image st count ds ss) (parts-of-nodes st count ds ss) (version-bodies (st .version) ds ss) ≡ true
 unfolding header-valid
-node-image-header-valid st count ds ss w d =
+node-image-header-valid st count ds ss w k d =
     let h = node-image-header st count ds ss w in
     let s : Bytes = node-image st count ds ss in
-    true-every (eqb (getD s 2 0) 1 ∷ leb (st .dense-levels) 4 ∷ leb (st .width) 16 ∷ eqb (getD s 5 0) 0 ∷ leb count 65535 ∷ sized (sizes st (node-counts count ds ss)) (in-order (bodies ds ss)) ∷ [])
-    (eq-eqb (getD s 2 0) 1 (h .version), (le-leb (st .dense-levels) 4 d, (le-leb (st .width) 16 (w .width-range), (eq-eqb (getD s 5 0) 0 (h .zero-byte), (le-leb count 65535 (w .few), (node-image-sized st count ds ss w, tt))))))
+    true-every (known-version (st .version) ∷ leb (st .dense-levels) 4 ∷ leb (st .width) 16 ∷ eqb (getD s 5 0) 0 ∷ leb count 65535 ∷ sized (sizes st (node-counts count ds ss)) (take 12 (version-bodies (st .version) ds ss)) ∷ [])
+    (k, (le-leb (st .dense-levels) 4 d, (le-leb (st .width) 16 (w .width-range), (eq-eqb (getD s 5 0) 0 (h .zero-byte), (le-leb count 65535 (w .few), (node-image-sized st count ds ss w, tt))))))
 
-node-image-spare-clear : (st : Settings) (count : ℕ) (ds ss : List Node) → Writable (st .width) count ds ss → spare-clear (parts-of-nodes st count ds ss) (named (in-order (bodies ds ss))) ≡ true
+node-image-spare-clear : (st : Settings) (count : ℕ) (ds ss : List Node) → Writable (st .width) count ds ss → spare-clear (parts-of-nodes st count ds ss) (named (version-bodies (st .version) ds ss)) ≡ true
 unfolding spare-clear named
 node-image-spare-clear st count ds ss w =
     rw (bodies-bits ds ss) (true-every
@@ -143,7 +145,7 @@ node-image-builders-trie st count ds ss w b =
     true-every (first-set (p .sb) ∷ eqb (ones (p .sb)) (p .counts .sparse-nodes) ∷ covered (p .dc) (p .dl) ∷ all extra-ends (sparse-nodes p) ∷ nodes-valid (p .settings .dense-levels) (p .counts .dense-nodes) (p .counts .leaves) (nodes-of p) ∷ [])
     (o .1, (eq-eqb (ones (p .sb)) (length ss) (o .0), (dense-covered ds, (ap (all extra-ends) (sparse-nodes-back st count ds ss w) ∙ sparse-shapes-back ss (w .sparse-labelled) (w .sparse-bytes) .1, (ap (nodes-valid (st .dense-levels) (length ds) count) (nodes-back st count ds ss w) ∙ b, tt)))))
 
-node-image-ranks-valid : (st : Settings) (count : ℕ) (ds ss : List Node) → ranks-valid (parts-of-nodes st count ds ss) (named (in-order (bodies ds ss))) ≡ true
+node-image-ranks-valid : (st : Settings) (count : ℕ) (ds ss : List Node) → ranks-valid (parts-of-nodes st count ds ss) (named (version-bodies (st .version) ds ss)) ≡ true
 unfolding ranks-valid named
 node-image-ranks-valid st count ds ss =
     let p : Parts = parts-of-nodes st count ds ss in
@@ -151,18 +153,22 @@ node-image-ranks-valid st count ds ss =
     (equal (ranks 64 (p .dl)) (ranks 64 (p .dl)) ∷ equal (ranks 64 (p .dc)) (ranks 64 (p .dc)) ∷ equal (ranks 64 (p .dp)) (ranks 64 (p .dp)) ∷ equal (ranks 512 (p .sc)) (ranks 512 (p .sc)) ∷ equal (samples (p .sb)) (samples (p .sb)) ∷ [])
     (equal-self (ranks 64 (p .dl)), (equal-self (ranks 64 (p .dc)), (equal-self (ranks 64 (p .dp)), (equal-self (ranks 512 (p .sc)), (equal-self (samples (p .sb)), tt))))))
 
+node-image-tables-valid : (st : Settings) (count : ℕ) (ds ss : List Node) → Writable (st .width) count ds ss → tables-valid (parts-of-nodes st count ds ss) (version-bodies (st .version) ds ss) ≡ true
+unfolding tables-valid starts-valid
+node-image-tables-valid st count ds ss w = rw (node-image-ranks-valid st count ds ss, nodes-back st count ds ss w) (level-bodies-pass (st .version) (map length (levels-of (ds ++ ss))))
+
 -- The image of nodes that pass the tests of a builder's trie and of its slots is accepted.
-pub node-image-accepted : (st : Settings) (count : ℕ) (ds ss : List Node) → Writable (st .width) count ds ss → st .dense-levels ≤ 4 → nodes-valid (st .dense-levels) (length ds) count (ds ++ ss) ≡ true
+pub node-image-accepted : (st : Settings) (count : ℕ) (ds ss : List Node) → Writable (st .width) count ds ss → known-version (st .version) ≡ true → st .dense-levels ≤ 4 → nodes-valid (st .dense-levels) (length ds) count (ds ++ ss) ≡ true
     → slots-valid 0 (levels-of (ds ++ ss)) ≡ true → verdict (node-image st count ds ss) ≡ 0
-node-image-accepted st count ds ss w d b c =
+node-image-accepted st count ds ss w k d b c =
     let s : Bytes = node-image st count ds ss in
-    let bs : List Bytes = in-order (bodies ds ss) in
+    let bs : List Bytes = version-bodies (st .version) ds ss in
     let p : parts s (named bs) ≡ parts-of-nodes st count ds ss = parts-back st count ds ss w in
     let p11 : Passes-11 s bs = record { header = node-image-has-header st count ds ss w; bodies = node-image-bodies st count ds ss w } in
-    let p12 : Passes-12 s bs = record { before = p11; header = rw p (node-image-header-valid st count ds ss w d) } in
+    let p12 : Passes-12 s bs = record { before = p11; header = rw p (node-image-header-valid st count ds ss w k d) } in
     let p13 : Passes-13 s bs = record { before = p12; spare = rw p (node-image-spare-clear st count ds ss w) } in
     let p14 : Passes-14 s bs = record { before = p13; trie = rw p (node-image-builders-trie st count ds ss w b) } in
-    let p15 : Passes-15 s bs = record { before = p14; ranks = rw p (node-image-ranks-valid st count ds ss) } in
+    let p15 : Passes-15 s bs = record { before = p14; tables = rw p (node-image-tables-valid st count ds ss w) } in
     passes-verdict s bs (record { before = p15; slots = rw (p, nodes-back st count ds ss w) c })
 
 -- The image of a buildable leaf list that is not empty is accepted.
@@ -177,14 +183,14 @@ module _ (st : Settings) (ls : List Leaf) (v : Buildable st ls) (t : Trie-valid 
       let c : levels-of (concat (trie ls)) ≡ trie ls = levels-of-concat (trie ls) (t .linked) (root-first-width t) (t .shallow) in
       let whole = concat-split (st .dense-levels) (trie ls) in
       ap verdict (image-of-trie st ls v)
-      ∙ node-image-accepted st (length ls) (trie-dense (st .dense-levels) ls) (trie-sparse (st .dense-levels) ls) (trie-writable st ls v t) (v .dense-range) (rw whole b) (rw (whole, c) (trie-levels-valid st ls v t .valid))
+      ∙ node-image-accepted st (length ls) (trie-dense (st .dense-levels) ls) (trie-sparse (st .dense-levels) ls) (trie-writable st ls v t) (v .version-known) (v .dense-range) (rw whole b) (rw (whole, c) (trie-levels-valid st ls v t .valid))
 
 empty-slots : slots-valid 0 (levels-of []) ≡ true
 unfolding slots-valid levels-of total
 empty-slots = refl
 
 empty-accepted : (st : Settings) → Buildable st [] → verdict (image st []) ≡ 0
-empty-accepted st v = ap verdict (empty-image st v) ∙ node-image-accepted st 0 [] [] (no-nodes-writable st (v .width-range)) (v .dense-range) (nodes-valid-none (st .dense-levels) 0 0) empty-slots
+empty-accepted st v = ap verdict (empty-image st v) ∙ node-image-accepted st 0 [] [] (no-nodes-writable st (v .width-range)) (v .version-known) (v .dense-range) (nodes-valid-none (st .dense-levels) 0 0) empty-slots
 
 -- The check accepts the image of every buildable leaf list.
 pub image-accepted : (st : Settings) (ls : List Leaf) → Buildable st ls → verdict (image st ls) ≡ 0

@@ -2,7 +2,7 @@
 -- The demands on built images stand on this.
 use Prim.Native.Nat.{ℕ, _≤_}
 use mathlib.Core.Path.{_≡_, refl, sym, ap, ap₂, _∙_}
-use mathlib.Core.Bool.{Bool, true, false}
+use mathlib.Core.Bool.{Bool, true, false, _&&_}
 use mathlib.Core.List.{List}
 use mathlib.Core.Logic.{_↔_}
 use native.Mathlib.Omega.{arith}
@@ -12,7 +12,7 @@ use borrow.Author.Tests.{leb-true, le-leb, ltb-true, ltb-false, eqb-true, eqb-fa
 use Rattle.spec.specs.Bytes.{Bytes}
 use Rattle.spec.specs.Keys.{Parsed-keys, refused, keys, parse-keys, keys-of}
 use Rattle.spec.specs.Leaves.{leaves}
-use Rattle.spec.specs.Image.{Settings, image}
+use Rattle.spec.specs.Image.{Settings, known-version, image}
 use Rattle.spec.specs.Answer.{Outcome, refuse, success, write, written}
 use Rattle.spec.specs.Build.{in-range, Judged, turned-down, to-build, judge, Length, bytes, image-length, write-stated, build}
 use Rattle.theory.specs.Terms.{Ascending, Is-bytes, Keys, Key-list}
@@ -31,11 +31,14 @@ keys-of-list list ks h = rw (h, keys-of)
 -- ---- what is judged
 
 -- settings in range
-pub in-range-exactly : (st : Settings) → (in-range st ≡ true) ↔ ((st .dense-levels ≤ 4) × (st .width ≤ 16))
+pub in-range-exactly : (st : Settings) → (in-range st ≡ true) ↔ ((known-version (st .version) ≡ true) × (st .dense-levels ≤ 4) × (st .width ≤ 16))
 unfolding in-range
 in-range-exactly st = (
-  λ h. let p = and-both (leb (st .dense-levels) 4) (leb (st .width) 16) h in (leb-true (st .dense-levels) 4 (p .0), leb-true (st .width) 16 (p .1)),
-  λ p. rw (le-leb (st .dense-levels) 4 (p .0), le-leb (st .width) 16 (p .1)),
+  λ h.
+      let p = and-both (known-version (st .version) && leb (st .dense-levels) 4) (leb (st .width) 16) h in
+      let q = and-both (known-version (st .version)) (leb (st .dense-levels) 4) (p .0) in
+      (q .0, leb-true (st .dense-levels) 4 (q .1), leb-true (st .width) 16 (p .1)),
+  λ p. rw (p .0, le-leb (st .dense-levels) 4 (p .1), le-leb (st .width) 16 (p .2)),
 )
 
 -- what is judged, by what the tests say
@@ -150,6 +153,7 @@ built-length list st stated out n h =
 
 -- settings in range, and at most 65,535 keys that ascend: what build reads from a key list
 pub record Built-from (st : Settings) (ks : List Bytes) : Type 0 where
+  pub version-known : known-version (st .version) ≡ true
   pub dense-range : st .dense-levels ≤ 4
   pub width-range : st .width ≤ 16
   pub few : length ks ≤ 65535
@@ -160,11 +164,12 @@ pub record Built-from (st : Settings) (ks : List Bytes) : Type 0 where
 pub built-from : (st : Settings) (list : Bytes) (ks : List Bytes) → in-range st ≡ true → Key-list list ks → Built-from st ks
 built-from st list ks e l =
     let r = in-range-exactly st .0 e in
-    record { dense-range = r .0; width-range = r .1; few = l .few; keys = l .each; up = l .up }
+    record { version-known = r .0; dense-range = r .1; width-range = r .2; few = l .few; keys = l .each; up = l .up }
 
 -- The leaves of such keys fit: their image is accepted and read back.
 pub built-fits : (st : Settings) (ks : List Bytes) → Built-from st ks → Buildable st (leaves (st .width) ks)
 built-fits st ks b = record {
+  version-known = b .version-known;
   dense-range = b .dense-range;
   width-range = b .width-range;
   few = omega (arith, leaves-length (st .width) ks, b .few);

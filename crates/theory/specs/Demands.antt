@@ -10,15 +10,15 @@ use lib.ListN.{length, getD, take, drop}
 use Rattle.spec.specs.Bytes.{Bytes, count, begins}
 use Rattle.spec.specs.Keys.{below, within, keys, parse-keys, keys-of}
 use Rattle.spec.specs.Leaves.{Leaf, leaves}
-use Rattle.spec.specs.Image.{Settings, rows, image}
-use Rattle.spec.specs.Frame.{has-header, read-bodies, named, parts, read-settings}
+use Rattle.spec.specs.Image.{Settings, image}
+use Rattle.spec.specs.Frame.{has-header, rows-of, read-bodies, named, parts, read-settings}
 use Rattle.spec.specs.Nodes.{nodes-of, levels-of, read-leaves}
 use Rattle.spec.specs.Trie.{builders-trie}
 use Rattle.spec.specs.Rules.{Rule, rule-number, applies, rule-says}
 use Rattle.spec.specs.Questions.{Question, QP, QS, QB, QR, QC, Reply, reply, replies, reply-at, taken, parse-questions, questions-of, question-at}
 use Rattle.spec.specs.Answer.{written, refused, refusal-weight, Outcome, success}
 use Rattle.spec.specs.Build.{in-range, trie-entries, image-length, build}
-use Rattle.spec.specs.Check.{header-valid, spare-clear, ranks-valid, slots-valid, accepted, check}
+use Rattle.spec.specs.Check.{header-valid, spare-clear, tables-valid, slots-valid, accepted, check}
 use Rattle.spec.specs.Ask.{ask}
 use Rattle.spec.specs.Walk.{open-walk, next}
 use Rattle.spec.specs.WalkRecords.{record-size, records-from, walk-records}
@@ -40,9 +40,9 @@ pub record Builds-with (st : Settings) (list b : Bytes) : Type 0 where
   pub room : length b ≤ length output
   pub writes : build list st (length b) output ≡ success b output
 
--- with some settings
+-- with some settings. Order 8: "Every image statement is then made within a version": the settings have the version that the image says.
 abbrev pub Builds : Bytes → Bytes → Type 0
-Builds list b = (st : Settings) × Builds-with st list b
+Builds list b = (st : Settings) × Builds-with st list b × (st .version ≡ read-settings b .version)
 
 -- "A byte string is accepted if the check gives it none of 11 to 16."
 abbrev pub Accepted : Bytes → Type 0
@@ -114,7 +114,7 @@ pub data Build-refusal (list : Bytes) (st : Settings) (stated : ℕ) (out : Byte
 module _ (b : Bytes) (bs : List Bytes) where
   pub record Passes-11 : Type 0 where
     pub header : has-header b ≡ true
-    pub bodies : read-bodies rows (drop 22 b) ≡ some bs
+    pub bodies : read-bodies (rows-of b) (drop 22 b) ≡ some bs
 
   pub record Passes-12 : Type 0 where
     pub before : Passes-11
@@ -130,7 +130,7 @@ module _ (b : Bytes) (bs : List Bytes) where
 
   pub record Passes-15 : Type 0 where
     pub before : Passes-14
-    pub ranks : ranks-valid (parts b (named bs)) (named bs) ≡ true
+    pub tables : tables-valid (parts b (named bs)) bs ≡ true
 
   pub record Passes-16 : Type 0 where
     pub before : Passes-15
@@ -140,17 +140,17 @@ module _ (b : Bytes) (bs : List Bytes) where
 pub data Check-refusal (b : Bytes) : ℕ → Type 0 where
   -- "11, header short or unmarked,
   header-missing : has-header b ≡ false → Check-refusal b 11
-  -- a mark wrong, a record running past the end, or bytes left over.
-  records-missing : read-bodies rows (drop 22 b) ≡ none → Check-refusal b 11
-  -- 12, version, settings or zero byte wrong, over 65,535 leaves, or a body length not as the counts give.
+  -- a mark wrong, a record running past the end, or bytes left over." Order 8: the records are those of the version byte.
+  records-missing : read-bodies (rows-of b) (drop 22 b) ≡ none → Check-refusal b 11
+  -- "12, version, settings or zero byte wrong, over 65,535 leaves, or a body length not as the counts give.
   header-wrong : (bs : List Bytes) → Passes-11 b bs → header-valid b (parts b (named bs)) bs ≡ false → Check-refusal b 12
   -- 13, a spare bit set, that is, one behind a body's last bit in its last byte.
   spare-set : (bs : List Bytes) → Passes-12 b bs → spare-clear (parts b (named bs)) (named bs) ≡ false → Check-refusal b 13
   -- 14, not a builder's trie.
   no-trie : (bs : List Bytes) → Passes-13 b bs → builders-trie (parts b (named bs)) ≡ false → Check-refusal b 14
-  -- 15, a rank or sample wrong.
-  rank-wrong : (bs : List Bytes) → Passes-14 b bs → ranks-valid (parts b (named bs)) (named bs) ≡ false → Check-refusal b 15
-  -- 16, an exact leaf's slot not zero, or a suffix bit set past a key's 64th byte."
+  -- 15, a rank or sample wrong." Order 8: "A wrong LV, its length included, gets 15".
+  table-wrong : (bs : List Bytes) → Passes-14 b bs → tables-valid (parts b (named bs)) bs ≡ false → Check-refusal b 15
+  -- "16, an exact leaf's slot not zero, or a suffix bit set past a key's 64th byte."
   slot-set : (bs : List Bytes) → Passes-15 b bs → slots-valid 0 (levels-of (nodes-of (parts b (named bs)))) ≡ false → Check-refusal b 16
 
 -- for ask: the check's 11 to 16; then the questions' 21 to 24; then 25, replies longer than the reply buffer
@@ -251,6 +251,18 @@ pub record Replies-correct (b file final : Bytes) : Type 0 where
   pub next : (i : ℕ) (start : Bytes) → question-at file i ≡ some (QS start) → (None (reply-at i final) → ⊥)
       → Next-key b start (reply-at i final .number) (reply-at i final .key)
 
+-- settings that differ at most in the version
+abbrev pub Other-settings-equal : Settings → Settings → Type 0
+Other-settings-equal st su = (st .dense-levels ≡ su .dense-levels) × (st .width ≡ su .width)
+
+-- two images get the same from every call that reads one: replies and refusals, leaves, records, and the printed text of those that are no longer than the printer takes
+pub record Same-answers (b c : Bytes) : Type 0 where
+  pub ask : (file out : Bytes) → ask b file out ≡ ask c file out
+  pub open-walk : (place : ℕ) → open-walk b place ≡ open-walk c place
+  pub next : (place : ℕ) → next b place ≡ next c place
+  pub walk-records : (place : ℕ) (out : Bytes) → walk-records b place out ≡ walk-records c place out
+  pub print : length b ≤ longest-input → length c ≤ longest-input → print b ≡ print c
+
 -- of byte strings, question files and lists
 pub record Demand-3 : Type 0 where
   -- "Of all byte strings, exactly those that some key list builds are accepted as images."
@@ -266,6 +278,8 @@ pub record Demand-3 : Type 0 where
   -- "Two lists with the same settings build one image exactly when their prefixes, kinds and suffix bits agree."
   pub one-image : (st : Settings) (list other b c : Bytes) → Builds-with st list b → Builds-with st other c
       → (b ≡ c) ↔ Agree (leaves (st .width) (keys-of list)) (leaves (st .width) (keys-of other))
+  -- Order 8: "one list's images in both versions, other settings equal, get the same replies", and walk and printer say the same of them.
+  pub both-versions : (st su : Settings) (list b c : Bytes) → Other-settings-equal st su → Builds-with st list b → Builds-with su list c → Same-answers b c
 
 -- ---- the three
 

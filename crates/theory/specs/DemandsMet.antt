@@ -1,5 +1,5 @@
 -- The three demands hold.
-use Prim.Native.Nat.{ℕ, _/_, _+_, _<_, _≤_}
+use Prim.Native.Nat.{ℕ, suc, _/_, _+_, _<_, _≤_}
 use mathlib.Core.Path.{_≡_, refl, sym, ap, ap₂, subst, _∙_}
 use mathlib.Core.Bool.{true, false}
 use mathlib.Core.List.{List, [], _∷_, _++_}
@@ -7,6 +7,7 @@ use mathlib.Core.Option.{some}
 use mathlib.Core.Logic.{_↔_, Iff·trans}
 use native.Mathlib.Omega.{arith}
 use lib.ListN.{length, getD, take, drop}
+use lib.Dec.{ltb, eqb}
 use Rattle.spec.specs.Bytes.{Bytes, count, begins}
 use Rattle.spec.specs.Keys.{below, keys, write-keys, keys-of, within}
 use Rattle.spec.specs.Leaves.{Leaf, leaves}
@@ -14,8 +15,8 @@ use Rattle.spec.specs.Image.{Settings, image}
 use Rattle.spec.specs.Frame.{read-settings}
 use Rattle.spec.specs.Nodes.{read-leaves}
 use Rattle.spec.specs.Rules.{Rule, rule-number, applies, rule}
-use Rattle.spec.specs.Questions.{point, range, begins-with, counted, seek, Sought, found, Question, QP, QS, QB, QR, QC, Reply, keyless, sought, reply, replies, reply-at, questions-of, question-at}
-use Rattle.spec.specs.Answer.{success, Outcome}
+use Rattle.spec.specs.Questions.{point, range, begins-with, counted, seek, Sought, found, Question, QP, QS, QB, QR, QC, Reply, keyless, sought, reply, replies, reply-at, taken, parse-questions, questions-of, question-at}
+use Rattle.spec.specs.Answer.{success, refuse, write, Outcome}
 use Rattle.spec.specs.Build.{in-range, build}
 use Rattle.spec.specs.Check.{verdict}
 use Rattle.spec.specs.Ask.{ask}
@@ -30,13 +31,15 @@ use Rattle.theory.specs.SeekLaws.{Seek-correct, seek-none, seek-found}
 use Rattle.theory.specs.ReadBack.{read-back, settings-back}
 use Rattle.theory.specs.KeyFiles.{keys-exactly, bytes-write-keys}
 use Rattle.theory.specs.QuestionFiles.{questions-exactly}
-use Rattle.theory.specs.Demands.{Builds-with, Builds, Count, Next-key, None, Agree, Demand-1, Demand-2, Replies-correct, Demand-3, Demands}
+use Rattle.theory.specs.Demands.{Builds-with, Builds, Count, Next-key, None, Agree, Demand-1, Demand-2, Replies-correct, Same-answers, Demand-3, Demands}
 use Rattle.theory.specs.OutcomeLaws.{final-is, write-fits, success-written, success-answer}
 use Rattle.theory.specs.BuildLaws.{built-from, built-fits, keys-of-list, in-range-exactly, build-writes, length-builds, built-length, build-writes-image}
 use Rattle.theory.specs.AskLaws.{bytes-replies, reply-written, Answered, ask-answers, ask-takes, walk-correct, print-correct}
 use Rattle.theory.specs.ImageBytes.{image-bytes}
 use Rattle.theory.specs.RefusalNumbers.{check-accepts, check-refuses}
-use Rattle.spec.specs.WalkRecords.{record-size, records-from, walk-records}
+use Rattle.spec.specs.Walk.{Stand, stand-at, open-walk, next-place, next}
+use Rattle.spec.specs.WalkRecords.{record-size, records-from, written-by, walk-records}
+use Rattle.spec.specs.Print.{listing}
 use Rattle.theory.specs.WalkRecordLaws.{bytes-records-from, records-written, records-answered, walk-records-refuses, walk-records-kept}
 use Rattle.theory.specs.LengthBounds.{leaves-are, length-short, build-short, ask-short, walk-records-short}
 use Rattle.theory.specs.EntryBound.{entries-bound}
@@ -44,6 +47,8 @@ use Rattle.theory.specs.RefusalLaws.{length-refuses, build-refuses, ask-
 use Rattle.theory.specs.LiteralImage.{Buildable}
 use Rattle.theory.specs.AcceptImage.{image-accepted}
 use Rattle.spec.specs.Answer as Answer
+use Rattle.spec.specs.Questions as Questions
+use Rattle.spec.specs.Walk as Walk
 use Rattle.spec.specs.Questions as Questions
 use Rattle.theory.specs.Accept as Accept
 
@@ -223,10 +228,11 @@ module _ (b : Bytes) (o : Accept.Image-of-leaves b) where
       let st : Settings = o .settings in
       let k : Key-list (write-keys ks) ks = record { bytes = refl; each = w .keys; up = w .up; few = omega (arith, o .fits .few, has-leaves-length ks (o .leaves) w) } in
       let small : Is-bytes (write-keys ks) = bytes-write-keys ks (w .keys) in
-      let r : in-range st ≡ true = in-range-exactly st .1 (o .fits .dense-range, o .fits .width-range) in
+      let r : in-range st ≡ true = in-range-exactly st .1 (o .fits .version-known, o .fits .dense-range, o .fits .width-range) in
       let i : image st (leaves (st .width) ks) ≡ b = ap (image st) (w .same-leaves) ∙ sym (o .image-is) in
       let x : build (write-keys ks) st (length b) b ≡ success b b = subst (λ (z : Bytes). build (write-keys ks) st (length z) b ≡ success z b) i (key-list-builds st (write-keys ks) ks small r k b (omega (arith, ap length i))) in
-      ((st, record { bytes = small; range = r; output = b; room = omega arith; writes = x }), keys-of-list (write-keys ks) ks (keys-exactly (write-keys ks) ks small .1 k))
+      let same : st .version ≡ read-settings b .version = ap (λ (z : Settings). z .version) (sym (ap read-settings (o .image-is) ∙ settings-back st (o .leaves))) in
+      ((st, record { bytes = small; range = r; output = b; room = omega arith; writes = x }, same), keys-of-list (write-keys ks) ks (keys-exactly (write-keys ks) ks small .1 k))
 
   -- what holds of every list, or of some, as keys and as bytes
   every : (P : List Bytes → Type 0) → ((ks : List Bytes) → Has-leaves (o .settings .width) ks (o .leaves) → P ks) ↔ ((list : Bytes) → Builds list b → P (keys-of list))
@@ -329,6 +335,24 @@ module _ (b : Bytes) (o : Accept.Image-of-leaves b) where
           rw x (found-reply start (proper i (QS start) e) (λ z. f (rw x z)));
     }
 
+-- accepted images with the same leaves get the same from every call
+same-answers : (b c : Bytes) → verdict b ≡ 0 → verdict c ≡ 0 → read-leaves b ≡ read-leaves c → Same-answers b c
+unfolding ask open-walk next next-place walk-records
+same-answers b c v w e = record {
+  ask = λ file out.
+      ap₂ (λ (x : ℕ) (ls : List Leaf). elim (eqb x 0) as (λ z. Outcome) [ false ↦ refuse x out | true ↦ elim (parse-questions file) [ Questions.refused r ↦ refuse r out | taken qs ↦ write 25 (replies ls qs) out ] ]) same e;
+  open-walk = opened;
+  next = λ place. ap (open-walk b) (ap (λ (ls : List Leaf). elim (ltb place (length ls)) as (λ z. ℕ) [ true ↦ suc place | false ↦ place ]) e) ∙ opened (next-place c place);
+  walk-records = λ place out. ap₂ (λ (ls : List Leaf) (s : Stand). written-by ls place out s) e (opened place);
+  print = λ h l. print-correct b (read-leaves b) v refl h ∙ ap listing e ∙ sym (print-correct c (read-leaves c) w refl l);
+}
+  where
+    same : verdict b ≡ verdict c
+    same = v ∙ sym w
+
+    opened : (place : ℕ) → open-walk b place ≡ open-walk c place
+    opened place = ap₂ (λ (x : ℕ) (ls : List Leaf). elim (eqb x 0) as (λ z. Stand) [ false ↦ Walk.refused x | true ↦ elim (ltb (length ls) place) [ true ↦ Walk.refused 17 | false ↦ stand-at ls place ] ]) same e
+
 -- Demand 3.
 pub demand-3 : Demand-3
 demand-3 = record {
@@ -352,6 +376,8 @@ demand-3 = record {
         subst (λ (ms : List Leaf). Agree (leaves (st .width) (keys-of list)) ms) same (agree-self (leaves (st .width) (keys-of list))),
     λ g. list-image st list b w ∙ ap (image st) (agree-same (leaves (st .width) (keys-of list)) (leaves (st .width) (keys-of other)) g) ∙ sym (list-image st other c x),
   );
+  both-versions = λ st su list b c e w x.
+      same-answers b c (list-accepted st list b w) (list-accepted su list c x) (list-read st list b w ∙ ap (λ (n : ℕ). leaves n (keys-of list)) (e .1) ∙ sym (list-read su list c x));
 }
 
 -- The three demands hold.

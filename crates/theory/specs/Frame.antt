@@ -1,7 +1,7 @@
 -- 32-bit numbers, records behind their rows and the header, written and read back.
 -- Used where an image is written or read: the parts of an image, acceptance, and the replies of questions.
 use Prim.Native.Nat.{ℕ, _<_, _+_, _*_, _%_, _/_, _≤_, suc, zero}
-use mathlib.Core.Path.{_≡_, sym, refl, ap, _∙_}
+use mathlib.Core.Path.{_≡_, sym, refl, ap, _∙_, subst}
 use mathlib.Core.Bool.{true, Bool, false}
 use mathlib.Core.List.{_∷_, [], _++_, List, append-assoc}
 use mathlib.Core.Option.{some, Option, none}
@@ -109,6 +109,50 @@ Paired [] (b ∷ bs) = ⊥
 Paired (r ∷ rs) [] = ⊥
 Paired (r ∷ rs) (b ∷ bs) = Paired rs bs
 
+-- Bodies that are read are as many as the records.
+pub read-paired : (rs : List Row) (s : Bytes) (bs : List Bytes) → read-bodies rs s ≡ some bs → Paired rs bs
+unfolding read-bodies
+read-paired [] [] [] h = tt
+read-paired [] [] (b ∷ bs) h = let z : _≡_ {A = List Bytes} [] (b ∷ bs) = cc in absurd (omega (arith, ap length z))
+read-paired [] (x ∷ s) bs h = let z : _≡_ {A = ℕ} 0 1 = cc in absurd (omega arith)
+read-paired (r ∷ rs) s bs h = go (is-record (r .first) (r .second) s) (read-bodies rs (drop (from32 (drop 2 s) + 6) s)) refl h (λ cs f. read-paired rs (drop (from32 (drop 2 s) + 6) s) cs f)
+  where
+    go : (t : Bool) (o : Option (List Bytes)) → read-bodies rs (drop (from32 (drop 2 s) + 6) s) ≡ o
+        → elim t [ true ↦ elim o [ none ↦ none | some bs ↦ some (take (from32 (drop 2 s)) (drop 6 s) ∷ bs) ] | false ↦ none ] ≡ some bs
+        → ((cs : List Bytes) → read-bodies rs (drop (from32 (drop 2 s) + 6) s) ≡ some cs → Paired rs cs) → Paired (r ∷ rs) bs
+    go true none f h ih = let z : _≡_ {A = ℕ} 0 1 = cc in absurd (omega arith)
+    go true (some cs) f h ih = let q : take (from32 (drop 2 s)) (drop 6 s) ∷ cs ≡ bs = cc in subst (λ (z : List Bytes). Paired (r ∷ rs) z) q (ih cs f)
+    go false o f h ih = let z : _≡_ {A = ℕ} 0 1 = cc in absurd (omega arith)
+
+-- as many in number
+pub paired-length : (rs : List Row) (bs : List Bytes) → Paired rs bs → length bs ≡ length rs
+paired-length [] [] p = refl
+paired-length [] (b ∷ bs) p = absurd p
+paired-length (r ∷ rs) [] p = absurd p
+paired-length (r ∷ rs) (b ∷ bs) p = ap suc (paired-length rs bs p)
+
+-- those of more records
+pub paired-append : (rs qs : List Row) (bs cs : List Bytes) → Paired rs bs → Paired qs cs → Paired (rs ++ qs) (bs ++ cs)
+paired-append [] qs [] cs p q = q
+paired-append [] qs (b ∷ bs) cs p q = absurd p
+paired-append (r ∷ rs) qs [] cs p q = absurd p
+paired-append (r ∷ rs) qs (b ∷ bs) cs p q = paired-append rs qs bs cs p q
+
+-- Bodies of records in two parts are those of each.
+pub paired-split : (rs qs : List Row) (bs : List Bytes) → Paired (rs ++ qs) bs → Paired rs (take (length rs) bs) × Paired qs (drop (length rs) bs)
+paired-split [] qs bs p = (tt, p)
+paired-split (r ∷ rs) qs [] p = absurd p
+paired-split (r ∷ rs) qs (b ∷ bs) p = paired-split rs qs bs p
+
+-- Records in two parts are written one part behind the other.
+pub records-append : (rs qs : List Row) (bs cs : List Bytes) → Paired rs bs → write-records (rs ++ qs) (bs ++ cs) ≡ write-records rs bs ++ write-records qs cs
+unfolding write-records
+records-append [] qs [] cs p = refl
+records-append [] qs (b ∷ bs) cs p = absurd p
+records-append (r ∷ rs) qs [] cs p = absurd p
+records-append (r ∷ rs) qs (b ∷ bs) cs p =
+    ap (λ (z : Bytes). marked (r .first) (r .second) b ++ z) (records-append rs qs bs cs p) ∙ sym (append-assoc (marked (r .first) (r .second) b) (write-records rs bs) (write-records qs cs))
+
 first-mark : (a b : ℕ) (body r : Bytes) → getD (marked a b body ++ r) 0 0 ≡ a
 unfolding marked
 first-mark a b body r = refl
@@ -210,21 +254,21 @@ le32-at : (k : ℕ) (s : Bytes) → Is-bytes s → le32 (from32 (drop k s)) ≡ 
 le32-at k s w = ap le32 (from32-at k s) ∙ le32-from32 (getD s (k + 0) 0) (getD s (k + 1) 0) (getD s (k + 2) 0) (getD s (k + 3) 0) [] (bytes-getD (k + 0) s w) (bytes-getD (k + 1) s w) (bytes-getD (k + 2) s w) (bytes-getD (k + 3) s w)
 
 header-is : (st : Settings) (c : Counts)
-    → header st c ≡ 72 ∷ 68 ∷ 1 ∷ st .dense-levels ∷ st .width ∷ 0 ∷ le32 (c .leaves) ++ (le32 (c .dense-nodes) ++ (le32 (c .sparse-entries) ++ le32 (c .sparse-nodes)))
+    → header st c ≡ 72 ∷ 68 ∷ st .version ∷ st .dense-levels ∷ st .width ∷ 0 ∷ le32 (c .leaves) ++ (le32 (c .dense-nodes) ++ (le32 (c .sparse-entries) ++ le32 (c .sparse-nodes)))
 unfolding header
 header-is st c = refl
 
--- 22 bytes that are marked as a header, of this version and with its zero byte, are the header of the settings and counts read from them.
-pub header-from-fields : (s : Bytes) → Is-bytes s → 22 ≤ length s → getD s 0 0 ≡ 72 → getD s 1 0 ≡ 68 → getD s 2 0 ≡ 1 → getD s 5 0 ≡ 0 → take 22 s ≡ header (read-settings s) (read-counts s)
+-- 22 bytes that are marked as a header, with its zero byte, are the header of the settings and counts read from them.
+pub header-from-fields : (s : Bytes) → Is-bytes s → 22 ≤ length s → getD s 0 0 ≡ 72 → getD s 1 0 ≡ 68 → getD s 5 0 ≡ 0 → take 22 s ≡ header (read-settings s) (read-counts s)
 unfolding iota read-settings read-counts
-header-from-fields s w h a b c d =
-    first-members 0 22 s h ∙ rw (header-is (read-settings s) (read-counts s), le32-at 6 s w, le32-at 10 s w, le32-at 14 s w, le32-at 18 s w, a, b, c, d)
+header-from-fields s w h a b d =
+    first-members 0 22 s h ∙ rw (header-is (read-settings s) (read-counts s), le32-at 6 s w, le32-at 10 s w, le32-at 14 s w, le32-at 18 s w, a, b, d)
 
 -- the fields that are read from a byte string with a header
 pub record Header-fields (st : Settings) (c : Counts) (s : Bytes) : Type 0 where
   pub mark-one : getD s 0 0 ≡ 72
   pub mark-two : getD s 1 0 ≡ 68
-  pub version : getD s 2 0 ≡ 1
+  pub version : getD s 2 0 ≡ st .version
   pub zero-byte : getD s 5 0 ≡ 0
   pub settings : read-settings s ≡ st
   pub counts : read-counts s ≡ c
@@ -239,7 +283,7 @@ unfolding header
 drop-header st c r = (refl, refl, refl, refl, refl, omega arith)
 
 first-fields : (st : Settings) (c : Counts) (r : Bytes)
-    → (getD (header st c ++ r) 0 0 ≡ 72) × (getD (header st c ++ r) 1 0 ≡ 68) × (getD (header st c ++ r) 2 0 ≡ 1) × (getD (header st c ++ r) 5 0 ≡ 0) × (read-settings (header st c ++ r) ≡ st)
+    → (getD (header st c ++ r) 0 0 ≡ 72) × (getD (header st c ++ r) 1 0 ≡ 68) × (getD (header st c ++ r) 2 0 ≡ st .version) × (getD (header st c ++ r) 5 0 ≡ 0) × (read-settings (header st c ++ r) ≡ st)
 unfolding header read-settings
 first-fields st c r = (refl, refl, refl, refl, refl)
 

@@ -1,16 +1,20 @@
 -- Every byte of an image is below 256.
 use Prim.Native.Nat.{ℕ, zero, suc, _+_, _-_, _*_, _/_, _^_, _<_, _≤_}
-use mathlib.Core.Bool.{cond, Bool, true, false}
+use mathlib.Core.Path.{_≡_, refl, sym}
+use mathlib.Core.Bool.{cond, Bool, true, false, _||_, true≢false}
 use mathlib.Core.List.{List, [], _∷_, _++_, map}
 use native.Mathlib.Omega.{arith}
 use lib.ListN.{length, getD, take, drop}
+use lib.Dec.{eqb}
+use borrow.Author.Tests.{eqb-true}
 use Rattle.spec.specs.Bytes.{Bytes, Bits, concat, iota, ones, low-first, packed, pack, le32}
 use Rattle.spec.specs.Leaves.{Leaf}
-use Rattle.spec.specs.Image.{Settings, image, header, marked, ranks, samples, positions, rows, in-order, write-records, Row, Counts}
-use Rattle.spec.specs.Nodes.{Node, label-of, branches-of, is-exact}
+use Rattle.spec.specs.Image.{Settings, known-version, level-row, level-rows, version-rows, level-bodies, image, header, marked, ranks, samples, positions, rows, in-order, write-records, Row, Counts}
+use Rattle.spec.specs.Nodes.{Node, levels-of, label-of, branches-of, is-exact}
 use Rattle.theory.specs.Terms.{All, Is-bytes}
-use Rattle.theory.specs.Lists.{bytes-append, bytes-le32}
-use Rattle.theory.specs.NodeBits.{Byte-labels, sparse-labels, bodies, bodies-bits, dense-labels, dense-has-child, sparse-has-child, louds, slots, node-counts}
+use Rattle.theory.specs.Lists.{bytes-append, bytes-le32, all-append}
+use Rattle.theory.specs.NodeBits.{Byte-labels, sparse-labels, bodies, bodies-bits, dense-labels, dense-has-child, sparse-has-child, louds, slots, node-counts, version-bodies}
+use Rattle.theory.specs.LevelStarts.{level-all, level-starts-bytes}
 use Rattle.theory.specs.ImageParts.{Writable, image-holds}
 use Rattle.theory.specs.LiteralImage.{Buildable}
 
@@ -74,9 +78,9 @@ bytes-records (r ∷ rs) [] m s = tt
 bytes-records (r ∷ rs) (body ∷ bs) m s =
     bytes-append (marked (r .first) (r .second) body) (write-records rs bs) (bytes-marked (r .first) (r .second) body (m .0 .0) (m .0 .1) (s .0)) (bytes-records rs bs (m .1) (s .1))
 
-bytes-header : (st : Settings) (c : Counts) → st .dense-levels ≤ 4 → st .width ≤ 16 → Is-bytes (header st c)
+bytes-header : (st : Settings) (c : Counts) → st .version ≤ 2 → st .dense-levels ≤ 4 → st .width ≤ 16 → Is-bytes (header st c)
 unfolding header
-bytes-header st c p q = (
+bytes-header st c v p q = (
   omega arith,
   (
     omega arith,
@@ -98,10 +102,28 @@ bytes-header st c p q = (
   ),
 )
 
-byte-marks : All Byte-mark rows
+-- There are two versions.
+pub known-few : (v : ℕ) → known-version v ≡ true → v ≤ 2
+unfolding known-version
+known-few v h = go (eqb v 1) (eqb v 2) refl refl h
+  where
+    go : (t u : Bool) → eqb v 1 ≡ t → eqb v 2 ≡ u → (t || u) ≡ true → v ≤ 2
+    go true u e f h = omega (arith, eqb-true v 1 e)
+    go false true e f h = omega (arith, eqb-true v 2 f)
+    go false false e f h = absurd (true≢false (sym h))
+
+twelve-marks : All Byte-mark rows
 unfolding rows
-byte-marks =
+twelve-marks =
     ((omega arith, omega arith), ((omega arith, omega arith), ((omega arith, omega arith), ((omega arith, omega arith), ((omega arith, omega arith), ((omega arith, omega arith), ((omega arith, omega arith), ((omega arith, omega arith), ((omega arith, omega arith), ((omega arith, omega arith), ((omega arith, omega arith), ((omega arith, omega arith), tt))))))))))))
+
+byte-marks : (v : ℕ) → All Byte-mark (version-rows v)
+unfolding version-rows level-rows level-row
+byte-marks v = all-append Byte-mark rows (level-rows v) twelve-marks (go (eqb v 2))
+  where
+    go : (t : Bool) → All Byte-mark (cond t (level-row ∷ []) [])
+    go true = ((omega arith, omega arith), tt)
+    go false = tt
 
 bytes-bodies : (n count : ℕ) (ds ss : List Node) → Writable n count ds ss → All Is-bytes (in-order (bodies ds ss))
 bytes-bodies n count ds ss w =
@@ -131,6 +153,9 @@ image-bytes st ls v =
     let h = image-holds st ls v in
     let ds : List Node = h .dense-nodes in
     let ss : List Node = h .sparse-nodes in
+    let ws : List ℕ = map length (levels-of (ds ++ ss)) in
     rw (h .image-is)
-    (bytes-append (header st (node-counts (length ls) ds ss)) (write-records rows (in-order (bodies ds ss)))
-    (bytes-header st (node-counts (length ls) ds ss) (v .dense-range) (v .width-range)) (bytes-records rows (in-order (bodies ds ss)) byte-marks (bytes-bodies (st .width) (length ls) ds ss (h .writable))))
+    (bytes-append (header st (node-counts (length ls) ds ss)) (write-records (version-rows (st .version)) (version-bodies (st .version) ds ss))
+    (bytes-header st (node-counts (length ls) ds ss) (known-few (st .version) (v .version-known)) (v .dense-range) (v .width-range))
+    (bytes-records (version-rows (st .version)) (version-bodies (st .version) ds ss) (byte-marks (st .version))
+    (all-append Is-bytes (in-order (bodies ds ss)) (level-bodies (st .version) ws) (bytes-bodies (st .width) (length ls) ds ss (h .writable)) (level-all Is-bytes (st .version) ws (level-starts-bytes ws)))))

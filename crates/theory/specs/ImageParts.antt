@@ -10,20 +10,21 @@ use lib.ListN.{length, length-map, drop, length-append, take}
 use lib.Seq.{take-all, take-nil, drop-nil}
 use Rattle.spec.specs.Bytes.{concat, Bytes, Bits, blocks, pack}
 use Rattle.spec.specs.Leaves.{Leaf}
-use Rattle.spec.specs.Image.{Settings, Bodies, image, rows, in-order, write-records, Counts}
-use Rattle.spec.specs.Frame.{Parts, parts, read-bodies, named}
-use Rattle.spec.specs.Nodes.{Node, is-exact, sparse-nodes, nodes-of, Shape, slotted, sparse-shape, total, children-of}
+use Rattle.spec.specs.Image.{Settings, Bodies, image, rows, level-rows, version-rows, in-order, level-starts, level-bodies, write-records, Counts}
+use Rattle.spec.specs.Frame.{Parts, parts, rows-of, read-bodies, named}
+use Rattle.spec.specs.Nodes.{Node, levels-of, is-exact, sparse-nodes, nodes-of, Shape, slotted, sparse-shape, total, children-of}
 use Rattle.spec.specs.Trie.{leaf-count}
 use Rattle.theory.specs.Terms.{All, most-entries}
-use Rattle.theory.specs.Lists.{concat-split, all-split, all-weaken}
-use Rattle.theory.specs.Frame.{Header-fields, header-back, Short-bodies, drop-header, read-bodies-write, Paired}
+use Rattle.theory.specs.Lists.{concat-split, all-append, all-split, all-weaken}
+use Rattle.theory.specs.Frame.{Header-fields, header-back, Short-bodies, drop-header, read-bodies-write, Paired, paired-append}
 use Rattle.theory.specs.Bits.{unpack-at, length-pack, length-ranks, length-samples}
 use Rattle.theory.specs.LevelTrie.{trie, trie-dense, trie-sparse}
 use Rattle.theory.specs.LinkedLevels.{Labelled}
 use Rattle.theory.specs.Levels.{leaf-count-root, nodes-bound, linked-labelled, linked-count, sparse-labels-count, leaf-count-append, total-append}
 use Rattle.theory.specs.TrieTests.{Trie-valid, root-first-width, realizable-trie, Empty-or-valid, empty-list, valid-trie}
 use Rattle.theory.specs.LevelSlots.{Levels-valid, levels-valid, realizable-leaf-valid}
-use Rattle.theory.specs.NodeBits.{sparse-labels, dense-labels, dense-has-child, sparse-has-child, louds, slots, Byte-labels, Slots-width, bodies-of, node-image, bodies, bodies-bits, length-sv, shape-of, slotted-back, node-counts}
+use Rattle.theory.specs.NodeBits.{sparse-labels, dense-labels, dense-has-child, sparse-has-child, louds, slots, Byte-labels, Slots-width, bodies-of, node-image, version-bodies, bodies, bodies-bits, length-sv, shape-of, slotted-back, node-counts}
+use Rattle.theory.specs.LevelStarts.{version-rows-are, level-paired, level-all, level-starts-few, levels-of-few}
 use Rattle.theory.specs.LiteralImage.{Buildable, image-of-trie}
 use Rattle.theory.specs.DenseBits.{length-dl, length-dc, dense-shapes-back}
 use Rattle.theory.specs.SparseBits.{length-sc, length-sb, sparse-of, split-nodes, sparse-shapes-back, louds-ones}
@@ -68,17 +69,23 @@ parts-of-bits s st c dl dc dp sl sc sb sv h e₀ e₁ e₂ e₄ e₅ e₆ =
 -- The header of the image of nodes is read back.
 pub node-image-header : (st : Settings) (count : ℕ) (ds ss : List Node) → Writable (st .width) count ds ss → Header-fields st (node-counts count ds ss) (node-image st count ds ss)
 node-image-header st count ds ss w =
-    header-back st (node-counts count ds ss) (write-records rows (in-order (bodies ds ss)))
+    header-back st (node-counts count ds ss) (write-records (version-rows (st .version)) (version-bodies (st .version) ds ss))
     (record { leaves = omega (arith, w .few); dense-nodes = omega (arith, w .few-dense); sparse-entries = omega (arith, w .few-entries); sparse-nodes = omega (arith, w .few-sparse) })
 
 -- The slots of an image have n bits a leaf.
 pub sv-size : (n count : ℕ) (ds ss : List Node) → Writable n count ds ss → length (concat (map slots (ds ++ ss))) ≡ count * n
 sv-size n count ds ss w = length-sv n (ds ++ ss) (w .wide) ∙ ap (λ (k : ℕ). k * n) (w .leaf-total)
 
+-- The bodies under their marks are the twelve, whatever stands behind them.
+pub named-twelve : (b : Bodies) (bs : List Bytes) → named (in-order b ++ bs) ≡ named (in-order b)
+unfolding named
+named-twelve b bs = refl
+
 -- The parts of the image of nodes are read back.
-pub parts-back : (st : Settings) (count : ℕ) (ds ss : List Node) → Writable (st .width) count ds ss → parts (node-image st count ds ss) (named (in-order (bodies ds ss))) ≡ parts-of-nodes st count ds ss
+pub parts-back : (st : Settings) (count : ℕ) (ds ss : List Node) → Writable (st .width) count ds ss → parts (node-image st count ds ss) (named (version-bodies (st .version) ds ss)) ≡ parts-of-nodes st count ds ss
 parts-back st count ds ss w =
-    ap (λ (b : Bodies). parts (node-image st count ds ss) (named (in-order b))) (bodies-bits ds ss)
+    ap (parts (node-image st count ds ss)) (named-twelve (bodies ds ss) (level-bodies (st .version) (map length (levels-of (ds ++ ss)))))
+    ∙ ap (λ (b : Bodies). parts (node-image st count ds ss) (named (in-order b))) (bodies-bits ds ss)
     ∙ parts-of-bits (node-image st count ds ss) st (node-counts count ds ss) (concat (map dense-labels ds)) (concat (map dense-has-child ds)) (map is-exact ds)
     (concat (map sparse-labels ss)) (concat (map sparse-has-child ss)) (concat (map louds ss)) (concat (map slots (ds ++ ss))) (node-image-header st count ds ss w)
     (length-dl ds) (length-dc ds) (length-map ds is-exact) (length-sc ss (w .sparse-labelled)) (length-sb ss (w .sparse-labelled)) (sv-size (st .width) count ds ss w)
@@ -110,9 +117,9 @@ pack-short bs h = rw (length-pack bs) (blocks-short (length bs) h)
 slots-short : (n count : ℕ) → n ≤ 16 → count ≤ 65535 → count * n < 134217720
 slots-short n count h k = let m : count * n ≤ 65535 * 16 = mul-le-mul k h in omega arith
 
--- Each body is shorter than 2^24 bytes.
-pub bodies-small : (n count : ℕ) (ds ss : List Node) → Writable n count ds ss → All (λ b. length b < 16777216) (in-order (bodies ds ss))
-bodies-small n count ds ss w =
+-- Each of the twelve is shorter than 2^24 bytes.
+twelve-small : (n count : ℕ) (ds ss : List Node) → Writable n count ds ss → All (λ b. length b < 16777216) (in-order (bodies ds ss))
+twelve-small n count ds ss w =
     rw (bodies-bits ds ss) (
       pack-short (concat (map dense-labels ds)) (omega (arith, length-dl ds, w .few-dense)),
       (
@@ -148,20 +155,32 @@ bodies-small n count ds ss w =
       ),
     )
 
--- so that their lengths fit 32 bits
-bodies-short : (n count : ℕ) (ds ss : List Node) → Writable n count ds ss → Short-bodies (in-order (bodies ds ss))
-bodies-short n count ds ss w = all-weaken (λ b. length b < 16777216) (λ b. length b < 4294967296) (λ b h. omega arith) (in-order (bodies ds ss)) (bodies-small n count ds ss w)
+-- Each body of a version is.
+pub bodies-small : (v n count : ℕ) (ds ss : List Node) → Writable n count ds ss → All (λ b. length b < 16777216) (version-bodies v ds ss)
+bodies-small v n count ds ss w =
+    let ws : List ℕ = map length (levels-of (ds ++ ss)) in
+    let few : length (level-starts ws) < 16777216 = omega (arith, level-starts-few ws, length-map (levels-of (ds ++ ss)) length, levels-of-few (ds ++ ss)) in
+    all-append (λ b. length b < 16777216) (in-order (bodies ds ss)) (level-bodies v ws) (twelve-small n count ds ss w) (level-all (λ b. length b < 16777216) v ws few)
 
--- as many records as bodies
+-- so that their lengths fit 32 bits
+bodies-short : (v n count : ℕ) (ds ss : List Node) → Writable n count ds ss → Short-bodies (version-bodies v ds ss)
+bodies-short v n count ds ss w = all-weaken (λ b. length b < 16777216) (λ b. length b < 4294967296) (λ b h. omega arith) (version-bodies v ds ss) (bodies-small v n count ds ss w)
+
+-- as many records as bodies, of the twelve
 pub twelve-paired : (b : Bodies) → Paired rows (in-order b)
 unfolding rows
 twelve-paired b = tt
 
+-- and of a version
+pub version-paired : (v : ℕ) (b : Bodies) (ws : List ℕ) → Paired (version-rows v) (in-order b ++ level-bodies v ws)
+version-paired v b ws = rw (version-rows-are v) (paired-append rows (level-rows v) (in-order b) (level-bodies v ws) (twelve-paired b) (level-paired v ws))
+
 -- The bodies of the image of nodes are read back.
-pub node-image-bodies : (st : Settings) (count : ℕ) (ds ss : List Node) → Writable (st .width) count ds ss → read-bodies rows (drop 22 (node-image st count ds ss)) ≡ some (in-order (bodies ds ss))
+pub node-image-bodies : (st : Settings) (count : ℕ) (ds ss : List Node) → Writable (st .width) count ds ss → read-bodies (rows-of (node-image st count ds ss)) (drop 22 (node-image st count ds ss)) ≡ some (version-bodies (st .version) ds ss)
 node-image-bodies st count ds ss w =
-    ap (read-bodies rows) (drop-header st (node-counts count ds ss) (write-records rows (in-order (bodies ds ss))) .4)
-    ∙ read-bodies-write rows (in-order (bodies ds ss)) (twelve-paired (bodies ds ss)) (bodies-short (st .width) count ds ss w)
+    ap (λ (v : ℕ). read-bodies (version-rows v) (drop 22 (node-image st count ds ss))) (node-image-header st count ds ss w .version)
+    ∙ ap (read-bodies (version-rows (st .version))) (drop-header st (node-counts count ds ss) (write-records (version-rows (st .version)) (version-bodies (st .version) ds ss)) .4)
+    ∙ read-bodies-write (version-rows (st .version)) (version-bodies (st .version) ds ss) (version-paired (st .version) (bodies ds ss) (map length (levels-of (ds ++ ss)))) (bodies-short (st .version) (st .width) count ds ss w)
 
 -- ---- the nodes of a buildable leaf list
 

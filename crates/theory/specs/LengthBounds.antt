@@ -2,15 +2,16 @@
 use Prim.Native.Nat.{ℕ, suc, _*_, _/_, _<_, _≤_}
 use mathlib.Core.Path.{_≡_, sym, ap, _∙_}
 use mathlib.Core.Bool.{Bool, true, false, cond}
-use mathlib.Core.List.{List, [], _∷_}
+use mathlib.Core.List.{List, [], _∷_, _++_, map}
 use native.Mathlib.Omega.{arith}
 use lib.ListN.{length, length-append}
 use lib.Seq.{length-take-le}
+use lib.Dec.{eqb}
 use Rattle.spec.specs.Bytes.{Bytes, concat, le32}
 use Rattle.spec.specs.Keys.{below, keys-of}
 use Rattle.spec.specs.Leaves.{Leaf, leaves, lowest, highest}
-use Rattle.spec.specs.Image.{Settings, Counts, Row, rows, in-order, marked, write-records, header, image}
-use Rattle.spec.specs.Nodes.{read-leaves}
+use Rattle.spec.specs.Image.{Settings, Counts, Row, version-rows, in-order, level-starts, level-bodies, marked, write-records, header, image}
+use Rattle.spec.specs.Nodes.{Node, levels-of, read-leaves}
 use Rattle.spec.specs.Questions.{Question, QP, QS, QB, QR, QC, Reply, found, keyless, sought, greater, seek-from, seek, reply, reply-bytes, replies, taken, parse-questions, questions-of}
 use Rattle.spec.specs.Answer.{written, refusal-weight}
 use Rattle.spec.specs.Build.{bytes, image-length, build}
@@ -20,7 +21,7 @@ use Rattle.theory.specs.Terms.{All, Is-bytes, Proper}
 use Rattle.theory.specs.LeafLists.{All-well-sized}
 use Rattle.theory.specs.Intervals.{lowest-key}
 use Rattle.theory.specs.QuestionFiles.{questions-exactly}
-use Rattle.theory.specs.NodeBits.{bodies, node-counts}
+use Rattle.theory.specs.NodeBits.{bodies, version-bodies, node-counts}
 use Rattle.theory.specs.ImageParts.{image-holds, bodies-small}
 use Rattle.theory.specs.BuildLaws.{Built-from, length-given, built-length, built-from, built-fits, judged-image}
 use Rattle.theory.specs.RefusalNumbers.{check-accepts}
@@ -43,6 +44,15 @@ pub header-length : (st : Settings) (c : Counts) → length (header st c) ≡ 22
 unfolding header le32
 header-length st c = omega arith
 
+-- a version has at most thirteen bodies
+version-few : (v : ℕ) (ds ss : List Node) → length (version-bodies v ds ss) ≤ 13
+unfolding level-bodies
+version-few v ds ss = omega (arith, length-append (in-order (bodies ds ss)) (level-bodies v (map length (levels-of (ds ++ ss)))), go (eqb v 2))
+  where
+    go : (t : Bool) → length (cond t (level-starts (map length (levels-of (ds ++ ss))) ∷ []) []) ≤ 1
+    go true = omega arith
+    go false = omega arith
+
 -- The image of a key list has fewer than 2^28 bytes.
 pub image-short : (st : Settings) (ks : List Bytes) → Built-from st ks → length (image st (leaves (st .width) ks)) < 268435456
 image-short st ks b =
@@ -51,9 +61,10 @@ image-short st ks b =
     omega (
       arith,
       ap length (i .image-is),
-      length-append (header st (node-counts n (i .dense-nodes) (i .sparse-nodes))) (write-records rows (in-order (bodies (i .dense-nodes) (i .sparse-nodes)))),
+      length-append (header st (node-counts n (i .dense-nodes) (i .sparse-nodes))) (write-records (version-rows (st .version)) (version-bodies (st .version) (i .dense-nodes) (i .sparse-nodes))),
       header-length st (node-counts n (i .dense-nodes) (i .sparse-nodes)),
-      records-small rows (in-order (bodies (i .dense-nodes) (i .sparse-nodes))) (bodies-small (st .width) n (i .dense-nodes) (i .sparse-nodes) (i .writable)),
+      version-few (st .version) (i .dense-nodes) (i .sparse-nodes),
+      records-small (version-rows (st .version)) (version-bodies (st .version) (i .dense-nodes) (i .sparse-nodes)) (bodies-small (st .version) (st .width) n (i .dense-nodes) (i .sparse-nodes) (i .writable)),
     )
 
 -- ---- replies

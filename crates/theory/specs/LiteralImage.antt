@@ -2,22 +2,25 @@
 -- Used by acceptance, by reading back and by the bound of trie entries.
 use Prim.Native.Nat.{ℕ, zero, suc, _≤_, _-_}
 use mathlib.Core.Path.{_≡_, refl, ap, sym, _∙_, ap₂}
-use mathlib.Core.List.{List, [], map, _++_, _∷_, map-append, map-map, append-nil}
+use mathlib.Core.Bool.{true}
+use mathlib.Core.List.{List, [], map, _++_, _∷_, map-append, map-map}
 use native.Mathlib.Omega.{arith}
 use native.Mathlib.Nat.{sub-zero, suc-sub-suc}
 use lib.ListN.{take, drop, length, length-map}
 use lib.Seq.{take-nil, drop-nil}
 use Rattle.spec.specs.Bytes.{concat, iota, Bytes}
 use Rattle.spec.specs.Leaves.{Leaf}
-use Rattle.spec.specs.Image.{on-level, nodes, is-leaf, Bodies, Settings, header, rows, in-order, write-records}
-use Rattle.spec.specs.Nodes.{Group, Node}
+use Rattle.spec.specs.Image.{known-version, on-level, nodes, is-leaf, Settings, header, version-rows, in-order, level-widths, level-bodies, write-records}
+use Rattle.spec.specs.Nodes.{Group, Node, levels-of}
 use Rattle.theory.specs.LeafLists.{Realizable, All-well-sized}
-use Rattle.theory.specs.Lists.{map-ext}
+use Rattle.theory.specs.Lists.{map-ext, concat-split}
 use Rattle.theory.specs.LevelTrie.{node-of, child-groups, trie-levels, trie-dense, trie-sparse, trie}
 use Rattle.theory.specs.TrieGroups.{Depth-at-most, realizable-trie-group, has-leaf, well-sized-depth}
+use Rattle.theory.specs.TrieTests.{realizable-trie}
 use Rattle.theory.specs.NodeBits.{bodies-of, bodies-bits, node-image}
 use Rattle.theory.specs.PrefixNodes.{node-at, dense-labels-at, dense-has-child-at, is-leaf-at, sparse-labels-at, sparse-has-child-at, louds-at, slots-at-node}
 use Rattle.theory.specs.LevelPrefixes.{groups-below, groups-below-none, Trie-node, nodes-on-level}
+use Rattle.theory.specs.LevelStarts.{trie-starts}
 use Rattle.spec.specs.Image as Literal
 use Rattle.spec.specs.Nodes as Node
 use Rattle.theory.specs.NodeBits as Level
@@ -123,7 +126,7 @@ same-bodies ls dp sp ds ss p q =
     ) (sym (bodies-bits ds ss))
 
 -- An image is its header and its records.
-image-records : (st : Settings) (ls : List Leaf) → Literal.image st ls ≡ header st (Literal.counts (st .dense-levels) ls) ++ write-records rows (in-order (Literal.bodies (st .dense-levels) ls))
+image-records : (st : Settings) (ls : List Leaf) → Literal.image st ls ≡ header st (Literal.counts (st .dense-levels) ls) ++ write-records (version-rows (st .version)) (in-order (Literal.bodies (st .dense-levels) ls) ++ level-bodies (st .version) (level-widths ls))
 unfolding Literal.image
 image-records st ls = refl
 
@@ -135,6 +138,7 @@ literal-counts dense ls = refl
 
 -- settings in range, and a realizable list of at most 65,535 leaves, each with a cut key of 1 to 64 bytes and a suffix of n bits with none set past the 64th byte
 pub record Buildable (st : Settings) (ls : List Leaf) : Type 0 where
+  pub version-known : known-version (st .version) ≡ true
   pub dense-range : st .dense-levels ≤ 4
   pub width-range : st .width ≤ 16
   pub few : length ls ≤ 65535
@@ -150,4 +154,7 @@ image-of-trie st ls v =
     let b = literal-bodies (st .dense-levels) ls ∙ same-bodies ls (nodes ls 0 (st .dense-levels)) (nodes ls (st .dense-levels) 64) (trie-dense (st .dense-levels) ls) (trie-sparse (st .dense-levels) ls) (N .first) (N .rest) in
     let e : concat (map (Literal.sparse-labels ls) (nodes ls (st .dense-levels) 64)) ≡ concat (map Level.sparse-labels (trie-sparse (st .dense-levels) ls)) =
     ap concat (map-prefix-nodes ls (Literal.sparse-labels ls) Level.sparse-labels (nodes ls (st .dense-levels) 64) (trie-sparse (st .dense-levels) ls) (sparse-labels-at ls) (N .rest)) in
-    image-records st ls ∙ rw (literal-counts (st .dense-levels) ls, n, m, e, b)
+    let whole : trie-dense (st .dense-levels) ls ++ trie-sparse (st .dense-levels) ls ≡ concat (trie ls) = concat-split (st .dense-levels) (trie ls) in
+    let w : level-bodies (st .version) (level-widths ls) ≡ level-bodies (st .version) (map length (levels-of (trie-dense (st .dense-levels) ls ++ trie-sparse (st .dense-levels) ls))) =
+    trie-starts (st .version) ls (v .realizable) (well-sized-depth (st .width) ls (v .well-sized)) (realizable-trie (st .width) ls (v .realizable) (v .well-sized)) ∙ ap (λ (z : List Node). level-bodies (st .version) (map length (levels-of z))) (sym whole) in
+    image-records st ls ∙ rw (literal-counts (st .dense-levels) ls, n, m, e, b, w)

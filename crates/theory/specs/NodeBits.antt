@@ -10,8 +10,8 @@ use native.Mathlib.Nat.{suc-mul, zero-mul, add-mul}
 use lib.ListN.{replicate, length, drop, take, take-append-drop, length-drop, length-append}
 use lib.Seq.{length-take-le, take-at, drop-at}
 use Rattle.spec.specs.Bytes.{Bits, iota, filter, Bytes, concat, pack, bit}
-use Rattle.spec.specs.Image.{has, Bodies, ranks, samples, Settings, header, Counts, rows, in-order, write-records}
-use Rattle.spec.specs.Nodes.{Node, label-of, branches-of, has-child, is-exact, exact-slot, slot, Branch, Entry, to-node, entry, to-leaf, Shape, node, shape, with-slots, entry-label, continues, slotted, past-slots}
+use Rattle.spec.specs.Image.{has, Bodies, ranks, samples, Settings, header, Counts, version-rows, in-order, level-bodies, write-records}
+use Rattle.spec.specs.Nodes.{Node, levels-of, label-of, branches-of, has-child, is-exact, exact-slot, slot, Branch, Entry, to-node, entry, to-leaf, Shape, node, shape, with-slots, entry-label, continues, slotted, past-slots}
 use Rattle.spec.specs.Trie.{open-leaves, leaf-count}
 use Rattle.theory.specs.Terms.{All, Is-bytes}
 use Rattle.theory.specs.Lists.{nil-of}
@@ -82,9 +82,13 @@ bodies-bits ds ss = refl
 abbrev pub node-counts : ℕ → List Node → List Node → Counts
 node-counts count ds ss = record { leaves = count; dense-nodes = length ds; sparse-entries = length (concat (map sparse-labels ss)); sparse-nodes = length ss }
 
+-- the bodies of a version, in the order of their records
+abbrev pub version-bodies : ℕ → List Node → List Node → List Bytes
+version-bodies v ds ss = in-order (bodies ds ss) ++ level-bodies v (map length (levels-of (ds ++ ss)))
+
 -- the image of dense and sparse nodes: header and records
 abbrev pub node-image : Settings → ℕ → List Node → List Node → Bytes
-node-image st count ds ss = header st (node-counts count ds ss) ++ write-records rows (in-order (bodies ds ss))
+node-image st count ds ss = header st (node-counts count ds ss) ++ write-records (version-rows (st .version)) (version-bodies (st .version) ds ss)
 
 -- ---- nodes without their slots
 

@@ -7,26 +7,26 @@ use mathlib.Core.Option.{some, Option, none}
 use lib.ListN.{drop, length}
 use Rattle.spec.specs.Bytes.{Bytes, concat}
 use Rattle.spec.specs.Leaves.{Leaf}
-use Rattle.spec.specs.Image.{Settings, image, header, rows, in-order}
-use Rattle.spec.specs.Frame.{read-bodies, parts, read-settings, named}
+use Rattle.spec.specs.Image.{Settings, image, header}
+use Rattle.spec.specs.Frame.{rows-of, read-bodies, parts, read-settings, named}
 use Rattle.spec.specs.Nodes.{read-nodes, nodes-of, Node, leaves-of, levels-of, total, groups, read-leaves}
 use Rattle.theory.specs.LevelTrie.{trie}
 use Rattle.theory.specs.TrieGroups.{trie-leaves, well-sized-depth}
 use Rattle.theory.specs.Levels.{levels-of-concat}
 use Rattle.theory.specs.TrieTests.{Empty-or-valid, empty-list, valid-trie, root-first-width, realizable-trie}
-use Rattle.theory.specs.NodeBits.{node-image, bodies}
+use Rattle.theory.specs.NodeBits.{node-image, version-bodies}
 use Rattle.theory.specs.LiteralImage.{Buildable}
 use Rattle.theory.specs.ImageParts.{Writable, node-image-bodies, parts-back, nodes-back, image-holds}
 
 -- The nodes of bodies that are read.
-pub read-nodes-bodies : (s : Bytes) (bs : List Bytes) → read-bodies rows (drop 22 s) ≡ some bs → read-nodes s ≡ nodes-of (parts s (named bs))
+pub read-nodes-bodies : (s : Bytes) (bs : List Bytes) → read-bodies (rows-of s) (drop 22 s) ≡ some bs → read-nodes s ≡ nodes-of (parts s (named bs))
 unfolding read-nodes
 read-nodes-bodies s bs h = ap {B = List Node} (λ (f : Option (List Bytes)). elim f [ none ↦ [] | some bs ↦ nodes-of (parts s (named bs)) ]) h
 
 -- The nodes of their image are read back.
 node-image-nodes : (st : Settings) (count : ℕ) (ds ss : List Node) → Writable (st .width) count ds ss → read-nodes (node-image st count ds ss) ≡ ds ++ ss
 node-image-nodes st count ds ss w =
-    read-nodes-bodies (node-image st count ds ss) (in-order (bodies ds ss)) (node-image-bodies st count ds ss w) ∙ ap nodes-of (parts-back st count ds ss w) ∙ nodes-back st count ds ss w
+    read-nodes-bodies (node-image st count ds ss) (version-bodies (st .version) ds ss) (node-image-bodies st count ds ss w) ∙ ap nodes-of (parts-back st count ds ss w) ∙ nodes-back st count ds ss w
 
 -- A trie's levels are cut again from its nodes.
 levels-of-trie : {ls : List Leaf} → Empty-or-valid ls → leaves-of (levels-of (concat (trie ls))) ≡ leaves-of (trie ls)

@@ -69,6 +69,7 @@ fn refused(number: u32, place: usize) -> State
         status: Status::Refused(number),
         place,
         frame: Frame {
+            version: 0,
             width: 0,
             leaves: 0,
             dense: Dense {
@@ -95,6 +96,7 @@ fn refused(number: u32, place: usize) -> State
             rp: 0,
             rs: 0,
             ts: 0,
+            lv: 0,
         },
         cursor: at_no_leaf(0),
     }

@@ -1,6 +1,6 @@
 //! Images with a damaged byte: each is refused, or is the image of the keys that it then has.
 
-use crate::shared::{image, A, VAN};
+use crate::shared::{image, image_with, settings, A, VAN};
 use range_filter::{build, check, Filter, Leaf};
 
 /// Gives the lowest possible keys of an image with at most 8 suffix bits: the cut key, and
@@ -59,14 +59,27 @@ const SECOND_NODE: usize = 49 + 205;
 /// for the label 2 behind it any.
 const THIRD_NODE: usize = 50 + 255;
 
-/// How many images differ from list A's in one byte. D may be any other label below V, and V any
-/// above D; of the first four branches another two may continue, but not both of the second
-/// node's: 03, 06, 09 or 0A in place of 05.
-const LIST_A: usize = 85 + 186 + SECOND_NODE + THIRD_NODE + 4;
+/// How many images differ from list A's in one label. D may be any other label below V, and V any
+/// above D.
+const LABELS: usize = 85 + 186 + SECOND_NODE + THIRD_NODE;
+
+/// How many images differ from list A's in one byte. Of the first four branches another two may
+/// continue, but not both of the second node's: 03, 06, 09 or 0A in place of 05.
+const LIST_A: usize = LABELS + 4;
+
+/// The same in version 2, where there have to be three levels: with 03 there are two. Nothing else
+/// can stand in the place of version byte and level starts.
+const LIST_A_VERSION_2: usize = LABELS + 3;
 
 #[test]
 fn list_a() {
     assert_eq!(accepted(&image(&A, 0, 0)), LIST_A);
+}
+
+#[test]
+fn list_a_in_version_2() {
+    let image = image_with(&A, settings(0, 0).with_version(2));
+    assert_eq!(accepted(&image), LIST_A_VERSION_2);
 }
 
 /// V may be any other label in its byte of the bitmap, and the second branch of the second node
@@ -74,12 +87,20 @@ fn list_a() {
 #[test]
 fn list_a_with_a_dense_level() {
     let expected = 7 + SECOND_NODE + THIRD_NODE + 1;
-    assert_eq!(accepted(&image(&A, 1, 0)), expected);
+    let settings = settings(1, 0);
+    assert_eq!(accepted(&image_with(&A, settings)), expected);
+    assert_eq!(
+        accepted(&image_with(&A, settings.with_version(2))),
+        expected
+    );
 }
 
 /// The slots of the three open leaves may be any others, and n may be 7.
 #[test]
 fn van_with_eight_suffix_bits() {
-    let expected = LIST_A + 3 * 255 + 1;
-    assert_eq!(accepted(&image(&VAN, 0, 8)), expected);
+    let expected = 3 * 255 + 1;
+    let settings = settings(0, 8);
+    assert_eq!(accepted(&image_with(&VAN, settings)), LIST_A + expected);
+    let image = image_with(&VAN, settings.with_version(2));
+    assert_eq!(accepted(&image), LIST_A_VERSION_2 + expected);
 }

@@ -1,13 +1,17 @@
-//! The examples of document 01, and those of orders 2 and 3 of document 02.
+//! The examples of document 01, and those of orders 2, 3 and 8 of document 02.
 
-use crate::shared::{body, image, settings, A, IMAGE_A, NO_KEYS, VAN};
-use range_filter::{build, Filter, Rule};
+use crate::shared::{
+    body, image, image_a_version_2, image_with, settings, versions, A, IMAGE_A, NO_KEYS, VAN,
+};
+use range_filter::{build, Filter, Rule, Settings};
 
-/// Gives an image of a list at each number of dense levels: the answers are the same.
+/// Gives an image of a list in each version and at each number of dense levels: the answers are
+/// the same.
 fn images<K: AsRef<[u8]>>(keys: &[K], suffix_bits: u8) -> Vec<Vec<u8>> {
     let dense_levels = 0..=4;
     dense_levels
-        .map(|levels| image(keys, levels, suffix_bits))
+        .flat_map(|levels| versions(settings(levels, suffix_bits)))
+        .map(|settings| image_with(keys, settings))
         .collect()
 }
 
@@ -28,6 +32,36 @@ fn assert_points<K: AsRef<[u8]>>(filter: &Filter, points: &[(K, bool, Rule)]) {
 #[test]
 fn list_a_builds_its_110_bytes() {
     assert_eq!(image(&A, 0, 0), IMAGE_A);
+}
+
+#[test]
+fn list_a_builds_its_128_bytes_in_version_2() {
+    let image = image_with(&A, settings(0, 0).with_version(2));
+    assert_eq!(image, image_a_version_2());
+    assert_eq!(image.len(), 128);
+}
+
+/// Asserts that a list's images differ in the version byte and in LV alone, at some settings.
+fn assert_level_starts_added<K: AsRef<[u8]>>(keys: &[K], levels: u32, settings: Settings) {
+    let [first, second] = versions(settings).map(|settings| image_with(keys, settings));
+    let (same, added) = second.split_at(first.len());
+    assert_eq!([&same[..2], &same[3..]], [&first[..2], &first[3..]]);
+    assert_eq!([first[2], same[2]], [1, 2]);
+    assert_eq!(added.len(), 6 + 4 * levels as usize);
+    assert_eq!(added[..2], *b"LV");
+    assert_eq!(added[2..6], (4 * levels).to_le_bytes());
+}
+
+#[test]
+fn version_2_has_an_entry_more_for_each_level() {
+    let longest = [b'k'; 64];
+    for (dense_levels, suffix_bits) in [(0, 0), (1, 8), (4, 16)] {
+        let settings = settings(dense_levels, suffix_bits);
+        assert_level_starts_added(&NO_KEYS, 0, settings);
+        assert_level_starts_added(&["V"], 1, settings);
+        assert_level_starts_added(&A, 3, settings);
+        assert_level_starts_added(&[&longest[..63], &longest], 64, settings);
+    }
 }
 
 #[test]
@@ -56,21 +90,29 @@ fn list_a_with_a_dense_level() {
 }
 
 #[test]
-fn the_empty_list_has_94_bytes_and_no_key() {
-    let image = image(&NO_KEYS, 0, 0);
-    let filter = Filter::open(&image).expect("the image is accepted");
-    assert_eq!(image.len(), 94);
-    assert!(filter.is_empty());
-    assert_points(
-        &filter,
-        &[("", false, Rule::NoNodes), ("D1", false, Rule::NoNodes)],
-    );
-    assert_eq!(filter.may_contain_range("", [0xFF; 64]), Ok(false));
-    assert_eq!(filter.starts_with(""), Ok(false));
-    assert_eq!(filter.count("", [0xFF; 64]), Ok(0));
-    assert_eq!(filter.seek(""), Ok(None));
-    assert_eq!(filter.leaf(0), Ok(None));
-    assert_eq!(filter.leaves().count(), 0);
+fn the_empty_list_has_94_bytes_and_100_in_version_2() {
+    assert_eq!(image(&NO_KEYS, 0, 0).len(), 94);
+    let second = image_with(&NO_KEYS, settings(0, 0).with_version(2));
+    assert_eq!(second.len(), 100);
+    assert_eq!(second[94..], *b"LV\0\0\0\0");
+}
+
+#[test]
+fn the_empty_list_has_no_key() {
+    for image in images(&NO_KEYS, 0) {
+        let filter = Filter::open(&image).expect("the image is accepted");
+        assert!(filter.is_empty());
+        assert_points(
+            &filter,
+            &[("", false, Rule::NoNodes), ("D1", false, Rule::NoNodes)],
+        );
+        assert_eq!(filter.may_contain_range("", [0xFF; 64]), Ok(false));
+        assert_eq!(filter.starts_with(""), Ok(false));
+        assert_eq!(filter.count("", [0xFF; 64]), Ok(0));
+        assert_eq!(filter.seek(""), Ok(None));
+        assert_eq!(filter.leaf(0), Ok(None));
+        assert_eq!(filter.leaves().count(), 0);
+    }
 }
 
 #[test]
@@ -206,10 +248,12 @@ fn stems_of_the_highest_keys() {
 
 #[test]
 fn settings_and_length_are_read_from_the_header() {
-    for (dense_levels, suffix_bits) in [(0, 0), (1, 8), (4, 16)] {
-        let image = image(&A, dense_levels, suffix_bits);
+    for (version, dense_levels, suffix_bits) in [(1, 0, 0), (2, 1, 8), (1, 4, 16), (2, 0, 0)] {
+        let settings = settings(dense_levels, suffix_bits).with_version(version);
+        let image = image_with(&A, settings);
         let filter = Filter::open(&image).expect("the image is accepted");
-        assert_eq!(filter.settings(), settings(dense_levels, suffix_bits));
+        assert_eq!(filter.settings(), settings);
+        assert_eq!(filter.settings().version(), version);
         assert_eq!(filter.len(), 4);
         assert_eq!(filter.image(), image);
     }

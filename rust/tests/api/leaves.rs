@@ -1,6 +1,6 @@
 //! Leaves one at a time and one by one.
 
-use crate::shared::{image, A, NO_KEYS, VAN};
+use crate::shared::{image, image_with, settings, versions, A, NO_KEYS, VAN};
 use range_filter::{Filter, Leaf};
 
 /// Gives so many keys of four digits, none of which is cut, so that they are their own leaves.
@@ -25,7 +25,9 @@ fn lines(image: &[u8]) -> Vec<String> {
 fn leaves_of_list_a() {
     let expected = ["0 E 4431 -", "1 O 443132 -", "2 O 4432 -", "3 O 56 -"];
     for dense_levels in 0..=4 {
-        assert_eq!(lines(&image(&A, dense_levels, 0)), expected);
+        for settings in versions(settings(dense_levels, 0)) {
+            assert_eq!(lines(&image_with(&A, settings)), expected);
+        }
     }
 }
 

@@ -1,4 +1,4 @@
-//! The package from outside: document 01's examples, refusals, leaves, damaged images, question
+//! The package from outside: the documents' examples, refusals, leaves, damaged images, question
 //! files, the traits of its types, its build script, and the README's example.
 
 mod build_script;

@@ -1,12 +1,19 @@
 //! Question files, their replies, and that both agree with the questions put one at a time.
 
-use crate::shared::{image, settings, Random, IMAGE_A, VAN};
+use crate::shared::{image, image_with, settings, versions, Random, IMAGE_A, VAN};
 use range_filter::{
-    ask, build, write_key_list, write_questions, Filter, Question, Replies, Reply, Rule,
+    ask, build, write_key_list, write_questions, Filter, Leaf, Question, Replies, Reply, Rule,
+    Settings,
 };
 
 /// Dense levels and suffix bits to try.
 const SETTINGS: [(u8, u8); 4] = [(0, 0), (1, 3), (2, 8), (4, 16)];
+
+/// Gives the settings to try, each in both versions.
+fn all_settings() -> impl Iterator<Item = Settings> {
+    let settings = SETTINGS.map(|(levels, bits)| versions(settings(levels, bits)));
+    settings.into_iter().flatten()
+}
 
 /// Reads replies that have to be whole.
 fn read(replies: &[u8]) -> Vec<Reply> {
@@ -41,6 +48,18 @@ fn about<'a>(one: &'a [u8], other: &'a [u8]) -> [Question<'a>; 5] {
     ]
 }
 
+/// Gives keys to ask about that begin with a stem.
+fn keys_behind(stem: &[u8], random: &mut Random) -> Vec<Vec<u8>> {
+    let keys = (0..200).map(|_| [stem, &random.key(0, 10)].concat());
+    keys.collect()
+}
+
+/// Gives questions of each kind about each two keys that stand side by side.
+fn about_pairs(keys: &[Vec<u8>]) -> Vec<Question<'_>> {
+    let pairs = keys.iter().zip(&keys[1..]);
+    pairs.flat_map(|(one, other)| about(one, other)).collect()
+}
+
 /// Asserts what a filter promises about the keys that it was built from, for two keys.
 fn assert_promises(filter: &Filter, stored: &[Vec<u8>], one: &[u8], other: &[u8]) {
     let (lower, upper) = (one.min(other), one.max(other));
@@ -61,17 +80,45 @@ fn assert_promises(filter: &Filter, stored: &[Vec<u8>], one: &[u8], other: &[u8]
 #[test]
 fn files_agree_with_single_questions() {
     let mut random = Random::new(20);
-    for (dense_levels, suffix_bits) in SETTINGS {
-        let image = image(&random.keys(300), dense_levels, suffix_bits);
+    for settings in all_settings() {
+        let image = image_with(&random.keys(300), settings);
         let filter = Filter::open(&image).expect("the image is accepted");
-        let asked: Vec<Vec<u8>> = (0..200).map(|_| random.key(0, 10)).collect();
-        let pairs = asked.iter().zip(&asked[1..]);
-        let questions: Vec<Question> = pairs.flat_map(|(one, other)| about(one, other)).collect();
+        let asked = keys_behind(b"", &mut random);
+        let questions = about_pairs(&asked);
         let file = write_questions(questions.iter().copied());
         let replies = ask(&image, &file).expect("the file is taken");
         assert_eq!(filter.ask(&file).as_ref(), Ok(&replies));
         let single = questions.iter().map(|&question| reply(&filter, question));
         assert_eq!(read(&replies), single.collect::<Vec<Reply>>());
+    }
+}
+
+/// Gives the replies to a question file and the leaves of an image.
+fn replies_and_leaves(image: &[u8], file: &[u8]) -> (Vec<u8>, Vec<Leaf>) {
+    let filter = Filter::open(image).expect("the image is accepted");
+    let replies = filter.ask(file).expect("the file is taken");
+    (replies, filter.leaves().collect())
+}
+
+/// Asserts that a list's images in both versions get the same replies and have the same leaves,
+/// for a list and questions whose keys begin with a stem.
+fn assert_versions_agree(stem: &[u8], settings: Settings, random: &mut Random) {
+    let keys = random.keys(300).into_iter();
+    let keys: Vec<Vec<u8>> = keys.map(|key| [stem, &key].concat()).collect();
+    let asked = keys_behind(stem, random);
+    let file = write_questions(about_pairs(&asked));
+    let images = versions(settings).map(|settings| image_with(&keys, settings));
+    let [first, second] = images.map(|image| replies_and_leaves(&image, &file));
+    assert_eq!(first, second);
+}
+
+#[test]
+fn versions_get_the_same_replies() {
+    let mut random = Random::new(23);
+    for (dense_levels, suffix_bits) in SETTINGS {
+        for stem in [&b""[..], &[b'k'; 54]] {
+            assert_versions_agree(stem, settings(dense_levels, suffix_bits), &mut random);
+        }
     }
 }
 
@@ -88,9 +135,9 @@ fn assert_none_denied(filter: &Filter, stored: &[Vec<u8>]) {
 #[test]
 fn filters_keep_their_promises() {
     let mut random = Random::new(21);
-    for (dense_levels, suffix_bits) in SETTINGS {
+    for settings in all_settings() {
         let stored = random.keys(300);
-        let image = image(&stored, dense_levels, suffix_bits);
+        let image = image_with(&stored, settings);
         let filter = Filter::open(&image).expect("the image is accepted");
         assert_eq!(filter.len(), stored.len());
         assert_none_denied(&filter, &stored);

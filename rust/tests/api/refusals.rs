@@ -1,6 +1,9 @@
 //! Each refusal that the package can give, and the table of all.
 
-use crate::shared::{body_at, image, settings, A, IMAGE_A, NO_KEYS, VAN};
+use crate::shared::{
+    body_at, image, image_a_version_2, image_with, settings, A, IMAGE_A, LEVEL_STARTS_A, NO_KEYS,
+    VAN,
+};
 use range_filter::{
     ask, build, build_from_list, check, image_length, write_questions, Filter, Question, Refusal,
 };
@@ -77,8 +80,10 @@ fn keys_beyond_65_535_get_4() {
 
 #[test]
 fn settings_out_of_range_get_5_before_all_else() {
-    for (dense_levels, suffix_bits) in [(5, 0), (0, 17), (255, 255)] {
-        let settings = settings(dense_levels, suffix_bits);
+    let others = [(1, 5, 0), (1, 0, 17), (2, 255, 255)];
+    let versions = [0, 3, 255].map(|version| (version, 0, 0));
+    for (version, dense_levels, suffix_bits) in others.into_iter().chain(versions) {
+        let settings = settings(dense_levels, suffix_bits).with_version(version);
         assert_eq!(build(A, settings), Err(Refusal::SettingOutOfRange));
         assert_eq!(build([""], settings), Err(Refusal::SettingOutOfRange));
         assert_eq!(build(NO_KEYS, settings), Err(Refusal::SettingOutOfRange));
@@ -100,11 +105,41 @@ fn bytes_that_are_no_image_get_11() {
 }
 
 #[test]
+fn records_of_another_version_get_11() {
+    let second = image_a_version_2();
+    for length in IMAGE_A.len()..second.len() {
+        assert_refused(&second[..length], Refusal::FrameWrong);
+    }
+    assert_refused(&[&second[..], b"\0"].concat(), Refusal::FrameWrong);
+    // Version 2 with twelve records, and all other versions with thirteen.
+    let mut twelve = *IMAGE_A;
+    twelve[2] = 2;
+    assert_refused(&twelve, Refusal::FrameWrong);
+    for version in [0, 1, 3, 255] {
+        let mut thirteen = second.clone();
+        thirteen[2] = version;
+        assert_refused(&thirteen, Refusal::FrameWrong);
+    }
+    // A body of LV that runs past the end, or has bytes behind it.
+    for length in [11, 13, 255] {
+        let mut image = second.clone();
+        image[112] = length;
+        assert_refused(&image, Refusal::FrameWrong);
+    }
+}
+
+#[test]
 fn wrong_headers_get_12() {
-    // The version, the dense levels, n, the zero byte, the leaves and the sparse entries.
-    for (place, byte) in [(2, 2), (3, 5), (4, 17), (5, 1), (8, 1), (14, 7)] {
+    // The dense levels, n, the zero byte, the leaves and the sparse entries.
+    for (place, byte) in [(3, 5), (4, 17), (5, 1), (8, 1), (14, 7)] {
+        for mut image in [IMAGE_A.to_vec(), image_a_version_2()] {
+            image[place] = byte;
+            assert_refused(&image, Refusal::HeaderWrong);
+        }
+    }
+    for version in [0, 3, 255] {
         let mut image = *IMAGE_A;
-        image[place] = byte;
+        image[2] = version;
         assert_refused(&image, Refusal::HeaderWrong);
     }
 }
@@ -128,6 +163,48 @@ fn another_trie_gets_14() {
 fn a_wrong_rank_or_sample_gets_15() {
     assert_refused(&changed(IMAGE_A, b"RS", 0, 1), Refusal::RankWrong);
     assert_refused(&changed(IMAGE_A, b"TS", 0, 1), Refusal::RankWrong);
+}
+
+/// Gives list A's image in version 2 with some level starts in the place of its own.
+fn with_level_starts(starts: &[u8]) -> Vec<u8> {
+    let image = image_a_version_2();
+    let length = (starts.len() as u32).to_le_bytes();
+    [&image[..IMAGE_A.len()], b"LV", &length, starts].concat()
+}
+
+#[test]
+fn wrong_level_starts_get_15() {
+    let starts = &LEVEL_STARTS_A[6..];
+    assert_eq!(with_level_starts(starts), image_a_version_2());
+    for place in 0..starts.len() {
+        let mut other = starts.to_vec();
+        other[place] ^= 1;
+        assert_refused(&with_level_starts(&other), Refusal::RankWrong);
+    }
+    // One level fewer or more, bytes that are no whole entry, no entry, and another order.
+    let more = [starts, b"\x03\0\0\0"].concat();
+    let turned = [&starts[4..8], &starts[..4], &starts[8..]].concat();
+    for other in [
+        &starts[..8],
+        &more,
+        &starts[..11],
+        &more[..13],
+        b"",
+        &turned,
+    ] {
+        assert_refused(&with_level_starts(other), Refusal::RankWrong);
+    }
+}
+
+#[test]
+fn level_starts_are_judged_behind_14_and_before_16() {
+    let starts_too = |mark: &[u8; 2], place, byte| {
+        let image = image_with(&VAN, settings(0, 8).with_version(2));
+        changed(&changed(&image, b"LV", 4, 2), mark, place, byte)
+    };
+    assert_refused(&starts_too(b"SC", 0, 0x45), Refusal::SpareBitSet);
+    assert_refused(&starts_too(b"SL", 0, 0x57), Refusal::TrieWrong);
+    assert_refused(&starts_too(b"SV", 2, 0x01), Refusal::RankWrong);
 }
 
 #[test]

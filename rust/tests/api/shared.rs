@@ -19,15 +19,35 @@ SL\x06\0\0\0\x44\x56\x31\x32\xFF\x32SC\x01\0\0\0\x05SB\x01\0\0\0\x15\
 SV\0\0\0\0RL\0\0\0\0RC\0\0\0\0RP\0\0\0\0\
 RS\x04\0\0\0\0\0\0\0TS\x04\0\0\0\0\0\0\0";
 
-/// Gives settings.
+/// The record that the image of list A has more in version 2: the first nodes of three levels.
+pub const LEVEL_STARTS_A: &[u8; 18] = b"LV\x0C\0\0\0\0\0\0\0\x01\0\0\0\x02\0\0\0";
+
+/// Gives settings of version 1.
 pub fn settings(dense_levels: u8, suffix_bits: u8) -> Settings {
     let settings = Settings::default().with_dense_levels(dense_levels);
     settings.with_suffix_bits(suffix_bits)
 }
 
-/// Builds an image that has to be built.
+/// Gives settings in each version.
+pub fn versions(settings: Settings) -> [Settings; 2] {
+    [1, 2].map(|version| settings.with_version(version))
+}
+
+/// Builds an image of version 1 that has to be built.
 pub fn image<K: AsRef<[u8]>>(keys: &[K], dense_levels: u8, suffix_bits: u8) -> Vec<u8> {
-    build(keys, settings(dense_levels, suffix_bits)).expect("the keys build an image")
+    image_with(keys, settings(dense_levels, suffix_bits))
+}
+
+/// Builds an image that has to be built.
+pub fn image_with<K: AsRef<[u8]>>(keys: &[K], settings: Settings) -> Vec<u8> {
+    build(keys, settings).expect("the keys build an image")
+}
+
+/// Gives the image of list A with version 2, dense levels 0 and n 0.
+pub fn image_a_version_2() -> Vec<u8> {
+    let mut image = [&IMAGE_A[..], LEVEL_STARTS_A].concat();
+    image[2] = 2;
+    image
 }
 
 /// Gives where a record's body starts in an image that has its mark nowhere before.

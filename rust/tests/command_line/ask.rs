@@ -5,7 +5,7 @@ use std::sync::mpsc;
 use std::thread;
 use std::time::Duration;
 
-use crate::examples::{IMAGE_A, IMAGE_VAN};
+use crate::examples::{in_version_2, IMAGE_A, IMAGE_VAN};
 use crate::program::{Folder, Outcome};
 
 /// Puts questions from arguments to an image.
@@ -65,6 +65,8 @@ stem E: 0
 fn document_01s_questions_as_arguments() {
     let words: Vec<&str> = QUESTIONS_A.split_whitespace().collect();
     assert_eq!(ask("ask_arguments", IMAGE_A, &words).done(), REPLIES_A);
+    let second = in_version_2(IMAGE_A);
+    assert_eq!(ask("ask_version_2", &second, &words).done(), REPLIES_A);
 }
 
 #[test]

@@ -3,7 +3,7 @@
 use std::fs;
 use std::os::unix::fs::symlink;
 
-use crate::examples::{image_a_dense, IMAGE_A, IMAGE_VAN, LIST_A, LIST_VAN};
+use crate::examples::{image_a_dense, in_version_2, IMAGE_A, IMAGE_VAN, LIST_A, LIST_VAN};
 use crate::program::{many_keys, Folder};
 
 /// Builds an image from a file of keys and gives its bytes.
@@ -60,8 +60,29 @@ fn settings_come_from_options() {
 }
 
 #[test]
+fn the_version_comes_from_an_option() {
+    let first = ["--image-version", "1"];
+    assert_eq!(image("build_version_1", LIST_A, &first), IMAGE_A);
+    let second = image("build_version_2", LIST_A, &["--image-version=2"]);
+    assert_eq!(second, in_version_2(IMAGE_A));
+    assert_eq!(second.len(), 128);
+    let dense = ["--dense", "1", "--image-version", "2"];
+    assert_eq!(
+        image("build_version_2_dense", LIST_A, &dense),
+        in_version_2(&image_a_dense())
+    );
+    let suffixes = ["--image-version", "2", "--suffix-bits", "8"];
+    assert_eq!(
+        image("build_version_2_n", LIST_VAN, &suffixes),
+        in_version_2(IMAGE_VAN)
+    );
+}
+
+#[test]
 fn an_empty_file_gives_the_empty_image() {
     assert_eq!(image("build_empty", "", &[]).len(), 94);
+    let second = image("build_empty_version_2", "", &["--image-version", "2"]);
+    assert_eq!(second.len(), 100);
 }
 
 #[test]
@@ -244,6 +265,12 @@ fn settings_out_of_range_are_refused() {
     let sentence = "--suffix-bits takes a whole number from 0 to 16, and not '17'";
     let arguments = ["keys", "-o", "image", "--suffix-bits=17"];
     refuses_arguments("build_n_17", &arguments, sentence);
+    for version in ["0", "3", "258", "two", ""] {
+        let sentence =
+            format!("--image-version takes a whole number from 1 to 2, and not '{version}'");
+        let arguments = ["keys", "-o", "image", "--image-version", version];
+        refuses_arguments("build_version", &arguments, &sentence);
+    }
 }
 
 #[test]

@@ -1,6 +1,6 @@
 //! `range-filter check`.
 
-use crate::examples::{image_a_dense, IMAGE_A, IMAGE_VAN};
+use crate::examples::{image_a_dense, in_version_2, IMAGE_A, IMAGE_VAN};
 use crate::program::{Folder, Outcome};
 
 /// Runs the check over some bytes.
@@ -21,15 +21,19 @@ fn damaged(offset: usize, byte: u8) -> Vec<u8> {
 fn images_are_accepted_with_leaves_and_settings() {
     assert_eq!(
         check("check_a", IMAGE_A).done(),
-        "accepted: 4 leaves, dense levels 0, suffix bits 0\n"
+        "accepted: 4 leaves, version 1, dense levels 0, suffix bits 0\n"
+    );
+    assert_eq!(
+        check("check_version_2", &in_version_2(IMAGE_A)).done(),
+        "accepted: 4 leaves, version 2, dense levels 0, suffix bits 0\n"
     );
     assert_eq!(
         check("check_dense", &image_a_dense()).done(),
-        "accepted: 4 leaves, dense levels 1, suffix bits 0\n"
+        "accepted: 4 leaves, version 1, dense levels 1, suffix bits 0\n"
     );
     assert_eq!(
         check("check_van", IMAGE_VAN).done(),
-        "accepted: 4 leaves, dense levels 0, suffix bits 8\n"
+        "accepted: 4 leaves, version 1, dense levels 0, suffix bits 8\n"
     );
 }
 
@@ -83,12 +87,30 @@ fn broken_frames_get_11() {
 }
 
 #[test]
+fn records_of_another_version_get_11() {
+    let missing = " (the record LV is not where it belongs)";
+    refused("check_11_version_2", &damaged(2, 2), 11, missing);
+    let second = in_version_2(IMAGE_A);
+    let more = " (18 bytes stand behind the last record)";
+    for version in [1, 3] {
+        let mut image = second.clone();
+        image[2] = version;
+        refused("check_11_version", &image, 11, more);
+    }
+    let end = " (the record LV runs past the end of the file)";
+    refused("check_11_level_starts", &second[..127], 11, end);
+    let more = [&second[..], b"ab"].concat();
+    let behind = " (2 bytes stand behind the last record)";
+    refused("check_11_behind", &more, 11, behind);
+}
+
+#[test]
 fn wrong_headers_get_12_with_the_field() {
     refused(
         "check_12_version",
-        &damaged(2, 2),
+        &damaged(2, 3),
         12,
-        " (the version is 2, and not 1)",
+        " (the version is 3, and neither 1 nor 2)",
     );
     refused(
         "check_12_dense",
@@ -109,9 +131,9 @@ fn wrong_headers_get_12_with_the_field() {
         12,
         " (there are 65,540 leaves, over 65,535)",
     );
-    let mut two = damaged(2, 3);
+    let mut two = damaged(2, 0);
     two[5] = 1;
-    let both = " (the version is 3, and not 1; the zero byte is 1)";
+    let both = " (the version is 0, and neither 1 nor 2; the zero byte is 1)";
     refused("check_12_two", &two, 12, both);
     // A body that is not as long as the counts give shows in no field alone.
     refused("check_12_body", &damaged(14, 7), 12, "anew");
@@ -125,6 +147,10 @@ fn wrong_bodies_get_13_to_16() {
     unsorted[47] = 0x44;
     refused("check_14", &unsorted, 14, "anew");
     refused("check_15", &damaged(96, 1), 15, "anew");
+    // Level 1 starts with the node at 120, which is 1.
+    let mut starts = in_version_2(IMAGE_A);
+    starts[120] = 2;
+    refused("check_15_level_starts", &starts, 15, "anew");
     // The slots of V, D2, D1 and D12 are the body of SV at 66.
     let mut image = IMAGE_VAN.to_vec();
     image[72 + 2] = 1;

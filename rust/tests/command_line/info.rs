@@ -1,6 +1,6 @@
 //! `range-filter info`.
 
-use crate::examples::{image_a_dense, IMAGE_A};
+use crate::examples::{image_a_dense, in_version_2, IMAGE_A};
 use crate::program::Folder;
 
 #[test]
@@ -10,6 +10,7 @@ fn list_a_is_shown_record_by_record() {
     let expected = "\
 bytes           110
 bits a key      220.0
+version         1
 dense levels    0
 suffix bits     0
 leaves          4 (1 exact, 3 open)
@@ -37,6 +38,24 @@ TS      select samples of SB                                              10
 }
 
 #[test]
+fn version_2_has_its_level_starts() {
+    let folder = Folder::new("info_version_2");
+    folder.write("image", in_version_2(IMAGE_A));
+    let output = folder.run(&["info", "image"]).done();
+    let lines: Vec<&str> = output.lines().collect();
+    assert_eq!(lines[0], "bytes           128");
+    assert_eq!(lines[1], "bits a key      256.0");
+    assert_eq!(lines[2], "version         2");
+    assert_eq!(lines[6], "levels          3");
+    let expected = [
+        "TS      select samples of SB                                              10",
+        "LV      level starts: the first node of each level                        18",
+        "        total                                                            128",
+    ];
+    assert_eq!(lines[lines.len() - 3..], expected);
+}
+
+#[test]
 fn dense_nodes_are_counted() {
     let folder = Folder::new("info_dense");
     folder.write("image", image_a_dense());
@@ -44,10 +63,10 @@ fn dense_nodes_are_counted() {
     let lines: Vec<&str> = output.lines().collect();
     assert_eq!(lines[0], "bytes           209");
     assert_eq!(lines[1], "bits a key      418.0");
-    assert_eq!(lines[2], "dense levels    1");
-    assert_eq!(lines[5], "levels          3");
-    assert_eq!(lines[6], "nodes           3 (1 dense, 2 sparse)");
-    assert_eq!(lines[7], "sparse entries  4");
+    assert_eq!(lines[3], "dense levels    1");
+    assert_eq!(lines[6], "levels          3");
+    assert_eq!(lines[7], "nodes           3 (1 dense, 2 sparse)");
+    assert_eq!(lines[8], "sparse entries  4");
     let bytes = |mark: &str| {
         let mut lines = lines.iter().filter(|line| line.starts_with(mark));
         lines
@@ -69,10 +88,11 @@ fn the_empty_image_has_no_bits_a_key() {
     let folder = Folder::new("info_empty");
     folder.build("image", "", &[]);
     let output = folder.run(&["info", "image"]).done();
-    let lines: Vec<&str> = output.lines().take(8).collect();
+    let lines: Vec<&str> = output.lines().take(9).collect();
     let expected = [
         "bytes           94",
         "bits a key      -",
+        "version         1",
         "dense levels    0",
         "suffix bits     0",
         "leaves          0 (0 exact, 0 open)",

@@ -1,6 +1,6 @@
 //! `range-filter leaves`.
 
-use crate::examples::{IMAGE_A, IMAGE_VAN};
+use crate::examples::{in_version_2, IMAGE_A, IMAGE_VAN};
 use crate::program::Folder;
 
 /// Runs the subcommand over list A's image.
@@ -15,6 +15,9 @@ fn leaves(test: &str, options: &[&str]) -> String {
 fn list_a_has_document_01s_lines() {
     let expected = "leaves 4\n0 E 4431 -\n1 O 443132 -\n2 O 4432 -\n3 O 56 -\n";
     assert_eq!(leaves("leaves_a", &[]), expected);
+    let folder = Folder::new("leaves_version_2");
+    folder.write("image", in_version_2(IMAGE_A));
+    assert_eq!(folder.run(&["leaves", "image"]).done(), expected);
 }
 
 #[test]

@@ -1,6 +1,6 @@
 //! `range-filter picture`.
 
-use crate::examples::{image_a_dense, IMAGE_A, IMAGE_VAN};
+use crate::examples::{image_a_dense, in_version_2, IMAGE_A, IMAGE_VAN};
 use crate::program::{many_keys, Folder};
 
 /// Draws an image.
@@ -61,6 +61,12 @@ fn list_a_has_its_labels_nodes_and_leaves() {
     assert_eq!(count(&picture, "rect", "node"), 1);
     assert_eq!(count(&picture, "path", "open"), 3 + 1);
     assert_eq!(count(&picture, "rect", "band"), 0);
+}
+
+#[test]
+fn versions_have_one_picture() {
+    let first = picture("picture_version_1", IMAGE_A);
+    assert_eq!(picture("picture_version_2", &in_version_2(IMAGE_A)), first);
 }
 
 #[test]

@@ -30,7 +30,7 @@ count D11 Z
 stem E
 ";
 const TOUR: &str = "\
-2 runs, each with a filter (dense levels 0, suffix bits 0).
+2 runs, each with a filter (version 1, dense levels 0, suffix bits 0).
 
 run                      records   run bytes   filter bytes   bits a key
 a                              4          31            110        220.0
@@ -74,6 +74,19 @@ fn a_small_tour_is_told_in_full() {
     let folder = small_folder("tour_small", QUESTIONS);
     let arguments = ["tour", "runs", "--suffix-bits", "0"];
     assert_eq!(folder.run(&arguments).done(), TOUR);
+}
+
+#[test]
+fn a_tour_in_version_2_differs_in_the_sizes_alone() {
+    let folder = small_folder("tour_version_2", QUESTIONS);
+    let arguments = ["tour", "runs", "--suffix-bits", "0", "--image-version", "2"];
+    // The keys of a have three levels of nodes, that of b has one: 6 bytes, and 4 for each level.
+    let expected = TOUR
+        .replace("(version 1,", "(version 2,")
+        .replace("110        220.0", "128        256.0")
+        .replace("105        840.0", "115        920.0")
+        .replace("38            215", "38            243");
+    assert_eq!(folder.run(&arguments).done(), expected);
 }
 
 #[test]

@@ -2,15 +2,20 @@
 //! down.
 
 use super::keys::{any_keys, many_keys, nested_keys, short_keys, stemmed_keys};
+use super::level_starts::changed;
 use super::{any_settings, damaged, flip};
 use crate::random::Random;
 use crate::reference::build;
+use crate::reference::check::{accepted_leaves, levels};
+use crate::reference::decode::nodes;
 use crate::reference::format::{
-    assemble, bits, frame, pack, Frame, Header, Settings, DC, DL, DP, NODE_BITS, RECORDS, RL, SB,
-    SC, SL, SV,
+    assemble, bits, frame, pack, Frame, Header, DC, DL, DP, LV, NODE_BITS, RECORDS, RECORD_HEAD,
+    RL, SB, SC, SL, SV, VERSIONS,
 };
 use crate::reference::keys;
-use crate::reference::tables::TrieBits;
+use crate::reference::leaves::lowest;
+use crate::reference::tables::{level_starts, TrieBits};
+use crate::settings::{version_1, version_2, Settings};
 
 /// The labels of trie entries that are made at random: few, so that many are equal.
 const LABELS: &[u8] = b"\x00ab\xFF";
@@ -26,7 +31,7 @@ pub struct Change {
 }
 
 /// The ways to change an image.
-pub const CHANGES: [Change; 3] = [
+pub const CHANGES: [Change; 4] = [
     Change {
         name: "damaged",
         apply: damaged,
@@ -42,18 +47,40 @@ pub const CHANGES: [Change; 3] = [
         apply: reshaped,
         numbers: &[0, 14, 16],
     },
+    Change {
+        name: "relevelled",
+        apply: relevelled,
+        numbers: &[0, 15],
+    },
 ];
 
 /// Builds the image of keys that make a list, with settings in range.
-pub fn built(keys: &[Vec<u8>], dense_levels: u64, n: u64) -> Vec<u8> {
-    build::image(&keys::write(keys), dense_levels, n).expect("the keys make a list")
+pub fn built(keys: &[Vec<u8>], settings: Settings) -> Vec<u8> {
+    build::image(&keys::write(keys), settings).expect("the keys make a list")
+}
+
+/// Gives the image of an accepted image's lists in the other version.
+pub fn in_other_version(image: &[u8]) -> Vec<u8> {
+    let leaves = accepted_leaves(image).expect("the image is accepted");
+    let keys: Vec<Vec<u8>> = leaves.iter().map(lowest).collect();
+    let settings = parts(image).0.settings;
+    let version = VERSIONS
+        .into_iter()
+        .find(|&version| version != settings.version);
+    let version = version.expect("there are two versions");
+    built(
+        &keys,
+        Settings {
+            version,
+            ..settings
+        },
+    )
 }
 
 /// Gives the image of random keys with random settings.
 pub fn any_image(random: &mut Random) -> Vec<u8> {
     let keys = any_keys(random);
-    let (dense_levels, n) = any_settings(random);
-    built(&keys, dense_levels, n)
+    built(&keys, any_settings(random))
 }
 
 /// Gives the image of few random keys.
@@ -61,17 +88,39 @@ pub fn small_image(random: &mut Random) -> Vec<u8> {
     let kinds = [short_keys, stemmed_keys, nested_keys];
     let mut keys = random.pick(&kinds)(random);
     keys.truncate(6);
-    let dense_levels = random.below(3) as u64;
-    let n = *random.pick(&[0, 1, 5, 8, 11]);
-    built(&keys, dense_levels, n)
+    let settings = Settings {
+        version: *random.pick(&VERSIONS),
+        dense_levels: random.below(3) as u64,
+        n: *random.pick(&[0, 1, 5, 8, 11]),
+    };
+    built(&keys, settings)
 }
 
 /// Gives images of so many keys each, with short and long keys and several settings.
 pub fn large_images(random: &mut Random, keys: usize) -> impl Iterator<Item = Vec<u8>> + '_ {
-    let kinds = [(0, 0, 8), (2, 8, 8), (4, 16, 13), (0, 9, 63), (1, 16, 64)];
-    kinds.into_iter().map(move |(dense_levels, n, length)| {
-        built(&many_keys(random, keys, length), dense_levels, n)
-    })
+    let kinds = [
+        (version_1(0, 0), 8),
+        (version_2(2, 8), 8),
+        (version_1(4, 16), 13),
+        (version_2(0, 9), 63),
+        (version_2(1, 16), 64),
+    ];
+    let kinds = kinds.into_iter();
+    kinds.map(move |(settings, length)| built(&many_keys(random, keys, length), settings))
+}
+
+/// Changes one byte of an image to another one.
+pub fn with_byte(image: &[u8], at: usize, byte: u8) -> Vec<u8> {
+    let mut image = image.to_vec();
+    assert_ne!(image[at], byte);
+    image[at] = byte;
+    image
+}
+
+/// Gives the offset of the body with a mark that stands nowhere before it.
+pub fn body_start(image: &[u8], mark: &[u8; 2]) -> usize {
+    let at = image.windows(2).position(|pair| pair == mark);
+    at.expect("the image has the mark") + RECORD_HEAD
 }
 
 /// Changes one count of an image's header and fits the bodies' lengths, so that number 12
@@ -96,6 +145,13 @@ fn recounted(random: &mut Random, image: &[u8]) -> Vec<u8> {
     assemble(&header, &bodies)
 }
 
+/// Changes the level starts of an image that has them, and nothing else.
+fn relevelled(random: &mut Random, image: &[u8]) -> Vec<u8> {
+    let (header, mut bodies) = parts(image);
+    bodies[LV] = changed(random, &bodies[LV]);
+    assemble(&header, &bodies)
+}
+
 /// Flips bits of the trie, its labels and its slots, and lets counts and tables follow, so
 /// that only the trie's shape and the suffixes can be wrong.
 fn reshaped(random: &mut Random, image: &[u8]) -> Vec<u8> {
@@ -108,7 +164,7 @@ fn reshaped(random: &mut Random, image: &[u8]) -> Vec<u8> {
         }
     }
     if random.once_in(3) {
-        header.settings.dense_levels = random.below(3) as u8;
+        header.settings.dense_levels = random.below(3) as u64;
     }
     agree(&mut header, &mut bodies);
     assemble(&header, &bodies)
@@ -117,8 +173,9 @@ fn reshaped(random: &mut Random, image: &[u8]) -> Vec<u8> {
 /// Gives an image of random small bodies, where counts and tables follow the bits.
 pub fn small_frame(random: &mut Random) -> Vec<u8> {
     let settings = Settings {
-        dense_levels: random.below(3) as u8,
-        width: *random.pick(&[0, 3, 8]),
+        version: *random.pick(&VERSIONS),
+        dense_levels: random.below(3) as u64,
+        n: *random.pick(&[0, 3, 8]),
     };
     let mut header = Header {
         dense_nodes: random.below(3) as u32,
@@ -176,19 +233,26 @@ fn parts(image: &[u8]) -> (Header, Bodies) {
     (header, bodies.map(<[u8]>::to_vec))
 }
 
-/// Gives each body the length that the counts give, and clears its spare bits.
+/// Gives each body before LV the length that the counts give, and clears its spare bits.
 fn fit(header: &Header, bodies: &mut Bodies) {
     for (body, count) in bodies.iter_mut().zip(header.body_bits()) {
         *body = pack(&bits(body, count as usize));
     }
 }
 
-/// Lets the counts of leaves and of sparse nodes, the length of the slots and the tables
-/// follow the bits.
+/// Lets the counts of leaves and of sparse nodes, the length of the slots, the tables and
+/// the level starts follow the bits.
 fn agree(header: &mut Header, bodies: &mut Bodies) {
     let bits = TrieBits::read(header, bodies);
     header.leaves = bits.leaves() as u32;
     header.sparse_nodes = bits.sparse_nodes() as u32;
-    bodies[RL..].clone_from_slice(&bits.tables());
+    bodies[RL..LV].clone_from_slice(&bits.tables());
     fit(header, bodies);
+    if header.has_level_starts() {
+        let nodes = nodes(&Frame {
+            header: header.clone(),
+            bodies: bodies.each_ref().map(Vec::as_slice),
+        });
+        bodies[LV] = level_starts(&levels(&nodes));
+    }
 }

@@ -3,25 +3,41 @@
 
 pub mod images;
 pub mod keys;
+pub mod level_starts;
 pub mod neighbours;
 pub mod places;
 pub mod questions;
 pub mod universe;
 
 use crate::random::Random;
-use crate::reference::format::{MAX_DENSE_LEVELS, MAX_WIDTH};
+use crate::reference::format::{MAX_DENSE_LEVELS, MAX_WIDTH, VERSIONS};
+use crate::settings::{version_1, Settings};
 
-/// Gives every pair of dense levels and suffix width in range.
-pub fn every_setting() -> impl Iterator<Item = (u64, u64)> {
-    let dense_levels = 0..=u64::from(MAX_DENSE_LEVELS);
-    dense_levels.flat_map(|levels| (0..=u64::from(MAX_WIDTH)).map(move |n| (levels, n)))
+/// Gives all settings in range.
+pub fn every_setting() -> impl Iterator<Item = Settings> {
+    every_setting_of_version_1().flat_map(in_both_versions)
 }
 
-/// Gives one pair of dense levels and suffix width in range.
-pub fn any_settings(random: &mut Random) -> (u64, u64) {
-    let dense_levels = random.below(usize::from(MAX_DENSE_LEVELS) + 1);
-    let n = random.below(usize::from(MAX_WIDTH) + 1);
-    (dense_levels as u64, n as u64)
+/// Gives all settings in range of version 1.
+pub fn every_setting_of_version_1() -> impl Iterator<Item = Settings> {
+    (0..=MAX_DENSE_LEVELS).flat_map(|levels| (0..=MAX_WIDTH).map(move |n| version_1(levels, n)))
+}
+
+/// Gives settings in version 1 and in version 2.
+pub fn in_both_versions(settings: Settings) -> [Settings; 2] {
+    VERSIONS.map(|version| Settings {
+        version,
+        ..settings
+    })
+}
+
+/// Gives some settings in range.
+pub fn any_settings(random: &mut Random) -> Settings {
+    Settings {
+        version: *random.pick(&VERSIONS),
+        dense_levels: random.below(MAX_DENSE_LEVELS as usize + 1) as u64,
+        n: random.below(MAX_WIDTH as usize + 1) as u64,
+    }
 }
 
 /// Damages a byte string without regard to what it holds: bytes are cut off, added, put

@@ -7,12 +7,14 @@ pub use accepted::{accept, Accepted};
 
 use crate::accepted::Number;
 use crate::answer::Answer;
+use crate::settings::Settings;
 
 // The exports: a slice is a pointer and a length.
 extern "C" {
     fn range_filter_image_length(
         list: *const u8,
         list_len: usize,
+        version: u64,
         dense_levels: u64,
         n: u64,
     ) -> u64;
@@ -20,6 +22,7 @@ extern "C" {
     fn range_filter_build(
         list: *const u8,
         list_len: usize,
+        version: u64,
         dense_levels: u64,
         n: u64,
         stated: u64,
@@ -48,22 +51,31 @@ extern "C" {
 }
 
 /// Gives the exact length of the image of a key list, or the number of a refusal.
-pub fn image_length(list: &[u8], dense_levels: u64, n: u64) -> Result<usize, u32> {
+pub fn image_length(list: &[u8], settings: Settings) -> Result<usize, u32> {
     // SAFETY: pointer and length are those of a slice that lives through the call.
-    let returned = unsafe { range_filter_image_length(list.as_ptr(), list.len(), dense_levels, n) };
+    let returned = unsafe {
+        range_filter_image_length(
+            list.as_ptr(),
+            list.len(),
+            settings.version,
+            settings.dense_levels,
+            settings.n,
+        )
+    };
     decode(returned).map(|length| length as usize)
 }
 
 /// Builds the image of a key list, whose length is stated, at the start of the output.
-pub fn build(list: &[u8], dense_levels: u64, n: u64, stated: u64, out: &mut [u8]) -> Answer {
+pub fn build(list: &[u8], settings: Settings, stated: u64, out: &mut [u8]) -> Answer {
     // SAFETY: pointers and lengths are those of slices that live through the call,
     // and the output is lent to it alone.
     answer(unsafe {
         range_filter_build(
             list.as_ptr(),
             list.len(),
-            dense_levels,
-            n,
+            settings.version,
+            settings.dense_levels,
+            settings.n,
             stated,
             out.as_mut_ptr(),
             out.len(),

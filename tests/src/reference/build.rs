@@ -1,13 +1,12 @@
 //! Building an image from a key list.
 
-use super::format::{
-    assemble, count32, pack, Header, Settings, MAX_DENSE_LEVELS, MAX_WIDTH, NODE_BITS, RECORDS,
-};
+use super::format::{assemble, count32, pack, settings_are_valid, Header, NODE_BITS, RECORDS};
 use super::keys;
 use super::leaves::{leaves, Leaf};
-use super::tables::TrieBits;
+use super::tables::{level_starts, TrieBits};
 use super::trie::{nodes, Branch, Node};
 use crate::answer::{put, Answer};
+use crate::settings::Settings;
 
 /// The label that starts a sparse node that is an exact leaf.
 pub const EXTRA_LABEL: u8 = 0xFF;
@@ -37,29 +36,21 @@ pub fn write(image: Result<Vec<u8>, u32>, stated: u64, out: &mut [u8]) -> Answer
 
 /// Gives the image of a key list, or the number of the first fault, as both calls judge it:
 /// 5, then record by record 4, 1, 2, 1, 3.
-pub fn image(list: &[u8], dense_levels: u64, n: u64) -> Result<Vec<u8>, u32> {
-    let settings = settings(dense_levels, n)?;
+pub fn image(list: &[u8], settings: Settings) -> Result<Vec<u8>, u32> {
+    if !settings_are_valid(&settings) {
+        return Err(5);
+    }
     let keys = keys::parse(list)?;
-    let leaves = leaves(&keys, usize::from(settings.width));
+    let leaves = leaves(&keys, settings.n as usize);
     let nodes = nodes(&leaves);
     Ok(lay_out(settings, &leaves, &nodes))
 }
 
-/// Judges the settings before they are narrowed.
-fn settings(dense_levels: u64, n: u64) -> Result<Settings, u32> {
-    if dense_levels > u64::from(MAX_DENSE_LEVELS) || n > u64::from(MAX_WIDTH) {
-        return Err(5);
-    }
-    Ok(Settings {
-        dense_levels: dense_levels as u8,
-        width: n as u8,
-    })
-}
-
 /// Lays out the image of leaves in key order and of their nodes.
 fn lay_out(settings: Settings, leaves: &[Leaf], nodes: &[Node]) -> Vec<u8> {
-    let dense_levels = usize::from(settings.dense_levels);
-    let dense_nodes = nodes.partition_point(|node| node.level < dense_levels);
+    let dense_levels = settings.dense_levels as usize;
+    let levels: Vec<usize> = nodes.iter().map(|node| node.level).collect();
+    let dense_nodes = levels.partition_point(|&level| level < dense_levels);
     let (dense, sparse) = nodes.split_at(dense_nodes);
     let entries = sparse_entries(sparse);
     let header = Header {
@@ -69,11 +60,17 @@ fn lay_out(settings: Settings, leaves: &[Leaf], nodes: &[Node]) -> Vec<u8> {
         sparse_nodes: count32(sparse.len()),
         ..Header::new(settings)
     };
-    assemble(&header, &bodies(dense, &entries, &slots(leaves, nodes)))
+    let slots = slots(leaves, nodes);
+    assemble(&header, &bodies(dense, &entries, &slots, &levels))
 }
 
-/// Gives the bodies from dense nodes, sparse entries and suffix slots.
-fn bodies(dense: &[Node], entries: &[Entry], slots: &[bool]) -> [Vec<u8>; RECORDS] {
+/// Gives the bodies from dense nodes, sparse entries, suffix slots and the levels of nodes.
+fn bodies(
+    dense: &[Node],
+    entries: &[Entry],
+    slots: &[bool],
+    levels: &[usize],
+) -> [Vec<u8>; RECORDS] {
     let bits = TrieBits {
         d_labels: dense_bits(dense, |_| true),
         d_has_child: dense_bits(dense, |branch| branch.leaf.is_none()),
@@ -95,6 +92,7 @@ fn bodies(dense: &[Node], entries: &[Entry], slots: &[bool]) -> [Vec<u8>; RECORD
         rp,
         rs,
         ts,
+        level_starts(levels),
     ]
 }
 

@@ -3,12 +3,10 @@
 
 use super::build::EXTRA_LABEL;
 use super::decode::{leaves, nodes, Node, Target};
-use super::format::{
-    bit, frame, Frame, Header, DC, DL, MAX_DENSE_LEVELS, MAX_WIDTH, RL, SB, SC, SL, VERSION,
-};
+use super::format::{bit, frame, settings_are_valid, Frame, Header, DC, DL, LV, RL, SB, SC, SL};
 use super::keys::{MAX_KEY, MAX_KEYS};
 use super::leaves::Leaf;
-use super::tables::TrieBits;
+use super::tables::{level_starts, TrieBits};
 
 /// Gives 0 for an accepted image, else the first of 11 to 16 that applies.
 pub fn check(image: &[u8]) -> u32 {
@@ -28,13 +26,14 @@ pub fn accepted_leaves(image: &[u8]) -> Result<Vec<Leaf>, u32> {
         return Err(13);
     }
     let bits = TrieBits::read(&frame.header, &frame.bodies);
-    if !is_builders_trie(&frame, &bits) {
+    let nodes = nodes(&frame);
+    if !is_builders_trie(&frame, &bits, &nodes) {
         return Err(14);
     }
-    if frame.bodies[RL..] != bits.tables() {
+    if frame.bodies[RL..LV] != bits.tables() || !level_starts_are_valid(&frame, &nodes) {
         return Err(15);
     }
-    let leaves = leaves(&frame).expect("a builder's trie has all its leaves");
+    let leaves = leaves(&frame, &nodes).expect("a builder's trie has all its leaves");
     if !leaves.iter().all(suffix_is_valid) {
         return Err(16);
     }
@@ -43,42 +42,37 @@ pub fn accepted_leaves(image: &[u8]) -> Result<Vec<Leaf>, u32> {
 
 /// Judges version, settings, zero byte and leaf count.
 pub fn header_is_valid(header: &Header) -> bool {
-    header.version == VERSION
-        && header.settings.dense_levels <= MAX_DENSE_LEVELS
-        && header.settings.width <= MAX_WIDTH
-        && header.zero == 0
-        && header.leaves as usize <= MAX_KEYS
+    settings_are_valid(&header.settings) && header.zero == 0 && header.leaves as usize <= MAX_KEYS
 }
 
-/// Judges that each body has just the bytes that its bits need.
+/// Judges that each body before LV has just the bytes that its bits need.
 pub fn lengths_are_valid(frame: &Frame) -> bool {
-    let lengths = frame.header.body_bits().map(|bits| bits.div_ceil(8));
-    lengths == frame.bodies.map(|body| body.len() as u64)
+    let mut bodies = frame.header.body_bits().into_iter().zip(frame.bodies);
+    bodies.all(|(bits, body)| bits.div_ceil(8) == body.len() as u64)
 }
 
-/// Judges that no bit is set behind a body's last bit.
+/// Judges that no bit is set behind a body's last bit; LV has no bits but those of its bytes.
 fn spare_bits_are_clear(frame: &Frame) -> bool {
     let mut bodies = frame.header.body_bits().into_iter().zip(frame.bodies);
     bodies.all(|(bits, body)| (bits as usize..body.len() * 8).all(|position| !bit(body, position)))
 }
 
 /// Judges the section "A builder's trie" of document 01.
-fn is_builders_trie(frame: &Frame, bits: &TrieBits) -> bool {
+fn is_builders_trie(frame: &Frame, bits: &TrieBits, nodes: &[Node]) -> bool {
     if !counts_agree(&frame.header, bits) || bits.s_louds.first() == Some(&false) {
         return false;
     }
-    let nodes = nodes(frame);
     if frame.header.leaves == 0 {
         return nodes.is_empty();
     }
-    branches_lead_on(&nodes)
+    branches_lead_on(nodes)
         && children_have_labels(frame)
         && nodes.iter().all(|node| !node.branches.is_empty())
         && nodes[0].exact.is_none()
         && nodes.iter().all(labels_ascend)
         && extra_labels_end(frame)
         && nodes[1..].iter().all(sole_entry_continues)
-        && levels_are_valid(&frame.header, &nodes)
+        && levels_are_valid(&frame.header, nodes)
 }
 
 /// Judges that the counts of leaves and sparse nodes agree with the bits.
@@ -139,14 +133,27 @@ fn sole_entry_continues(node: &Node) -> bool {
 /// Judges that the dense nodes are exactly those on the dense levels and that no node is
 /// on level 64, where each branch leads to a later node.
 fn levels_are_valid(header: &Header, nodes: &[Node]) -> bool {
+    let dense_levels = header.settings.dense_levels as usize;
+    let dense_nodes = header.dense_nodes as usize;
+    let mut numbered = levels(nodes).into_iter().enumerate();
+    numbered.all(|(node, level)| (node < dense_nodes) == (level < dense_levels) && level < MAX_KEY)
+}
+
+/// Gives the level of each node, one more than that of the node with the branch to it; a
+/// branch that leads to no node is passed over.
+pub fn levels(nodes: &[Node]) -> Vec<usize> {
     let mut levels = vec![0; nodes.len()];
     for (node, child) in links(nodes) {
-        levels[child] = levels[node] + 1;
+        if child < nodes.len() {
+            levels[child] = levels[node] + 1;
+        }
     }
-    let dense_levels = usize::from(header.settings.dense_levels);
-    let dense_nodes = header.dense_nodes as usize;
-    let mut numbered = levels.into_iter().enumerate();
-    numbered.all(|(node, level)| (node < dense_nodes) == (level < dense_levels) && level < MAX_KEY)
+    levels
+}
+
+/// Judges that LV, if the image has it, is the first node of each level of a builder's trie.
+fn level_starts_are_valid(frame: &Frame, nodes: &[Node]) -> bool {
+    !frame.header.has_level_starts() || frame.bodies[LV] == level_starts(&levels(nodes))
 }
 
 /// Judges that an exact leaf's slot is zero and that no suffix bit is set past the key's

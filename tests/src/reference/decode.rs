@@ -116,13 +116,12 @@ fn sparse_nodes(frame: &Frame) -> Vec<RawNode> {
     nodes
 }
 
-/// Gives the leaves in key order, or nothing where a branch leads to no node, a cut key
-/// is too long or the leaves are too many.
-pub fn leaves(frame: &Frame) -> Option<Vec<Leaf>> {
-    let nodes = nodes(frame);
+/// Gives the leaves of an image with these nodes in key order, or nothing where a branch
+/// leads to no node, a cut key is too long or the leaves are too many.
+pub fn leaves(frame: &Frame, nodes: &[Node]) -> Option<Vec<Leaf>> {
     let mut leaves = Vec::new();
     if !nodes.is_empty() {
-        descend(frame, &nodes, 0, &mut Vec::new(), &mut leaves)?;
+        descend(frame, nodes, 0, &mut Vec::new(), &mut leaves)?;
     }
     Some(leaves)
 }
@@ -159,7 +158,7 @@ fn descend(
 
 /// Gives one leaf with the suffix bits in its slot.
 fn leaf(frame: &Frame, cut_key: &[u8], exact: bool, slot: usize) -> Leaf {
-    let width = usize::from(frame.header.settings.width);
+    let width = frame.header.settings.n as usize;
     let suffix = (0..width).map(|i| bit(frame.bodies[SV], slot * width + i));
     Leaf {
         cut_key: cut_key.to_vec(),

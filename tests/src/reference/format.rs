@@ -1,12 +1,14 @@
 //! The records of an image: the header, the marks and the bodies, and how bits stand in
 //! a body.
 
-/// The number of records behind the header.
-pub const RECORDS: usize = 12;
+use crate::settings::Settings;
+
+/// The most records behind the header.
+pub const RECORDS: usize = 13;
 
 /// The marks of the records, in their order.
 pub const MARKS: [&[u8; 2]; RECORDS] = [
-    b"DL", b"DC", b"DP", b"SL", b"SC", b"SB", b"SV", b"RL", b"RC", b"RP", b"RS", b"TS",
+    b"DL", b"DC", b"DP", b"SL", b"SC", b"SB", b"SV", b"RL", b"RC", b"RP", b"RS", b"TS", b"LV",
 ];
 
 /// The number of each record, which is its body's index among the bodies.
@@ -22,6 +24,7 @@ pub const RC: usize = 8;
 pub const RP: usize = 9;
 pub const RS: usize = 10;
 pub const TS: usize = 11;
+pub const LV: usize = 12;
 
 /// The mark of the header.
 pub const HEADER_MARK: &[u8; 2] = b"HD";
@@ -32,8 +35,11 @@ pub const HEADER_LENGTH: usize = 22;
 /// The bytes of a record before its body: mark and body length.
 pub const RECORD_HEAD: usize = 6;
 
-/// The version that is written and read.
-pub const VERSION: u8 = 1;
+/// The versions that are written and read.
+pub const VERSIONS: [u64; 2] = [1, 2];
+
+/// The version with the record LV.
+const LEVELLED_VERSION: u64 = 2;
 
 /// The bits of a dense node in D-Labels, and in D-HasChild.
 pub const NODE_BITS: usize = 256;
@@ -51,20 +57,19 @@ pub const SAMPLE: usize = 64;
 pub const TABLE_BITS: u64 = 32;
 
 /// The highest settings.
-pub const MAX_DENSE_LEVELS: u8 = 4;
-pub const MAX_WIDTH: u8 = 16;
+pub const MAX_DENSE_LEVELS: u64 = 4;
+pub const MAX_WIDTH: u64 = 16;
 
-/// The number of dense levels, and the suffix width n.
-#[derive(Clone, Copy, Debug, PartialEq, Eq)]
-pub struct Settings {
-    pub dense_levels: u8,
-    pub width: u8,
+/// Judges that the settings are in range.
+pub fn settings_are_valid(settings: &Settings) -> bool {
+    VERSIONS.contains(&settings.version)
+        && settings.dense_levels <= MAX_DENSE_LEVELS
+        && settings.n <= MAX_WIDTH
 }
 
 /// The header's fields behind its mark, as they stand in the file.
 #[derive(Clone, Debug, PartialEq, Eq)]
 pub struct Header {
-    pub version: u8,
     pub settings: Settings,
     pub zero: u8,
     pub leaves: u32,
@@ -77,7 +82,6 @@ impl Header {
     /// Gives the header of an empty image.
     pub fn new(settings: Settings) -> Self {
         Header {
-            version: VERSION,
             settings,
             zero: 0,
             leaves: 0,
@@ -90,10 +94,10 @@ impl Header {
     /// Reads the fields of a header as they stand.
     fn read(bytes: &[u8]) -> Self {
         Header {
-            version: bytes[2],
             settings: Settings {
-                dense_levels: bytes[3],
-                width: bytes[4],
+                version: bytes[2].into(),
+                dense_levels: bytes[3].into(),
+                n: bytes[4].into(),
             },
             zero: bytes[5],
             leaves: number(bytes, 6),
@@ -103,14 +107,17 @@ impl Header {
         }
     }
 
-    /// Writes the header with its mark.
+    /// Writes the header, whose settings are bytes, with its mark.
     pub fn bytes(&self) -> Vec<u8> {
         let Settings {
+            version,
             dense_levels,
-            width,
+            n,
         } = self.settings;
+        let byte = |setting| u8::try_from(setting).expect("a setting is a byte");
         let mut bytes = HEADER_MARK.to_vec();
-        bytes.extend_from_slice(&[self.version, dense_levels, width, self.zero]);
+        bytes.extend_from_slice(&[version, dense_levels, n].map(byte));
+        bytes.push(self.zero);
         for count in [
             self.leaves,
             self.dense_nodes,
@@ -122,13 +129,28 @@ impl Header {
         bytes
     }
 
-    /// Gives the number of bits of each body as the counts give it; products are exact.
-    pub fn body_bits(&self) -> [u64; RECORDS] {
+    /// Gives the marks of the records that the image has.
+    pub fn marks(&self) -> &'static [&'static [u8; 2]] {
+        match self.has_level_starts() {
+            true => &MARKS,
+            false => &MARKS[..LV],
+        }
+    }
+
+    /// Says whether the image has the record LV. Bytes of a version that there is none of
+    /// are judged as those of version 1.
+    pub fn has_level_starts(&self) -> bool {
+        self.settings.version == LEVELLED_VERSION
+    }
+
+    /// Gives the number of bits of each body before LV as the counts give it; products are
+    /// exact.
+    pub fn body_bits(&self) -> [u64; LV] {
         let dense_nodes = u64::from(self.dense_nodes);
         let dense_bits = dense_nodes * NODE_BITS as u64;
         let entries = u64::from(self.sparse_entries);
         let sparse_nodes = u64::from(self.sparse_nodes);
-        let slot_bits = u64::from(self.leaves) * u64::from(self.settings.width);
+        let slot_bits = u64::from(self.leaves) * self.settings.n;
         let table = |things: u64, block: usize| things.div_ceil(block as u64) * TABLE_BITS;
         [
             dense_bits,
@@ -147,7 +169,8 @@ impl Header {
     }
 }
 
-/// An image taken apart into its header and its bodies.
+/// An image taken apart into its header and its bodies. The body of a record that the image
+/// does not have is empty.
 #[derive(Clone, Debug)]
 pub struct Frame<'a> {
     pub header: Header,
@@ -160,14 +183,12 @@ pub fn frame(image: &[u8]) -> Option<Frame<'_>> {
     if !head.starts_with(HEADER_MARK) {
         return None;
     }
+    let header = Header::read(head);
     let mut bodies: [&[u8]; RECORDS] = [&[]; RECORDS];
-    for (mark, body) in MARKS.iter().zip(&mut bodies) {
+    for (mark, body) in header.marks().iter().zip(&mut bodies) {
         (*body, rest) = record(rest, mark)?;
     }
-    rest.is_empty().then(|| Frame {
-        header: Header::read(head),
-        bodies,
-    })
+    rest.is_empty().then_some(Frame { header, bodies })
 }
 
 /// Splits the body of the first record from the bytes behind the record.
@@ -179,10 +200,10 @@ fn record<'a>(bytes: &'a [u8], mark: &[u8; 2]) -> Option<(&'a [u8], &'a [u8])> {
     behind.split_at_checked(usize::try_from(number(head, 2)).ok()?)
 }
 
-/// Writes a header and bodies as an image.
+/// Writes a header and the bodies of its records as an image.
 pub fn assemble(header: &Header, bodies: &[Vec<u8>; RECORDS]) -> Vec<u8> {
     let mut image = header.bytes();
-    for (mark, body) in MARKS.iter().zip(bodies) {
+    for (mark, body) in header.marks().iter().zip(bodies) {
         image.extend_from_slice(*mark);
         image.extend_from_slice(&count32(body.len()).to_le_bytes());
         image.extend_from_slice(body);

@@ -12,11 +12,10 @@ pub fn accepts(image: &[u8]) -> bool {
     let Some(frame) = frame(image) else {
         return false;
     };
-    let Some(leaves) = decode::leaves(&frame) else {
+    let Some(leaves) = decode::leaves(&frame, &decode::nodes(&frame)) else {
         return false;
     };
     let keys: Vec<Vec<u8>> = leaves.iter().map(lowest).collect();
-    let settings = frame.header.settings;
-    let [dense_levels, n] = [settings.dense_levels, settings.width].map(u64::from);
-    build::image(&keys::write(&keys), dense_levels, n).is_ok_and(|again| again == image)
+    let again = build::image(&keys::write(&keys), frame.header.settings);
+    again.is_ok_and(|again| again == image)
 }

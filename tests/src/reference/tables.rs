@@ -1,12 +1,13 @@
-//! The bits of a trie, and what is counted from them: leaves, nodes, ranks and samples.
+//! The bits of a trie, and what is counted from them: leaves, nodes, ranks and samples; and
+//! the first node of each level.
 
 use super::format::{
-    bits, count32, Header, DC, DENSE_BLOCK, DL, DP, NODE_BITS, RECORDS, RL, SAMPLE, SB, SC,
+    bits, count32, Header, DC, DENSE_BLOCK, DL, DP, LV, NODE_BITS, RECORDS, RL, SAMPLE, SB, SC,
     SPARSE_BLOCK,
 };
 
-/// The number of tables, which are the bodies from RL on.
-pub const TABLES: usize = RECORDS - RL;
+/// The number of tables of ranks and samples, which are the bodies from RL to TS.
+pub const TABLES: usize = LV - RL;
 
 /// The bits of DL, DC, DP, SC and SB, as many as the header's counts say.
 #[derive(Clone, Debug, PartialEq, Eq)]
@@ -82,4 +83,18 @@ fn samples(bits: &[bool]) -> Vec<u8> {
         .step_by(SAMPLE)
         .flat_map(|position| count32(position).to_le_bytes())
         .collect()
+}
+
+/// Gives the body LV, from the levels of all nodes in level order: the number of the first
+/// node of each level, as 32-bit numbers.
+pub fn level_starts(levels: &[usize]) -> Vec<u8> {
+    let mut body = Vec::new();
+    let mut last = None;
+    for (node, &level) in levels.iter().enumerate() {
+        if last != Some(level) {
+            body.extend_from_slice(&count32(node).to_le_bytes());
+            last = Some(level);
+        }
+    }
+    body
 }

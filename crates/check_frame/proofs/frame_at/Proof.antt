@@ -1,7 +1,7 @@
 -- Each start is the one that the header gives, and fits a number.
 use mathlib.Core.Path.{refl}
 use native.Mathlib.Omega.{arith}
-use Rattle.check_frame_laws.specs.FrameLaws.{starts-small}
+use Rattle.check_frame_laws.specs.FrameLaws.{starts-small, gap-small}
 use borrow.Author.Needs.{needs}
 use Rattle.check_frame.proofs.frame_at.Statement.{statement}
 use Rattle.check_frame.proofs.frame_at.Tie as tie
@@ -117,8 +117,20 @@ add-t54 c =
     let b = r .before in
     rw (r .record-starts .ensures) (omega (arith, starts-small (b .args .h) (b .pre) 11))
 
+array-read-t57 : tie.Need-array-read-t57
+array-read-t57 c = search needs
+
+level-gap-requires : tie.Need-level-gap-requires
+level-gap-requires c κs = search needs
+
+add-t59 : tie.Need-add-t59
+add-t59 c =
+    let r = c .before .before .before in
+    let b = r .before in
+    rw (r .record-starts .ensures) (omega (arith, starts-small (b .args .h) (b .pre) 12, gap-small (b .args .h .version), c .level-gap .ensures))
+
 returns : tie.Need-returns
-returns c = rw (c .before .before .record-starts .ensures) refl
+returns c = let r = c .before .before .before in rw (r .record-starts .ensures, c .level-gap .ensures) refl
 
 pub frame-at-spec : {M : Type 1} → statement M
 frame-at-spec =
@@ -149,4 +161,7 @@ frame-at-spec =
     add-t50
     array-read-t53
     add-t54
+    array-read-t57
+    level-gap-requires
+    add-t59
     returns)

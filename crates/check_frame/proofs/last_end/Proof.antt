@@ -1,78 +1,66 @@
--- The loop's invariant: the records left, from where the loop is, end where all of them do.
-use Prim.Native.Nat.{_-_, _≤_, _<_, _+_}
-use mathlib.Core.Path.{_≡_, refl, sym, ap, _∙_}
+-- The twelve, and LV behind them in version 2.
+use mathlib.Core.Path.{sym, _∙_}
 use native.Mathlib.Omega.{arith}
-use lib.ListN.{length, drop}
-use Rattle.spec.specs.Image.{rows}
-use Rattle.image_types.specs.Records.{records-end, row-at, record-within, rows-from, rows-end, end-more, end-none}
+use Rattle.check_frame_laws.specs.FrameLaws.{end-missing, end-twelve}
+use Rattle.check_frame.specs.Found.{level-found}
 use borrow.Author.Needs.{needs}
 use Rattle.check_frame.proofs.last_end.Statement.{statement}
 use Rattle.check_frame.proofs.last_end.Tie as tie
 
-abbrev Inv-loop : tie.InvT-loop
-Inv-loop image at₀ i₀ at i = (i ≤ 12) × (at ≤ length image) × (records-end rows image 22 ≡ records-end (drop i rows) image at)
+twelve-end-requires : tie.Need-twelve-end-requires
+twelve-end-requires c κs = search needs
 
-abbrev μ-loop : tie.MeasureT-loop
-μ-loop image at₀ i₀ at i = 12 - i
-
-loop-holds : tie.Need-loop-holds Inv-loop μ-loop
-loop-holds c = (omega arith, omega arith, refl)
-
-record-end-requires : tie.Need-record-end-requires Inv-loop μ-loop
-record-end-requires c κs = (omega arith, omega arith)
-
-enum-known-end : tie.Need-enum-known-end Inv-loop μ-loop
+enum-known-end : tie.Need-enum-known-end
 enum-known-end c = search needs
 
-enum-told : tie.Need-enum-told Inv-loop μ-loop
+enum-told : tie.Need-enum-told
 enum-told c = search needs
 
-returns : tie.Need-returns Inv-loop μ-loop
+returns : tie.Need-returns
 returns c =
     let r = c .before .before in
-    let l = r .before .before .loop in
-    let s = r .before .before .before .before .args .image .now in
-    let h : l .i < 12 = r .before .loop-test .taken in
-    sym (l .inv .2 ∙ rw (rows-from (l .i) h) (end-none (row-at (l .i)) (drop (l .i + 1) rows) s (l .at) (rw (c .enum-told .given .1) at (r .record-end .ensures))))
+    sym (end-missing (r .before .before .args .image .now) (rw (c .enum-told .given .1) at (r .twelve-end .ensures)))
 
-add-i : tie.Need-add-i Inv-loop μ-loop
-add-i c = search needs
+shared-slice-read-wide : tie.Need-shared-slice-read-wide
+shared-slice-read-wide c = search needs
 
-loop-less : tie.Need-loop-less Inv-loop μ-loop
-loop-less c = search needs
+wide-requires : tie.Need-wide-requires
+wide-requires c κs = search needs
 
-loop-again : tie.Need-loop-again Inv-loop μ-loop
-loop-again c =
-    let r = c .before .before .before in
-    let l = r .before .before .loop in
-    let s = r .before .before .before .before .args .image .now in
-    let h : l .i < 12 = r .before .loop-test .taken in
-    let g = c .before .end .given in
-    let q = rw (g .1) at (r .record-end .ensures) in (
-      omega arith,
-      rw (q .1) (record-within (row-at (l .i)) s (l .at) (l .inv .1) (q .0) .1),
-      l .inv .2 ∙ rw (rows-from (l .i) h) (end-more (row-at (l .i)) (drop (l .i + 1) rows) s (l .at) (q .0) ∙ ap (records-end (drop (l .i + 1) rows) s) (sym (q .1))),
-    )
-
-returns-2 : tie.Need-returns-2 Inv-loop μ-loop
-unfolding records-end
+returns-2 : tie.Need-returns-2
 returns-2 c =
-    let l = c .before .loop in
-    let e : l .i ≡ 12 = omega arith in
-    sym (l .inv .2 ∙ rw (e, rows-end))
+    let w = c .before in
+    let g = w .before .before .before .end .given in
+    let r = w .before .before .before .before .before in
+    let q = rw (g .1) at (r .twelve-end .ensures) in
+    sym (end-twelve (r .before .before .args .image .now) (g .0 .0) (q .0) (λ e. c .if1 .taken (w .wide .ensures .0 ∙ e)))
+
+record-end-requires : tie.Need-record-end-requires
+record-end-requires c κs =
+    let w = c .before in
+    let g = w .before .before .before .end .given in
+    let r = w .before .before .before .before .before in
+    let q = rw (g .1) at (r .twelve-end .ensures) in
+    (omega arith, q .1)
+
+returns-3 : tie.Need-returns-3
+returns-3 c =
+    let w = c .before .before in
+    let g = w .before .before .before .end .given in
+    let r = w .before .before .before .before .before in
+    let q = rw (g .1) at (r .twelve-end .ensures) in
+    level-found (r .before .before .args .image .now) (g .0 .0) (q .0) (sym (w .wide .ensures .0) ∙ c .before .if1 .left) (c .record-end .result) (c .record-end .ensures)
 
 pub last-end-spec : {M : Type 1} → statement M
 last-end-spec =
     tie.close
     (tie.spec
-    Inv-loop
-    μ-loop
-    loop-holds
-    record-end-requires
+    twelve-end-requires
     enum-known-end
     enum-told
     returns
-    add-i
-    loop-less
-    loop-again
-    returns-2)
+    shared-slice-read-wide
+    wide-requires
+    returns-2
+    record-end-requires
+    returns-3)

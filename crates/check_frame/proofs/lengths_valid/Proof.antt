@@ -23,27 +23,27 @@ module _ (s : Bytes) (i at e : ℕ) (h : i < 12) (l : at ≤ length s) (f : reco
 
 abbrev Inv-loop : tie.InvT-loop
 Inv-loop image h at₀ i₀ at i =
-    (i ≤ 12) × (at ≤ length image) × (records-end (drop i rows) image at ≡ some (length image))
+    (i ≤ 12) × (at ≤ length image) × ((e : ℕ) × (records-end (drop i rows) image at ≡ some e))
     × (lengths-agree (settings-of h) (counts-of h) rows image 22 ≡ lengths-agree (settings-of h) (counts-of h) (drop i rows) image at)
 
 abbrev μ-loop : tie.MeasureT-loop
 μ-loop image h at₀ i₀ at i = 12 - i
 
 loop-holds : tie.Need-loop-holds Inv-loop μ-loop
-loop-holds c = (omega arith, c .before .pre .1 .long, c .before .pre .1 .end, refl)
+loop-holds c = let r = c .before .pre .1 in (omega arith, r .long, (r .middle, r .twelve), refl)
 
 add-read32 : tie.Need-add-read32 Inv-loop μ-loop
 add-read32 c =
     let l = c .before .loop in
     let s = c .before .before .before .args .image .now in
-    let w = next-within s (l .i) (l .at) (length s) (c .loop-test .taken) (l .inv .1) (l .inv .2) in
+    let w = next-within s (l .i) (l .at) (l .inv .2 .0) (c .loop-test .taken) (l .inv .1) (l .inv .2 .1) in
     omega (arith, w .0)
 
 read32-requires : tie.Need-read32-requires Inv-loop μ-loop
 read32-requires c κs =
     let l = c .before .loop in
     let s = c .before .before .before .args .image .now in
-    let w = next-within s (l .i) (l .at) (length s) (c .loop-test .taken) (l .inv .1) (l .inv .2) in
+    let w = next-within s (l .i) (l .at) (l .inv .2 .0) (c .loop-test .taken) (l .inv .1) (l .inv .2 .1) in
     omega (arith, w .0)
 
 body-size-requires : tie.Need-body-size-requires Inv-loop μ-loop
@@ -63,7 +63,7 @@ add-at c =
     let r = c .before .before in
     let l = r .before .before .loop in
     let s = r .before .before .before .before .args .image .now in
-    let w = next-within s (l .i) (l .at) (length s) (r .before .loop-test .taken) (l .inv .1) (l .inv .2) in
+    let w = next-within s (l .i) (l .at) (l .inv .2 .0) (r .before .loop-test .taken) (l .inv .1) (l .inv .2 .1) in
     omega (arith, w .1, r .read32 .ensures .0)
 
 add-at-2 : tie.Need-add-at-2 Inv-loop μ-loop
@@ -71,7 +71,7 @@ add-at-2 c =
     let r = c .before .before in
     let l = r .before .before .loop in
     let s = r .before .before .before .before .args .image .now in
-    let w = next-within s (l .i) (l .at) (length s) (r .before .loop-test .taken) (l .inv .1) (l .inv .2) in
+    let w = next-within s (l .i) (l .at) (l .inv .2 .0) (r .before .loop-test .taken) (l .inv .1) (l .inv .2 .1) in
     omega (arith, w .1, r .read32 .ensures .0)
 
 add-i : tie.Need-add-i Inv-loop μ-loop
@@ -88,13 +88,13 @@ loop-again c =
     let s = a .image .now in
     let h : l .i < 12 = r .before .loop-test .taken in
     let rest = drop (l .i + 1) rows in
-    let p = next-stands s (l .i) (l .at) (length s) h (l .inv .1) (l .inv .2) in
-    let w = next-within s (l .i) (l .at) (length s) h (l .inv .1) (l .inv .2) in
+    let p = next-stands s (l .i) (l .at) (l .inv .2 .0) h (l .inv .1) (l .inv .2 .1) in
+    let w = next-within s (l .i) (l .at) (l .inv .2 .0) h (l .inv .1) (l .inv .2 .1) in
     let n : l .at + 6 + r .read32 .result ≡ record-end s (l .at) = ap (λ (k : ℕ). l .at + 6 + k) (r .read32 .ensures .0) in
     let q = sym (r .read32 .ensures .0) ∙ c .if1 .left ∙ c .before .body-size .ensures .0 in (
       omega arith,
       rw n (w .1),
-      rw n (sym (end-more (row-at (l .i)) rest s (l .at) p) ∙ rw (rows-from (l .i) h) at (l .inv .2)),
+      (l .inv .2 .0, rw n (sym (end-more (row-at (l .i)) rest s (l .at) p) ∙ rw (rows-from (l .i) h) at (l .inv .2 .1))),
       rw n (l .inv .3 ∙ rw (rows-from (l .i) h) (agree-more (settings-of (a .h)) (counts-of (a .h)) (row-at (l .i)) rest s (l .at) q)),
     )
 

@@ -7,7 +7,7 @@ use native.Mathlib.Omega.{arith}
 use lib.ListN.{length}
 use borrow.Author.Needs.{needs}
 use borrow.Author.Tests.{not-true, not-false}
-use Rattle.check_frame_laws.specs.FrameLaws.{header-short, header-first, header-second, header-stands, records-absent, records-short, Frame-stands, settings-wrong, lengths-wrong}
+use Rattle.check_frame_laws.specs.FrameLaws.{header-short, header-first, header-second, header-stands, records-standing, records-absent, records-short, Frame-stands, settings-wrong, lengths-wrong}
 use Rattle.check_frame.specs.Found.{end-found}
 use Rattle.check_frame.proofs.read_frame.Statement.{statement}
 use Rattle.check_frame.proofs.read_frame.Tie as tie
@@ -35,7 +35,7 @@ stood c =
     let e = c .before .before .before .end .given in
     record {
       header = header-stands (image c) (long (r .before)) (r .before .before .before .if2 .left) (r .before .if3 .left);
-      records = record { long = long (r .before); end = sym (r .last-end .ensures) ∙ ap end-found (e .1) ∙ ap some (c .before .if4 .left) };
+      records = records-standing (image c) (long (r .before)) (sym (r .last-end .ensures) ∙ ap end-found (e .1) ∙ ap some (c .before .if4 .left));
       reads = c .read-header .ensures;
     }
 

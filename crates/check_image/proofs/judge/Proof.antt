@@ -1,5 +1,5 @@
 -- The stages in their order: each test that fails gives its number, and where all pass the verdict is 0.
-use mathlib.Core.Path.{_≡_, sym, ap, ap₂, _∙_}
+use mathlib.Core.Path.{_≡_, refl, sym, ap, ap₂, _∙_}
 use mathlib.Core.Bool.{Bool, _&&_}
 use mathlib.Core.List.{List}
 use borrow.Author.Needs.{needs}
@@ -7,13 +7,14 @@ use borrow.Author.Tests.{not-true, not-false}
 use Rattle.spec.specs.Bytes.{Bytes}
 use Rattle.spec.specs.Frame.{parts}
 use Rattle.spec.specs.Trie.{builders-trie}
-use Rattle.spec.specs.Check.{ranks-valid}
-use Rattle.theory.specs.Demands.{Passes-13, Passes-14, Passes-15, spare-set, no-trie, rank-wrong, slot-set}
+use Rattle.spec.specs.Check.{ranks-valid, starts-valid, tables-valid}
+use Rattle.theory.specs.Demands.{Passes-13, Passes-14, Passes-15, spare-set, no-trie, table-wrong, slot-set}
 use Rattle.theory.specs.CheckStages.{passes-verdict}
 use Rattle.image_types.specs.FrameOf.{FrameOf, frame-bodies, frame-named}
 use Rattle.image_types.specs.declared.Frame.{Frame}
 use Rattle.check_tables_laws.specs.Tables.{dense-agrees, sparse-agrees, tables-are}
 use Rattle.check_frame_laws.specs.FrameLaws.{frame-passes}
+use Rattle.check_slots_laws.specs.Passed.{Passed-to-15}
 use Rattle.check_image.specs.Answers.{refuses}
 use Rattle.check_image.proofs.judge.Statement.{statement}
 use Rattle.check_image.proofs.judge.Tie as tie
@@ -25,8 +26,11 @@ from-13 c = c .before .before .before .before
 abbrev from-14 : tie.Else2 → tie.Start
 from-14 c = from-13 (c .before .before .before)
 
-abbrev from-15 : tie.Else3 → tie.Start
-from-15 c = from-14 (c .before .before .before)
+abbrev from-ranks : tie.Else3 → tie.Start
+from-ranks c = from-14 (c .before .before .before)
+
+abbrev from-15 : tie.Else4 → tie.Start
+from-15 c = from-ranks (c .before .before)
 
 -- the image
 abbrev image : tie.Start → Bytes
@@ -49,14 +53,25 @@ passed-13 c =
 passed-14 : (c : tie.Else2) → Passes-14 (image (from-14 c)) (bodies (from-14 c))
 passed-14 c = record { before = passed-13 (c .before .before .before); trie = ap builders-trie (from-14 c .pre .0 .parts-are) ∙ sym (c .before .trie-valid .ensures) ∙ not-false _ (c .if2 .left) }
 
--- the verdict on the tables, by what was found where the ones were counted
-tables : (s : Bytes) (f : Frame) {d t : Bool} → FrameOf s f → d ≡ dense-agrees s f → t ≡ sparse-agrees s f → ranks-valid (parts s (frame-named s f)) (frame-named s f) ≡ (d && t)
-tables s f o d t = tables-are s f o ∙ sym (ap₂ _&&_ d t)
+-- the verdict on the ranks and samples, by what was found where the ones were counted
+ranks-found : (s : Bytes) (f : Frame) {d t : Bool} → FrameOf s f → d ≡ dense-agrees s f → t ≡ sparse-agrees s f → ranks-valid (parts s (frame-named s f)) (frame-named s f) ≡ (d && t)
+ranks-found s f o d t = tables-are s f o ∙ sym (ap₂ _&&_ d t)
 
-passed-15 : (c : tie.Else3) → Passes-15 (image (from-15 c)) (bodies (from-15 c))
+-- the verdict on all tables, by those on ranks and samples and on LV
+tables : (s : Bytes) (f : Frame) {a b : Bool} → ranks-valid (parts s (frame-named s f)) (frame-named s f) ≡ a → starts-valid (parts s (frame-named s f)) (frame-bodies s f) ≡ b → tables-valid (parts s (frame-named s f)) (frame-bodies s f) ≡ (a && b)
+unfolding tables-valid
+tables s f a b = ap₂ _&&_ a b
+
+passed-ranks : (c : tie.Else3) → Passed-to-15 (image (from-ranks c)) (frame (from-ranks c))
+passed-ranks c =
+    let b = from-ranks c in
+    record { frame = b .pre .0; trie = passed-14 (c .before .before .before) .trie; ranks = ranks-found (image b) (frame b) (b .pre .0) (b .pre .1) (c .before .before .before .before .before .count-sparse .ensures .agrees) ∙ not-false _ (c .if3 .left) }
+
+passed-15 : (c : tie.Else4) → Passes-15 (image (from-15 c)) (bodies (from-15 c))
 passed-15 c =
+    let k = c .before .before in
     let b = from-15 c in
-    record { before = passed-14 (c .before .before .before); ranks = tables (image b) (frame b) (b .pre .0) (b .pre .1) (c .before .before .before .before .before .count-sparse .ensures .agrees) ∙ not-false _ (c .if3 .left) }
+    record { before = passed-14 (k .before .before .before); tables = tables (image b) (frame b) (passed-ranks k .ranks) (sym (c .before .starts-valid .ensures) ∙ not-false _ (c .if4 .left)) }
 
 spare-clear-requires : tie.Need-spare-clear-requires
 spare-clear-requires c κs = search needs
@@ -82,23 +97,31 @@ returns-3 : tie.Need-returns-3
 returns-3 c =
     let k = c .before .before .before in
     let b = from-14 k in
-    refuses (rank-wrong (bodies b) (passed-14 k) (tables (image b) (frame b) (b .pre .0) (b .pre .1) (c .before .before .before .before .before .count-sparse .ensures .agrees) ∙ not-true _ (c .if3 .taken)))
+    let r = ranks-found (image b) (frame b) (b .pre .0) (b .pre .1) (c .before .before .before .before .before .count-sparse .ensures .agrees) ∙ not-true _ (c .if3 .taken) in
+    refuses (table-wrong (bodies b) (passed-14 k) (tables (image b) (frame b) r refl))
 
-slots-valid-requires : tie.Need-slots-valid-requires
-slots-valid-requires c κs =
-    let p = passed-15 c in
-    record { frame = from-15 c .pre .0; trie = p .before .trie; ranks = p .ranks }
+starts-valid-requires : tie.Need-starts-valid-requires
+starts-valid-requires c κs = passed-ranks c
 
 returns-4 : tie.Need-returns-4
 returns-4 c =
     let k = c .before .before in
-    refuses (slot-set (bodies (from-15 k)) (passed-15 k) (sym (c .before .slots-valid .ensures) ∙ not-true _ (c .if4 .taken)))
+    let b = from-ranks k in
+    refuses (table-wrong (bodies b) (passed-14 (k .before .before .before)) (tables (image b) (frame b) (passed-ranks k .ranks) (sym (c .before .starts-valid .ensures) ∙ not-true _ (c .if4 .taken))))
+
+slots-valid-requires : tie.Need-slots-valid-requires
+slots-valid-requires c κs = passed-ranks (c .before .before)
 
 returns-5 : tie.Need-returns-5
 returns-5 c =
     let k = c .before .before in
+    refuses (slot-set (bodies (from-15 k)) (passed-15 k) (sym (c .before .slots-valid .ensures) ∙ not-true _ (c .if5 .taken)))
+
+returns-6 : tie.Need-returns-6
+returns-6 c =
+    let k = c .before .before in
     let b = from-15 k in
-    (b .pre .0, passes-verdict (image b) (bodies b) (record { before = passed-15 k; slots = sym (c .before .slots-valid .ensures) ∙ not-false _ (c .if4 .left) }))
+    (b .pre .0, passes-verdict (image b) (bodies b) (record { before = passed-15 k; slots = sym (c .before .slots-valid .ensures) ∙ not-false _ (c .if5 .left) }))
 
 pub judge-spec : {M : Type 1} → statement M
 judge-spec =
@@ -110,6 +133,8 @@ judge-spec =
     trie-valid-requires
     returns-2
     returns-3
-    slots-valid-requires
+    starts-valid-requires
     returns-4
-    returns-5)
+    slots-valid-requires
+    returns-5
+    returns-6)

@@ -1,7 +1,10 @@
 //! The arguments of a subcommand, told apart into options, flags, operands and words.
 
 use std::ffi::{OsStr, OsString};
+use std::fmt::Display;
+use std::ops::RangeInclusive;
 use std::path::Path;
+use std::str::FromStr;
 use std::vec::IntoIter;
 
 use crate::ending::Failure;
@@ -87,16 +90,21 @@ impl Arguments {
         found.map(|(_, value)| value.as_os_str())
     }
 
-    /// Gives the value of an option as a number from 0 to some greatest one, if it is there.
-    pub fn number(&self, option: &str, greatest: usize) -> Result<Option<usize>, Failure> {
+    /// Gives the value of an option as a number of some range, if it is there.
+    pub fn number<N>(&self, option: &str, range: RangeInclusive<N>) -> Result<Option<N>, Failure>
+    where
+        N: Display + FromStr + PartialOrd,
+    {
         let Some(value) = self.value(option) else {
             return Ok(None);
         };
         let number = value.to_str().and_then(|text| text.parse().ok());
-        match number.filter(|number| *number <= greatest) {
+        match number.filter(|number| range.contains(number)) {
             Some(number) => Ok(Some(number)),
             None => Err(Failure::Unable(format!(
-                "{option} takes a whole number from 0 to {greatest}, and not '{}'",
+                "{option} takes a whole number from {} to {}, and not '{}'",
+                range.start(),
+                range.end(),
                 value.to_string_lossy()
             ))),
         }

@@ -2,6 +2,7 @@
 
 use std::fs;
 use std::io::{self, Write};
+use std::ops::RangeInclusive;
 use std::path::Path;
 
 use range_filter::Settings;
@@ -19,7 +20,7 @@ pub const COMMAND: Command = Command {
     summary: "build an image from a file of keys",
     help: HELP,
     shape: Shape {
-        options: &["-o", "--dense", "--suffix-bits"],
+        options: &["-o", "--image-version", "--dense", "--suffix-bits"],
         flags: &["--sort"],
         operands: &["KEYS"],
         needed: 1,
@@ -29,7 +30,8 @@ pub const COMMAND: Command = Command {
 };
 
 const HELP: &str = "\
-usage: range-filter build KEYS -o IMAGE [--dense L] [--suffix-bits N] [--sort]
+usage: range-filter build KEYS -o IMAGE [--image-version V] [--dense L]
+                          [--suffix-bits N] [--sort]
 
 Builds the image of a file of keys and says how long it is.
 
@@ -39,13 +41,17 @@ and \\\\ for a backslash; every other byte stands for itself. Keys ascend by
 their bytes, a key before the longer ones that begin with it: where there are no
 escapes, that is the order of `LC_ALL=C sort`. There are at most 65,535 keys.
 
-  -o IMAGE          the file to write. It is written under another name and
-                    then takes the place of the file, so that a call which is
-                    refused changes nothing
-  --dense L         the levels of the trie that are dense, 0 to 4 (0 if it is
-                    not given)
-  --suffix-bits N   the suffix bits of a key, 0 to 16 (0 if it is not given)
-  --sort            sort the keys and drop doubles first
+  -o IMAGE            the file to write. It is written under another name and
+                      then takes the place of the file, so that a call which is
+                      refused changes nothing
+  --image-version V   the version of the image, 1 or 2 (1 if it is not given).
+                      Version 2 is a little longer and makes counts and seeks
+                      faster where levels are many; programs from before it
+                      read version 1 alone
+  --dense L           the levels of the trie that are dense, 0 to 4 (0 if it is
+                      not given)
+  --suffix-bits N     the suffix bits of a key, 0 to 16 (0 if it is not given)
+  --sort              sort the keys and drop doubles first
 
 Exit status: 0 built; 1 the keys are refused; 2 the arguments are not as above,
 or a file can't be read or written.
@@ -74,18 +80,20 @@ fn run(arguments: &Arguments, output: &mut dyn Write) -> Result<Ending, Failure>
 
 /// Gives the settings that the arguments name, the others as they are given.
 pub fn read_settings(arguments: &Arguments, others: Settings) -> Result<Settings, Failure> {
-    let most = usize::from(Settings::MAX_DENSE_LEVELS);
-    let dense = arguments.number("--dense", most)?;
-    let most = usize::from(Settings::MAX_SUFFIX_BITS);
-    let bits = arguments.number("--suffix-bits", most)?;
-    let narrow = |number: Option<usize>, other: u8| {
-        number
-            .and_then(|value| u8::try_from(value).ok())
-            .unwrap_or(other)
+    let read = |option: &str, range: RangeInclusive<u8>, other: u8| {
+        let number = arguments.number(option, range);
+        number.map(|number| number.unwrap_or(other))
     };
+    let versions = 1..=Settings::MAX_VERSION;
+    let version = read("--image-version", versions, others.version())?;
+    let levels = 0..=Settings::MAX_DENSE_LEVELS;
+    let dense = read("--dense", levels, others.dense_levels())?;
+    let widths = 0..=Settings::MAX_SUFFIX_BITS;
+    let bits = read("--suffix-bits", widths, others.suffix_bits())?;
     Ok(others
-        .with_dense_levels(narrow(dense, others.dense_levels()))
-        .with_suffix_bits(narrow(bits, others.suffix_bits())))
+        .with_version(version)
+        .with_dense_levels(dense)
+        .with_suffix_bits(bits))
 }
 
 /// Refuses an output that would take the place of the keys.

@@ -9,7 +9,7 @@ use crate::command::Command;
 use crate::ending::{Ending, Failure};
 use crate::files::read_image;
 use crate::records::detail;
-use crate::text::grouped;
+use crate::text::{grouped, show_settings};
 
 /// The subcommand.
 pub const COMMAND: Command = Command {
@@ -25,8 +25,8 @@ usage: range-filter check IMAGE
 
 Says whether a file is an image, just as some list of keys builds it, in a line:
 
-  accepted: 4 leaves, dense levels 0, suffix bits 0
-  refused 12: what is wrong and what to do (the version is 2, and not 1)
+  accepted: 4 leaves, version 1, dense levels 0, suffix bits 0
+  refused 12: what is wrong and what to do (there are 5 dense levels, over 4)
 
 The number is one of 11 to 16. What stands in brackets tells more, if the header
 and the records show it. A file of over 64 MiB is refused without being read.
@@ -40,13 +40,9 @@ fn run(arguments: &Arguments, output: &mut dyn Write) -> Result<Ending, Failure>
     let image = read_image(arguments.needed_operand(0))?;
     match Filter::open(&image) {
         Ok(filter) => {
-            let settings = filter.settings();
             let leaves = grouped(filter.len());
-            let (dense, bits) = (settings.dense_levels(), settings.suffix_bits());
-            writeln!(
-                output,
-                "accepted: {leaves} leaves, dense levels {dense}, suffix bits {bits}"
-            )?;
+            let settings = show_settings(filter.settings());
+            writeln!(output, "accepted: {leaves} leaves, {settings}")?;
             Ok(Ending::Done)
         }
         Err(refusal) => {

@@ -15,8 +15,8 @@ use crate::text::grouped;
 /// No image is nearly so long. The nodes of 65,535 keys on the first four levels are at most
 /// 1, 256, 32,767 and 32,767, for each but the root has two leaves below it; a dense node takes
 /// under 97 bytes. There are at most 4,259,775 entries, and a sparse one takes under 1.33 bytes.
-/// Slots of 16 bits take 131,070 bytes, the header and the twelve marks and lengths 94. Together
-/// these are under 12.3 million bytes.
+/// Slots of 16 bits take 131,070 bytes, the starts of 64 levels 256, the header and the thirteen
+/// marks and lengths 100. Together these are under 12.3 million bytes.
 const MOST_BYTES: u64 = 64 << 20;
 
 /// Gives the bytes of a file that may be an image.

@@ -8,7 +8,7 @@ use crate::arguments::{Arguments, Shape};
 use crate::command::Command;
 use crate::ending::{Ending, Failure};
 use crate::files::{open_filter, read_image};
-use crate::records::{body_lengths, Header, HEADER_BYTES, RECORDS, RECORD_HEAD_BYTES};
+use crate::records::{read_records, Header, HEADER_BYTES, RECORD_HEAD_BYTES};
 use crate::text::grouped;
 
 /// The subcommand.
@@ -54,6 +54,7 @@ fn write_summary(filter: &Filter, output: &mut dyn Write) -> io::Result<()> {
     let lines = [
         ("bytes", grouped(filter.image().len())),
         ("bits a key", bits_a_key(filter)),
+        ("version", settings.version().to_string()),
         ("dense levels", settings.dense_levels().to_string()),
         ("suffix bits", settings.suffix_bits().to_string()),
         ("leaves", sum((exact, "exact"), (open, "open"))),
@@ -85,13 +86,13 @@ pub fn bits_a_key(filter: &Filter) -> String {
 
 /// Writes the header and the records with their bytes, and the sum.
 fn write_records(filter: &Filter, output: &mut dyn Write) -> io::Result<()> {
-    let lengths = body_lengths(filter.image()).expect("an accepted image has its records");
+    let records = read_records(filter.image()).expect("an accepted image has its records");
     let mut write_row =
         |mark: &str, what: &str, bytes: &str| writeln!(output, "{mark:8}{what:56}{bytes:>12}");
     write_row("record", "what it holds", "bytes")?;
     let header = "header: version, settings and counts";
     write_row("HD", header, &HEADER_BYTES.to_string())?;
-    for ((mark, what), length) in RECORDS.iter().zip(lengths) {
+    for ((mark, what), length) in records {
         write_row(mark, what, &grouped(RECORD_HEAD_BYTES + length))?;
     }
     write_row("", "total", &grouped(filter.image().len()))

@@ -45,8 +45,8 @@ not as above, or the file can't be read.
 /// Reads the image and writes its leaves.
 fn run(arguments: &Arguments, output: &mut dyn Write) -> Result<Ending, Failure> {
     let path = arguments.needed_operand(0);
-    let from = arguments.number("--from", usize::MAX)?.unwrap_or(0);
-    let limit = arguments.number("--limit", usize::MAX)?;
+    let from = arguments.number("--from", 0..=usize::MAX)?.unwrap_or(0);
+    let limit = arguments.number("--limit", 0..=usize::MAX)?;
     let image = read_image(path)?;
     let filter = open_filter(path, &image)?;
     if from > filter.len() {

@@ -9,8 +9,11 @@ pub const HEADER_BYTES: usize = 22;
 /// The bytes of a record's mark and length.
 pub const RECORD_HEAD_BYTES: usize = 6;
 
-/// The marks of the records in their order, and what each holds.
-pub const RECORDS: [(&str, &str); 12] = [
+/// The mark of a record, and what it holds.
+pub type Record = (&'static str, &'static str);
+
+/// The records of version 2 in their order. Version 1 has the same without the last one.
+const RECORDS: [Record; 13] = [
     ("DL", "D-Labels: the labels of dense nodes, 256 bits each"),
     ("DC", "D-HasChild: which of them lead to nodes"),
     ("DP", "D-IsPrefixKey: which dense nodes are exact leaves"),
@@ -23,7 +26,10 @@ pub const RECORDS: [(&str, &str); 12] = [
     ("RP", "ranks of DP"),
     ("RS", "ranks of SC"),
     ("TS", "select samples of SB"),
+    ("LV", "level starts: the first node of each level"),
 ];
+/// The version whose images have level starts.
+const WITH_LEVEL_STARTS: u8 = 2;
 
 /// The fields of a header.
 #[derive(Clone, Copy, Debug, PartialEq, Eq)]
@@ -57,11 +63,23 @@ impl Header {
         })
     }
 
+    /// Gives the records that the check looks for behind the header: version 2's, or else those of
+    /// version 1, whatever the version is.
+    fn records(&self) -> &'static [Record] {
+        match self.version {
+            WITH_LEVEL_STARTS => &RECORDS,
+            _ => &RECORDS[..RECORDS.len() - 1],
+        }
+    }
+
     /// Says which fields alone make the check refuse the image with 12.
     fn faults(&self) -> Vec<String> {
         let mut faults = Vec::new();
-        if self.version != 1 {
-            faults.push(format!("the version is {}, and not 1", self.version));
+        let (version, newest) = (self.version, Settings::MAX_VERSION);
+        if !(1..=newest).contains(&version) {
+            faults.push(format!(
+                "the version is {version}, and neither 1 nor {newest}"
+            ));
         }
         let (levels, most) = (self.dense_levels, Settings::MAX_DENSE_LEVELS);
         if levels > most {
@@ -83,34 +101,37 @@ impl Header {
     }
 }
 
-/// Gives the lengths of the bodies of an image's records, or says where they break off.
-pub fn body_lengths(image: &[u8]) -> Result<[usize; RECORDS.len()], String> {
-    let mut lengths = [0; RECORDS.len()];
-    let mut rest = match Header::read(image) {
-        Some(_) => &image[HEADER_BYTES..],
-        None => return Err(no_header(image)),
-    };
-    for (length, (mark, _)) in lengths.iter_mut().zip(RECORDS) {
-        let Some(behind) = rest.strip_prefix(mark.as_bytes()) else {
-            return Err(format!("the record {mark} is not where it belongs"));
-        };
-        let body = read_number(behind, 0).map(|number| number as usize);
-        let end = body.and_then(|body| body.checked_add(RECORD_HEAD_BYTES));
-        let end = end.filter(|end| *end <= rest.len());
-        let end = end.ok_or_else(|| format!("the record {mark} runs past the end of the file"))?;
-        *length = end - RECORD_HEAD_BYTES;
-        rest = &rest[end..];
+/// Gives the records of an image with the lengths of their bodies, or says where they break off.
+pub fn read_records(image: &[u8]) -> Result<Vec<(Record, usize)>, String> {
+    let header = Header::read(image).ok_or_else(|| no_header(image))?;
+    let mut rest = &image[HEADER_BYTES..];
+    let mut records = Vec::new();
+    for record in header.records() {
+        let length = body_length(rest, record.0)?;
+        records.push((*record, length));
+        rest = &rest[RECORD_HEAD_BYTES + length..];
     }
     if !rest.is_empty() {
         return Err(format!("{} bytes stand behind the last record", rest.len()));
     }
-    Ok(lengths)
+    Ok(records)
+}
+
+/// Gives the length of the body of the record with a mark at the start of some bytes, or says why
+/// it is not there.
+fn body_length(bytes: &[u8], mark: &str) -> Result<usize, String> {
+    let Some(behind) = bytes.strip_prefix(mark.as_bytes()) else {
+        return Err(format!("the record {mark} is not where it belongs"));
+    };
+    let length = read_number(behind, 0).map(|number| number as usize);
+    let length = length.filter(|length| *length <= bytes.len() - RECORD_HEAD_BYTES);
+    length.ok_or_else(|| format!("the record {mark} runs past the end of the file"))
 }
 
 /// Says which part of an image makes the check refuse it, as far as header and records tell.
 pub fn detail(image: &[u8], refusal: Refusal) -> Option<String> {
     match refusal {
-        Refusal::FrameWrong => body_lengths(image).err(),
+        Refusal::FrameWrong => read_records(image).err(),
         Refusal::HeaderWrong => {
             let faults = Header::read(image)?.faults();
             (!faults.is_empty()).then(|| faults.join("; "))

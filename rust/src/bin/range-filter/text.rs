@@ -1,8 +1,8 @@
-//! Keys as text: `\xHH` stands for a byte and `\\` for a backslash.
+//! Keys as text, in which `\xHH` stands for a byte and `\\` for a backslash; settings and numbers.
 
 use std::fmt;
 
-use range_filter::MAX_KEY_BYTES;
+use range_filter::{Settings, MAX_KEY_BYTES};
 
 /// Why a text is not a key.
 #[derive(Clone, Copy, Debug, PartialEq, Eq)]
@@ -81,6 +81,13 @@ fn show_byte(byte: u8) -> String {
         b'!'..=b'~' => char::from(byte).to_string(),
         _ => format!("\\x{byte:02X}"),
     }
+}
+
+/// Gives settings in words.
+pub fn show_settings(settings: Settings) -> String {
+    let version = settings.version();
+    let (dense, bits) = (settings.dense_levels(), settings.suffix_bits());
+    format!("version {version}, dense levels {dense}, suffix bits {bits}")
 }
 
 /// Gives a number with a comma before each three digits, as 65,535.

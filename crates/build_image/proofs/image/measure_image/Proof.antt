@@ -1,6 +1,6 @@
 -- The plan's end is the image's length.
 use mathlib.Core.Path.{refl}
-use borrow.Author.Needs.{needs}
+use Rattle.build_laws.specs.Plan.{plan-fits}
 use Rattle.build_image.specs.Image.{settings-of}
 use Rattle.build_image.proofs.ImageLaws.{image-end}
 use Rattle.build_image.proofs.image.measure_image.Statement.{statement}
@@ -11,14 +11,17 @@ lay-out-requires c κs =
     let pre = c .before .before .before .before .pre in
     (pre .0, pre .1, refl)
 
-array-read-result : tie.Need-array-read-result
-array-read-result c = search needs
+image-end-requires : tie.Need-image-end-requires
+image-end-requires c κs =
+    let a = c .before .before .before .before .before .before .args in
+    let laid = c .before .lay-out in
+    plan-fits (a .list .now) (laid .result) (laid .ensures .0) _ (laid .ensures .2)
 
 returns : tie.Need-returns
 returns c =
-    let a = c .before .before .before .before .before .before .args in
-    let laid = c .before .lay-out in
-    image-end (a .list .now) (laid .result) (laid .ensures .0) (settings-of (a .st)) (laid .ensures .1)
+    let a = c .before .before .before .before .before .before .before .args in
+    let laid = c .before .before .lay-out in
+    image-end (a .list .now) (laid .result) (laid .ensures .0) _ (laid .ensures .2) (settings-of (a .st)) (laid .ensures .1) _ (c .image-end .ensures)
 
 pub measure-image-spec : {M : Type 1} → statement M
-measure-image-spec = tie.close (tie.spec lay-out-requires array-read-result returns)
+measure-image-spec = tie.close (tie.spec lay-out-requires image-end-requires returns)

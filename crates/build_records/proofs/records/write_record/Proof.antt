@@ -1,15 +1,10 @@
 -- The mark and the length are placed, and the body behind them.
-use Prim.Native.Nat.{ℕ, _+_, _≤_}
-use mathlib.Core.Path.{_≡_, sym, ap₂, subst, _∙_}
+use mathlib.Core.Path.{_≡_, sym, subst, _∙_}
 use mathlib.Core.List.{_++_}
-use lib.ListN.{length, length-append}
-use Rattle.spec.specs.Bytes.{Bytes, le32}
-use Rattle.spec.specs.Image.{marked}
-use Rattle.bits_laws.specs.Bits.{placed}
-use Rattle.bits_laws.specs.Placing.{placed-behind, length-le32}
+use lib.ListN.{length}
+use Rattle.spec.specs.Bytes.{le32}
 use Rattle.image_types.specs.Header.{mark-bytes}
-use Rattle.image_types.specs.Records.{row-mark}
-use Rattle.build_laws.specs.RecordsWritten.{record-bytes}
+use Rattle.build_laws.specs.RecordsWritten.{length-begin, record-done}
 use Rattle.build_laws.specs.Plan.{body-at, start-at, body-size, plan-short, Writing, record-room, record-begun}
 use borrow.Author.Needs.{needs}
 use native.Mathlib.Omega.{arith}
@@ -17,20 +12,8 @@ use borrow.Author.Needs.{needs}
 use Rattle.build_records.proofs.records.write_record.Statement.{statement}
 use Rattle.build_records.proofs.records.write_record.Tie as tie
 
--- a mark and a length have six bytes
-length-begin : (m : Bytes) (n : ℕ) → length (mark-bytes m ++ le32 n) ≡ 6
-length-begin m n = omega (arith, length-append (mark-bytes m) (le32 n), length-le32 n)
-
--- a mark, a length and a body, one behind the other, are a record
-record-done : (out o p : Bytes) (i at : ℕ) (m body : Bytes) (len : ℕ) → m ≡ row-mark i → len ≡ length body → at + 6 + length body ≤ length out → o ≡ placed out at (mark-bytes m ++ le32 len) → p ≡ placed o (at + 6) body
-    → p ≡ placed out at (record-bytes i body)
-unfolding marked
-record-done out o p i at m body len e f h g k =
-    placed-behind out o p (mark-bytes m ++ le32 len) body at (at + 6) (omega (arith, length-begin m len)) (omega arith) g k
-    ∙ ap₂ (λ (x : Bytes) (n : ℕ). placed out at ((mark-bytes x ++ le32 n) ++ body)) e f
-
 mark-requires : tie.Need-mark-requires
-mark-requires c κs = c .before .before .before .before .pre .0 .below
+mark-requires c κs = let pre = c .before .before .before .before .pre .0 in omega (arith, pre .below)
 
 mul-begin-record : tie.Need-mul-begin-record
 mul-begin-record c = search needs

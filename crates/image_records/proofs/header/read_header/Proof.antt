@@ -1,7 +1,5 @@
 -- Each field is read at its offset.
-use mathlib.Core.Path.{ap₂}
 use Rattle.spec.specs.Frame.{read-settings, read-counts}
-use Rattle.image_types.specs.Header.{settings}
 use borrow.Author.Needs.{needs}
 use Rattle.image_records.proofs.header.read_header.Statement.{statement}
 use Rattle.image_records.proofs.header.read_header.Tie as tie
@@ -12,14 +10,20 @@ shared-slice-read-wide c = search needs
 wide-requires : tie.Need-wide-requires
 wide-requires c κs = search needs
 
-read32-requires : tie.Need-read32-requires
-read32-requires c κs = search needs
-
 shared-slice-read-wide-2 : tie.Need-shared-slice-read-wide-2
 shared-slice-read-wide-2 c = search needs
 
 wide-requires-2 : tie.Need-wide-requires-2
 wide-requires-2 c κs = search needs
+
+read32-requires : tie.Need-read32-requires
+read32-requires c κs = search needs
+
+shared-slice-read-wide-3 : tie.Need-shared-slice-read-wide-3
+shared-slice-read-wide-3 c = search needs
+
+wide-requires-3 : tie.Need-wide-requires-3
+wide-requires-3 c κs = search needs
 
 read32-requires-2 : tie.Need-read32-requires-2
 read32-requires-2 c κs = search needs
@@ -37,16 +41,18 @@ returns c =
     let second = third .before in
     let levels = second .before in
     let first = levels .before .before in
-    let n = first .before .wide .ensures in
+    let width = first .before in
+    let v = width .before .before .wide .ensures in
+    let n = width .wide2 .ensures in
     let l = first .read32 .ensures in
-    let d = levels .wide2 .ensures in
+    let d = levels .wide3 .ensures in
     let dn = second .read322 .ensures in
     let sn = third .read323 .ensures in
     let se = c .read324 .ensures in
     record {
-      settings = ap₂ settings (d .0) (n .0);
+      settings = rw (v .0, d .0, n .0);
       counts = rw (l .0, dn .0, se .0, sn .0);
-      short = record { levels = d .1; width = n .1; leaves = l .1; dense-nodes = dn .1; sparse-entries = se .1; sparse-nodes = sn .1 };
+      short = record { version = v .1; levels = d .1; width = n .1; leaves = l .1; dense-nodes = dn .1; sparse-entries = se .1; sparse-nodes = sn .1 };
     }
 
 pub read-header-spec : {M : Type 1} → statement M
@@ -55,9 +61,11 @@ read-header-spec =
     (tie.spec
     shared-slice-read-wide
     wide-requires
-    read32-requires
     shared-slice-read-wide-2
     wide-requires-2
+    read32-requires
+    shared-slice-read-wide-3
+    wide-requires-3
     read32-requires-2
     read32-requires-3
     read32-requires-4

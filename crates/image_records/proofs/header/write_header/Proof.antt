@@ -20,6 +20,9 @@ cast-write-settings c = search needs
 cast-write-settings-2 : tie.Need-cast-write-settings-2
 cast-write-settings-2 c = search needs
 
+cast-write-settings-3 : tie.Need-cast-write-settings-3
+cast-write-settings-3 c = search needs
+
 write-settings-requires : tie.Need-write-settings-requires
 write-settings-requires c κs = search needs
 
@@ -46,13 +49,15 @@ returns c =
     let second = third .before .before .before .before in
     let first = second .before .before .before .before in
     let settings = first .before .before .before .before in
-    let a = settings .before .before .before .before .before .args in
+    let start = settings .before .before .before .before .before .before in
+    let a = start .args in
+    let room = start .pre .1 in
     let out = a .out .now in
     let leaves = le32 (a .h .leaves) in
     let nodes = le32 (a .h .dense .nodes) in
     let entries = le32 (a .h .sparse .entries) in
     let sparse = le32 (a .h .sparse .nodes) in
-    let f : List ℕ = first-bytes (a .h .dense .levels) (a .h .width) in
+    let f : List ℕ = first-bytes (a .h .version) (a .h .dense .levels) (a .h .width) in
     let la = length-le32 (a .h .leaves) in
     let lb = length-le32 (a .h .dense .nodes) in
     let lc = length-le32 (a .h .sparse .entries) in
@@ -63,10 +68,10 @@ returns c =
     let ly : length y ≡ 14 = length-append x nodes ∙ omega (arith, lx, lb) in
     let z : List ℕ = y ++ entries in
     let lz : length z ≡ 18 = length-append y entries ∙ omega (arith, ly, lc) in
-    let e₁ = placed-behind out _ _ f leaves 0 6 refl (omega (arith, la)) (settings .write-settings .ensures) (first .write32 .ensures) in
-    let e₂ = placed-behind out _ _ x nodes 0 10 (omega (arith, lx)) (omega (arith, lb)) e₁ (second .write322 .ensures) in
-    let e₃ = placed-behind out _ _ y entries 0 14 (omega (arith, ly)) (omega (arith, lc)) e₂ (third .write323 .ensures) in
-    let e₄ = placed-behind out _ _ z sparse 0 18 (omega (arith, lz)) (omega (arith, ld)) e₃ (fourth .write324 .ensures) in
+    let e₁ = placed-behind out _ _ f leaves 0 6 refl (omega (arith, la, room)) (settings .write-settings .ensures) (first .write32 .ensures) in
+    let e₂ = placed-behind out _ _ x nodes 0 10 (omega (arith, lx)) (omega (arith, lb, room)) e₁ (second .write322 .ensures) in
+    let e₃ = placed-behind out _ _ y entries 0 14 (omega (arith, ly)) (omega (arith, lc, room)) e₂ (third .write323 .ensures) in
+    let e₄ = placed-behind out _ _ z sparse 0 18 (omega (arith, lz)) (omega (arith, ld, room)) e₃ (fourth .write324 .ensures) in
     e₄ ∙ ap (placed out 0) (append-assoc y entries sparse ∙ append-assoc x nodes (entries ++ sparse) ∙ append-assoc f leaves (nodes ++ (entries ++ sparse)))
 
 pub write-header-spec : {M : Type 1} → statement M
@@ -75,6 +80,7 @@ write-header-spec =
     (tie.spec
     cast-write-settings
     cast-write-settings-2
+    cast-write-settings-3
     write-settings-requires
     write32-requires
     write32-requires-2

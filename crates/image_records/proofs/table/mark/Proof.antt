@@ -1,8 +1,8 @@
 -- Each arm knows the number, and the row of that number computes.
 use mathlib.Core.Path.{_≡_}
 use native.Mathlib.Omega.{arith}
-use Rattle.spec.specs.Image.{rows}
-use Rattle.image_types.specs.Records.{row-at, last-row}
+use Rattle.spec.specs.Image.{rows, level-row}
+use Rattle.image_types.specs.Records.{row-at, level-row-last}
 use Rattle.image_records.proofs.table.mark.Statement.{statement}
 use Rattle.image_records.proofs.table.mark.Tie as tie
 
@@ -52,7 +52,11 @@ returns-11 c = let e : c .before .before .before .args .i ≡ 10 = omega arith i
 
 returns-12 : tie.Need-returns-12
 unfolding row-at rows
-returns-12 c = let e : c .before .before .before .args .i ≡ 11 = last-row (c .before .before .before .args .i) (c .before .before .before .pre) (c .before .before .match .rest) in rw e
+returns-12 c = let e : c .before .before .before .args .i ≡ 11 = omega arith in rw e
+
+returns-13 : tie.Need-returns-13
+unfolding row-at rows level-row
+returns-13 c = let e : c .before .before .before .args .i ≡ 12 = level-row-last (c .before .before .before .args .i) (c .before .before .before .pre) (c .before .before .match .rest) in rw e
 
 pub mark-spec : {M : Type 1} → statement M
 mark-spec =
@@ -69,4 +73,5 @@ mark-spec =
     returns-9
     returns-10
     returns-11
-    returns-12)
+    returns-12
+    returns-13)

@@ -29,7 +29,7 @@ pub const COMMAND: Command = Command {
     summary: "show filters at work on sample runs",
     help: HELP,
     shape: Shape {
-        options: &["--dense", "--suffix-bits"],
+        options: &["--image-version", "--dense", "--suffix-bits"],
         flags: &[],
         operands: &["FOLDER"],
         needed: 0,
@@ -39,7 +39,8 @@ pub const COMMAND: Command = Command {
 };
 
 const HELP: &str = "\
-usage: range-filter tour [FOLDER] [--dense L] [--suffix-bits N]
+usage: range-filter tour [FOLDER] [--image-version V] [--dense L]
+                         [--suffix-bits N]
 
 Shows filters at work on the runs of a folder (samples, if none is named). Each
 file that ends in .tsv is a run: records by ascending keys, one a line, a key, a
@@ -52,9 +53,9 @@ only the runs that they name, and compares what it finds with a full reading of
 all runs. At the end it says how many reads were saved. It also puts each stored
 key to the filter of its run, which has to allow for it.
 
-  --dense L         the dense levels of the filters, 0 to 4 (0 if it is not
-                    given)
-  --suffix-bits N   their suffix bits, 0 to 16 (8 if it is not given)
+  --image-version V   the version of the filters, 1 or 2 (1 if it is not given)
+  --dense L           their dense levels, 0 to 4 (0 if it is not given)
+  --suffix-bits N     their suffix bits, 0 to 16 (8 if it is not given)
 
 Exit status: 0 all answers are right; 1 one is not, or a file is refused; 2 the
 arguments are not as above, or a file can't be read.

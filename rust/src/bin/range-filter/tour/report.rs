@@ -8,7 +8,7 @@ use super::answer::Answer;
 use super::run::Run;
 use crate::info::bits_a_key;
 use crate::question::{Kind, Question};
-use crate::text::{grouped, show_key};
+use crate::text::{grouped, show_key, show_settings};
 
 /// The columns of a line.
 const WIDTH: usize = 80;
@@ -24,11 +24,8 @@ pub fn write_runs(
     settings: Settings,
     output: &mut dyn Write,
 ) -> io::Result<()> {
-    let (number, dense, bits) = (runs.len(), settings.dense_levels(), settings.suffix_bits());
-    writeln!(
-        output,
-        "{number} runs, each with a filter (dense levels {dense}, suffix bits {bits}).\n"
-    )?;
+    let (number, settings) = (runs.len(), show_settings(settings));
+    writeln!(output, "{number} runs, each with a filter ({settings}).\n")?;
     let head = ["records", "run bytes", "filter bytes", "bits a key"];
     write_row("run", head.map(str::to_string), output)?;
     for (run, filter) in runs.iter().zip(filters) {
