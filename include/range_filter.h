@@ -48,7 +48,7 @@
  *
  * STACK
  *   The most that was measured, rounded up: 2 KiB for range_filter_image_length, 3 KiB for
- *   range_filter_build, 4 KiB for range_filter_check, 28 KiB for range_filter_ask, and 33 KiB for
+ *   range_filter_build, 4 KiB for range_filter_check, 30 KiB for range_filter_ask, and 33 KiB for
  *   range_filter_walk. Over an accepted image: 27 KiB for range_filter_accepted_seek, 32 KiB for
  *   range_filter_accepted_walk, and 5 KiB for the others. No bound on it is proved.
  */
