@@ -46,7 +46,7 @@ static void ask_list_a(const uint8_t *image, size_t length) {
     show_seek(image, length, "W", RANGE_FILTER_NO_LEAF, "");
 }
 
-/* Asks the image of the list with VAN: 8 suffix bits tell VAX from VB. */
+/* Asks the image of the list with VAN: 8 real bits tell VAX from VB. */
 static void ask_list_van(const uint8_t *image, size_t length) {
     show("rule of VAX", range_filter_accepted_rule(image, length, TEXT("VAX")),
          RANGE_FILTER_RULE_SUFFIX_EQUAL);
@@ -68,14 +68,14 @@ static void show_refusals(const uint8_t *image, size_t length) {
 
 int main(void) {
     uint8_t image[IMAGE_ROOM];
-    size_t length = build_image(LIST_A, 1, 0, image);
+    size_t length = build_image(LIST_A, PLAIN, image);
     if (range_filter_check(image, length) != 0) {
         return 1;
     }
     ask_list_a(image, length);
     show_refusals(image, length);
 
-    length = build_image(LIST_VAN, 1, 8, image);
+    length = build_image(LIST_VAN, range_filter_settings(1, 0, 8, 0), image);
     if (range_filter_check(image, length) != 0) {
         return 1;
     }

@@ -102,7 +102,7 @@ static void show_bad_files(const uint8_t *image, size_t length) {
 
 int main(void) {
     uint8_t image[IMAGE_ROOM];
-    size_t length = build_image(LIST_A, 1, 0, image);
+    size_t length = build_image(LIST_A, PLAIN, image);
     uint8_t questions[ASKED * RANGE_FILTER_LONGEST_QUESTION];
     size_t questions_len = write_questions(questions, sizeof questions);
     uint8_t replies[ASKED * RANGE_FILTER_LONGEST_REPLY];

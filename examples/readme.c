@@ -8,14 +8,17 @@
 #define LIST RANGE_FILTER_TEXT("KY\x02" "D1" "KY\x03" "D12" "KY\x02" "D2" "KY\x01" "V")
 
 int main(void) {
-    /* Ask for the image's length, take memory, and build: version 1, dense levels 0, n 0. */
-    uint64_t length = range_filter_image_length(LIST, 1, 0, 0);
+    /* Settings: version 1, dense levels 0, real bits 0, hash bits 0. */
+    uint64_t settings = range_filter_settings(1, 0, 0, 0);
+
+    /* Ask for the image's length, take memory, and build. */
+    uint64_t length = range_filter_image_length(LIST, settings);
     if (range_filter_refusal_of(length) != 0) {
         fprintf(stderr, "%s\n", range_filter_refusal_text(range_filter_refusal_of(length)));
         return 1;
     }
     uint8_t *image = malloc(length);
-    if (image == NULL || range_filter_build(LIST, 1, 0, 0, length, image, length) != length) {
+    if (image == NULL || range_filter_build(LIST, settings, length, image, length) != length) {
         return 1;
     }
     printf("image: %zu bytes\n", range_filter_bytes_of(length));

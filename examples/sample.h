@@ -16,8 +16,11 @@
 /* List A with VAN for V. */
 #define LIST_VAN TEXT("KY\x02" "D1" "KY\x03" "D12" "KY\x02" "D2" "KY\x03" "VAN")
 
-/* Bytes enough for the image of either list, in either version, without dense levels. */
-#define IMAGE_ROOM 136
+/* Bytes enough for the image of either list without dense levels, whatever the other settings. */
+#define IMAGE_ROOM 144
+
+/* Version 1 without dense levels, real bits and hash bits. */
+#define PLAIN range_filter_settings(1, 0, 0, 0)
 
 /* The answer of a call that refuses with a number. */
 #define REFUSED(number) ((uint64_t)(number) << 32)
@@ -26,10 +29,10 @@
 static int unexpected = 0;
 
 /* Builds an image without dense levels and gives its length. Ends the program if it is refused. */
-static inline size_t build_image(const uint8_t *list, size_t list_len, uint64_t version, uint64_t n,
+static inline size_t build_image(const uint8_t *list, size_t list_len, uint64_t settings,
                                  uint8_t image[IMAGE_ROOM]) {
-    uint64_t length = range_filter_image_length(list, list_len, version, 0, n);
-    uint64_t written = range_filter_build(list, list_len, version, 0, n, length, image, IMAGE_ROOM);
+    uint64_t length = range_filter_image_length(list, list_len, settings);
+    uint64_t written = range_filter_build(list, list_len, settings, length, image, IMAGE_ROOM);
     if (range_filter_refusal_of(written) != 0) {
         fprintf(stderr, "%s\n", range_filter_refusal_text(range_filter_refusal_of(written)));
         exit(1);

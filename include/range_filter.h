@@ -10,8 +10,9 @@
  *
  * TWO GROUPS OF CALLS
  *   Over any bytes: range_filter_image_length, range_filter_build, range_filter_check,
- *   range_filter_ask and range_filter_walk. They ask for nothing. Whatever the bytes, they do their
- *   work or refuse with a number. Ask and walk check the image in each call, in time linear in it.
+ *   range_filter_ask, range_filter_walk and range_filter_hash. They ask for nothing. Whatever the
+ *   bytes, they do their work or refuse with a number. Ask and walk check the image in each call,
+ *   in time linear in it.
  *   Over an accepted image: the calls whose names begin with range_filter_accepted_. They require
  *   that range_filter_check gave 0 for these bytes, check nothing themselves, and answer one
  *   question a call.
@@ -20,8 +21,9 @@
  *   A 64-bit answer is the number of a refusal times 2^32, plus the bytes or the number that the
  *   call gives. 0 is no refusal's number, and a refusal gives 0 bytes. range_filter_refusal_of,
  *   range_filter_bytes_of and range_filter_number_of take an answer apart. range_filter_check
- *   gives the number of the refusal alone. After a refusal no byte of any buffer has changed. After
- *   success the bytes behind those that were written keep their values.
+ *   gives the number of the refusal alone, and range_filter_hash, which refuses nothing, a hash.
+ *   After a refusal no byte of any buffer has changed. After success the bytes behind those that
+ *   were written keep their values.
  *
  * BUFFERS
  *   A buffer is a pointer and a length in bytes. Where the length is 0 the pointer is not used and
@@ -34,6 +36,21 @@
  *   need not find it; the image is 6 bytes longer, and 4 for each level. Every call takes both
  *   versions, and both images of a list, other settings equal, get the same answers. Programs from
  *   before version 2 read version 1 alone.
+ *
+ * HASH BITS
+ *   An image has a slot of h + n bits for each key: h hash bits, then n real bits. Both numbers are
+ *   settings of the build, 0 to 16 each, and stand in the image's header.
+ *   The real bits of a key are its n bits behind the cut. Every question goes by them.
+ *   The hash bits of a key are the h lowest bits of the hash of the whole key (range_filter_hash).
+ *   Points alone go by them. Each one about halves the points that are answered with 1 for a key
+ *   that is not stored. Ranges, stems, counts and seeks say the same at every h.
+ *   So a point may say 0 where the range from that one key to itself says 1: the range has only the
+ *   real bits to go by. A stored key is never denied, at any h and n, by any question.
+ *   That every 1 is true of some key list which builds the image is promised for h 0 alone. With h
+ *   above 0, what ranges, stems, counts and seeks say is true of the key lists that have the
+ *   image's cut keys and real bits; with h 0 these are just the lists that build the image.
+ *   An image with h 0 has the bytes that it had before there were hash bits. Programs from before
+ *   that refuse an image with h above 0, with the number 12.
  *
  * THREADS
  *   The library has no state, takes no memory from the heap, and makes no system call. Any thread
@@ -48,8 +65,8 @@
  *
  * STACK
  *   The most that was measured, rounded up: 2 KiB for range_filter_image_length, 3 KiB for
- *   range_filter_build, 4 KiB for range_filter_check, 30 KiB for range_filter_ask, and 33 KiB for
- *   range_filter_walk. Over an accepted image: 27 KiB for range_filter_accepted_seek, 32 KiB for
+ *   range_filter_build, 4 KiB for range_filter_check, 31 KiB for range_filter_ask, and 33 KiB for
+ *   range_filter_walk. Over an accepted image: 29 KiB for range_filter_accepted_seek, 33 KiB for
  *   range_filter_accepted_walk, and 5 KiB for the others. No bound on it is proved.
  */
 #ifndef RANGE_FILTER_H
@@ -79,8 +96,11 @@ extern "C" {
 /* The most dense levels of an image. */
 #define RANGE_FILTER_MAX_DENSE_LEVELS 4
 
-/* The most suffix bits a key, the setting n. */
-#define RANGE_FILTER_MAX_SUFFIX_BITS 16
+/* The most real bits a key, the setting n. */
+#define RANGE_FILTER_MAX_REAL_BITS 16
+
+/* The most hash bits a key, the setting h. */
+#define RANGE_FILTER_MAX_HASH_BITS 16
 
 /* The bytes of the longest record of a key list: mark, length byte and key. */
 #define RANGE_FILTER_LONGEST_KEY_RECORD 67
@@ -92,7 +112,7 @@ extern "C" {
 #define RANGE_FILTER_LONGEST_REPLY 72
 
 /* The bytes of a walk's record, one a leaf. */
-#define RANGE_FILTER_RECORD_SIZE 68
+#define RANGE_FILTER_RECORD_SIZE 70
 
 /* The number that a seek gives where no key from the start on is held. */
 #define RANGE_FILTER_NO_LEAF UINT32_C(0xFFFFFFFF)
@@ -108,7 +128,7 @@ enum range_filter_refusal {
     RANGE_FILTER_KEY_LENGTH_WRONG = 2,        /* a key to store with no bytes or over 64 */
     RANGE_FILTER_KEYS_UNORDERED = 3,          /* a key that is not above the one before it */
     RANGE_FILTER_TOO_MANY_KEYS = 4,           /* a record behind 65,535 others */
-    RANGE_FILTER_SETTING_OUT_OF_RANGE = 5,    /* version, dense levels or suffix bits */
+    RANGE_FILTER_SETTING_OUT_OF_RANGE = 5,    /* version, dense levels, real or hash bits */
     RANGE_FILTER_OUTPUT_TOO_SHORT = 7,        /* the output is shorter than the image */
     RANGE_FILTER_STATED_LENGTH_WRONG = 8,     /* the stated length is not the image's */
     RANGE_FILTER_FRAME_WRONG = 11,            /* no image's header and records, or bytes behind */
@@ -116,7 +136,7 @@ enum range_filter_refusal {
     RANGE_FILTER_SPARE_BIT_SET = 13,          /* a bit set behind the last one of a body */
     RANGE_FILTER_TRIE_WRONG = 14,             /* not a trie that a builder writes */
     RANGE_FILTER_RANK_WRONG = 15,             /* a rank, a sample or a level start */
-    RANGE_FILTER_SLOT_WRONG = 16,             /* a suffix bit set where none can be */
+    RANGE_FILTER_SLOT_WRONG = 16,             /* a bit of a slot set where none can be */
     RANGE_FILTER_PLACE_OUT_OF_RANGE = 17,     /* a place above the number of leaves */
     RANGE_FILTER_QUESTION_MALFORMED = 21,     /* a question cut off, or another mark */
     RANGE_FILTER_KEY_TOO_LONG = 22,           /* a key in a question with over 64 bytes */
@@ -139,15 +159,15 @@ enum range_filter_rule {
     RANGE_FILTER_RULE_BRANCH_MISSING = 1, /* 0: no branch with the key's next byte */
     RANGE_FILTER_RULE_KEY_ENDED = 2,      /* 0: the key ends at a node that is no exact leaf */
     RANGE_FILTER_RULE_EXACT_LEAF = 3,     /* 1: the key ends at an exact leaf */
-    RANGE_FILTER_RULE_SUFFIX_EQUAL = 4,   /* 1: an open leaf whose suffix the key has */
-    RANGE_FILTER_RULE_SUFFIX_OTHER = 5,   /* 0: an open leaf with another suffix */
+    RANGE_FILTER_RULE_SUFFIX_EQUAL = 4,   /* 1: an open leaf; the key has its hash and real bits */
+    RANGE_FILTER_RULE_SUFFIX_OTHER = 5,   /* 0: an open leaf; the key has others of either */
     RANGE_FILTER_RULE_NO_NODES = 6        /* 0: the image is empty */
 };
 
 /* The kinds of leaves. */
 enum range_filter_leaf {
     RANGE_FILTER_LEAF_EXACT = 1, /* a whole key: it begins another key of the list */
-    RANGE_FILTER_LEAF_OPEN = 2   /* a cut key: any key that begins with it and its suffix */
+    RANGE_FILTER_LEAF_OPEN = 2   /* a cut key: any key that begins with it and its real bits */
 };
 
 /* ---- Keys ------------------------------------------------------------------------------------ */
@@ -164,34 +184,55 @@ typedef char range_filter_key_has_65_bytes[sizeof(range_filter_key) == 65 ? 1 : 
 /* The bytes of a string literal, without its end, as the two arguments pointer and length. */
 #define RANGE_FILTER_TEXT(literal) (const uint8_t *)("" literal), sizeof(literal) - 1
 
+/* ---- Settings -------------------------------------------------------------------------------- */
+
+/* Gives a part of the settings as a byte. 255, which is refused, stands for all above it. */
+static inline uint64_t range_filter_setting_byte(uint64_t part) {
+    return part < 255 ? part : 255;
+}
+
+/*
+ * Gives the settings of a build as the one number that the calls below take. It is version + 256 *
+ * dense_levels + 65536 * real_bits + 16777216 * hash_bits: bytes 2 to 5 of the image's header.
+ *   version        which version the image has, 1 or 2
+ *   dense_levels   how many levels of the trie from the root on are dense, 0 to 4
+ *   real_bits      n: how many bits are kept of each key behind its cut, 0 to 16
+ *   hash_bits      h: how many bits are kept of each key's hash, 0 to 16
+ * Nothing is judged here: a part out of range, however large, makes a number that is refused.
+ */
+static inline uint64_t range_filter_settings(uint64_t version, uint64_t dense_levels,
+                                             uint64_t real_bits, uint64_t hash_bits) {
+    return range_filter_setting_byte(version) | range_filter_setting_byte(dense_levels) << 8 |
+           range_filter_setting_byte(real_bits) << 16 | range_filter_setting_byte(hash_bits) << 24;
+}
+
 /* ---- Calls over any bytes -------------------------------------------------------------------- */
 
 /*
  * Gives the exact length of the image of a key list, and writes nothing.
- *   list      records KY, length byte, key; keys strictly ascending by unsigned bytes
- *   version   which version the image has, 1 or 2
- *   dense     how many levels of the trie from the root on are dense, 0 to 4
- *   n         how many suffix bits are kept of each key, 0 to 16
+ *   list       records KY, length byte, key; keys strictly ascending by unsigned bytes
+ *   settings   what range_filter_settings gives. Every number from 2^32 on is refused
  * Answer: the bytes of the image; or 5; or, for the first record at fault, 4, 1, 2 or 3. A record's
  * bytes are judged in the order 4, 1 (fewer than three bytes, or another mark), 2, 1 (key bytes
  * missing), 3.
  */
-uint64_t range_filter_image_length(const uint8_t *list, size_t list_len, uint64_t version,
-                                   uint64_t dense, uint64_t n);
+uint64_t range_filter_image_length(const uint8_t *list, size_t list_len, uint64_t settings);
 
 /*
  * Builds the image of a key list at the front of the output.
- *   list, version, dense, n   as above; they are judged again
- *   stated                    the length that range_filter_image_length gave for them
- *   out                       gets the image; it may be longer, and the bytes behind the image stay
+ *   list, settings   as above; they are judged again
+ *   stated           the length that range_filter_image_length gave for them
+ *   out              gets the image; it may be longer, and the bytes behind the image stay
  * Answer: the bytes written, which are the stated length; or 5, or 4, 1, 2, 3 as above; then 8, and
  * last 7. What it writes is accepted by range_filter_check.
  */
-uint64_t range_filter_build(const uint8_t *list, size_t list_len, uint64_t version, uint64_t dense,
-                            uint64_t n, uint64_t stated, uint8_t *out, size_t out_len);
+uint64_t range_filter_build(const uint8_t *list, size_t list_len, uint64_t settings,
+                            uint64_t stated, uint8_t *out, size_t out_len);
 
 /*
- * Judges whether some key list builds just these bytes.
+ * Judges an image. With h 0 it is accepted exactly if some key list builds just these bytes. With h
+ * above 0 it is accepted exactly if its spare bits and the slots of its exact leaves are zero, and
+ * it would be accepted with h 0 and the hash bits struck out; what a key list builds is accepted.
  *   image     the image, of either version, with its own length and not that of a longer buffer
  * Answer: 0 for an accepted image, or the smallest of 11 to 16 that applies. Where the version byte
  * is 2, 11 asks for the thirteen records of version 2, else for the twelve of version 1.
@@ -216,15 +257,23 @@ uint64_t range_filter_ask(const uint8_t *image, size_t image_len, const uint8_t 
  *   image     the image
  *   place     the number in key order, from 0, of the first leaf to write; or the number of leaves,
  *             for done
- *   records   gets a record of 68 bytes for each leaf, of as many leaves as it holds whole: the
+ *   records   gets a record of 70 bytes for each leaf, of as many leaves as it holds whole: the
  *             kind, the cut key's length, 64 bytes with the cut key and zeros behind it, and the
- *             suffix in two bytes
+ *             suffix as a number of four bytes, the low one first
  * Answer: the bytes of records, 0 where the walk is done or the buffer is shorter than a record; or
  * the smallest of 11 to 16 that applies; then 17. The walk goes on at the place plus the number of
  * records that were written.
  */
 uint64_t range_filter_walk(const uint8_t *image, size_t image_len, uint64_t place, uint8_t *records,
                            size_t records_len);
+
+/*
+ * Gives the 64-bit FNV-1a hash of a key, whose h lowest bits are the key's hash bits. Who builds
+ * and asks does not need it: the calls hash the keys themselves.
+ *   key       any bytes, of any length
+ * Answer: the hash itself; nothing is refused.
+ */
+uint64_t range_filter_hash(const uint8_t *key, size_t key_len);
 
 /* ---- Calls over an accepted image: checked once, asked often --------------------------------- */
 
@@ -241,7 +290,9 @@ uint64_t range_filter_walk(const uint8_t *image, size_t image_len, uint64_t plac
 
 /*
  * Says whether the image may hold a key.
- * Answer: 1 if some key list that builds the image holds the key, 0 if none does; or 22.
+ * Answer: 0 if the key's way ends elsewhere than at a leaf, or at a leaf with other hash or real
+ * bits; then no key list that builds the image holds the key. Else 1; then, with h 0, some such
+ * list does. Or 22.
  */
 uint64_t range_filter_accepted_point(const uint8_t *image, size_t image_len, const uint8_t *key,
                                      size_t key_len);
@@ -255,23 +306,24 @@ uint64_t range_filter_accepted_rule(const uint8_t *image, size_t image_len, cons
 
 /*
  * Says whether the image may hold a key from the lower bound to the upper one, both included.
- * Answer: 1 if some key list that builds the image has such a key, 0 if none does; or 22 for either
- * bound; then 23.
+ * Answer: 1 if some key list with the image's cut keys and real bits has such a key, 0 if none
+ * does; or 22 for either bound; then 23.
  */
 uint64_t range_filter_accepted_range(const uint8_t *image, size_t image_len, const uint8_t *lower,
                                      size_t lower_len, const uint8_t *upper, size_t upper_len);
 
 /*
  * Says whether the image may hold a key that begins with a stem. An empty stem covers every key.
- * Answer: 1 if some key list that builds the image has such a key, 0 if none does; or 22.
+ * Answer: 1 if some key list with the image's cut keys and real bits has such a key, 0 if none
+ * does; or 22.
  */
 uint64_t range_filter_accepted_begins_with(const uint8_t *image, size_t image_len,
                                            const uint8_t *stem, size_t stem_len);
 
 /*
  * Counts the keys that the image may hold from the lower bound to the upper one, both included.
- * Answer: the most keys that a key list which builds the image has there; none of these lists has
- * over two fewer; or 22 for either bound; then 23.
+ * Answer: the most keys that a key list with the image's cut keys and real bits has there; none of
+ * these lists has over two fewer; or 22 for either bound; then 23.
  */
 uint64_t range_filter_accepted_count(const uint8_t *image, size_t image_len, const uint8_t *lower,
                                      size_t lower_len, const uint8_t *upper, size_t upper_len);
@@ -279,8 +331,9 @@ uint64_t range_filter_accepted_count(const uint8_t *image, size_t image_len, con
 /*
  * Finds the first key from a start on.
  *   found     must not be NULL. It gets the smallest key, not below the start, that some key list
- *             which builds the image holds; its bytes behind the key stay. Where there is none its
- *             length becomes 0 and its bytes stay. After a refusal all of it stays
+ *             with the image's cut keys and real bits holds; its bytes behind the key stay. Where
+ *             there is none its length becomes 0 and its bytes stay. After a refusal all of it
+ *             stays
  * Answer: the place of the leaf to which the key belongs, as in a walk; RANGE_FILTER_NO_LEAF where
  * there is none; or 22.
  */
@@ -320,7 +373,7 @@ static inline const char *range_filter_refusal_text(uint32_t number) {
     case RANGE_FILTER_KEY_LENGTH_WRONG: return "a key has no bytes or over 64: store keys of 1 to 64 bytes";
     case RANGE_FILTER_KEYS_UNORDERED: return "a key is not above the last: sort by unsigned bytes, drop doubles";
     case RANGE_FILTER_TOO_MANY_KEYS: return "the list has over 65,535 keys: build several images";
-    case RANGE_FILTER_SETTING_OUT_OF_RANGE: return "a setting is out of range: take version 1 or 2, dense 0 to 4 and n 0 to 16";
+    case RANGE_FILTER_SETTING_OUT_OF_RANGE: return "a setting is out of range: take version 1 or 2, dense levels 0 to 4, real and hash bits 0 to 16";
     case RANGE_FILTER_OUTPUT_TOO_SHORT: return "the output is too short: lend what range_filter_image_length gives";
     case RANGE_FILTER_STATED_LENGTH_WRONG: return "the stated length is wrong: state what range_filter_image_length gives";
     case RANGE_FILTER_FRAME_WRONG: return "these bytes are not one whole image: load it again, with its own length";
@@ -328,7 +381,7 @@ static inline const char *range_filter_refusal_text(uint32_t number) {
     case RANGE_FILTER_SPARE_BIT_SET: return "a spare bit of the image is set: load or build it again";
     case RANGE_FILTER_TRIE_WRONG: return "the image's trie is not a builder's: load or build it again";
     case RANGE_FILTER_RANK_WRONG: return "a rank, sample or level start of the image is wrong: load or build it again";
-    case RANGE_FILTER_SLOT_WRONG: return "a suffix slot of the image is wrong: load or build it again";
+    case RANGE_FILTER_SLOT_WRONG: return "a slot of the image has a bit that no key gives it: load or build it again";
     case RANGE_FILTER_PLACE_OUT_OF_RANGE: return "the place is past the end of the walk: take 0 up to the number of leaves";
     case RANGE_FILTER_QUESTION_MALFORMED: return "a question is malformed: write QP, QR, QB, QC or QS and its keys";
     case RANGE_FILTER_KEY_TOO_LONG: return "a key has over 64 bytes: ask with at most 64";
@@ -384,9 +437,13 @@ static inline const uint8_t *range_filter_record_cut(const uint8_t *record) {
     return record + 2;
 }
 
-/* Gives the suffix as a number whose lowest bit is the first suffix bit; 0 for an exact leaf. */
+/*
+ * Gives the suffix, which is the leaf's whole slot, as a number whose lowest bit is the first one:
+ * the h lowest bits are the hash bits, the n above them the real bits. 0 for an exact leaf.
+ */
 static inline uint32_t range_filter_record_suffix(const uint8_t *record) {
-    return (uint32_t)record[66] | (uint32_t)record[67] << 8;
+    return (uint32_t)record[66] | (uint32_t)record[67] << 8 | (uint32_t)record[68] << 16 |
+           (uint32_t)record[69] << 24;
 }
 
 /* ---- Writing key lists and question files ---------------------------------------------------- */

@@ -7,11 +7,11 @@ use range_filter_bench::fast::accepted::Opened;
 use range_filter_bench::fast::check;
 use range_filter_bench::questions::{Kind, POINT};
 use range_filter_tests::accepted::AcceptedCalls;
-use range_filter_tests::generate::in_both_versions;
 use range_filter_tests::library;
 use range_filter_tests::reference::questions::{Question, MAX_QUESTIONS};
 use range_filter_tests::reference::walk::RECORD_BYTES;
 use range_filter_tests::settings::Settings;
+use std::hint::black_box;
 
 /// The calls of a round: as many as a question file has questions at most.
 pub const CALLS: usize = MAX_QUESTIONS;
@@ -45,18 +45,33 @@ pub fn leaves(list: &List) -> Vec<Call> {
 /// Measures calls of the library against those of the fast implementation.
 pub fn against_fast(list: &List, settings: Settings, calls: &[Call]) -> Figures {
     let image = list.image(settings);
-    let library = library::accept(&image).expect("a built image is accepted");
+    let library = accept(&image);
     let accepted = check::accept(&image).expect("and so it is by the fast check");
     measure(&library, &Opened::new(&accepted), calls)
 }
 
-/// Measures calls of the library over version 2 against those over version 1, other settings
-/// equal.
-pub fn by_version(list: &List, settings: Settings, calls: &[Call]) -> Figures {
-    let images = in_both_versions(settings).map(|settings| list.image(settings));
-    let accept = |image| library::accept(image).expect("a built image is accepted");
-    let [version_1, version_2] = images.each_ref().map(|image| accept(image));
-    measure(&version_2, &version_1, calls)
+/// Measures calls of the library over the images of a list with two settings; both have to say
+/// and write the same.
+pub fn by_settings(list: &List, settings: [Settings; 2], calls: &[Call]) -> Figures {
+    let images = settings.map(|settings| list.image(settings));
+    let [first, second] = images.each_ref().map(|image| accept(image));
+    measure(&first, &second, calls)
+}
+
+/// Measures calls of the library over the images of a list with two settings, which may say
+/// other numbers.
+pub fn by_settings_that_differ(list: &List, settings: [Settings; 2], calls: &[Call]) -> Figures {
+    let images = settings.map(|settings| list.image(settings));
+    let [first, second] = images.each_ref().map(|image| accept(image));
+    let make_all = |accepted: &library::Accepted| {
+        black_box(sum(accepted, calls));
+    };
+    compare(effort(calls), || make_all(&first), || make_all(&second))
+}
+
+/// Gives a built image as accepted by the library.
+fn accept(image: &[u8]) -> library::Accepted<'_> {
+    library::accept(image).expect("a built image is accepted")
 }
 
 /// Measures calls by call, after both have said and written the same.
@@ -64,11 +79,15 @@ fn measure(first: &impl AcceptedCalls, second: &impl AcceptedCalls, calls: &[Cal
     for call in calls {
         assert_eq!(outcome(first, call), outcome(second, call));
     }
-    let effort = Effort {
+    compare(effort(calls), || sum(first, calls), || sum(second, calls))
+}
+
+/// Gives the effort of a measurement by call whose rounds make all calls.
+fn effort(calls: &[Call]) -> Effort {
+    Effort {
         calls: 1,
         units: calls.len(),
-    };
-    compare(effort, || sum(first, calls), || sum(second, calls))
+    }
 }
 
 /// Gives what a call says and writes.

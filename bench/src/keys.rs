@@ -97,6 +97,13 @@ pub const RANDOM_13: KeySet = KeySet {
     make: |random, count| distinct(count, || random.bytes(13, 13)),
 };
 
+/// Keys of random bytes, as long as a key can be: they are cut behind a few bytes, and the hash
+/// takes in all of them.
+pub const RANDOM_64: KeySet = KeySet {
+    name: "random 64 bytes",
+    make: |random, count| distinct(count, || random.bytes(MAX_KEY, MAX_KEY)),
+};
+
 /// Keys of stations: 4 bytes of the station's number, 8 of the time and 1 of the kind.
 pub const STATION: KeySet = KeySet {
     name: "station, time and kind, 13 bytes",

@@ -1,10 +1,14 @@
-//! Compares the proved library with a fast implementation without proofs, and version 2 of
-//! the image with version 1, and prints the report, or the part of it that is named. The
-//! module `timing` says how times are taken.
+//! Compares the proved library with a fast implementation without proofs, version 2 of the image
+//! with version 1, and hash bits with real bits, and prints the report, or the part of it that is
+//! named. The module `timing` says how times are taken.
 
 mod accepted;
+mod filter_tables;
+mod hash_tables;
+mod hashes;
 mod markdown;
 mod measure;
+mod pairs;
 mod tables;
 mod timing;
 mod version_tables;
@@ -20,7 +24,7 @@ struct Part {
 }
 
 /// The parts of the report.
-const PARTS: [Part; 9] = [
+const PARTS: [Part; 10] = [
     Part {
         name: "build",
         print: tables::print_build,
@@ -50,12 +54,16 @@ const PARTS: [Part; 9] = [
         print: version_tables::print_versions,
     },
     Part {
+        name: "hash",
+        print: hash_tables::print_hash,
+    },
+    Part {
         name: "growth",
         print: tables::print_growth,
     },
     Part {
         name: "filter",
-        print: tables::print_filter,
+        print: filter_tables::print_filter,
     },
 ];
 

@@ -1,11 +1,11 @@
-//! The measurements of the library against the fast implementation: two calls that are
-//! compared on one list with the same settings; and of a build's first call against its
-//! second.
+//! The lists that are measured, and the measurements of the library against the fast
+//! implementation: two calls that are compared on one list with the same settings; and of a
+//! build's first call against its second.
 
 use crate::timing::{compare, Effort, Figures};
 use range_filter_bench::fast;
 use range_filter_bench::keys::KeySet;
-use range_filter_bench::questions::{questions, Kind};
+use range_filter_bench::questions::{questions, Kind, POINT};
 use range_filter_bench::rates::{false_positives, Rate};
 use range_filter_tests::library;
 use range_filter_tests::random::Random;
@@ -27,6 +27,9 @@ const KEYS_A_ROUND: usize = 1 << 16;
 pub const SHORT_CALLS: usize = 16;
 const SHORT_ASK: usize = 16;
 
+/// The bytes of a list's record before its key: mark and length.
+const KEY_HEAD: usize = 3;
+
 /// More bytes than the dense nodes of an image take.
 const DENSE_ROOM: usize = 1 << 16;
 
@@ -36,6 +39,13 @@ pub struct List {
     keys: Vec<Vec<u8>>,
     others: Vec<Vec<u8>>,
     pub bytes: Vec<u8>,
+}
+
+/// Which keys points are about: those of the list, or others that are not in it.
+#[derive(Clone, Copy, Debug, PartialEq, Eq)]
+pub enum Asked {
+    Stored,
+    Missing,
 }
 
 impl List {
@@ -49,6 +59,17 @@ impl List {
             keys,
             others: make(OTHER_SEED),
         }
+    }
+
+    /// Gives the keys as they stand in the list, one behind the other.
+    fn listed_keys(&self) -> Vec<&[u8]> {
+        let mut rest = self.bytes.as_slice();
+        let key = |key: &Vec<u8>| {
+            let (listed, behind) = rest[KEY_HEAD..].split_at(key.len());
+            rest = behind;
+            listed
+        };
+        self.keys.iter().map(key).collect()
     }
 
     /// Gives the effort of a measurement by key whose calls are made so often.
@@ -84,6 +105,21 @@ impl List {
         questions(&mut random, [&self.keys, &self.others], kind, count)
     }
 
+    /// Gives so many points about keys of one sort.
+    pub fn points(&self, asked: Asked, count: usize) -> Vec<Question> {
+        let mut keys = match asked {
+            Asked::Stored => self.keys.clone(),
+            Asked::Missing => self.others.clone(),
+        };
+        keys.retain(|key| self.keys.binary_search(key).is_ok() == (asked == Asked::Stored));
+        questions(
+            &mut Random::new(QUESTION_SEED),
+            [&keys, &keys],
+            &POINT,
+            count,
+        )
+    }
+
     /// Gives so many places of leaves.
     pub fn places(&self, count: usize) -> Vec<u64> {
         let mut random = Random::new(QUESTION_SEED);
@@ -107,9 +143,14 @@ pub struct QuestionFile {
 impl QuestionFile {
     /// Writes so many questions about keys of a list and about others.
     pub fn new(list: &List, kind: &Kind, count: usize) -> Self {
+        QuestionFile::of(&list.questions(kind, count))
+    }
+
+    /// Writes questions.
+    pub fn of(questions: &[Question]) -> Self {
         QuestionFile {
-            bytes: write(&list.questions(kind, count)),
-            count,
+            bytes: write(questions),
+            count: questions.len(),
         }
     }
 
@@ -137,6 +178,22 @@ pub fn rate(list: &List, settings: Settings, kind: &Kind) -> Rate {
 /// Gives the bytes of the image by key.
 pub fn image_bytes(list: &List, settings: Settings) -> f64 {
     list.image(settings).len() as f64 / list.keys.len() as f64
+}
+
+/// Measures the hash of all keys by key.
+pub fn hash(list: &List) -> Figures {
+    let keys = list.listed_keys();
+    compare(
+        list.effort(1),
+        || sum_of_hashes(&keys, library::hash),
+        || sum_of_hashes(&keys, fast::hash::hash),
+    )
+}
+
+/// Takes the hash of all keys, and gives the sum of them, modulo 2^64.
+fn sum_of_hashes(keys: &[&[u8]], hash: impl Fn(&[u8]) -> u64) -> u64 {
+    let hashes = keys.iter().map(|key| hash(key));
+    hashes.fold(0, u64::wrapping_add)
 }
 
 /// Measures build by key, with the image's length known before.

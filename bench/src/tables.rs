@@ -4,10 +4,8 @@ use crate::accepted::{self, Call};
 use crate::markdown::{number, print_head, print_heading, print_row, print_text, with_commas};
 use crate::measure::{self, List};
 use crate::timing::{Figures, ROUNDS};
-use range_filter_bench::keys::{
-    KeySet, BURST, KEY_SETS, RANDOM_13, RANDOM_8, STATION, STATIONS, TEXT,
-};
-use range_filter_bench::questions::{Kind, KEY_KINDS, POINT, RANGE_KINDS, SHORT_RANGE};
+use range_filter_bench::keys::{KeySet, BURST, KEY_SETS, RANDOM_13, STATION, STATIONS};
+use range_filter_bench::questions::{Kind, KEY_KINDS, POINT, RANGE_KINDS};
 use range_filter_tests::reference::keys::MAX_KEYS;
 use range_filter_tests::reference::questions::MAX_QUESTIONS;
 use range_filter_tests::settings::{version_1, Settings};
@@ -37,12 +35,6 @@ pub const FEW_SETTINGS: [Settings; 2] = [version_1(0, 0), version_1(2, 8)];
 const GROWING: [KeySet; 2] = [RANDOM_13, STATION];
 const COUNTS: [usize; 5] = [1 << 8, 1 << 10, 1 << 12, 1 << 14, MAX_KEYS];
 
-/// The key sets, the suffix widths and the dense levels of the table that helps to choose
-/// settings.
-const CHOICE: [KeySet; 3] = [RANDOM_8, STATION, TEXT];
-const CHOICE_WIDTHS: [u64; 4] = [0, 4, 8, 16];
-const CHOICE_LEVELS: [u64; 2] = [0, 2];
-
 /// What a short, a middle and a wide range is.
 const RANGES: &str = "A short range goes from a key to the same with its last byte FF, a middle one from a key to the second behind it in its list, a wide one over one hundredth of the list.";
 
@@ -62,7 +54,7 @@ pub fn print_introduction() {
     println!(
         "# Benchmark
 
-`./archives && cargo run --release --offline --manifest-path bench/Cargo.toml --target-dir target/cargo >docs/benchmark.md` writes this page. With `-- build`, `-- length`, `-- check`, `-- walk`, `-- ask`, `-- accepted`, `-- versions`, `-- growth` or `-- filter` it writes that part of it.
+`./archives && cargo run --release --offline --manifest-path bench/Cargo.toml --target-dir target/cargo >docs/benchmark.md` writes this page. With `-- build`, `-- length`, `-- check`, `-- walk`, `-- ask`, `-- accepted`, `-- versions`, `-- hash`, `-- growth` or `-- filter` it writes that part of it.
 
 The library is compared with a fast implementation without proofs (`bench/src/fast`), on the same input and in the same process; both are compiled for any x86-64. A round times the library and right behind it the fast implementation, by the processor time of the thread. A figure is the median of {ROUNDS} rounds, and so is a ratio, which is taken within a round. Both are called once before the first round, and buffers are not cleared between calls.
 
@@ -164,33 +156,6 @@ fn print_by_kind(
             print_row(&name, cells.chain(further_cells(&list, settings)));
         }
     }
-}
-
-/// Prints the table that helps to choose dense levels and n.
-pub fn print_filter() {
-    print_heading(
-        "Choosing dense levels and n",
-        "Bits of the image a key, and how often a question for which the list has no key is answered with 1 (a false positive), in percent. The questions are about the keys of another list made like it; those for which the list has a key are left out. A short range goes from a key to the same with its last byte FF. The number of dense levels changes no answer. Nothing is timed, so that every run gives these figures.",
-    );
-    let bits = CHOICE_LEVELS.map(|levels| format!("bits a key, dense {levels}"));
-    let rates = ["point, %", "range, short, %"].map(str::to_string);
-    print_head(&keys_heading(), bits.into_iter().chain(rates));
-    for key_set in &CHOICE {
-        let list = List::new(key_set, MAX_KEYS);
-        for n in CHOICE_WIDTHS {
-            print_row(&format!("{}, n {n}", list.name), choice_cells(&list, n));
-        }
-    }
-}
-
-/// Gives the bits of a list's image a key and its rates of false positives, with some
-/// suffix width.
-fn choice_cells(list: &List, n: u64) -> Vec<String> {
-    let bits = |levels| 8.0 * measure::image_bytes(list, version_1(levels, n));
-    let rate = |kind: &Kind| measure::rate(list, version_1(CHOICE_LEVELS[0], n), kind).percent();
-    let bits = CHOICE_LEVELS.map(|levels| format!("{:.1}", bits(levels)));
-    let rates = [POINT, SHORT_RANGE].map(|kind| format!("{:.2}", rate(&kind)));
-    bits.into_iter().chain(rates).collect()
 }
 
 /// Gives a cell with the figures of two in a unit of so many nanoseconds, and their ratio.

@@ -67,7 +67,7 @@ fn print_rows(columns: &[&str], cells: impl Fn(&List, Settings) -> Vec<String>) 
 
 /// Gives the levels, the image's bytes in both versions, and the times by key.
 fn by_key(list: &List, settings: Settings) -> Vec<String> {
-    let [version_1, version_2] = versions::image_bytes(list, settings);
+    let [version_2, version_1] = versions::image_bytes(list, settings);
     let counts = [versions::levels(list), version_2, version_1].map(with_commas);
     let times = [versions::build, versions::check, versions::walk];
     let times = times.map(|measure| cell(&measure(list, settings), 1.0));
@@ -85,6 +85,6 @@ fn over_accepted(list: &List, settings: Settings) -> Vec<String> {
     let asked = VERSION_KINDS.iter();
     let asked = asked.map(|kind| accepted::questions(list, kind));
     let calls = asked.chain([accepted::leaves(list)]);
-    let time = |calls: Vec<_>| cell(&accepted::by_version(list, settings, &calls), 1.0);
+    let time = |calls: Vec<_>| cell(&versions::over_accepted(list, settings, &calls), 1.0);
     calls.map(time).collect()
 }

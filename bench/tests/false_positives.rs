@@ -11,9 +11,12 @@ use range_filter_tests::random::Random;
 use range_filter_tests::reference::leaves::leaves;
 use range_filter_tests::reference::questions::Question;
 use range_filter_tests::reference::replies::replies;
-use range_filter_tests::settings::version_1;
+use range_filter_tests::settings::{version_1, Settings};
 
-const KEYS: usize = 1_500;
+const KEYS: usize = 1_000;
+
+/// The numbers of hash bits and of real bits, each with each.
+const WIDTHS: [u64; 4] = [0, 4, 8, 16];
 
 /// Says whether a list has a key that a question asks for, by a look at every key.
 fn is_answered(list: &[Vec<u8>], question: &Question) -> bool {
@@ -24,10 +27,10 @@ fn is_answered(list: &[Vec<u8>], question: &Question) -> bool {
 }
 
 /// Gives the rate by the replies of the reference.
-fn reference_rate(list: &[Vec<u8>], n: usize, asked: &[Question]) -> Rate {
+fn reference_rate(list: &[Vec<u8>], settings: Settings, asked: &[Question]) -> Rate {
     let mut asked = asked.to_vec();
     asked.retain(|question| !is_answered(list, question));
-    let replies = replies(&leaves(list, n), &asked);
+    let replies = replies(&leaves(list, settings), &asked);
     Rate {
         asked: asked.len(),
         taken: replies.iter().filter(|reply| reply.number == 1).count(),
@@ -65,11 +68,12 @@ fn rates_agree_with_the_reference_at_every_number_of_dense_levels() {
         for (kind, taken) in kinds.iter().zip(&mut taken) {
             let mut asked = kind.about(&others);
             asked.extend(kind.about(&keys));
-            for n in [0, 4, 8, 16] {
-                let expected = reference_rate(&keys, n, &asked);
+            for (h, n) in WIDTHS.into_iter().flat_map(|h| WIDTHS.map(|n| (h, n))) {
+                let settings = |dense_levels| version_1(dense_levels, n).with_hash(h);
+                let expected = reference_rate(&keys, settings(0), &asked);
                 *taken += expected.taken;
                 for dense_levels in 0..=4 {
-                    let image = built(&keys, version_1(dense_levels, n as u64));
+                    let image = built(&keys, settings(dense_levels));
                     assert_eq!(false_positives(&image, &keys, &asked), expected);
                 }
             }

@@ -14,6 +14,7 @@ use range_filter_tests::generate::keys::{
 };
 use range_filter_tests::generate::places::{far_places, ROOMS};
 use range_filter_tests::generate::questions::{any_question, key_near, keys_about, questions_near};
+use range_filter_tests::generate::slots::with_flipped_bits;
 use range_filter_tests::generate::{any_settings, damaged, every_setting, in_both_versions};
 use range_filter_tests::random::Random;
 use range_filter_tests::reference::check::accepted_leaves;
@@ -120,6 +121,16 @@ fn close_questions(random: &mut Random, image: &[u8], count: usize) -> Vec<Quest
     (0..count).map(question).collect()
 }
 
+/// Gives two keys each that are cut behind 62, 63 and 64 bytes, and keys that begin these.
+fn late_keys() -> Vec<Vec<u8>> {
+    let lengths = [62, 63, 64].into_iter();
+    let pair = |length: usize| {
+        let start = vec![length as u8; length - 1];
+        [vec![7], vec![9], Vec::new()].map(|last| [start.clone(), last].concat())
+    };
+    lengths.flat_map(pair).collect()
+}
+
 /// Gives one question of each kind.
 fn one_of_each_kind() -> Vec<u8> {
     write(&[
@@ -140,15 +151,16 @@ fn large_list(random: &mut Random, round: usize) -> (Vec<Vec<u8>>, Settings) {
         version: VERSIONS[round % 2],
         dense_levels: (round % 5) as u64,
         n: (round % 17) as u64,
+        h: (round / 2 * 5 % 17) as u64,
     };
     (keys, settings)
 }
 
-/// Gives dense levels and suffix widths as settings in both versions.
-fn in_versions(pairs: &[(u64, u64)]) -> Vec<Settings> {
-    let settings = pairs
+/// Gives dense levels, real bits and hash bits as settings in both versions.
+fn in_versions(parts: &[(u64, u64, u64)]) -> Vec<Settings> {
+    let settings = parts
         .iter()
-        .map(|&(dense_levels, n)| version_1(dense_levels, n));
+        .map(|&(dense_levels, n, h)| version_1(dense_levels, n).with_hash(h));
     settings.flat_map(in_both_versions).collect()
 }
 
@@ -177,6 +189,7 @@ fn damaged_lists_are_refused_alike() {
             version: *random.pick(&[1, 1, 2, 2, 0, 3, 257]),
             dense_levels: *random.pick(&[0, 2, 4, 5, 256]),
             n: *random.pick(&[0, 8, 16, 17, 1 << 32]),
+            h: *random.pick(&[0, 8, 16, 17, 1 << 32]),
         };
         compare_build(&list, settings, ROOM).number()
     });
@@ -196,7 +209,7 @@ fn large_lists_build_alike() {
 fn longest_list_builds_and_checks_alike() {
     let keys = many_keys(&mut Random::new(4), MAX_KEYS, 4);
     let mut list = keys::write(&keys);
-    for settings in in_both_versions(version_1(1, 9)) {
+    for settings in in_versions(&[(1, 9, 0), (1, 9, 14)]) {
         compare_build(&list, settings, ROOM).length();
         assert_eq!(compare_check(&built(&keys, settings)), 0);
     }
@@ -222,6 +235,21 @@ fn small_frames_are_judged_alike() {
         compare_check(&small_frame(random))
     });
     assert_eq!(tally.numbers(), [0, 14, 16]);
+}
+
+#[test]
+fn bits_of_late_slots_are_judged_alike() {
+    let mut tally = Tally::default();
+    let keys = ascending(late_keys());
+    for settings in every_setting() {
+        let image = built(&keys, settings);
+        assert_eq!(compare_check(&image), 0);
+        for position in 0..keys.len() * settings.slot_bits() as usize {
+            let changed = with_flipped_bits(&image, [position]);
+            tally.note(compare_check(&changed));
+        }
+    }
+    assert_eq!(tally.numbers(), [0, 16]);
 }
 
 #[test]
@@ -332,7 +360,7 @@ fn close_bounds_are_replied_to_alike() {
 fn questions_over_nodes_of_any_size_are_replied_to_alike() {
     let mut random = Random::new(20);
     for most in NODE_SIZES {
-        for settings in in_versions(&[(0, 0), (0, 8), (1, 3), (2, 16)]) {
+        for settings in in_versions(&[(0, 0, 0), (0, 8, 0), (0, 0, 8), (1, 3, 5), (2, 16, 16)]) {
             let mut keys = keys_by_node_size(&mut random, most);
             let exact = (0..=u8::MAX).filter(|_| random.once_in(3));
             keys.extend(exact.map(|first| vec![first]));
@@ -349,7 +377,7 @@ fn questions_at_the_end_of_a_whole_block_are_replied_to_alike() {
         let node = (0..=u8::MAX).map(|second| vec![first, second]);
         let others = (0..=u8::MAX).filter(|&other| other != first);
         let keys = ascending(node.chain(others.map(|other| vec![other])).collect());
-        for settings in in_versions(&[(0, 0), (0, 8), (1, 8), (2, 8)]) {
+        for settings in in_versions(&[(0, 0, 0), (0, 8, 0), (1, 8, 8), (2, 8, 3)]) {
             let image = built(&keys, settings);
             compare_questions(&mut random, &image, 200);
         }
@@ -360,7 +388,7 @@ fn questions_at_the_end_of_a_whole_block_are_replied_to_alike() {
 fn measured_questions_are_replied_to_alike() {
     for key_set in KEY_SETS.iter().chain(&MANY_LEVELS) {
         let [keys, others] = [22, 23].map(|seed| (key_set.make)(&mut Random::new(seed), 1_000));
-        for settings in in_versions(&[(0, 0), (0, 8), (2, 0), (2, 8)]) {
+        for settings in in_versions(&[(0, 0, 0), (0, 8, 0), (2, 0, 8), (2, 8, 8)]) {
             let image = built(&keys, settings);
             for kind in KEY_KINDS.iter().chain(&RANGE_KINDS) {
                 let mut random = Random::new(24);
@@ -415,7 +443,7 @@ fn measured_lists_are_built_checked_and_walked_alike() {
     for key_set in KEY_SETS.iter().chain(&MANY_LEVELS) {
         let keys = (key_set.make)(&mut random, WALKED_KEYS);
         assert_eq!(keys.len(), WALKED_KEYS);
-        for settings in in_versions(&[(0, 0), (0, 4), (2, 8)]) {
+        for settings in in_versions(&[(0, 0, 0), (0, 4, 0), (0, 0, 8), (2, 8, 8)]) {
             compare_build(&keys::write(&keys), settings, ROOM).length();
             let image = built(&keys, settings);
             assert_eq!(compare_check(&image), 0);

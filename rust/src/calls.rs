@@ -13,20 +13,12 @@ use crate::{Refusal, Rule, Settings};
 pub(crate) const FOUND_BYTES: usize = 65;
 
 extern "C" {
-    fn range_filter_image_length(
-        list: *const u8,
-        list_len: usize,
-        version: u64,
-        dense_levels: u64,
-        n: u64,
-    ) -> u64;
+    fn range_filter_image_length(list: *const u8, list_len: usize, settings: u64) -> u64;
 
     fn range_filter_build(
         list: *const u8,
         list_len: usize,
-        version: u64,
-        dense_levels: u64,
-        n: u64,
+        settings: u64,
         stated: u64,
         out: *mut u8,
         out_len: usize,
@@ -42,6 +34,8 @@ extern "C" {
         replies: *mut u8,
         replies_len: usize,
     ) -> u64;
+
+    fn range_filter_hash(key: *const u8, key_len: usize) -> u64;
 
     fn range_filter_accepted_point(
         image: *const u8,
@@ -102,15 +96,7 @@ extern "C" {
 /// Gives the exact length of the image of a key list.
 pub(crate) fn image_length(list: &[u8], settings: Settings) -> Result<u32, Refusal> {
     // SAFETY: pointer and length are those of a slice that lives through the call.
-    decode(unsafe {
-        range_filter_image_length(
-            list.as_ptr(),
-            list.len(),
-            settings.version().into(),
-            settings.dense_levels().into(),
-            settings.suffix_bits().into(),
-        )
-    })
+    decode(unsafe { range_filter_image_length(list.as_ptr(), list.len(), settings.number()) })
 }
 
 /// Builds the image of a key list at the start of an output, whose length is also the length
@@ -122,9 +108,7 @@ pub(crate) fn build(list: &[u8], settings: Settings, out: &mut [u8]) -> Result<u
         range_filter_build(
             list.as_ptr(),
             list.len(),
-            settings.version().into(),
-            settings.dense_levels().into(),
-            settings.suffix_bits().into(),
+            settings.number(),
             out.len() as u64,
             out.as_mut_ptr(),
             out.len(),
@@ -153,6 +137,12 @@ pub(crate) fn ask(image: &[u8], questions: &[u8], replies: &mut [u8]) -> Result<
             replies.len(),
         )
     })
+}
+
+/// Gives the 64-bit FNV-1a hash of a key.
+pub(crate) fn hash(key: &[u8]) -> u64 {
+    // SAFETY: pointer and length are those of a slice that lives through the call.
+    unsafe { range_filter_hash(key.as_ptr(), key.len()) }
 }
 
 /// The bytes of an image that the check has accepted.

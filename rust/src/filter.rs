@@ -5,12 +5,8 @@ use crate::leaf::RECORD_BYTES;
 use crate::{questions, Key, Leaf, Leaves, Refusal, Rule, Settings};
 use std::fmt;
 
-/// The header's byte with the version.
-const VERSION_AT: usize = 2;
-/// The header's byte with the dense levels.
-const DENSE_LEVELS_AT: usize = 3;
-/// The header's byte with the suffix width.
-const SUFFIX_BITS_AT: usize = 4;
+/// The first of the header's four bytes with the settings.
+const SETTINGS_AT: usize = 2;
 /// The first of the header's four bytes with the number of leaves.
 const LEAVES_AT: usize = 6;
 /// The number in a seek's reply where there is no key from the start on.
@@ -45,7 +41,7 @@ impl<'a> Filter<'a> {
     /// # Errors
     ///
     /// [`FrameWrong`](Refusal::FrameWrong) to [`SlotWrong`](Refusal::SlotWrong), numbers 11
-    /// to 16, where no key list builds these bytes.
+    /// to 16, as [`check`](crate::check) gives them.
     ///
     /// ```
     /// use range_filter::{build, Filter, Refusal, Settings};
@@ -85,11 +81,7 @@ impl<'a> Filter<'a> {
     /// ```
     #[must_use]
     pub fn settings(&self) -> Settings {
-        let header = self.image();
-        Settings::default()
-            .with_version(header[VERSION_AT])
-            .with_dense_levels(header[DENSE_LEVELS_AT])
-            .with_suffix_bits(header[SUFFIX_BITS_AT])
+        Settings::read(self.header_bytes(SETTINGS_AT))
     }
 
     /// Gives the number of leaves, which is the number of stored keys.
@@ -103,9 +95,7 @@ impl<'a> Filter<'a> {
     /// ```
     #[must_use]
     pub fn len(&self) -> usize {
-        let mut leaves = [0; 4];
-        leaves.copy_from_slice(&self.image()[LEAVES_AT..LEAVES_AT + 4]);
-        u32::from_le_bytes(leaves) as usize
+        u32::from_le_bytes(self.header_bytes(LEAVES_AT)) as usize
     }
 
     /// Says whether no key is stored.
@@ -123,8 +113,13 @@ impl<'a> Filter<'a> {
         self.len() == 0
     }
 
-    /// Says whether a key may be stored: whether some key list that builds this image holds it.
-    /// A stored key always gets `true`.
+    /// Says whether a key may be stored. A stored key always gets `true`, and `false` says that no
+    /// key list which builds this image holds the key.
+    ///
+    /// Real bits and hash bits both have to be the key's, so that this may say `false` where
+    /// [`may_contain_range`](Filter::may_contain_range) from the key to itself says `true`: a range
+    /// has only the real bits to go by. Without hash bits `true` says that some key list which
+    /// builds this image holds the key.
     ///
     /// # Errors
     ///
@@ -166,7 +161,8 @@ impl<'a> Filter<'a> {
         self.accepted.rule(key.as_ref())
     }
 
-    /// Says whether a key from bound to bound, both included, may be stored.
+    /// Says whether a key from bound to bound, both included, may be stored: whether some list with
+    /// the image's cut keys and real bits has one there.
     ///
     /// # Errors
     ///
@@ -213,8 +209,8 @@ impl<'a> Filter<'a> {
         self.accepted.begins_with(stem.as_ref()).map(is_one)
     }
 
-    /// Gives the most keys from bound to bound, both included, that a list with this image has.
-    /// No list with this image has over two fewer there.
+    /// Gives the most keys from bound to bound, both included, that a list with the image's cut
+    /// keys and real bits has. No such list has over two fewer there.
     ///
     /// # Errors
     ///
@@ -239,8 +235,8 @@ impl<'a> Filter<'a> {
         number.map(|count| count as usize)
     }
 
-    /// Gives the smallest key from a start on that may be stored, and its leaf's place; none if
-    /// there is no such key.
+    /// Gives the smallest key from a start on that may be stored, which is one that some list with
+    /// the image's cut keys and real bits holds, and its leaf's place; none if there is no such key.
     ///
     /// # Errors
     ///
@@ -323,6 +319,13 @@ impl<'a> Filter<'a> {
     /// ```
     pub fn ask(&self, questions: &[u8]) -> Result<Vec<u8>, Refusal> {
         questions::ask(self.image(), questions)
+    }
+
+    /// Gives the four bytes from an offset of the header on.
+    fn header_bytes(&self, at: usize) -> [u8; 4] {
+        let mut bytes = [0; 4];
+        bytes.copy_from_slice(&self.image()[at..at + 4]);
+        bytes
     }
 
     /// Writes the records of the leaves from a place on, of as many as the buffer holds whole,

@@ -80,6 +80,7 @@ pub fn build_from_list(list: &[u8], settings: Settings) -> Result<Vec<u8>, Refus
 /// let list = write_key_list(["D1", "D12", "D2", "V"]);
 /// assert_eq!(image_length(&list, Settings::default()), Ok(110));
 /// assert_eq!(image_length(&list, Settings::default().with_version(2)), Ok(128));
+/// assert_eq!(image_length(&list, Settings::default().with_hash_bits(8)), Ok(114));
 /// assert_eq!(image_length(&[], Settings::default()), Ok(94)); // the empty list
 /// ```
 pub fn image_length(list: &[u8], settings: Settings) -> Result<usize, Refusal> {
@@ -116,7 +117,10 @@ pub(crate) fn write_key(key: &[u8], file: &mut Vec<u8>) {
     file.extend_from_slice(&key[..length.into()]);
 }
 
-/// Checks an image, of either version: says whether some key list builds these bytes.
+/// Checks an image, of either version. Without hash bits it is accepted exactly if some key list
+/// builds these bytes. With hash bits it is accepted exactly if its spare bits and the slots of its
+/// exact leaves are zero, and it would be accepted with the hash bits struck out; what a key list
+/// builds is accepted.
 ///
 /// [`Filter::open`](crate::Filter::open) checks an image too and keeps it for questions.
 ///

@@ -3,9 +3,12 @@
 use crate::{Key, Settings};
 use std::fmt;
 
-/// The bytes of a walk's record: kind, length of the cut key, 64 bytes for the cut key, and two
+/// The bytes of a walk's record: kind, length of the cut key, 64 bytes for the cut key, and four
 /// for the suffix.
-pub(crate) const RECORD_BYTES: usize = 68;
+pub(crate) const RECORD_BYTES: usize = 70;
+
+/// The first of the four bytes of a record with the suffix.
+const SUFFIX_AT: usize = 66;
 
 /// The kind byte of an exact leaf's record.
 const EXACT: u8 = 1;
@@ -13,13 +16,13 @@ const EXACT: u8 = 1;
 /// A leaf of the trie: what an image keeps of one key.
 ///
 /// An *exact* leaf is a whole key, which begins another key of the list. An *open* leaf is a key
-/// that is cut one byte behind the longest prefix that it shares with another key, and the bits
-/// behind the cut, its suffix.
+/// that is cut one byte behind the longest prefix that it shares with another key, and its suffix:
+/// hash bits of the whole key, then the bits behind the cut, its real bits.
 ///
 /// ```
 /// use range_filter::{build, Filter, Settings};
 ///
-/// let image = build(["D1", "D12", "D2", "VAN"], Settings::default().with_suffix_bits(8))?;
+/// let image = build(["D1", "D12", "D2", "VAN"], Settings::default().with_real_bits(8))?;
 /// let filter = Filter::open(&image)?;
 /// let leaf = filter.leaf(3)?.expect("the image has four leaves");
 /// assert_eq!(leaf.place(), 3);
@@ -41,14 +44,15 @@ impl Leaf {
     /// bytes that are no record.
     pub(crate) fn read(record: &[u8], place: usize, settings: Settings) -> Option<Self> {
         let exact = *record.first()? == EXACT;
-        let suffix = record.get(RECORD_BYTES - 2..RECORD_BYTES)?;
+        let suffix = record.get(SUFFIX_AT..RECORD_BYTES)?;
+        let width = settings.hash_bits() + settings.real_bits();
         Some(Leaf {
             place,
             cut: Key::read(&record[1..])?,
             exact,
             suffix: Suffix {
-                width: if exact { 0 } else { settings.suffix_bits() },
-                bits: u16::from_le_bytes(suffix.try_into().ok()?).into(),
+                width: if exact { 0 } else { width },
+                bits: u32::from_le_bytes(suffix.try_into().ok()?),
             },
         })
     }
@@ -99,15 +103,16 @@ impl Leaf {
         self.exact
     }
 
-    /// Gives the suffix bits of an open leaf; an exact leaf has none.
+    /// Gives the suffix of an open leaf; that of an exact leaf has no bits.
     ///
     /// ```
     /// use range_filter::{build, Filter, Settings};
     ///
-    /// let image = build(["D1", "D12", "D2", "VAN"], Settings::default().with_suffix_bits(8))?;
+    /// let settings = Settings::default().with_real_bits(8).with_hash_bits(4);
+    /// let image = build(["D1", "D12", "D2", "VAN"], settings)?;
     /// let leaves = Filter::open(&image)?.leaves();
     /// let widths: Vec<u8> = leaves.map(|leaf| leaf.suffix().width()).collect();
-    /// assert_eq!(widths, [0, 8, 8, 8]);
+    /// assert_eq!(widths, [0, 12, 12, 12]);
     /// # Ok::<(), range_filter::Refusal>(())
     /// ```
     #[must_use]
@@ -116,17 +121,24 @@ impl Leaf {
     }
 }
 
-/// The bits of a key behind its cut.
+/// What an open leaf keeps of its key beside the cut key: the hash bits, and behind them the real
+/// bits, which are the bits of the key behind its cut.
 ///
 /// It prints as zeros and ones, the first bit first, and as `-` where there are no bits.
 ///
 /// ```
 /// use range_filter::{build, Filter, Settings};
 ///
-/// let image = build(["D1", "D12", "D2", "VAN"], Settings::default().with_suffix_bits(8))?;
-/// let leaves = Filter::open(&image)?.leaves();
-/// let suffixes: Vec<String> = leaves.map(|leaf| leaf.suffix().to_string()).collect();
-/// assert_eq!(suffixes, ["-", "00000000", "00000000", "01000001"]); // 41 is A
+/// let keys = ["D1", "D12", "D2", "VAN"];
+/// let suffixes = |settings| -> Result<Vec<String>, range_filter::Refusal> {
+///     let image = build(keys, settings)?;
+///     let leaves = Filter::open(&image)?.leaves();
+///     Ok(leaves.map(|leaf| leaf.suffix().to_string()).collect())
+/// };
+/// let real = Settings::default().with_real_bits(8);
+/// assert_eq!(suffixes(real)?, ["-", "00000000", "00000000", "01000001"]); // 41 is A
+/// let both = real.with_hash_bits(4);
+/// assert_eq!(suffixes(both)?, ["-", "001100000000", "110000000000", "010001000001"]);
 /// # Ok::<(), range_filter::Refusal>(())
 /// ```
 #[derive(Clone, Copy, Debug, PartialEq, Eq, Hash)]
@@ -141,9 +153,9 @@ impl Suffix {
     /// ```
     /// use range_filter::{build, Filter, Settings};
     ///
-    /// let image = build(["VAN"], Settings::default().with_suffix_bits(4))?;
+    /// let image = build(["VAN"], Settings::default().with_real_bits(4).with_hash_bits(8))?;
     /// let leaf = Filter::open(&image)?.leaves().next().expect("the image has a leaf");
-    /// assert_eq!(leaf.suffix().width(), 4);
+    /// assert_eq!(leaf.suffix().width(), 12);
     /// # Ok::<(), range_filter::Refusal>(())
     /// ```
     #[must_use]
@@ -151,14 +163,20 @@ impl Suffix {
         self.width
     }
 
-    /// Gives the bits as a number, whose lowest bit is the first.
+    /// Gives the bits as a number, whose lowest bit is the first: the hash bits are the lowest.
     ///
     /// ```
-    /// use range_filter::{build, Filter, Settings};
+    /// use range_filter::{build, hash, Filter, Settings};
     ///
-    /// let image = build(["VAN"], Settings::default().with_suffix_bits(8))?;
-    /// let leaf = Filter::open(&image)?.leaves().next().expect("the image has a leaf");
-    /// assert_eq!(leaf.suffix().bits(), 0x82); // 01000001 from its last bit to its first
+    /// let settings = Settings::default().with_real_bits(8);
+    /// let bits = |settings| -> Result<u32, range_filter::Refusal> {
+    ///     let image = build(["VAN"], settings)?;
+    ///     let leaf = Filter::open(&image)?.leaves().next().expect("the image has a leaf");
+    ///     Ok(leaf.suffix().bits())
+    /// };
+    /// assert_eq!(bits(settings)?, 0x82); // 01000001 from its last bit to its first
+    /// assert_eq!(hash("VAN") & 0xF, 0x2);
+    /// assert_eq!(bits(settings.with_hash_bits(4))?, 0x822);
     /// # Ok::<(), range_filter::Refusal>(())
     /// ```
     #[must_use]

@@ -16,10 +16,11 @@
 //! ```
 //!
 //! An image is the trie of the keys' shortest distinguishing prefixes, in the LOUDS-Dense and
-//! LOUDS-Sparse form of the published Succinct Range Filter, with up to 16 further bits of each
-//! key. Keys have 1 to 64 bytes, and an image has at most 65,535 of them. The work is done by a
-//! library that is proved: each of its calls gives, for every input, what the definition of the
-//! format says. This crate passes slices to it and gives its answers types.
+//! LOUDS-Sparse form of the published Succinct Range Filter, with up to 16 bits of each key's hash
+//! and up to 16 further bits of the key itself. Keys have 1 to 64 bytes, and an image has at most
+//! 65,535 of them. The work is done by a library that is proved: each of its calls gives, for every
+//! input, what the definition of the format says. This crate passes slices to it and gives its
+//! answers types.
 //!
 //! # What a filter promises
 //!
@@ -27,7 +28,8 @@
 //! *possible keys* of an image are those that some list with this image holds, and every answer
 //! is about them. Stored keys are among them, so none is ever denied: `false`, `None` and a count
 //! of 0 are certain. `true`, a key that is found and a count say what may be stored: the run has
-//! to be read to know.
+//! to be read to know. All this is about images without hash bits; a section below says what is
+//! promised with them.
 //!
 //! ```
 //! use range_filter::{build, Filter, Settings};
@@ -41,7 +43,31 @@
 //! # Ok::<(), range_filter::Refusal>(())
 //! ```
 //!
-//! Suffix bits ([`Settings::with_suffix_bits`]) make fewer keys possible that are not stored.
+//! Real bits ([`Settings::with_real_bits`]) are the bits of a key behind its cut. They make fewer
+//! keys possible that are not stored.
+//!
+//! # Hash bits
+//!
+//! Hash bits ([`Settings::with_hash_bits`]) are the lowest bits of the whole key's [`hash()`].
+//! Points alone go by them, so that fewer keys that are not stored get `true`; ranges, stems,
+//! counts and seeks say the same with and without them. So a point may say `false` where the range
+//! from that one key to itself says `true`: the range has only the real bits to go by.
+//!
+//! With hash bits a stored key is still never denied. What a range, a stem, a count or a seek says
+//! is then about the lists that have the image's cut keys and real bits, whatever their hash bits;
+//! without hash bits these are just the lists with this image. That some list with this image holds
+//! the key of every point that gets `true` is promised without hash bits alone.
+//!
+//! ```
+//! use range_filter::{build, Filter, Settings};
+//!
+//! let image = build(["D1", "D12", "D2", "V"], Settings::default().with_hash_bits(8))?;
+//! let filter = Filter::open(&image)?;
+//! assert!(filter.may_contain("D2")?);
+//! assert!(!filter.may_contain("D2x")?); // D2x has another hash than D2
+//! assert!(filter.may_contain_range("D2x", "D2x")?);
+//! # Ok::<(), range_filter::Refusal>(())
+//! ```
 //!
 //! # Versions
 //!
@@ -96,6 +122,7 @@
 #[allow(unsafe_code)]
 mod calls;
 mod filter;
+mod hash;
 mod images;
 mod key;
 mod leaf;
@@ -106,6 +133,7 @@ mod rule;
 mod settings;
 
 pub use filter::{Filter, Found};
+pub use hash::hash;
 pub use images::{build, build_from_list, check, image_length, write_key_list, MAX_KEYS};
 pub use key::{Key, MAX_KEY_BYTES};
 pub use leaf::{Leaf, Suffix};

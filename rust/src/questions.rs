@@ -148,7 +148,7 @@ pub enum Reply {
     BeginsWith(bool),
     /// Whether a key in the range may be stored.
     Range(bool),
-    /// The most keys in the range that a list with the image has.
+    /// The most keys in the range that a list with the image's cut keys and real bits has.
     Count(usize),
 }
 

@@ -67,7 +67,7 @@ refusals! {
     /// 5: a setting is out of range.
     SettingOutOfRange = 5 =>
         "a setting is out of range: \
-         take version 1 or 2, 0 to 4 dense levels and 0 to 16 suffix bits",
+         take version 1 or 2, 0 to 4 dense levels, 0 to 16 real bits and 0 to 16 hash bits",
     /// 7: the image is longer than the output. No function of this crate gives it.
     OutputTooShort = 7 =>
         "the image is longer than the output: give it as many bytes as the image has",
@@ -97,9 +97,9 @@ refusals! {
     RankWrong = 15 =>
         "a rank, a select sample or a level start of the image is wrong: \
          copy the image again, or build it anew",
-    /// 16: a suffix slot of an image has a bit that no key gives it.
+    /// 16: a slot of an image has a bit that no key gives it.
     SlotWrong = 16 =>
-        "a suffix of the image has a bit that no key gives it: \
+        "a slot of the image has a bit that no key gives it: \
          copy the image again, or build it anew",
     /// 17: a place is above the number of leaves.
     PlaceOutOfRange = 17 =>

@@ -9,7 +9,7 @@ use std::fmt;
 /// ```
 /// use range_filter::{build, Filter, Rule, Settings};
 ///
-/// let image = build(["D1", "D12", "D2", "VAN"], Settings::default().with_suffix_bits(8))?;
+/// let image = build(["D1", "D12", "D2", "VAN"], Settings::default().with_real_bits(8))?;
 /// let filter = Filter::open(&image)?;
 /// assert_eq!(filter.rule("D10")?, Rule::BranchMissing);
 /// assert_eq!(filter.rule("D")?, Rule::KeyEnded);
@@ -30,9 +30,11 @@ pub enum Rule {
     KeyEnded = 2,
     /// 3: the key ends at a node that is an exact leaf. It is stored.
     ExactLeaf = 3,
-    /// 4: the way ends at an open leaf, and the key has its suffix bits. The key may be stored.
+    /// 4: the way ends at an open leaf, and the key has its suffix: its hash bits and its real
+    /// bits. The key may be stored.
     SuffixEqual = 4,
-    /// 5: the way ends at an open leaf, and the key has other suffix bits. It is not stored.
+    /// 5: the way ends at an open leaf, and the key has other hash bits or other real bits. It is
+    /// not stored.
     SuffixOther = 5,
     /// 6: the image is empty and has no nodes. Nothing is stored.
     NoNodes = 6,

@@ -1,14 +1,15 @@
 //! The settings of a build.
 
-/// How an image is built: its version, its dense levels and its suffix bits.
+/// How an image is built: its version, its dense levels, its real bits and its hash bits.
 ///
-/// The default is version 1, which every reader takes, with no dense levels and no suffix bits,
-/// which gives the smallest image. A value out of range is taken here and refused by the build.
+/// The default is version 1, which every reader takes, with no dense levels, no real bits and no
+/// hash bits, which gives the smallest image. A value out of range is taken here and refused by
+/// the build.
 ///
 /// ```
 /// use range_filter::{build, Filter, Refusal, Settings};
 ///
-/// let settings = Settings::default().with_dense_levels(1).with_suffix_bits(8);
+/// let settings = Settings::default().with_real_bits(8).with_hash_bits(4);
 /// let image = build(["D1", "D12", "D2", "VAN"], settings)?;
 /// assert_eq!(Filter::open(&image)?.settings(), settings);
 ///
@@ -20,7 +21,8 @@
 pub struct Settings {
     version: u8,
     dense_levels: u8,
-    suffix_bits: u8,
+    real_bits: u8,
+    hash_bits: u8,
 }
 
 impl Settings {
@@ -38,12 +40,19 @@ impl Settings {
     /// ```
     pub const MAX_DENSE_LEVELS: u8 = 4;
 
-    /// The most suffix bits that a build takes.
+    /// The most real bits that a build takes.
     ///
     /// ```
-    /// assert_eq!(range_filter::Settings::MAX_SUFFIX_BITS, 16);
+    /// assert_eq!(range_filter::Settings::MAX_REAL_BITS, 16);
     /// ```
-    pub const MAX_SUFFIX_BITS: u8 = 16;
+    pub const MAX_REAL_BITS: u8 = 16;
+
+    /// The most hash bits that a build takes.
+    ///
+    /// ```
+    /// assert_eq!(range_filter::Settings::MAX_HASH_BITS, 16);
+    /// ```
+    pub const MAX_HASH_BITS: u8 = 16;
 
     /// Gives these settings with a version of the image, 1 or 2.
     ///
@@ -88,26 +97,47 @@ impl Settings {
         }
     }
 
-    /// Gives these settings with so many suffix bits for a key, 0 to 16.
+    /// Gives these settings with so many real bits for a key, 0 to 16: the bits of the key behind
+    /// its cut.
     ///
     /// More bits mean a longer image and fewer keys that are said to be possible and are not
-    /// stored.
+    /// stored. All questions go by them.
     ///
     /// ```
     /// use range_filter::{build, Filter, Settings};
     ///
-    /// let image = build(["D1", "D12", "D2", "VAN"], Settings::default().with_suffix_bits(8))?;
+    /// let image = build(["D1", "D12", "D2", "VAN"], Settings::default().with_real_bits(8))?;
     /// let filter = Filter::open(&image)?;
     /// assert!(filter.may_contain("VAX")?); // begins as VAN does, as far as the image knows
     /// assert!(!filter.may_contain("VB")?); // the bits behind V are others
     /// # Ok::<(), range_filter::Refusal>(())
     /// ```
     #[must_use]
-    pub const fn with_suffix_bits(self, suffix_bits: u8) -> Self {
-        Settings {
-            suffix_bits,
-            ..self
-        }
+    pub const fn with_real_bits(self, real_bits: u8) -> Self {
+        Settings { real_bits, ..self }
+    }
+
+    /// Gives these settings with so many hash bits for a key, 0 to 16: the lowest bits of the
+    /// whole key's [`hash`](crate::hash()).
+    ///
+    /// Points alone go by them: each bit about halves the keys that
+    /// [`may_contain`](crate::Filter::may_contain) takes for stored ones and that are not. Ranges,
+    /// stems, counts and seeks say the same with and without them. Programs from before hash bits
+    /// refuse an image that has some, with 12.
+    ///
+    /// ```
+    /// use range_filter::{build, Filter, Settings};
+    ///
+    /// let image = build(["D1", "D12", "D2", "V"], Settings::default().with_hash_bits(8))?;
+    /// let filter = Filter::open(&image)?;
+    /// assert!(filter.may_contain("D2")?); // a stored key is never denied
+    /// assert!(!filter.may_contain("D2x")?); // begins as D2 does, and has another hash
+    /// assert!(filter.may_contain_range("D2x", "D2x")?); // a range has the real bits alone
+    /// # Ok::<(), range_filter::Refusal>(())
+    /// ```
+    #[must_use]
+    pub const fn with_hash_bits(self, hash_bits: u8) -> Self {
+        Settings { hash_bits, ..self }
     }
 
     /// Gives the version of the image.
@@ -136,27 +166,64 @@ impl Settings {
         self.dense_levels
     }
 
-    /// Gives the number of suffix bits for a key.
+    /// Gives the number of real bits for a key.
     ///
     /// ```
     /// use range_filter::Settings;
     ///
-    /// assert_eq!(Settings::default().suffix_bits(), 0);
-    /// assert_eq!(Settings::default().with_suffix_bits(8).suffix_bits(), 8);
+    /// assert_eq!(Settings::default().real_bits(), 0);
+    /// assert_eq!(Settings::default().with_real_bits(8).real_bits(), 8);
     /// ```
     #[must_use]
-    pub const fn suffix_bits(self) -> u8 {
-        self.suffix_bits
+    pub const fn real_bits(self) -> u8 {
+        self.real_bits
+    }
+
+    /// Gives the number of hash bits for a key.
+    ///
+    /// ```
+    /// use range_filter::Settings;
+    ///
+    /// assert_eq!(Settings::default().hash_bits(), 0);
+    /// assert_eq!(Settings::default().with_hash_bits(4).hash_bits(), 4);
+    /// ```
+    #[must_use]
+    pub const fn hash_bits(self) -> u8 {
+        self.hash_bits
+    }
+
+    /// Reads the settings that stand in the four bytes of an image's header.
+    pub(crate) const fn read(bytes: [u8; 4]) -> Self {
+        let [version, dense_levels, real_bits, hash_bits] = bytes;
+        Settings {
+            version,
+            dense_levels,
+            real_bits,
+            hash_bits,
+        }
+    }
+
+    /// Gives the settings as the library takes them: the four bytes of an image's header as a
+    /// number, the low byte first.
+    pub(crate) fn number(self) -> u64 {
+        let bytes = [
+            self.version,
+            self.dense_levels,
+            self.real_bits,
+            self.hash_bits,
+        ];
+        u32::from_le_bytes(bytes).into()
     }
 }
 
 impl Default for Settings {
-    /// Gives version 1 without dense levels and suffix bits.
+    /// Gives version 1 without dense levels, real bits and hash bits.
     fn default() -> Self {
         Settings {
             version: 1,
             dense_levels: 0,
-            suffix_bits: 0,
+            real_bits: 0,
+            hash_bits: 0,
         }
     }
 }

@@ -17,24 +17,24 @@ pub type Number = Result<u32, u32>;
 
 /// An accepted image by the calls over it.
 pub trait AcceptedCalls {
-    /// Gives 1 if some list that builds the image holds a key, else 0.
+    /// Gives 1 if a leaf has a key by its real bits and its hash bits, else 0.
     fn point(&self, key: &[u8]) -> Number;
 
     /// Gives the rule, 1 to 6, behind a point's reply.
     fn rule(&self, key: &[u8]) -> Number;
 
-    /// Gives 1 if some list has a key from bound to bound, else 0.
+    /// Gives 1 if a leaf has a possible key from bound to bound, else 0.
     fn range(&self, lower: &[u8], upper: &[u8]) -> Number;
 
-    /// Gives 1 if some list has a key that begins with a stem, else 0.
+    /// Gives 1 if a leaf has a possible key that begins with a stem, else 0.
     fn begins_with(&self, stem: &[u8]) -> Number;
 
-    /// Gives the most keys that a list has from bound to bound.
+    /// Counts the leaves that have a possible key from bound to bound.
     fn count(&self, lower: &[u8], upper: &[u8]) -> Number;
 
-    /// Gives the place of the smallest key from a start on, and writes its length and the
-    /// key to the front of the buffer; the number of none has the length 0. Other bytes of
-    /// the buffer keep their values, after a refusal all do.
+    /// Gives the place of the leaf with the smallest possible key from a start on, and writes
+    /// the length of this key and the key to the front of the buffer; the number of none has
+    /// the length 0. Other bytes of the buffer keep their values, after a refusal all do.
     fn seek(&self, start: &[u8], found: &mut Found) -> Number;
 
     /// Writes the records of the leaves from a place on at the start of a buffer, of as

@@ -1,6 +1,6 @@
-//! What the tests share: an implementation written from document 01 to compare with, the
-//! calls of the proved library, the printer program, generators of inputs, and the
-//! comparisons themselves.
+//! What the tests share: an implementation written from documents 01 and 02 to compare with,
+//! the calls of the proved library, the printer program, generators of inputs, published
+//! values, and the comparisons themselves.
 
 pub mod accepted;
 pub mod answer;
@@ -14,3 +14,4 @@ pub mod reference;
 pub mod refused;
 pub mod settings;
 pub mod tally;
+pub mod vectors;

@@ -11,10 +11,12 @@ use std::fs;
 use std::path::PathBuf;
 
 /// The files that the program print_cases prints, in its order.
-const CASES: [&str; 13] = [
+const CASES: [&str; 15] = [
     "empty_list",
     "dense_levels",
     "suffixes",
+    "hash_bits",
+    "hash_and_real_bits",
     "pages",
     "empty_file",
     "bytes_left_over",
@@ -64,6 +66,10 @@ fn images_are_built_from_their_lists() {
     assert_eq!(case("empty_list"), built(&[], version_1(0, 0)));
     assert_eq!(case("dense_levels"), built(&list_a(), version_1(3, 0)));
     assert_eq!(case("suffixes"), built(&list_van(), version_1(0, 8)));
+    let hashed = version_1(0, 0).with_hash(8);
+    assert_eq!(case("hash_bits"), built(&list_a(), hashed));
+    let widest = version_1(0, 16).with_hash(16);
+    assert_eq!(case("hash_and_real_bits"), built(&list_van(), widest));
     assert_eq!(case("pages"), built(&long_keys, version_1(4, 16)));
 }
 

@@ -28,16 +28,29 @@ use range_filter_tests::tally::Tally;
 use std::collections::BTreeMap;
 use std::slice;
 
-const LISTS_A_SETTING: usize = 15;
+const LISTS_A_SETTING: usize = 6;
 const QUESTIONS_AN_IMAGE: usize = 80;
 const CHANGES_A_KIND: usize = 7_500;
 const LARGE_KEYS: usize = 5_000;
 const LARGE_QUESTIONS: usize = 600;
 const LISTS_BY_NODE_SIZE: usize = 12;
-const WALKED_LISTS_A_SETTING: usize = 4;
+const WALKED_LISTS_A_SETTING: usize = 2;
 const PLACES_A_LARGE_IMAGE: usize = 200;
 const ADDRESSES: usize = 80;
 const OFTEN: usize = 500;
+
+/// The hash bits h and the real bits n that lists of small universes are built with.
+const SLOTS: [(u64, u64); 9] = [
+    (0, 0),
+    (0, 1),
+    (0, 8),
+    (0, 9),
+    (0, 16),
+    (1, 0),
+    (3, 1),
+    (5, 8),
+    (16, 16),
+];
 
 /// What the calls have been asked and have said: the lengths of keys, with 65 for all that
 /// are longer; refusals by their numbers, 0 for none; replies by the letters of their
@@ -189,9 +202,10 @@ fn all_lists_of_small_universes_are_asked_alike() {
     ];
     for (dense_levels, universe) in (0..).zip(&universes) {
         for (number, list) in universe.lists.iter().enumerate() {
-            let n = [0, 1, 8, 9, 16][number % 5];
+            let (h, n) = SLOTS[number % SLOTS.len()];
             let version = [version_1, version_2][number % 2];
-            coverage.compare(&built(list, version(dense_levels, n)), &universe.questions);
+            let settings = version(dense_levels, n).with_hash(h);
+            coverage.compare(&built(list, settings), &universe.questions);
         }
     }
     coverage.assert_full(&[0]);
@@ -268,9 +282,9 @@ fn each_rule_comes_at_dense_and_at_sparse_nodes() {
     let mut coverages: [Coverage; 2] = Default::default();
     for settings in every_setting() {
         for _ in 0..LISTS_A_SETTING {
-            let keys = random.pick(&[any_keys, ff_keys, growing_keys, no_keys])(&mut random);
-            let image = built(&keys, settings);
-            let mut keys = keys_about(&mut random, &leaves(&image));
+            let stored = random.pick(&[any_keys, ff_keys, growing_keys, no_keys])(&mut random);
+            let image = built(&stored, settings);
+            let mut keys = [stored, keys_about(&mut random, &leaves(&image))].concat();
             keys.retain(|key| decided_at_dense(key, settings.dense_levels).is_some());
             let asked: Vec<Question> = keys.into_iter().map(Question::Point).collect();
             coverages[usize::from(settings.dense_levels > 0)].compare(&image, &asked);
@@ -287,7 +301,10 @@ fn large_images_are_asked_alike() {
     let mut random = Random::new(115);
     let mut coverage = Coverage::default();
     let mut images: Vec<Vec<u8>> = large_images(&mut random, LARGE_KEYS).collect();
-    images.push(built(&many_keys(&mut random, MAX_KEYS, 6), version_2(2, 5)));
+    images.push(built(
+        &many_keys(&mut random, MAX_KEYS, 6),
+        version_2(2, 5).with_hash(4),
+    ));
     for number in 0..LISTS_BY_NODE_SIZE {
         let keys = keys_by_node_size(&mut random, [2, 6, 24, 256][number % 4]);
         let version = [version_1, version_2][number % 2];

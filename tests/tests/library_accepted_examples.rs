@@ -106,7 +106,7 @@ fn suffix_of_van_decides() {
         assert_seek(van, b"VB", NONE, b"");
         let mut record = [0; RECORD_BYTES];
         van.walk(3, &mut record);
-        assert_eq!(record[RECORD_BYTES - 2..], [0x82, 0x00]);
+        assert_eq!(record[RECORD_BYTES - 4..], [0x82, 0x00, 0x00, 0x00]);
     }
 }
 

@@ -3,9 +3,9 @@
 
 use range_filter_tests::answer::Answer;
 use range_filter_tests::examples::{list_a, list_van, IMAGE_A, IMAGE_A_2};
-use range_filter_tests::generate::every_setting_of_version_1;
 use range_filter_tests::generate::images::{built, in_other_version};
 use range_filter_tests::generate::keys::owned;
+use range_filter_tests::generate::settings_of_version_1;
 use range_filter_tests::reference::replies::NONE;
 use range_filter_tests::settings::version_1;
 use range_filter_tests::{compare, library};
@@ -139,7 +139,7 @@ fn stem_s017_covers_the_key_s017_ff_01() {
         owned(&[b"S017\xFF\x01", b"S017\xFF\x02"]),
         owned(&[b"S016", b"S017\xFF\x01", b"S018"]),
     ];
-    for settings in every_setting_of_version_1() {
+    for settings in settings_of_version_1() {
         for list in &lists {
             let image = built(list, settings);
             for stem in [b"S".as_slice(), b"S017", b"S017\xFF", b"S017\xFF\x01"] {
@@ -242,7 +242,7 @@ fn ff_behind_an_exact_leaf_is_no_branch_unless_a_key_has_it() {
         (&[b"D1", b"D12", b"D1\xFFa", b"D1\xFFb"], (0, 2)),
         (&[b"D1", b"D1\xFF", b"D1\xFFa"], (1, 3)),
     ];
-    for settings in every_setting_of_version_1() {
+    for settings in settings_of_version_1() {
         for (list, (number, rule)) in lists {
             let image = built(&owned(list), settings);
             assert_point(&image, b"D1\xFF", number, rule);
@@ -268,7 +268,7 @@ fn past_an_exact_leaf_a_key_takes_the_branch_or_misses_it() {
 
 #[test]
 fn points_of_the_empty_image_are_decided_by_no_nodes() {
-    for settings in every_setting_of_version_1() {
+    for settings in settings_of_version_1() {
         let image = built(&[], settings);
         for key in [b"".as_slice(), b"\x00", b"D1", b"\xFF", &[0xFF; 64]] {
             assert_point(&image, key, 0, 6);

@@ -1,24 +1,43 @@
 //! The proved library's points against the reference, by the rules behind them: each rule has
-//! to come often, at dense and at sparse nodes, with suffix bits and without.
+//! to come often, at dense and at sparse nodes, with hash bits and without, and with real bits
+//! and without.
 
 use range_filter_tests::answer::Answer;
 use range_filter_tests::examples::IMAGE_A;
 use range_filter_tests::generate::images::built;
+use range_filter_tests::generate::in_both_versions;
 use range_filter_tests::generate::keys::{any_keys, ff_keys, growing_keys, no_keys};
 use range_filter_tests::generate::questions::{decided_at_dense, keys_about};
 use range_filter_tests::random::Random;
 use range_filter_tests::reference::check::accepted_leaves;
-use range_filter_tests::reference::format::{MAX_DENSE_LEVELS, VERSIONS};
+use range_filter_tests::reference::format::MAX_DENSE_LEVELS;
 use range_filter_tests::reference::leaves::Leaf;
 use range_filter_tests::reference::questions::{write, Question, MAX_QUESTIONS};
 use range_filter_tests::reference::replies::{POINT_REPLY, REPLY_HEAD};
-use range_filter_tests::settings::{version_2, Settings};
+use range_filter_tests::settings::{version_1, version_2, Settings};
 use range_filter_tests::tally::Tally;
 use range_filter_tests::{compare, library};
 
-const WIDTHS: [u64; 5] = [0, 1, 8, 9, 16];
-const LISTS_A_SETTING: usize = 250;
-const RULE_TIMES: usize = 2_000;
+const LISTS_A_SETTING: usize = 150;
+const RULE_TIMES: usize = 1_000;
+
+/// The hash bits h and the real bits n of images.
+const SLOTS: [(u64, u64); 10] = [
+    (0, 0),
+    (0, 1),
+    (0, 8),
+    (0, 16),
+    (1, 0),
+    (5, 0),
+    (16, 0),
+    (2, 1),
+    (8, 9),
+    (16, 16),
+];
+
+/// The rules that points meet, by dense or sparse nodes, by whether there are hash bits, and
+/// by whether there are real bits.
+type Tallies = [[[Tally; 2]; 2]; 2];
 
 /// Compares the replies to points about some keys in a buffer of some length, and gives the
 /// answer.
@@ -42,34 +61,24 @@ fn rules(image: &[u8], keys: &[Vec<u8>]) -> Vec<u32> {
     replies.map(|reply| reply[REPLY_HEAD].into()).collect()
 }
 
-/// Gives every number of dense levels with some suffix widths, in both versions.
+/// Gives every number of dense levels with some numbers of hash bits and real bits, in both
+/// versions.
 fn settings() -> impl Iterator<Item = Settings> {
-    let settings = |version, n| {
-        (0..=MAX_DENSE_LEVELS).map(move |dense_levels| Settings {
-            version,
-            dense_levels,
-            n,
-        })
-    };
-    let versions = VERSIONS.into_iter();
-    versions.flat_map(move |version| WIDTHS.into_iter().flat_map(move |n| settings(version, n)))
+    let plain = (0..=MAX_DENSE_LEVELS)
+        .flat_map(|dense_levels| SLOTS.map(|(h, n)| version_1(dense_levels, n).with_hash(h)));
+    plain.flat_map(in_both_versions)
 }
 
-/// Notes the rules of keys about the leaves of a list: by dense or sparse nodes, and by
-/// whether there are suffix bits.
-fn note_rules(
-    random: &mut Random,
-    list: &[Vec<u8>],
-    settings: Settings,
-    tallies: &mut [[Tally; 2]; 2],
-) {
+/// Notes the rules of a list's keys and of keys about its leaves.
+fn note_rules(random: &mut Random, list: &[Vec<u8>], settings: Settings, tallies: &mut Tallies) {
     let image = built(list, settings);
     let leaves = accepted_leaves(&image).expect("a built image is accepted");
-    let mut keys = keys_about(random, &leaves);
+    let mut keys = [list, &keys_about(random, &leaves)].concat();
     keys.truncate(MAX_QUESTIONS);
+    let [hash, real] = [settings.h, settings.n].map(|bits| usize::from(bits > 0));
     for (key, rule) in keys.iter().zip(rules(&image, &keys)) {
         if let Some(dense) = decided_at_dense(key, settings.dense_levels) {
-            tallies[usize::from(dense)][usize::from(settings.n > 0)].note(rule);
+            tallies[usize::from(dense)][hash][real].note(rule);
         }
     }
 }
@@ -97,16 +106,18 @@ fn assert_came_often(tally: &Tally, rules: &[u32]) {
 #[test]
 fn each_rule_comes_at_dense_and_at_sparse_nodes() {
     let mut random = Random::new(101);
-    let mut tallies: [[Tally; 2]; 2] = Default::default();
+    let mut tallies = Tallies::default();
     for setting in settings() {
         for _ in 0..LISTS_A_SETTING {
             let list = random.pick(&[any_keys, ff_keys, growing_keys, no_keys])(&mut random);
             note_rules(&mut random, &list, setting, &mut tallies);
         }
     }
-    for [without_suffixes, with_suffixes] in &tallies {
+    for [[without_suffixes, real], [hash, both]] in &tallies {
         assert_came_often(without_suffixes, &[1, 2, 3, 4, 6]);
-        assert_came_often(with_suffixes, &[1, 2, 3, 4, 5, 6]);
+        for with_suffixes in [real, hash, both] {
+            assert_came_often(with_suffixes, &[1, 2, 3, 4, 5, 6]);
+        }
     }
 }
 

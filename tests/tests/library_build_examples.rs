@@ -162,12 +162,15 @@ fn output_of_110_bytes_takes_list_a() {
 fn settings_out_of_range_are_refused_with_5_before_the_list_is_read() {
     let too_many = [5, 17, 255, 256, 65_536, 1 << 32, u64::MAX];
     for setting in too_many {
-        let [levels, width] = [version_1(setting, 16), version_1(0, setting.max(17))];
-        assert_eq!(build(b"bad", levels, 0), Answer::Refused(5));
-        assert_eq!(build(b"bad", width, 0), Answer::Refused(5));
-        assert_eq!(build(b"KY\x01a", levels, 200), Answer::Refused(5));
+        let bits = setting.max(17);
+        let [real, hash] = [version_1(0, bits), version_1(0, 0).with_hash(bits)];
+        for settings in [version_1(setting, 16), real, hash] {
+            assert_eq!(build(b"bad", settings, 0), Answer::Refused(5));
+            assert_eq!(build(b"KY\x01a", settings, 200), Answer::Refused(5));
+        }
     }
-    assert_eq!(build(b"", version_1(4, 16), 94), Answer::Written(94));
+    let highest = version_1(4, 16).with_hash(16);
+    assert_eq!(build(b"", highest, 94), Answer::Written(94));
 }
 
 #[test]

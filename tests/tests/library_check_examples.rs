@@ -64,6 +64,7 @@ fn wrong_headers_are_refused_with_12() {
         (3, 5),
         (4, 17),
         (5, 1),
+        (5, 17),
         (8, 1),
         (10, 1),
         (14, 7),
@@ -78,8 +79,10 @@ fn settings_of_an_empty_image_are_judged() {
     let empty = built(&[], version_1(0, 0));
     assert_refused(&with_byte(&empty, 3, 5), 12);
     assert_refused(&with_byte(&empty, 4, 17), 12);
+    assert_refused(&with_byte(&empty, 5, 17), 12);
     assert_eq!(check(&with_byte(&empty, 3, 4)), 0);
     assert_eq!(check(&with_byte(&empty, 4, 16)), 0);
+    assert_eq!(check(&with_byte(&empty, 5, 16)), 0);
 }
 
 #[test]

@@ -13,28 +13,13 @@ use range_filter_tests::reference::keys;
 use range_filter_tests::settings::{version_1, version_2, Settings};
 use range_filter_tests::tally::Tally;
 
-const LISTS_A_SETTING: usize = 10;
+const LISTS_A_SETTING: usize = 4;
 const DAMAGED_LISTS: usize = 10_000;
 const LARGE_KEYS: usize = 20_000;
 
-/// Versions that there are none of. Of some the low byte, the two low bytes or the four low
-/// bytes are those of a version.
-const OTHER_VERSIONS: [u64; 14] = [
-    0,
-    3,
-    4,
-    16,
-    255,
-    256 + 1,
-    256 + 2,
-    (1 << 16) + 1,
-    (1 << 16) + 2,
-    (1 << 32) + 1,
-    (1 << 32) + 2,
-    (1 << 63) + 1,
-    (1 << 63) + 2,
-    u64::MAX,
-];
+/// Versions that there are none of. Those that are no byte are put into the settings' number
+/// as 255.
+const OTHER_VERSIONS: [u64; 8] = [0, 3, 4, 16, 254, 255, 256 + 1, u64::MAX];
 
 /// Lengths that no image has, whatever the list: the least has 94 bytes.
 const NO_LENGTHS: [u64; 5] = [0, 93, 1 << 32, 1 << 63, u64::MAX];
@@ -124,8 +109,15 @@ fn damaged_lists_get_one_number_from_both_calls() {
 #[test]
 fn settings_out_of_range_get_5_from_both_calls() {
     let list = keys::write(&list_a());
-    for (dense_levels, n) in [(5, 0), (0, 17), (1 << 32, 0), (0, u64::MAX)] {
-        for settings in in_both_versions(version_1(dense_levels, n)) {
+    for (dense_levels, n, h) in [
+        (5, 0, 0),
+        (0, 17, 0),
+        (0, 0, 17),
+        (1 << 32, 0, 0),
+        (0, u64::MAX, 0),
+        (0, 0, 1 << 32),
+    ] {
+        for settings in in_both_versions(version_1(dense_levels, n).with_hash(h)) {
             assert_eq!(refusal(&list, settings), 5);
             assert_eq!(refusal(b"bad", settings), 5);
         }
@@ -145,8 +137,7 @@ fn versions_out_of_range_get_5_from_both_calls() {
         for (dense_levels, n) in [(0, 0), (4, 16), (5, 0), (0, 17), (version, version)] {
             let settings = Settings {
                 version,
-                dense_levels,
-                n,
+                ..version_1(dense_levels, n)
             };
             for list in lists {
                 assert_eq!(refusal(list, settings), 5);
@@ -168,9 +159,9 @@ fn large_lists_are_measured_and_built() {
     let mut random = Random::new(53);
     for (settings, length) in [
         (version_2(0, 0), 8),
-        (version_1(2, 8), 8),
+        (version_1(2, 8).with_hash(11), 8),
         (version_2(4, 16), 13),
-        (version_2(0, 16), 64),
+        (version_2(0, 16).with_hash(16), 64),
     ] {
         let keys = many_keys(&mut random, LARGE_KEYS, length);
         assert_built(&keys::write(&keys), settings);
@@ -179,5 +170,6 @@ fn large_lists_are_measured_and_built() {
 
 #[test]
 fn the_list_with_the_most_trie_entries_is_measured_and_built() {
-    assert_built(&keys::write(&keys_with_most_entries()), version_1(0, 16));
+    let settings = version_1(0, 16).with_hash(16);
+    assert_built(&keys::write(&keys_with_most_entries()), settings);
 }

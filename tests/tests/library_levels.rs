@@ -8,14 +8,14 @@ use range_filter_tests::generate::level_starts::{
     body, changed, read, with_body, wrong_bodies, wrong_frames,
 };
 use range_filter_tests::generate::questions::questions_near;
-use range_filter_tests::generate::{every_setting_of_version_1, in_both_versions};
+use range_filter_tests::generate::{any_settings, in_both_versions, settings_of_version_1};
 use range_filter_tests::random::Random;
 use range_filter_tests::reference::format::{frame, Header, MAX_DENSE_LEVELS};
 use range_filter_tests::reference::keys::{self, MAX_KEY};
 use range_filter_tests::reference::questions::write;
 use range_filter_tests::reference::replies::REPLY_HEAD;
 use range_filter_tests::reference::walk::RECORD_BYTES;
-use range_filter_tests::settings::{version_1, version_2, Settings};
+use range_filter_tests::settings::Settings;
 use range_filter_tests::tally::Tally;
 use range_filter_tests::{compare, library};
 
@@ -41,12 +41,19 @@ fn header(image: &[u8]) -> Header {
     frame(image).expect("the image has its frame").header
 }
 
-/// Gives an image of version 2 for each setting, from random keys or from none.
+/// Gives settings in version 2.
+fn in_version_2(settings: Settings) -> Settings {
+    let [_, two] = in_both_versions(settings);
+    two
+}
+
+/// Gives an image of version 2 for each number of dense levels and each n, from random keys or
+/// from none.
 fn images_of_every_setting(seed: u64) -> impl Iterator<Item = Vec<u8>> {
     let mut random = Random::new(seed);
-    every_setting_of_version_1().map(move |settings| {
+    settings_of_version_1().map(move |settings| {
         let keys = random.pick(&[any_keys, any_keys, any_keys, no_keys])(&mut random);
-        built(&keys, version_2(settings.dense_levels, settings.n))
+        built(&keys, in_version_2(settings))
     })
 }
 
@@ -112,7 +119,7 @@ fn every_version_byte_is_judged_by_its_records() {
 /// and behind that, if the changed image has a frame of version 2, its tables and level starts
 /// were right so far, and now the level starts are others.
 fn numbers_of_two_faults(random: &mut Random, change: &Change) -> Option<[u32; 2]> {
-    let settings = version_2(random.below(5) as u64, random.below(17) as u64);
+    let settings = in_version_2(any_settings(random));
     let image = built(&any_keys(random), settings);
     let image = (change.apply)(random, &image);
     let before = check(&image);
@@ -179,7 +186,10 @@ fn tries_of_every_number_of_levels_are_built_and_asked_alike() {
     for levels in 1..=MAX_KEY {
         for dense_levels in 0..=MAX_DENSE_LEVELS {
             let keys = keys_of_levels(&mut random, levels);
-            let settings = version_1(dense_levels, random.below(17) as u64);
+            let settings = Settings {
+                dense_levels,
+                ..any_settings(&mut random)
+            };
             let [one, two] = in_both_versions(settings)
                 .map(|settings| compare_all(&mut random, &keys, settings));
             assert_eq!(two.len(), one.len() + 6 + 4 * levels);

@@ -21,7 +21,7 @@ use range_filter_tests::reference::walk::RECORD_BYTES;
 use range_filter_tests::settings::{version_1, Settings};
 use range_filter_tests::tally::Tally;
 
-const LISTS_A_SETTING: usize = 12;
+const LISTS_A_SETTING: usize = 4;
 const QUESTIONS_A_LIST: usize = 60;
 const DAMAGED_FILES_A_LIST: usize = 8;
 const LARGE_QUESTIONS: usize = 600;
@@ -41,7 +41,7 @@ impl Pair {
         let list = keys::write(keys);
         Pair {
             images: in_both_versions(settings).map(|settings| built(&list, settings)),
-            leaves: leaves(keys, settings.n as usize),
+            leaves: leaves(keys, settings),
         }
     }
 
@@ -123,8 +123,7 @@ fn said(image: Accepted, question: &Question) -> (Number, Option<Number>, Found)
     (number, rule, found)
 }
 
-/// Tries something on the images of random lists at every number of dense levels and every
-/// suffix width.
+/// Tries something on the images of random lists at every setting.
 fn try_pairs(seed: u64, mut trial: impl FnMut(&mut Random, &Pair)) {
     let mut random = Random::new(seed);
     for settings in every_setting_of_version_1() {
@@ -196,7 +195,8 @@ fn walks_are_the_same() {
 fn all_lists_of_two_byte_keys_get_the_same_replies() {
     let universe = Universe::of_two_byte_keys();
     for (number, list) in universe.lists.iter().enumerate() {
-        let settings = version_1((number % 4) as u64, [0, 1, 9][number % 3]);
+        let (h, n) = [(0, 0), (0, 1), (0, 9), (3, 0), (4, 9)][number % 5];
+        let settings = version_1((number % 4) as u64, n).with_hash(h);
         Pair::new(list, settings).ask_all(&universe.questions);
     }
 }
@@ -207,9 +207,9 @@ fn large_images_get_the_same_replies_and_walks() {
     let mut pairs = Vec::new();
     for (settings, length, count) in [
         (version_1(0, 0), 8, 4_000),
-        (version_1(2, 8), 13, 4_000),
+        (version_1(2, 8).with_hash(3), 13, 4_000),
         (version_1(0, 9), 63, 3_000),
-        (version_1(4, 16), 64, 3_000),
+        (version_1(4, 16).with_hash(16), 64, 3_000),
         (version_1(1, 5), 6, 20_000),
     ] {
         let keys = many_mixed_keys(&mut random, count, length);

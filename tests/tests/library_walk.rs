@@ -18,7 +18,7 @@ use range_filter_tests::{compare, library};
 
 const IMAGES: usize = 1_500;
 const STEPPED_IMAGES: usize = 400;
-const LISTS_A_SETTING: usize = 2;
+const LISTS_A_SETTING: usize = 1;
 const CHANGES_A_KIND: usize = 15_000;
 const SMALL_FRAMES: usize = 60_000;
 const LARGE_KEYS: usize = 5_000;
@@ -28,11 +28,11 @@ const MOST_RECORDS: usize = 40;
 /// The images that are walked from every place: settings, key length and about so many keys.
 const EVERY_PLACE: [(Settings, usize, usize); 6] = [
     (version_1(0, 0), 8, 2_000),
-    (version_2(2, 8), 8, 1_000),
+    (version_2(2, 8).with_hash(8), 8, 1_000),
     (version_1(3, 16), 4, 2_000),
-    (version_2(4, 16), 13, 600),
+    (version_2(4, 16).with_hash(16), 13, 600),
     (version_2(0, 9), 63, 200),
-    (version_2(1, 16), 64, 200),
+    (version_2(1, 16).with_hash(1), 64, 200),
 ];
 
 /// Compares the records from a place in a buffer of some length.

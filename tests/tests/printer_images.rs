@@ -69,6 +69,36 @@ fn suffix_bits_are_printed_first_bit_first() {
 }
 
 #[test]
+fn whole_slots_are_printed_hash_bits_first() {
+    for (h, n, d12, d2, v) in [
+        (0, 0, "-", "-", "-"),
+        (1, 0, "0", "1", "0"),
+        (0, 3, "000", "000", "010"),
+        (4, 8, "001100000000", "110000000000", "010001000001"),
+        (
+            16,
+            0,
+            "0011101010111110",
+            "1100101010100011",
+            "0100001001010101",
+        ),
+    ] {
+        let lines = format!("0 E 4431 -\n1 O 443132 {d12}\n2 O 4432 {d2}\n3 O 56 {v}\n");
+        for settings in in_both_versions(version_1(1, n).with_hash(h)) {
+            let text = compare(&built(&list_van(), settings));
+            assert_eq!(text, format!("leaves 4\n{lines}"));
+        }
+    }
+}
+
+#[test]
+fn widest_slots_are_printed() {
+    let bits = "01000010010101010100000101001110";
+    let image = built(&owned(&[b"VAN"]), version_1(0, 16).with_hash(16));
+    assert_eq!(compare(&image), format!("leaves 1\n0 O 56 {bits}\n"));
+}
+
+#[test]
 fn an_extra_ff_is_printed_as_an_exact_leaf() {
     let text = "leaves 1\n0 O FF -\n";
     assert_eq!(compare(&built(&owned(&[b"\xFF"]), version_1(0, 0))), text);
@@ -152,8 +182,8 @@ fn images_at_the_limit_are_printed_and_longer_ones_are_too_long() {
     let mut random = Random::new(85);
     for (settings, length, count) in [
         (version_1(0, 0), 3, 40_000),
-        (version_2(1, 16), 5, 20_000),
-        (version_1(4, 7), 8, 2_000),
+        (version_2(1, 16).with_hash(16), 5, 20_000),
+        (version_1(4, 7).with_hash(3), 8, 2_000),
         (version_2(0, 9), 64, 4_000),
     ] {
         let keys = many_mixed_keys(&mut random, count, length);

@@ -5,6 +5,7 @@ use range_filter_tests::random::Random;
 use range_filter_tests::reference::keys::{MAX_KEY, MAX_KEYS};
 use range_filter_tests::reference::leaves::leaves;
 use range_filter_tests::reference::trie::{entry_count, nodes};
+use range_filter_tests::settings::version_1;
 
 const LISTS: usize = 20_000;
 
@@ -17,7 +18,7 @@ const MOST_ENTRIES: usize = MAX_KEYS + 256 + 62 * 32_767;
 
 /// Counts the trie entries of keys that make a list.
 fn entries(keys: &[Vec<u8>]) -> usize {
-    entry_count(&nodes(&leaves(keys, 0)))
+    entry_count(&nodes(&leaves(keys, version_1(0, 0))))
 }
 
 #[test]

@@ -1,13 +1,13 @@
 //! The reference alone: the level starts of an image compared with their definition, read over
 //! all cut keys.
 
-use range_filter_tests::generate::every_setting_of_version_1;
 use range_filter_tests::generate::images::built;
 use range_filter_tests::generate::keys::any_keys;
 use range_filter_tests::generate::level_starts::{body, read};
+use range_filter_tests::generate::settings_of_version_1;
 use range_filter_tests::random::Random;
 use range_filter_tests::reference::leaves::{leaves, Leaf};
-use range_filter_tests::settings::version_2;
+use range_filter_tests::settings::Settings;
 use std::collections::BTreeSet;
 
 const LISTS_A_SETTING: usize = 20;
@@ -28,11 +28,15 @@ fn defined_starts(leaves: &[Leaf]) -> Vec<u32> {
 #[test]
 fn level_starts_agree_with_their_definition() {
     let mut random = Random::new(151);
-    for settings in every_setting_of_version_1() {
+    for settings in settings_of_version_1() {
+        let settings = Settings {
+            version: 2,
+            ..settings
+        };
         for _ in 0..LISTS_A_SETTING {
             let keys = any_keys(&mut random);
-            let image = built(&keys, version_2(settings.dense_levels, settings.n));
-            let starts = defined_starts(&leaves(&keys, 0));
+            let image = built(&keys, settings);
+            let starts = defined_starts(&leaves(&keys, settings));
             assert_eq!(read(body(&image)), starts, "{keys:?}");
         }
     }

@@ -8,13 +8,18 @@
 //! the list. No interval is used. The rule behind a point's reply is the one whose sentence
 //! holds of the key.
 //!
+//! With hash bits only points are compared with the lists of one image. The other replies are
+//! compared with all lists of the same cut keys and real bits, which are those whose images
+//! are the same with the hash bits struck out.
+//!
 //! This is exact for questions from the universe though longer keys exist: cutting a byte
 //! of an alphabet of 00, 80 and FF to its high bit and filling with zeros stays in the
-//! alphabet, so that with the widths below each leaf's lowest key lies in the universe,
+//! alphabet, so that with the real bits below each leaf's lowest key lies in the universe,
 //! and so does the greater of it and a bound.
 //!
-//! Longer keys and other widths are covered by lists with the same image that have as many
-//! keys in a question's range as any list can have.
+//! Longer keys and other settings are covered by lists of the same cut keys and real bits
+//! that have as many keys in a question's range as any list can have, and, for points, by
+//! lists that have the point's key in the place of one of theirs.
 
 use range_filter_tests::generate::any_settings;
 use range_filter_tests::generate::images::built;
@@ -22,26 +27,58 @@ use range_filter_tests::generate::keys::{any_keys, ff_keys};
 use range_filter_tests::generate::questions::{question_near, stems_of};
 use range_filter_tests::generate::universe::{List, Universe};
 use range_filter_tests::random::Random;
+use range_filter_tests::reference::build;
 use range_filter_tests::reference::check::accepted_leaves;
+use range_filter_tests::reference::keys;
 use range_filter_tests::reference::leaves::{is_possible, leaves, lowest, Leaf};
 use range_filter_tests::reference::questions::Question;
 use range_filter_tests::reference::replies::{replies, Reply, NONE};
 use range_filter_tests::reference::rule_sentences::rules;
+use range_filter_tests::reference::strike::struck;
 use range_filter_tests::settings::{version_1, version_2, Settings};
 use std::collections::HashMap;
 
-const WIDTHS: [u64; 5] = [0, 1, 8, 9, 16];
 const ATTAINED_LISTS: usize = 400;
 const QUESTIONS_A_LIST: usize = 40;
 
-/// Groups lists by the image they build.
-fn grouped(lists: &[List], settings: Settings) -> HashMap<Vec<u8>, Vec<&List>> {
-    let mut groups: HashMap<Vec<u8>, Vec<&List>> = HashMap::new();
+/// The hash bits h and the real bits n that all lists of small universes are tried with.
+const SLOTS: [(u64, u64); 9] = [
+    (0, 0),
+    (0, 1),
+    (0, 8),
+    (0, 9),
+    (0, 16),
+    (1, 0),
+    (16, 0),
+    (3, 1),
+    (4, 9),
+];
+
+/// Lists by the image they build.
+type Group<'a> = HashMap<Vec<u8>, Vec<&'a List>>;
+
+/// Lists that a reply is compared with: those of its image, and those of the same cut keys
+/// and real bits.
+struct Lists<'a> {
+    of_image: &'a [&'a List],
+    of_real_bits: &'a [&'a List],
+}
+
+/// Groups lists by the image they build with the hash bits struck out, and each group by the
+/// image they build.
+fn grouped(lists: &[List], settings: Settings) -> HashMap<Vec<u8>, Group<'_>> {
+    let mut groups: HashMap<Vec<u8>, Group> = HashMap::new();
     for list in lists {
         let image = built(list, settings);
-        groups.entry(image).or_default().push(list);
+        let group = groups.entry(struck_out(&image)).or_default();
+        group.entry(image).or_default().push(list);
     }
     groups
+}
+
+/// Strikes the hash bits out of an accepted image.
+fn struck_out(image: &[u8]) -> Vec<u8> {
+    struck(image).expect("an accepted image has its slots")
 }
 
 /// Gives the most keys that any list of a group has in a range.
@@ -77,15 +114,18 @@ fn rule_bytes(leaves: &[Leaf], key: &[u8]) -> Vec<u8> {
     rules.into_iter().map(|rule| rule.number()).collect()
 }
 
-/// Gives the reply that the lists of a group, which all have these leaves, call for.
-fn brute_reply(group: &[&List], leaves: &[Leaf], question: &Question) -> Reply {
-    let most = |lower: &[u8], upper: &[u8]| most_in_range(group, lower, upper);
+/// Gives the reply that lists call for over an image with these leaves.
+fn brute_reply(lists: &Lists, leaves: &[Leaf], question: &Question) -> Reply {
+    let most = |lower: &[u8], upper: &[u8]| most_in_range(lists.of_real_bits, lower, upper);
     let (number, key) = match question {
-        Question::Point(key) => (most(key, key), rule_bytes(leaves, key)),
+        Question::Point(key) => {
+            let number = most_in_range(lists.of_image, key, key);
+            (number, rule_bytes(leaves, key))
+        }
         Question::Range(lower, upper) => (most(lower, upper).min(1), Vec::new()),
-        Question::BeginsWith(stem) => (some_begins(group, stem), Vec::new()),
+        Question::BeginsWith(stem) => (some_begins(lists.of_real_bits, stem), Vec::new()),
         Question::Count(lower, upper) => (most(lower, upper), Vec::new()),
-        Question::Seek(start) => least_from(group, start),
+        Question::Seek(start) => least_from(lists.of_real_bits, start),
     };
     Reply {
         letter: question.letter(),
@@ -96,15 +136,27 @@ fn brute_reply(group: &[&List], leaves: &[Leaf], question: &Question) -> Reply {
 
 /// Compares the replies over every image of a universe with the lists that build it.
 fn compare_universe(universe: &Universe, settings: fn(u64) -> Settings) {
-    for n in WIDTHS {
-        for (image, group) in grouped(&universe.lists, settings(n)) {
-            let leaves = accepted_leaves(&image).expect("a built image is accepted");
-            let replies = replies(&leaves, &universe.questions);
-            for (question, reply) in universe.questions.iter().zip(replies) {
-                let brute = brute_reply(&group, &leaves, question);
-                assert_eq!(reply, brute, "{question:?} over {:?}", group[0]);
+    for (h, n) in SLOTS {
+        for (struck, group) in grouped(&universe.lists, settings(n).with_hash(h)) {
+            let of_real_bits: Vec<&List> = group.values().flatten().copied().collect();
+            assert_eq!(built(of_real_bits[0], settings(n)), struck);
+            for (image, of_image) in &group {
+                let lists = Lists {
+                    of_image,
+                    of_real_bits: &of_real_bits,
+                };
+                compare_image(image, &lists, &universe.questions);
             }
         }
+    }
+}
+
+/// Compares the replies over an image with the lists that build it.
+fn compare_image(image: &[u8], lists: &Lists, questions: &[Question]) {
+    let leaves = accepted_leaves(image).expect("a built image is accepted");
+    for (question, reply) in questions.iter().zip(replies(&leaves, questions)) {
+        let brute = brute_reply(lists, &leaves, question);
+        assert_eq!(reply, brute, "{question:?} over {:?}", lists.of_image[0]);
     }
 }
 
@@ -125,8 +177,8 @@ fn replies_agree_over_all_short_lists_of_three_byte_keys() {
     compare_universe(&Universe::of_short_lists(), |n| version_2(2, n));
 }
 
-/// Gives a list with the same image that has as many keys from a bound on as it can: each
-/// leaf's key is the least possible one from the bound on, if there is one.
+/// Gives a list of the same cut keys and real bits that has as many keys from a bound on as it
+/// can: each leaf's key is the least possible one from the bound on, if there is one.
 fn fullest_list(list: &[Vec<u8>], leaves: &[Leaf], lower: &[u8]) -> List {
     let fullest = |(key, leaf): (&Vec<u8>, &Leaf)| {
         let least = lowest(leaf).max(lower.to_vec());
@@ -138,19 +190,40 @@ fn fullest_list(list: &[Vec<u8>], leaves: &[Leaf], lower: &[u8]) -> List {
     list.iter().zip(leaves).map(fullest).collect()
 }
 
+/// Gives a list and those with a key in the place of one of its neighbours in the list, if
+/// they build the same image.
+fn exchanged_lists(list: &List, key: &[u8], settings: Settings) -> Vec<List> {
+    let image = built(list, settings);
+    let behind = list.partition_point(|other| other.as_slice() < key);
+    let mut lists = vec![list.clone()];
+    for at in behind.saturating_sub(1)..(behind + 1).min(list.len()) {
+        let mut exchanged = list.clone();
+        exchanged[at] = key.to_vec();
+        lists.push(exchanged);
+    }
+    lists.retain(|list| build::image(&keys::write(list), settings).as_ref() == Ok(&image));
+    lists
+}
+
 #[test]
 fn replies_over_long_keys_are_attained() {
     let mut random = Random::new(13);
     for _ in 0..ATTAINED_LISTS {
         let list = any_keys(&mut random);
         let settings = any_settings(&mut random);
-        let image = built(&list, settings);
-        let leaves = leaves(&list, settings.n as usize);
+        let struck = struck_out(&built(&list, settings));
+        let leaves = leaves(&list, settings);
         for _ in 0..QUESTIONS_A_LIST {
             let question = question_near(&mut random, &leaves);
-            let fullest = fullest_list(&list, &leaves, question.keys()[0]);
-            assert_eq!(built(&fullest, settings), image);
-            let brute = brute_reply(&[&fullest, &list], &leaves, &question);
+            let key = question.keys()[0];
+            let fullest = fullest_list(&list, &leaves, key);
+            assert_eq!(struck_out(&built(&fullest, settings)), struck);
+            let exchanged = exchanged_lists(&list, key, settings);
+            let lists = Lists {
+                of_image: &exchanged.iter().collect::<Vec<&List>>(),
+                of_real_bits: &[&fullest, &list],
+            };
+            let brute = brute_reply(&lists, &leaves, &question);
             assert_eq!(replies(&leaves, &[question]), [brute], "{list:?}");
         }
     }

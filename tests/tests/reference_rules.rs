@@ -13,11 +13,23 @@ use range_filter_tests::reference::replies::replies;
 use range_filter_tests::reference::rule_sentences::rules;
 use range_filter_tests::reference::rules::{rule, Rule};
 use range_filter_tests::reference::trie::trie;
+use range_filter_tests::settings::version_1;
 use range_filter_tests::tally::Tally;
 
-const WIDTHS: [usize; 5] = [0, 1, 8, 9, 16];
 const LISTS: usize = 3_000;
 const RULE_TIMES: usize = 2_000;
+
+/// The hash bits h and the real bits n that all lists of small universes are tried with.
+const SLOTS: [(u64, u64); 8] = [
+    (0, 0),
+    (0, 1),
+    (0, 8),
+    (0, 9),
+    (0, 16),
+    (1, 0),
+    (3, 1),
+    (16, 8),
+];
 
 /// Compares the rules of some keys over leaves, and notes them.
 fn compare_rules(tally: &mut Tally, leaves: &[Leaf], keys: &[Vec<u8>]) {
@@ -49,9 +61,10 @@ fn keys_of(universe: &Universe) -> Vec<Vec<u8>> {
 /// Compares the rules of all keys over all lists of a universe, and notes them.
 fn compare_universe(tally: &mut Tally, universe: &Universe) {
     let keys = keys_of(universe);
-    for n in WIDTHS {
+    for (h, n) in SLOTS {
         for list in &universe.lists {
-            compare_rules(tally, &leaves(list, n), &keys);
+            let leaves = leaves(list, version_1(0, n).with_hash(h));
+            compare_rules(tally, &leaves, &keys);
         }
     }
 }
@@ -72,8 +85,9 @@ fn one_rule_holds_of_each_key_about_random_leaves() {
     for _ in 0..LISTS {
         let list = random.pick(&[any_keys, ff_keys, growing_keys, no_keys])(&mut random);
         let settings = any_settings(&mut random);
-        let leaves = leaves(&list, settings.n as usize);
-        compare_rules(&mut tally, &leaves, &keys_about(&mut random, &leaves));
+        let leaves = leaves(&list, settings);
+        let keys = [keys_about(&mut random, &leaves), list].concat();
+        compare_rules(&mut tally, &leaves, &keys);
     }
     let often = |rule: Rule| tally.times(rule.number().into()) >= RULE_TIMES;
     assert!(Rule::ALL.into_iter().all(often), "{tally:?}");

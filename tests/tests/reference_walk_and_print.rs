@@ -17,7 +17,7 @@ fn try_images(seed: u64, mut trial: impl FnMut(&[u8], &[Leaf])) {
     for _ in 0..LISTS {
         let list = any_keys(&mut random);
         let settings = any_settings(&mut random);
-        let leaves = leaves(&list, settings.n as usize);
+        let leaves = leaves(&list, settings);
         trial(&built(&list, settings), &leaves);
     }
 }
@@ -51,8 +51,9 @@ fn walk_stays_at_done() {
     });
 }
 
-/// Reads a printed line back into a leaf, checking its number.
-fn read_line(line: &str, number: usize, width: usize) -> Leaf {
+/// Reads a printed line back into a leaf with h hash bits and n real bits, checking its
+/// number.
+fn read_line(line: &str, number: usize, h: usize, n: usize) -> Leaf {
     let fields: Vec<&str> = line.split(' ').collect();
     let [printed_number, kind, cut_key, suffix] = fields[..] else {
         panic!("a line has four fields: {line}");
@@ -62,20 +63,25 @@ fn read_line(line: &str, number: usize, width: usize) -> Leaf {
     assert_eq!(cut_key, cut_key.to_uppercase());
     let byte = |i: usize| u8::from_str_radix(&cut_key[2 * i..2 * i + 2], 16);
     let bytes = (0..cut_key.len() / 2).map(|i| byte(i).expect("two digits a byte"));
+    let suffix = match suffix {
+        "-" => "0".repeat(h + n),
+        bits => bits.to_owned(),
+    };
+    assert_eq!(suffix.len(), h + n);
+    let [hash, real] = [&suffix[..h], &suffix[h..]];
+    let bits = |text: &str| text.chars().map(|bit| bit == '1').collect();
     Leaf {
         cut_key: bytes.collect(),
         exact: kind == "E",
-        suffix: match suffix {
-            "-" => vec![false; width],
-            bits => bits.chars().map(|bit| bit == '1').collect(),
-        },
+        hash: bits(hash),
+        real: bits(real),
     }
 }
 
 #[test]
 fn printed_text_gives_every_leaf() {
     try_images(23, |image, leaves| {
-        let width = usize::from(image[4]);
+        let [n, h] = [image[4], image[5]].map(usize::from);
         let text = print(image);
         assert!(text.ends_with('\n'));
         let mut lines = text.lines();
@@ -84,16 +90,16 @@ fn printed_text_gives_every_leaf() {
             Some(format!("leaves {}", leaves.len()).as_str())
         );
         let lines = lines.enumerate();
-        let read = lines.map(|(number, line)| read_line(line, number, width));
+        let read = lines.map(|(number, line)| read_line(line, number, h, n));
         assert_eq!(read.collect::<Vec<Leaf>>(), leaves);
     });
 }
 
 #[test]
-fn dash_stands_for_exact_leaves_and_width_0_alone() {
+fn dash_stands_for_exact_leaves_and_slots_without_bits_alone() {
     try_images(24, |image, leaves| {
         for (line, leaf) in print(image).lines().skip(1).zip(leaves) {
-            let dash = leaf.exact || leaf.suffix.is_empty();
+            let dash = leaf.exact || image[4..6] == [0, 0];
             assert_eq!(line.ends_with(" -"), dash, "{line}");
         }
     });

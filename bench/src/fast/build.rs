@@ -2,7 +2,8 @@
 //! body filled with a cursor a level. A key takes part in the levels from what it
 //! shares with the key before up to its leaf, so the work is linear in the image.
 
-use super::bits::{load, ones, ones_of, select_in_word, word};
+use super::bits::{below, load, ones, ones_of, select_in_word, word};
+use super::hash::hash_bits;
 use range_filter_tests::answer::Answer;
 use range_filter_tests::reference::build::EXTRA_LABEL;
 use range_filter_tests::reference::format::{
@@ -78,7 +79,7 @@ fn fill(list: &[u8], settings: Settings, stated: u64, out: &mut [u8]) -> Result<
         write_frame(image, &header, &lengths);
     fill_dense(list, &plan.records, &header, &cursors, [dl, dc, dp]);
     fill_sparse(list, &plan.records, &header, &cursors, [sl, sc, sb]);
-    fill_slots(list, &plan.records, settings.n as usize, &cursors, sv);
+    fill_slots(list, &plan.records, settings, &cursors, sv);
     fill_level_starts(&cursors, lv);
     fill_ranks(dl, rl, DENSE_BLOCK);
     fill_ranks(dc, rc, DENSE_BLOCK);
@@ -367,33 +368,43 @@ impl Batch {
     }
 }
 
-/// Fills the suffix slots; a slot touches at most three bytes.
-fn fill_slots(list: &[u8], records: &[Record], width: usize, cursors: &Cursors, values: &mut [u8]) {
+/// Fills the slots, those of exact leaves with zeros.
+fn fill_slots(
+    list: &[u8],
+    records: &[Record],
+    settings: Settings,
+    cursors: &Cursors,
+    values: &mut [u8],
+) {
     values.fill(0);
+    let [h, n] = [settings.h, settings.n].map(|bits| bits as usize);
+    let width = h + n;
     if width == 0 {
         return;
     }
+    let touched = (7 + width).div_ceil(8);
     let mut slots = cursors.slots;
     for record in records {
         let slot = &mut slots[usize::from(record.end) - 1];
         let position = *slot as usize * width;
         *slot += 1;
         if !record.is_exact() {
-            let bits = suffix(list, record, width) << (position % 8);
+            let suffix = hash_bits(record.key(list), h) | real_bits(list, record, n) << h;
+            let bits = suffix << (position % 8);
             let bytes = values[position / 8..].iter_mut();
-            for (byte, part) in bytes.zip(bits.to_le_bytes()).take(3) {
+            for (byte, part) in bytes.zip(bits.to_le_bytes()).take(touched) {
                 *byte |= part;
             }
         }
     }
 }
 
-/// Gives the suffix bits of an open leaf, the first one lowest.
-fn suffix(list: &[u8], record: &Record, width: usize) -> u32 {
+/// Gives the real bits of an open leaf, the first one lowest.
+fn real_bits(list: &[u8], record: &Record, count: usize) -> u64 {
     let left = (record.length - record.end).min(2);
     let two = load(list, record.start as usize + usize::from(record.end)) as u16;
-    let kept = u32::from(two.swap_bytes().reverse_bits()) & ((1 << (8 * left)) - 1);
-    kept & ((1 << width) - 1)
+    let kept = u64::from(two.swap_bytes().reverse_bits()) & below(8 * usize::from(left));
+    kept & below(count)
 }
 
 /// Fills a table with the ones before each block of a body.

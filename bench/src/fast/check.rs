@@ -9,6 +9,7 @@ use range_filter_tests::reference::format::{
     SPARSE_BLOCK, SV, TS,
 };
 use range_filter_tests::reference::keys::MAX_KEY;
+use std::ops::Range;
 
 /// The words of a dense node.
 const NODE_WORDS: usize = NODE_BITS / 64;
@@ -108,10 +109,10 @@ fn spare_bits_are_clear(frame: &Frame) -> bool {
     bodies.all(|(bits, body)| bits % 8 == 0 || body[body.len() - 1] >> (bits % 8) == 0)
 }
 
-/// Reads a suffix slot, the first bit lowest.
+/// Reads a slot, the first bit lowest.
 #[inline]
 pub fn slot(frame: &Frame, number: usize) -> u64 {
-    let width = frame.header.settings.n as usize;
+    let width = frame.header.settings.slot_bits() as usize;
     if width == 0 {
         return 0;
     }
@@ -119,15 +120,26 @@ pub fn slot(frame: &Frame, number: usize) -> u64 {
     load(frame.bodies[SV], position / 8) >> (position % 8) & below(width)
 }
 
-/// Judges the slots of cut keys of 63 and 64 bytes, which are the last slots.
+/// Judges the real bits of cut keys of 63 and 64 bytes, whose slots are the last ones: of the
+/// former those behind the first eight, of the latter all. Where slots have no hash bits, all
+/// bits of the latter are looked at together.
 fn late_slots_are_valid(frame: &Frame, levels: &Levels) -> bool {
     let leaves = frame.header.leaves as usize;
     let starts = &levels.starts[..levels.count];
     let start = |level: usize| starts.get(level).map_or(leaves, |start| start.leaves);
     let [of_63_bytes, of_64_bytes] = [start(MAX_KEY - 2), start(MAX_KEY - 1)];
-    let width = frame.header.settings.n as usize;
-    is_clear_from(frame.bodies[SV], of_64_bytes * width)
-        && (width <= 8 || (of_63_bytes..of_64_bytes).all(|number| slot(frame, number) >> 8 == 0))
+    let [h, n] = [frame.header.settings.h, frame.header.settings.n].map(|bits| bits as usize);
+    let of_64_are_valid = match h {
+        0 => is_clear_from(frame.bodies[SV], of_64_bytes * n),
+        _ => n == 0 || slots_are_clear_behind(frame, of_64_bytes..leaves, h),
+    };
+    of_64_are_valid && (n <= 8 || slots_are_clear_behind(frame, of_63_bytes..of_64_bytes, h + 8))
+}
+
+/// Says whether slots have no bit set behind so many first ones; all are read, without a
+/// branch.
+fn slots_are_clear_behind(frame: &Frame, numbers: Range<usize>, bits: usize) -> bool {
+    numbers.fold(0, |set, number| set | slot(frame, number)) >> bits == 0
 }
 
 impl Levels {

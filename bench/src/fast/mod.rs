@@ -8,6 +8,7 @@ pub mod build;
 pub mod check;
 mod count;
 mod dense;
+pub mod hash;
 mod locate;
 mod range;
 mod seek;

@@ -41,9 +41,9 @@ impl Trie<'_> {
                 return Rule::BranchMissing;
             };
             let Some(child) = self.child(branch) else {
-                return match self.compare_leaf(branch, &key[level + 1..]) {
-                    Ordering::Equal => Rule::SuffixEqual,
-                    _ => Rule::SuffixOther,
+                return match self.leaf_has(branch, key, level + 1) {
+                    true => Rule::SuffixEqual,
+                    false => Rule::SuffixOther,
                 };
             };
             node = child;
@@ -55,7 +55,7 @@ impl Trie<'_> {
     }
 
     /// Says whether some leaf has a possible key that begins with a stem: all leaves below a
-    /// node do to which the stem leads; of an open leaf on the way the suffix tells.
+    /// node do to which the stem leads; of an open leaf on the way the real bits tell.
     pub fn begins(&self, stem: &[u8]) -> bool {
         if self.is_empty() {
             return false;

@@ -81,7 +81,7 @@ impl Trie<'_> {
             Target::Holding => key.extend_from_slice(start),
             Target::Above { slot } => {
                 key.extend_from_slice(&start[..way.level]);
-                self.write_suffix(slot, key);
+                self.write_real_bits(slot, key);
             }
             Target::Higher(higher) => {
                 let (level, branch) = higher?;
@@ -150,15 +150,15 @@ impl Trie<'_> {
         Some(node)
     }
 
-    /// Adds the label of a branch, and the suffix where it is a leaf, with what is before it
-    /// known; gives the node that it leads to.
+    /// Adds the label of a branch, and the real bits where it is a leaf, with what is before
+    /// it known; gives the node that it leads to.
     #[inline]
     fn take(&self, before: Before, branch: Branch, key: &mut Key) -> Option<usize> {
         key.push(self.label(branch));
         if self.has_child(branch) {
             return Some(before.node());
         }
-        self.write_suffix(before.slots, key);
+        self.write_real_bits(before.slots, key);
         None
     }
 
@@ -188,9 +188,9 @@ impl Trie<'_> {
         slots
     }
 
-    /// Adds the suffix in a slot, less its zero bytes at the end.
-    fn write_suffix(&self, slot: usize, key: &mut Key) {
-        match self.suffix(slot).to_be_bytes() {
+    /// Adds the real bits in a slot, less their zero bytes at the end.
+    fn write_real_bits(&self, slot: usize, key: &mut Key) {
+        match self.real_bits_in(slot).to_be_bytes() {
             [0, 0] => (),
             [first, 0] => key.push(first),
             both => key.extend_from_slice(&both),

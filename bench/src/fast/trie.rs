@@ -1,8 +1,10 @@
 //! Moving over the trie of an accepted image, whose upper nodes are dense and whose lower
 //! ones are sparse.
 
+use super::bits::below;
 use super::check::{slot, Accepted};
 use super::dense::Dense;
+use super::hash::hash_bits;
 use super::sparse::Sparse;
 use range_filter_tests::reference::format::NODE_BITS;
 use range_filter_tests::reference::keys::MAX_KEY;
@@ -19,6 +21,8 @@ pub struct Trie<'a> {
     dense_leaves: usize,
     pub levels: usize,
     pub slots_before_levels: usize,
+    hash_bits: usize,
+    real_bits: usize,
 }
 
 /// A branch: a bit of D-Labels or a sparse entry.
@@ -79,6 +83,7 @@ impl<'a> Trie<'a> {
     /// Takes an accepted image.
     pub fn new(image: &'a Accepted<'a>) -> Self {
         let starts = &image.levels.starts[..image.levels.count];
+        let settings = image.frame.header.settings;
         Trie {
             image,
             dense: Dense::new(image),
@@ -88,6 +93,8 @@ impl<'a> Trie<'a> {
             dense_leaves: image.dense.leaves,
             levels: image.levels.count,
             slots_before_levels: starts.iter().map(|start| start.leaves).sum(),
+            hash_bits: settings.h as usize,
+            real_bits: settings.n as usize,
         }
     }
 
@@ -313,28 +320,51 @@ impl<'a> Trie<'a> {
         }
     }
 
-    /// Compares the suffix of an open leaf with the bits of a key behind the cut; where
-    /// there are no suffixes no slot is looked for.
+    /// Says whether an open leaf has the suffix of a key that is cut behind so many bytes. The
+    /// hash is taken only where the real bits agree; where slots have no bits none is looked
+    /// for.
+    #[inline]
+    pub fn leaf_has(&self, leaf: Branch, key: &[u8], cut: usize) -> bool {
+        if self.hash_bits + self.real_bits == 0 {
+            return true;
+        }
+        let suffix = slot(&self.image.frame, self.before(leaf).slots);
+        let real = self.real_bits_of(&key[cut..]).reverse_bits();
+        suffix >> self.hash_bits == u64::from(real)
+            && suffix & below(self.hash_bits) == hash_bits(key, self.hash_bits)
+    }
+
+    /// Compares the real bits of an open leaf with those of a key behind the cut; where there
+    /// are none no slot is looked for.
     #[inline]
     pub fn compare_leaf(&self, leaf: Branch, behind_cut: &[u8]) -> Ordering {
-        match self.image.frame.header.settings.n {
+        match self.real_bits {
             0 => Ordering::Equal,
             _ => self.compare_slot(self.before(leaf).slots, behind_cut),
         }
     }
 
-    /// Compares the suffix in a slot with the bits of a key behind the cut.
+    /// Compares the real bits in a slot with those of a key behind the cut.
     #[inline]
     pub fn compare_slot(&self, number: usize, behind_cut: &[u8]) -> Ordering {
-        let byte = |at: usize| behind_cut.get(at).copied().unwrap_or(0);
-        let kept = !(0xFFFF_u32 >> self.image.frame.header.settings.n) as u16;
-        let bits = u16::from_be_bytes([byte(0), byte(1)]) & kept;
-        self.suffix(number).cmp(&bits)
+        self.real_bits_in(number)
+            .cmp(&self.real_bits_of(behind_cut))
     }
 
-    /// Reads the suffix in a slot as the high bits of two bytes.
+    /// Gives the real bits of a key behind the cut as the high bits of two bytes.
     #[inline]
-    pub fn suffix(&self, number: usize) -> u16 {
-        (slot(&self.image.frame, number) as u16).reverse_bits()
+    fn real_bits_of(&self, behind_cut: &[u8]) -> u16 {
+        let byte = |at: usize| behind_cut.get(at).copied().unwrap_or(0);
+        let kept = !(0xFFFF_u32 >> self.real_bits) as u16;
+        u16::from_be_bytes([byte(0), byte(1)]) & kept
+    }
+
+    /// Reads the real bits in a slot as the high bits of two bytes.
+    #[inline]
+    pub fn real_bits_in(&self, number: usize) -> u16 {
+        match self.real_bits {
+            0 => 0,
+            _ => ((slot(&self.image.frame, number) >> self.hash_bits) as u16).reverse_bits(),
+        }
     }
 }

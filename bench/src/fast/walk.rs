@@ -205,7 +205,7 @@ impl<'a> Walk<'a> {
         for ((byte, label), kept) in key.iter_mut().zip(self.labels).zip(kept) {
             *byte = label & kept;
         }
-        let bits = slot(&self.image.frame, leaf.slot) as u16;
+        let bits = slot(&self.image.frame, leaf.slot) as u32;
         suffix.copy_from_slice(&bits.to_le_bytes());
     }
 }

@@ -5,16 +5,19 @@ use mathlib.Core.List.{[], _∷_, _++_}
 use native.Mathlib.Omega.{arith}
 use lib.ListN.{length, getD, take, drop, set}
 use Rattle.spec.specs.Bytes.{Bytes}
+use Rattle.spec.specs.Frame.{read-settings}
 use Rattle.spec.specs.Nodes.{read-leaves}
 use Rattle.spec.specs.Rules.{rule, rule-number, rule-says}
 use Rattle.spec.specs.Questions.{Question, QP, Reply, point, reply}
-use Rattle.spec.specs.OneQuestion.{question-refusal, Numbered, number, Answered, replied, ask-one, reply-number, reply-rule, key-written}
+use Rattle.spec.specs.OneQuestion.{question-refusal, number, Answered, replied, ask-one, reply-number, reply-rule, key-written}
 use Rattle.spec.specs.Check.{verdict}
 use Rattle.theory.specs.Terms.{Is-bytes}
 use Rattle.theory.specs.Rules.{point-rule}
 use Rattle.theory.specs.Accept.{accepted-is-image}
 use Rattle.theory.specs.LengthBounds.{leaves-are}
 use Rattle.theory.specs.OneQuestionLaws.{one-refused, one-replied}
+use Rattle.image_types.specs.declared.Frame.{Frame}
+use Rattle.nav_laws.specs.Accepted.{Accepted}
 use Rattle.bits_laws.specs.Bits.{placed}
 use Rattle.ask_laws.specs.ReplyLaws.{point-reply}
 use Rattle.accepted.specs.declared.Number.the-variants.{Of, Refused}
@@ -34,26 +37,30 @@ module _ (s : Bytes) (q : Question) where
     refused-key out = sym (ap (λ (a : Answered). key-written a out) (one-refused s q r e h))
 
   -- a question that is taken
-  module _ (e : question-refusal q ≡ 0) where
-    pub replied-number : (x : ℕ) → x ≡ reply (read-leaves s) q .number → numbered-of (Of x) ≡ reply-number (ask-one s q)
-    replied-number x f = ap number f ∙ sym (ap reply-number (one-replied s q e))
+  module _ (e : question-refusal q ≡ 0) (f : Frame) (a : Accepted s f) where
+    -- by the hash bits that the frame says
+    answered : ask-one s q ≡ replied (reply (f .hash) (read-leaves s) q)
+    answered = one-replied s q e ∙ ap (λ (h : ℕ). replied (reply h (read-leaves s) q)) (a .hash-is)
+
+    pub replied-number : (x : ℕ) → x ≡ reply (f .hash) (read-leaves s) q .number → numbered-of (Of x) ≡ reply-number (ask-one s q)
+    replied-number x h = ap number h ∙ sym (ap reply-number answered)
 
     -- the length of the reply's key and the key stand at the front of the buffer
-    pub replied-key : (out key : Bytes) (n : ℕ) → take n key ≡ reply (read-leaves s) q .key → n ≡ length (take n key) → 0 < length out
+    pub replied-key : (out key : Bytes) (n : ℕ) → take n key ≡ reply (f .hash) (read-leaves s) q .key → n ≡ length (take n key) → 0 < length out
         → placed (set out 0 n) 1 (take n key) ≡ key-written (ask-one s q) out
     replied-key (x ∷ out) key n k size h =
-        let same : n ∷ (take n key ++ drop (length (take n key)) out) ≡ key-written (replied (reply (read-leaves s) q)) (x ∷ out) = ap₂ {C = Bytes} (λ (m : ℕ) (z : Bytes). m ∷ (z ++ drop (length z) out)) (size ∙ ap length k) k in
+        let same : n ∷ (take n key ++ drop (length (take n key)) out) ≡ key-written (replied (reply (f .hash) (read-leaves s) q)) (x ∷ out) = ap₂ {C = Bytes} (λ (m : ℕ) (z : Bytes). m ∷ (z ++ drop (length z) out)) (size ∙ ap length k) k in
         let one : 1 + length (take n key) ≡ suc (length (take n key)) = omega arith in
-        rw one (same ∙ sym (ap (λ (a : Answered). key-written a (x ∷ out)) (one-replied s q e)))
+        rw one (same ∙ sym (ap (λ (r : Answered). key-written r (x ∷ out)) answered))
     replied-key [] key n k size h = absurd (omega arith)
 
 -- a point: what its rule says, and the rule
 module _ (s : Bytes) (k : Bytes) (e : question-refusal (QP k) ≡ 0) where
-  pub point-number : Is-bytes s → verdict s ≡ 0 → length k ≤ 64 → (x : ℕ) → x ≡ rule-says (rule (read-leaves s) k) → numbered-of (Of x) ≡ reply-number (ask-one s (QP k))
+  pub point-number : Is-bytes s → verdict s ≡ 0 → length k ≤ 64 → (x : ℕ) → x ≡ rule-says (rule (read-settings s .hash-width) (read-leaves s) k) → numbered-of (Of x) ≡ reply-number (ask-one s (QP k))
   point-number small v short x h =
       let o = accepted-is-image s small v in
-      let p : point (read-leaves s) k ≡ rule-says (rule (read-leaves s) k) = rw (leaves-are s o) (point-rule (o .leaves) (o .fits .realizable) (o .fits .well-sized) k short) in
-      replied-number s (QP k) e x (h ∙ sym p ∙ sym (ap (λ (r : Reply). r .number) (point-reply (read-leaves s) k)))
+      let p : point (read-settings s .hash-width) (read-leaves s) k ≡ rule-says (rule (read-settings s .hash-width) (read-leaves s) k) = rw (leaves-are s o) (point-rule (read-settings s .hash-width) (o .leaves) (o .fits .realizable) (o .fits .well-sized) k short) in
+      ap number (h ∙ sym p ∙ sym (ap (λ (r : Reply). r .number) (point-reply (read-settings s .hash-width) (read-leaves s) k))) ∙ sym (ap reply-number (one-replied s (QP k) e))
 
-  pub point-rule-is : (x : ℕ) → x ≡ rule-number (rule (read-leaves s) k) → numbered-of (Of x) ≡ reply-rule (ask-one s (QP k))
-  point-rule-is x h = ap number (h ∙ sym (ap (λ (r : Reply). getD (r .key) 0 0) (point-reply (read-leaves s) k))) ∙ sym (ap reply-rule (one-replied s (QP k) e))
+  pub point-rule-is : (x : ℕ) → x ≡ rule-number (rule (read-settings s .hash-width) (read-leaves s) k) → numbered-of (Of x) ≡ reply-rule (ask-one s (QP k))
+  point-rule-is x h = ap number (h ∙ sym (ap (λ (r : Reply). getD (r .key) 0 0) (point-reply (read-settings s .hash-width) (read-leaves s) k))) ∙ sym (ap reply-rule (one-replied s (QP k) e))

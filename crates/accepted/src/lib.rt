@@ -3,6 +3,7 @@ ghost use mathlib.Core.Path.{_≡_};
 ghost use Prim.Native.Nat.{_≤_};
 ghost use lib.ListN.{length};
 ghost use Rattle.spec.specs.Check.{verdict};
+ghost use Rattle.spec.specs.Frame.{read-settings};
 ghost use Rattle.spec.specs.Nodes.{read-leaves};
 ghost use Rattle.spec.specs.Rules.{rule};
 ghost use Rattle.spec.specs.Questions.{QP, QS, QB, QR, QC};
@@ -53,7 +54,7 @@ fn bounds_refusal(lo: &[u8], hi: &[u8]) -> u32
 // The rule behind the reply to a point.
 fn rule_behind(image: &[u8], key: &[u8]) -> Rule
     requires { ⌜ (verdict (now image) ≡ 0) × (length (now key) ≤ 64) ⌝ }
-    ensures { λ r. ⌜ rule-of r ≡ rule (read-leaves (now (image .entry))) (now (key .entry)) ⌝ }
+    ensures { λ r. ⌜ rule-of r ≡ rule (read-settings (now (image .entry)) .hash-width) (read-leaves (now (image .entry))) (now (key .entry)) ⌝ }
 {
     descend(image, accepted_frame(image), key)
 }

@@ -23,7 +23,7 @@ use query_levels::level_starts;
 // The length of the key in the reply to a question. A point's has one byte and a seek's varies, so that only a seek is answered for it; other replies have none. `starts` is the sum of slot numbers for the empty key.
 fn key_length(image: &[u8], f: Frame, starts: usize, file: &[u8], question: QuestionAt) -> usize
     requires { ⌜ Accepted (now image) f × (starts ≡ level-starts (now image) f) × Inside (now file) question ⌝ }
-    ensures { λ r. ⌜ (r ≡ length (reply (read-leaves (now (image .entry))) (question-of (now (file .entry)) question) .key)) × (r ≤ 64) ⌝ }
+    ensures { λ r. ⌜ (r ≡ length (reply (f .hash) (read-leaves (now (image .entry))) (question-of (now (file .entry)) question) .key)) × (r ≤ 64) ⌝ }
 {
     match question {
         QuestionAt::Seek(at, n) => {
@@ -41,7 +41,7 @@ fn key_length(image: &[u8], f: Frame, starts: usize, file: &[u8], question: Ques
 // The length of the replies to all questions of a file that is taken: eight bytes and a key for each.
 fn replies_length(image: &[u8], f: Frame, file: &[u8]) -> usize
     requires { ⌜ Accepted (now image) f × Taken-from (now file) 0 ⌝ }
-    ensures { λ r. ⌜ r ≡ length (file-replies (now (image .entry)) (now (file .entry))) ⌝ }
+    ensures { λ r. ⌜ r ≡ length (file-replies (f .hash) (now (image .entry)) (now (file .entry))) ⌝ }
 {
     let starts = level_starts(image, f);
     let mut at = 0usize;
@@ -61,7 +61,7 @@ const LONGEST_REPLY: usize = 72;
 // Whether the replies to all questions of a file that is taken, count of them, fit into room bytes. No reply is longer than LONGEST_REPLY, so their lengths are summed only where room is short.
 pub fn replies_fit(image: &[u8], f: Frame, file: &[u8], count: usize, room: usize) -> bool
     requires { ⌜ Accepted (now image) f × Taken-from (now file) 0 × (count ≡ length (questions-of (now file))) ⌝ }
-    ensures { λ r. ⌜ r ≡ leb (length (file-replies (now (image .entry)) (now (file .entry)))) room ⌝ }
+    ensures { λ r. ⌜ r ≡ leb (length (file-replies (f .hash) (now (image .entry)) (now (file .entry)))) room ⌝ }
 {
     if LONGEST_REPLY * count <= room {
         return true;

@@ -5,6 +5,7 @@ use mathlib.Core.List.{List, _++_}
 use borrow.Author.Tests.{ne-eqb}
 use lib.ListN.{length, drop}
 use Rattle.spec.specs.Bytes.{Bytes}
+use Rattle.spec.specs.Frame.{read-settings}
 use Rattle.spec.specs.Nodes.{read-leaves}
 use Rattle.spec.specs.Questions.{Question, refused, taken, parse-questions, replies}
 use Rattle.spec.specs.Answer.{Outcome, refuse, success}
@@ -26,9 +27,9 @@ written n new = record { answer = Answer.written n; final = new }
 pub record Joined (b file out : Bytes) : Type 0 where
   pub not-accepted : (v : ℕ) → v ≡ verdict b → (v ≡ 0 → ⊥) → ask b file out ≡ refusal v out
   pub turned-down : (r : ℕ) → verdict b ≡ 0 → parse-questions file ≡ refused r → ask b file out ≡ refusal r out
-  pub too-long : (qs : List Question) → verdict b ≡ 0 → parse-questions file ≡ taken qs → length out < length (replies (read-leaves b) qs) → ask b file out ≡ refusal 25 out
-  pub answered : (qs : List Question) (n : ℕ) (new : Bytes) → verdict b ≡ 0 → parse-questions file ≡ taken qs → n ≡ length (replies (read-leaves b) qs) → n ≤ length out
-      → new ≡ replies (read-leaves b) qs ++ drop n out → ask b file out ≡ written n new
+  pub too-long : (qs : List Question) → verdict b ≡ 0 → parse-questions file ≡ taken qs → length out < length (replies (read-settings b .hash-width) (read-leaves b) qs) → ask b file out ≡ refusal 25 out
+  pub answered : (qs : List Question) (n : ℕ) (new : Bytes) → verdict b ≡ 0 → parse-questions file ≡ taken qs → n ≡ length (replies (read-settings b .hash-width) (read-leaves b) qs) → n ≤ length out
+      → new ≡ replies (read-settings b .hash-width) (read-leaves b) qs ++ drop n out → ask b file out ≡ written n new
 
 refuse-is : (r : ℕ) (out : Bytes) → refuse r out ≡ refusal r out
 unfolding refuse
@@ -42,7 +43,7 @@ pub ask-joined : (b file out : Bytes) → Joined b file out
 ask-joined b file out = record {
   not-accepted = λ v e h. ask-is b file out v (parse-questions file) (sym e) refl ∙ rw (ne-eqb v 0 h) (refuse-is v out);
   turned-down = λ r e h. ask-is b file out 0 (refused r) e h ∙ refuse-is r out;
-  too-long = λ qs e h l. ask-is b file out 0 (taken qs) e h ∙ write-short 25 (replies (read-leaves b) qs) out l ∙ refuse-is 25 out;
-  answered = λ qs n new e h size room bytes. ask-is b file out 0 (taken qs) e h ∙ write-fits 25 (replies (read-leaves b) qs) out (rw size at room) ∙ success-is (replies (read-leaves b) qs) out
-      ∙ ap₂ written (sym size) (ap (λ (m : ℕ). replies (read-leaves b) qs ++ drop m out) (sym size) ∙ sym bytes);
+  too-long = λ qs e h l. ask-is b file out 0 (taken qs) e h ∙ write-short 25 (replies (read-settings b .hash-width) (read-leaves b) qs) out l ∙ refuse-is 25 out;
+  answered = λ qs n new e h size room bytes. ask-is b file out 0 (taken qs) e h ∙ write-fits 25 (replies (read-settings b .hash-width) (read-leaves b) qs) out (rw size at room) ∙ success-is (replies (read-settings b .hash-width) (read-leaves b) qs) out
+      ∙ ap₂ written (sym size) (ap (λ (m : ℕ). replies (read-settings b .hash-width) (read-leaves b) qs ++ drop m out) (sym size) ∙ sym bytes);
 }

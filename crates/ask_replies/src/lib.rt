@@ -34,7 +34,7 @@ pub const POINT_KEY: usize = 1;
 // The reply to a point: the number that the rule behind it says, and the rule's own number as its key.
 fn point_reply(image: &[u8], f: Frame, point: &[u8], key: &mut [u8]) -> Answered
     requires { ⌜ Accepted (now image) f × (length (now point) ≤ 64) × (length (now key) ≡ 64) ⌝ }
-    ensures { λ r. ⌜ Sized r (now (key .exit)) × (reply-of r (now (key .exit)) ≡ reply (read-leaves (now (image .entry))) (QP (now (point .entry)))) ⌝ }
+    ensures { λ r. ⌜ Sized r (now (key .exit)) × (reply-of r (now (key .exit)) ≡ reply (f .hash) (read-leaves (now (image .entry))) (QP (now (point .entry)))) ⌝ }
 {
     let rule = descend(image, f, point);
     key[0] = rule_number(rule);
@@ -51,7 +51,7 @@ const NO_LEAF: usize = 0xFFFFFFFF;
 // The reply to a seek: the leaf's number and key, or none, FFFFFFFF without a key. `starts` is the sum of slot numbers for the empty key.
 pub fn seek_reply(image: &[u8], f: Frame, starts: usize, start: &[u8], key: &mut [u8]) -> Answered
     requires { ⌜ Accepted (now image) f × (starts ≡ level-starts (now image) f) × (length (now start) ≤ 64) × (length (now key) ≡ 64) ⌝ }
-    ensures { λ r. ⌜ Sized r (now (key .exit)) × (reply-of r (now (key .exit)) ≡ reply (read-leaves (now (image .entry))) (QS (now (start .entry)))) ⌝ }
+    ensures { λ r. ⌜ Sized r (now (key .exit)) × (reply-of r (now (key .exit)) ≡ reply (f .hash) (read-leaves (now (image .entry))) (QS (now (start .entry)))) ⌝ }
 {
     let s = seek(image, f, starts, start, key);
     let leaf = s.leaf;
@@ -75,7 +75,7 @@ fn reply_to(
     key: &mut [u8],
 ) -> Answered
     requires { ⌜ Accepted (now image) f × (starts ≡ level-starts (now image) f) × Inside (now file) question × (length (now key) ≡ 64) ⌝ }
-    ensures { λ r. ⌜ Sized r (now (key .exit)) × (reply-of r (now (key .exit)) ≡ reply (read-leaves (now (image .entry))) (question-of (now (file .entry)) question)) ⌝ }
+    ensures { λ r. ⌜ Sized r (now (key .exit)) × (reply-of r (now (key .exit)) ≡ reply (f .hash) (read-leaves (now (image .entry))) (question-of (now (file .entry)) question)) ⌝ }
 {
     match question {
         QuestionAt::Point(at, n) => point_reply(image, f, key_at(file, at, n), key),
@@ -97,8 +97,8 @@ fn reply_to(
 
 // The replies to all questions of a file that is taken go to the start of out, one behind the other, and all else stays; their length.
 pub fn write_replies(image: &[u8], f: Frame, file: &[u8], out: &mut [u8]) -> usize
-    requires { ⌜ Accepted (now image) f × Taken-from (now file) 0 × (length (file-replies (now image) (now file)) ≤ length (now out)) ⌝ }
-    ensures { λ r. ⌜ Replies-written (now (image .entry)) (now (file .entry)) (now (out .entry)) (now (out .exit)) r ⌝ }
+    requires { ⌜ Accepted (now image) f × Taken-from (now file) 0 × (length (file-replies (f .hash) (now image) (now file)) ≤ length (now out)) ⌝ }
+    ensures { λ r. ⌜ Replies-written (f .hash) (now (image .entry)) (now (file .entry)) (now (out .entry)) (now (out .exit)) r ⌝ }
 {
     let starts = level_starts(image, f);
     let mut key = [0u8; MAX_KEY_BYTES];

@@ -4,13 +4,14 @@ use mathlib.Core.Bool.{Bool, true, false, cond}
 use mathlib.Core.List.{[], _∷_, _++_}
 use Prim.Native.Nat.{ℕ, zero, suc, _+_, _*_, _-_, _/_, _%_, _^_, _<_}
 use native.Mathlib.Nat.{zero-div}
+use native.Mathlib.Numerals.{add-one}
 use native.Mathlib.Omega.{arith}
 use borrow.Author.Tests.{eqb-true, eqb-false, ltb-true, ltb-false}
 use lib.Dec.{eqb, ltb}
 use lib.ListN.{length, getD, take, set, length-set, List·getD-append}
 use lib.Seq.{getD-append-add, getD-set-same, getD-set-other, ext-getD}
-use lib.Pow.{shr-shr}
-use Rattle.spec.specs.Bytes.{Bytes, Bits, bit, ones, low-bits, unpack}
+use lib.Pow.{shr-shr, mod-pow-add}
+use Rattle.spec.specs.Bytes.{Bytes, Bits, bit, ones, low-first, low-bits, unpack}
 use Rattle.bits_laws.specs.Bits.{bit-at, rank, with-bit}
 use Rattle.bits_laws.specs.BitLaws.{bit-with-bit, length-with-bit}
 
@@ -41,6 +42,14 @@ pub length-low-bits : (k x : ℕ) → length (low-bits k x) ≡ k
 unfolding low-bits
 length-low-bits zero x = refl
 length-low-bits (suc k) x = ap suc (length-low-bits k (x / 2))
+
+-- the number of the low bits is the rest by their power
+pub low-number : (k x : ℕ) → low-first (low-bits k x) ≡ x % 2 ^ k
+unfolding low-first low-bits
+low-number zero x = omega arith
+low-number (suc k) x =
+    let m : x % 2 ^ suc k ≡ x / 2 % 2 ^ k * 2 + x % 2 = ap (λ (n : ℕ). x % 2 ^ n) (sym (add-one k)) ∙ mod-pow-add x k 1 in
+    omega (arith, bit-mod x, low-number k (x / 2), m)
 
 -- bit i by position is bit i of the bits
 pub bit-unpack : (s : Bytes) (i : ℕ) → bit-at s i ≡ bit (getD (unpack s) i false)

@@ -6,16 +6,16 @@ use Rattle.spec.specs.Keys.{keys-of}
 use Rattle.spec.specs.Image.{Settings}
 use Rattle.spec.specs.Build.{turned-down, to-build, judge, bytes, refused}
 use Rattle.build_laws.specs.Plan.{Ready}
-use Rattle.build_image.specs.Image.{settings-of, image-of}
+use Rattle.build_image.specs.Image.{image-of}
 use Rattle.build.specs.declared.Judged.{Judged}
 use Rattle.build.specs.declared.Judged.the-variants.{Accepted as Judged-accepted, Refused as Judged-refused}
 use Rattle.build.specs.declared.Length.{Length}
 use Rattle.build.specs.declared.Length.the-variants.{Bytes as Length-bytes, Refused}
 use Rattle.spec.specs.Build as Build
 
--- what judging says: settings and the number of keys of a list that is ready, whose image is to be built; or the number with which list and settings are turned down
+-- what judging says: the number of keys of a list that is ready, whose image is to be built; or the number with which list and settings are turned down
 abbrev pub Judges : Bytes → Settings → Judged → Type 0
-Judges list st (Judged-accepted v count) = Ready list (settings-of v) × (count ≡ length (keys-of list)) × (judge list st ≡ to-build (image-of list (settings-of v)))
+Judges list st (Judged-accepted count) = Ready list st × (count ≡ length (keys-of list)) × (judge list st ≡ to-build (image-of list st))
 Judges list st (Judged-refused r) = judge list st ≡ turned-down r
 
 -- the number and the values of each case of a length

@@ -1,19 +1,20 @@
 // Building in two public calls: a key list and settings give the image's length; with that length and an output they give the answer, and the image in the output.
 ghost use mathlib.Core.Path.{_≡_};
 ghost use Rattle.spec.specs.Image.{known-version};
-ghost use Rattle.spec.specs.Build.{image-length, build};
-ghost use Rattle.image_types.specs.Header.{settings};
+ghost use Rattle.spec.specs.Build.{in-range, image-length, build};
+ghost use Rattle.image_types.specs.Header.{asked};
 ghost use Rattle.image_types.specs.Outcomes.{outcome};
 ghost use Rattle.build.specs.Build.{Judges, length-of};
-use build_image::Settings;
 use build_image::image::build_image;
 use build_image::image::measure_image;
 use build_laws::KeyList;
 use build_list::judge::judge_list;
 use image_records::header::FIRST_VERSION;
 use image_records::header::MAX_DENSE_LEVELS;
-use image_records::header::MAX_SUFFIX_BITS;
+use image_records::header::MAX_HASH_BITS;
+use image_records::header::MAX_REAL_BITS;
 use image_types::LEVELED_VERSION;
+use image_types::Settings;
 use image_types::Written;
 
 // The number of a setting out of range.
@@ -25,64 +26,61 @@ pub enum Length {
     Refused(u32),
 }
 
-// What judging says of list and settings: the settings, in range, and the number of keys of an accepted list; or a refusal's number.
+// What judging says of list and settings: the number of keys of an accepted list, the settings being in range; or a refusal's number.
 pub enum Judged {
-    Accepted(Settings, usize),
+    Accepted(usize),
     Refused(u32),
 }
 
 // Whether there is such a version.
-fn is_known(version: u64) -> bool
+fn is_known(version: usize) -> bool
     ensures { λ r. ⌜ r ≡ known-version version ⌝ }
 {
-    version == (FIRST_VERSION as u64) || version == (LEVELED_VERSION as u64)
+    version == FIRST_VERSION || version == LEVELED_VERSION
+}
+
+// Whether the settings are in range.
+fn is_in_range(settings: Settings) -> bool
+    ensures { λ r. ⌜ r ≡ in-range (asked settings) ⌝ }
+{
+    is_known(settings.version)
+        && settings.levels <= MAX_DENSE_LEVELS
+        && settings.real <= MAX_REAL_BITS
+        && settings.hash <= MAX_HASH_BITS
 }
 
 // Judges settings and list, for both calls: 5, a setting out of range; then record by record 4, 1, 2, 1, 3.
-fn judge(list: &[u8], version: u64, dense: u64, n: u64) -> Judged
-    ensures { λ r. ⌜ Judges (now (list .entry)) (settings version dense n) r ⌝ }
+fn judge(list: &[u8], settings: Settings) -> Judged
+    ensures { λ r. ⌜ Judges (now (list .entry)) (asked settings) r ⌝ }
 {
-    if !is_known(version) {
-        return Judged::Refused(SETTING_OUT_OF_RANGE);
-    }
-    if (MAX_DENSE_LEVELS as u64) < dense {
-        return Judged::Refused(SETTING_OUT_OF_RANGE);
-    }
-    if (MAX_SUFFIX_BITS as u64) < n {
+    if !is_in_range(settings) {
         return Judged::Refused(SETTING_OUT_OF_RANGE);
     }
     let keys = judge_list(list);
     match keys {
         KeyList::Refused(r) => Judged::Refused(r),
-        KeyList::Keys(count) => Judged::Accepted(
-            Settings {
-                version: version as usize,
-                levels: dense as usize,
-                width: n as usize,
-            },
-            count,
-        ),
+        KeyList::Keys(count) => Judged::Accepted(count),
     }
 }
 
 // Gives the exact length of the image of a key list, and writes nothing; or the number with which list or settings are refused, 1 to 5.
-pub fn image_length(list: &[u8], version: u64, dense: u64, n: u64) -> Length
-    ensures { λ r. ⌜ length-of r ≡ image-length (now (list .entry)) (settings version dense n) ⌝ }
+pub fn image_length(list: &[u8], settings: Settings) -> Length
+    ensures { λ r. ⌜ length-of r ≡ image-length (now (list .entry)) (asked settings) ⌝ }
 {
-    let judged = judge(list, version, dense, n);
+    let judged = judge(list, settings);
     match judged {
         Judged::Refused(r) => Length::Refused(r),
-        Judged::Accepted(st, count) => Length::Bytes(measure_image(list, st, count)),
+        Judged::Accepted(count) => Length::Bytes(measure_image(list, settings, count)),
     }
 }
 
 // Builds the image of a key list into the output, or refuses: list and settings are judged again, 1 to 5; then 8, the stated length is not the image's; then 7, the image is longer than the output.
-pub fn build(list: &[u8], version: u64, dense: u64, n: u64, stated: u64, out: &mut [u8]) -> Written
-    ensures { λ r. ⌜ outcome r (now (out .exit)) ≡ build (now (list .entry)) (settings version dense n) stated (now (out .entry)) ⌝ }
+pub fn build(list: &[u8], settings: Settings, stated: u64, out: &mut [u8]) -> Written
+    ensures { λ r. ⌜ outcome r (now (out .exit)) ≡ build (now (list .entry)) (asked settings) stated (now (out .entry)) ⌝ }
 {
-    let again = judge(list, version, dense, n);
+    let again = judge(list, settings);
     match again {
         Judged::Refused(r) => Written::Refused(r),
-        Judged::Accepted(st, count) => build_image(list, st, count, stated, out),
+        Judged::Accepted(count) => build_image(list, settings, count, stated, out),
     }
 }

@@ -5,11 +5,11 @@ ghost use Prim.Native.Nat.{_+_, _≤_, _<_};
 ghost use lib.ListN.{length, drop};
 ghost use Rattle.spec.specs.Keys.{keys-of};
 ghost use Rattle.spec.specs.Build.{write-stated};
+ghost use Rattle.image_types.specs.Header.{asked};
 ghost use Rattle.image_types.specs.Outcomes.{outcome};
 ghost use Rattle.build_laws.specs.CountPass.{level-counts, no-counts, list-counts};
 ghost use Rattle.build_laws.specs.Plan.{Ready, Planned, plan-settings, start-at, plan-image, plan-levels};
-ghost use Rattle.build_image.specs.Image.{settings-of, image-of};
-use super::Settings;
+ghost use Rattle.build_image.specs.Image.{image-of};
 use build_laws::COUNTERS;
 use build_laws::Counters;
 use build_laws::Plan;
@@ -24,6 +24,7 @@ use image_records::table::record_starts;
 use image_types::Dense;
 use image_types::Header;
 use image_types::MAX_LEVELS;
+use image_types::Settings;
 use image_types::Sparse;
 use image_types::Written;
 
@@ -42,13 +43,14 @@ fn lay_out(
     st: Settings,
     count: usize,
 ) -> Plan
-    requires { ⌜ Ready (now list) (settings-of st) × (count ≡ length (keys-of (now list))) × (level-counts (now entries) (now nodes) (now leaves) ≡ no-counts) ⌝ }
-    ensures { λ r. ⌜ Planned (now (list .entry)) r × (plan-settings r ≡ settings-of st) × (level-counts (now (entries .exit)) (now (nodes .exit)) (now (leaves .exit)) ≡ list-counts (keys-of (now (list .entry)))) ⌝ }
+    requires { ⌜ Ready (now list) (asked st) × (count ≡ length (keys-of (now list))) × (level-counts (now entries) (now nodes) (now leaves) ≡ no-counts) ⌝ }
+    ensures { λ r. ⌜ Planned (now (list .entry)) r × (plan-settings r ≡ asked st) × (level-counts (now (entries .exit)) (now (nodes .exit)) (now (leaves .exit)) ≡ list-counts (keys-of (now (list .entry)))) ⌝ }
 {
     count_levels(entries, nodes, leaves, list);
     let h = Header {
         version: st.version,
-        width: st.width,
+        real: st.real,
+        hash: st.hash,
         leaves: count,
         dense: Dense {
             levels: st.levels,
@@ -76,8 +78,8 @@ fn image_end(plan: Plan, nodes: &Counters) -> usize
 
 // The length of the image of an accepted list of so many keys: where it ends.
 pub fn measure_image(list: &[u8], st: Settings, count: usize) -> usize
-    requires { ⌜ Ready (now list) (settings-of st) × (count ≡ length (keys-of (now list))) ⌝ }
-    ensures { λ r. ⌜ r ≡ length (image-of (now (list .entry)) (settings-of st)) ⌝ }
+    requires { ⌜ Ready (now list) (asked st) × (count ≡ length (keys-of (now list))) ⌝ }
+    ensures { λ r. ⌜ r ≡ length (image-of (now (list .entry)) (asked st)) ⌝ }
 {
     let mut entries = [0u32; COUNTERS];
     let mut nodes = [0u32; COUNTERS];
@@ -107,8 +109,8 @@ fn write_image(
 
 // The image of an accepted list of so many keys goes to the front of out; or the answer is 8, the stated length is not the image's, or 7, the image is longer than the output.
 pub fn build_image(list: &[u8], st: Settings, count: usize, stated: u64, out: &mut [u8]) -> Written
-    requires { ⌜ Ready (now list) (settings-of st) × (count ≡ length (keys-of (now list))) ⌝ }
-    ensures { λ r. ⌜ outcome r (now (out .exit)) ≡ write-stated stated (image-of (now (list .entry)) (settings-of st)) (now (out .entry)) ⌝ }
+    requires { ⌜ Ready (now list) (asked st) × (count ≡ length (keys-of (now list))) ⌝ }
+    ensures { λ r. ⌜ outcome r (now (out .exit)) ≡ write-stated stated (image-of (now (list .entry)) (asked st)) (now (out .entry)) ⌝ }
 {
     let mut entries = [0u32; COUNTERS];
     let mut nodes = [0u32; COUNTERS];

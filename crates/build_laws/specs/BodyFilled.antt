@@ -7,9 +7,10 @@ use native.Mathlib.Omega.{arith}
 use lib.ListN.{length, drop, replicate, length-replicate, length-append}
 use lib.Seq.{drop-at}
 use Rattle.spec.specs.Bytes.{Bytes, blocks, pack, unpack}
-use Rattle.spec.specs.Image.{Settings, Bodies}
+use Rattle.spec.specs.Image.{Settings, slot-width, Bodies}
 use Rattle.theory.specs.BuildLaws.{Built-from}
 use Rattle.theory.specs.Terms.{Is-bytes}
+use Rattle.build_laws.specs.SlotWidths.{slot-bits}
 use Rattle.build_laws.specs.Emissions.{Emission}
 use Rattle.build_laws.specs.BitPass.{bit-state, write-all-bits, Room}
 use Rattle.build_laws.specs.BytePass.{Byte-state, byte-state, put-bytes, one-step}
@@ -55,7 +56,7 @@ module _ (st : Settings) (ks : List Bytes) (b : Built-from st ks) (cur : List �
 
   -- The pass of a body leaves just that, and what lies behind as it was.
   pub body-filled : (body : Body) → Cursors-at (counters-of body ks) (levels-of body (st .dense-levels) .lo) cur
-      → byte-state o c′ ≡ write-keys body (levels-of body (st .dense-levels) .lo) (levels-of body (st .dense-levels) .hi) (st .width) 0 ks (byte-state (replicate (length (body-of body (key-bodies st ks))) 0 ++ rest) cur)
+      → byte-state o c′ ≡ write-keys body (levels-of body (st .dense-levels) .lo) (levels-of body (st .dense-levels) .hi) (slot-bits st) 0 ks (byte-state (replicate (length (body-of body (key-bodies st ks))) 0 ++ rest) cur)
       → o ≡ left-body st ks b body ++ rest
   body-filled (Entries SL) c e =
       let m : ℕ = length (key-bodies st ks .SL) in
@@ -89,7 +90,7 @@ module _ (st : Settings) (ks : List Bytes) (b : Built-from st ks) (cur : List �
       (left-bits cell-step (cell-ones 1) (dense-exact-emissions (st .dense-levels) 0 ks) m (room-DP st ks b cur w (length (replicate m 0 ++ rest)) c (size-ok m)) (e ∙ exact-cells-set (all-entries 0 (st .dense-levels) 0 ks) z ∙ ap (λ es. set-all cell-step (cell-ones 1) es z) (sym (exact-cells-map (st .dense-levels) ks))))
   body-filled Slots c e =
       let m : ℕ = length (key-bodies st ks .SV) in
-      SV-filled st ks b cur w c o rest p q (left-bits one-step (slot-at (st .width)) (slot-emissions (st .width) 0 ks) m (room-SV st ks b cur w (length (replicate m 0 ++ rest)) c (size-ok m)) e)
+      SV-filled st ks b cur w c o rest p q (left-bits one-step (slot-at (slot-width st)) (slot-emissions (slot-bits st) 0 ks) m (room-SV st ks b cur w (length (replicate m 0 ++ rest)) c (size-ok m)) e)
 
 -- whether a body is left with its bits flipped
 abbrev pub left-flipped : Body → Bool

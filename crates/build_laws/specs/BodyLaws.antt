@@ -8,11 +8,11 @@ use mathlib.Core.Logic.{inl, inr, ⊎-elim}
 use native.Mathlib.Omega.{arith}
 use lib.ListN.{length, getD, drop, replicate, length-map}
 use Rattle.spec.specs.Bytes.{Bytes, Bits, concat, blocks, pack, unpack}
-use Rattle.spec.specs.Leaves.{leaves}
-use Rattle.spec.specs.Image.{Settings, Bodies, has, positions}
+use Rattle.spec.specs.Image.{Settings, slot-width, Bodies, has, positions}
 use Rattle.spec.specs.Image as Literal
 use Rattle.spec.specs.Nodes.{Node}
 use Rattle.spec.specs.Trie.{leaf-count}
+use Rattle.build_laws.specs.SlotWidths.{slot-bits}
 use Rattle.build_laws.specs.TrieEntries.{Slotted, slotted-of}
 use Rattle.build_laws.specs.Emissions.{Emission, values-below, Levels-below}
 use Rattle.build_laws.specs.Cursors.{sum-of, sums, level-start, start-sum, start-grows}
@@ -25,7 +25,7 @@ use Rattle.build_laws.specs.PackedBody.{filled-body}
 use Rattle.build_laws.specs.PassEmissions.{label-emissions, leaf-emissions, later-emissions, dense-label-emissions, dense-child-emissions, dense-exact-emissions, slot-emissions, label-of-slotted, leaf-of-slotted, later-of-slotted, label-cells-of-slotted, child-cells-of-slotted, exact-cells-of-slotted, emissions-below, first-longer, slots-below}
 use Rattle.build_laws.specs.SlotEntries.{leaf-slots, values-slots, slots-concat, sum-slots}
 use Rattle.build_laws.specs.TrieFacts.{dense-nodes, sparse-nodes, nodes-both}
-use Rattle.build_laws.specs.KeyBits.{key-bodies, bodies-are, some, facts, sparse-values, dense-values, all-values, mapped-values, DL-bits, DC-bits, DP-bits, SC-bits, SB-bits, SV-bits}
+use Rattle.build_laws.specs.KeyBits.{key-leaves, key-bodies, bodies-are, some, facts, sparse-values, dense-values, all-values, mapped-values, DL-bits, DC-bits, DP-bits, SC-bits, SB-bits, SV-bits}
 use Rattle.build_laws.specs.Lengths.{length-SL, length-SC-bits, length-SB-bits, length-SV-bits, length-DL-bits, length-DC-bits, length-DP-bits}
 use Rattle.build_laws.specs.Counters.{sparse-top, dense-top, entry-counts, node-counts, leaf-counts, Cursors-at, sparse-starts-at, dense-started, leaf-starts-at}
 use Rattle.theory.specs.BuildLaws.{Built-from}
@@ -41,9 +41,9 @@ use Rattle.build_laws.specs.declared.Cell.{Cell}
 abbrev pub bit-at : ℕ → Bool → List ℕ
 bit-at c b = cond b (c ∷ []) []
 
--- a slot of n bits at n times the cursor
+-- a slot of w bits at w times the cursor
 abbrev pub slot-at : ℕ → ℕ → Bits → List ℕ
-slot-at n c s = positions (n * c) s
+slot-at w c s = positions (w * c) s
 
 -- ---- any pass that sets bits
 
@@ -97,8 +97,8 @@ module _ (st : Settings) (ks : List Bytes) (b : Built-from st ks) where
   -- the labels level by level are the body
   pub SL-values : values-below (label-emissions (st .dense-levels) 0 ks) 64 ≡ key-bodies st ks .SL
   SL-values =
-      (mapped-values st ks b) (λ (i : Slotted). i .entry .label) (st .dense-levels) 64 (label-emissions (st .dense-levels) 0 ks) (slotted-of (sparse-nodes st (leaves (st .width) ks))) (label-of-slotted (st .width) (st .dense-levels) ks) (sparse-values st ks b)
-      ∙ sym (labels-slotted (sparse-nodes st (leaves (st .width) ks))) ∙ sym (ap (λ (z : Bodies). z .SL) (bodies-are st ks b))
+      (mapped-values st ks b) (λ (i : Slotted). i .entry .label) (st .dense-levels) 64 (label-emissions (st .dense-levels) 0 ks) (slotted-of (sparse-nodes st (key-leaves st ks))) (label-of-slotted (slot-bits st) (st .dense-levels) ks) (sparse-values st ks b)
+      ∙ sym (labels-slotted (sparse-nodes st (key-leaves st ks))) ∙ sym (ap (λ (z : Bodies). z .SL) (bodies-are st ks b))
 
   labels-below : Levels-below 64 (label-emissions (st .dense-levels) 0 ks)
   unfolding label-emissions
@@ -110,27 +110,27 @@ module _ (st : Settings) (ks : List Bytes) (b : Built-from st ks) where
       → o ≡ key-bodies st ks .SL ++ drop (length (key-bodies st ks .SL)) out
   SL-filled cur out o w c h e =
       e ∙ put-bytes-is (label-emissions (st .dense-levels) 0 ks) out cur w labels-below
-      (sparse-starts-at (st .width) ks (some st ks b) (b .up) (st .dense-levels) (omega (arith, b .dense-range)) (λ (i : Slotted). i .entry .label) (label-emissions (st .dense-levels) 0 ks) (label-of-slotted (st .width) (st .dense-levels) ks) cur c)
+      (sparse-starts-at (slot-bits st) ks (some st ks b) (b .up) (st .dense-levels) (omega (arith, b .dense-range)) (λ (i : Slotted). i .entry .label) (label-emissions (st .dense-levels) 0 ks) (label-of-slotted (slot-bits st) (st .dense-levels) ks) cur c)
       (omega (arith, ap length SL-values)) ∙ ap (λ (z : List ℕ). z ++ drop (length z) out) SL-values
 
   -- SL: there is room for what is placed
   pub SL-room : (cur : List ℕ) → length cur ≡ counters → Cursors-at (entry-counts ks) (st .dense-levels) cur → Room one-step at-cursor (sums (entry-counts ks) (st .dense-levels) 64) (sums (entry-counts ks) (st .dense-levels) 64) (label-emissions (st .dense-levels) 0 ks) cur
   SL-room cur w c =
       byte-room (label-emissions (st .dense-levels) 0 ks) cur (sums (entry-counts ks) (st .dense-levels) 64) w labels-below
-      (sparse-starts-at (st .width) ks (some st ks b) (b .up) (st .dense-levels) (omega (arith, b .dense-range)) (λ (i : Slotted). i .entry .label) (label-emissions (st .dense-levels) 0 ks) (label-of-slotted (st .width) (st .dense-levels) ks) cur c)
+      (sparse-starts-at (slot-bits st) ks (some st ks b) (b .up) (st .dense-levels) (omega (arith, b .dense-range)) (λ (i : Slotted). i .entry .label) (label-emissions (st .dense-levels) 0 ks) (label-of-slotted (slot-bits st) (st .dense-levels) ks) cur c)
       (omega (arith, ap length SL-values, length-SL st ks b))
 
   -- ---- SC and SB
 
   leaf-values : values-below (leaf-emissions (st .dense-levels) 0 ks) 64 ≡ map not (SC-bits st ks b)
   leaf-values =
-      (mapped-values st ks b) (λ (i : Slotted). not (i .entry .child)) (st .dense-levels) 64 (leaf-emissions (st .dense-levels) 0 ks) (slotted-of (sparse-nodes st (leaves (st .width) ks))) (leaf-of-slotted (st .width) (st .dense-levels) ks) (sparse-values st ks b)
-      ∙ sym (map-map not (λ (i : Slotted). i .entry .child) (slotted-of (sparse-nodes st (leaves (st .width) ks)))) ∙ ap (map not) (sym (children-slotted (sparse-nodes st (leaves (st .width) ks))))
+      (mapped-values st ks b) (λ (i : Slotted). not (i .entry .child)) (st .dense-levels) 64 (leaf-emissions (st .dense-levels) 0 ks) (slotted-of (sparse-nodes st (key-leaves st ks))) (leaf-of-slotted (slot-bits st) (st .dense-levels) ks) (sparse-values st ks b)
+      ∙ sym (map-map not (λ (i : Slotted). i .entry .child) (slotted-of (sparse-nodes st (key-leaves st ks)))) ∙ ap (map not) (sym (children-slotted (sparse-nodes st (key-leaves st ks))))
 
   later-values : values-below (later-emissions (st .dense-levels) 0 ks) 64 ≡ map not (SB-bits st ks b)
   later-values =
-      (mapped-values st ks b) (λ (i : Slotted). not (i .entry .start)) (st .dense-levels) 64 (later-emissions (st .dense-levels) 0 ks) (slotted-of (sparse-nodes st (leaves (st .width) ks))) (later-of-slotted (st .width) (st .dense-levels) ks) (sparse-values st ks b)
-      ∙ sym (map-map not (λ (i : Slotted). i .entry .start) (slotted-of (sparse-nodes st (leaves (st .width) ks)))) ∙ ap (map not) (sym (starts-slotted (sparse-nodes st (leaves (st .width) ks)) ((facts st ks b) .sparse-fit)))
+      (mapped-values st ks b) (λ (i : Slotted). not (i .entry .start)) (st .dense-levels) 64 (later-emissions (st .dense-levels) 0 ks) (slotted-of (sparse-nodes st (key-leaves st ks))) (later-of-slotted (slot-bits st) (st .dense-levels) ks) (sparse-values st ks b)
+      ∙ sym (map-map not (λ (i : Slotted). i .entry .start) (slotted-of (sparse-nodes st (key-leaves st ks)))) ∙ ap (map not) (sym (starts-slotted (sparse-nodes st (key-leaves st ks)) ((facts st ks b) .sparse-fit)))
 
   leaves-below : Levels-below 64 (leaf-emissions (st .dense-levels) 0 ks)
   unfolding leaf-emissions
@@ -142,10 +142,10 @@ module _ (st : Settings) (ks : List Bytes) (b : Built-from st ks) where
 
   module _ (cur : List ℕ) (w : length cur ≡ counters) (c : Cursors-at (entry-counts ks) (st .dense-levels) cur) where
     leaves-started : Started one-step bit-at (leaf-emissions (st .dense-levels) 0 ks) cur
-    leaves-started d h = inr (sparse-starts-at (st .width) ks (some st ks b) (b .up) (st .dense-levels) (omega (arith, b .dense-range)) (λ (i : Slotted). not (i .entry .child)) (leaf-emissions (st .dense-levels) 0 ks) (leaf-of-slotted (st .width) (st .dense-levels) ks) cur c d h)
+    leaves-started d h = inr (sparse-starts-at (slot-bits st) ks (some st ks b) (b .up) (st .dense-levels) (omega (arith, b .dense-range)) (λ (i : Slotted). not (i .entry .child)) (leaf-emissions (st .dense-levels) 0 ks) (leaf-of-slotted (slot-bits st) (st .dense-levels) ks) cur c d h)
 
     later-started : Started one-step bit-at (later-emissions (st .dense-levels) 0 ks) cur
-    later-started d h = inr (sparse-starts-at (st .width) ks (some st ks b) (b .up) (st .dense-levels) (omega (arith, b .dense-range)) (λ (i : Slotted). not (i .entry .start)) (later-emissions (st .dense-levels) 0 ks) (later-of-slotted (st .width) (st .dense-levels) ks) cur c d h)
+    later-started d h = inr (sparse-starts-at (slot-bits st) ks (some st ks b) (b .up) (st .dense-levels) (omega (arith, b .dense-range)) (λ (i : Slotted). not (i .entry .start)) (later-emissions (st .dense-levels) 0 ks) (later-of-slotted (slot-bits st) (st .dense-levels) ks) cur c d h)
 
     leaf-ones : (j : ℕ) → has (cursor-ones one-step bit-at 0 (values-below (leaf-emissions (st .dense-levels) 0 ks) 64)) j ≡ has (positions 0 (map not (SC-bits st ks b))) j
     leaf-ones j = ap (λ (z : Bits). has (cursor-ones one-step bit-at 0 z) j) leaf-values ∙ ap (λ (z : List ℕ). has z j) (bits-ones (map not (SC-bits st ks b)))
@@ -166,7 +166,7 @@ module _ (st : Settings) (ks : List Bytes) (b : Built-from st ks) where
 
     -- SC: there is room for what is set
     pub SC-room : Room one-step bit-at (sums (entry-counts ks) (st .dense-levels) 64) (sums (entry-counts ks) (st .dense-levels) 64) (leaf-emissions (st .dense-levels) 0 ks) cur
-    SC-room = rw (length-map (SC-bits st ks b) not, length-SC-bits st ks b, sparse-top (st .width) ks (some st ks b) (b .up) (st .dense-levels) (omega (arith, b .dense-range)) (λ (i : Slotted). not (i .entry .child)) (leaf-emissions (st .dense-levels) 0 ks) (leaf-of-slotted (st .width) (st .dense-levels) ks)) at (pass-room one-step bit-at (leaf-emissions (st .dense-levels) 0 ks) cur (map not (SC-bits st ks b)) w leaves-below leaves-started leaf-ones)
+    SC-room = rw (length-map (SC-bits st ks b) not, length-SC-bits st ks b, sparse-top (slot-bits st) ks (some st ks b) (b .up) (st .dense-levels) (omega (arith, b .dense-range)) (λ (i : Slotted). not (i .entry .child)) (leaf-emissions (st .dense-levels) 0 ks) (leaf-of-slotted (slot-bits st) (st .dense-levels) ks)) at (pass-room one-step bit-at (leaf-emissions (st .dense-levels) 0 ks) cur (map not (SC-bits st ks b)) w leaves-below leaves-started leaf-ones)
 
     -- SB: the bits of entries that start no node set at entry cursors, in bytes that were zero
     pub SB-filled : (o rest : Bytes) → Is-bytes o → Is-bytes rest
@@ -178,57 +178,57 @@ module _ (st : Settings) (ks : List Bytes) (b : Built-from st ks) where
 
     -- SB: there is room for what is set
     pub SB-room : Room one-step bit-at (sums (entry-counts ks) (st .dense-levels) 64) (sums (entry-counts ks) (st .dense-levels) 64) (later-emissions (st .dense-levels) 0 ks) cur
-    SB-room = rw (length-map (SB-bits st ks b) not, length-SB-bits st ks b, sparse-top (st .width) ks (some st ks b) (b .up) (st .dense-levels) (omega (arith, b .dense-range)) (λ (i : Slotted). not (i .entry .start)) (later-emissions (st .dense-levels) 0 ks) (later-of-slotted (st .width) (st .dense-levels) ks)) at (pass-room one-step bit-at (later-emissions (st .dense-levels) 0 ks) cur (map not (SB-bits st ks b)) w later-below later-started later-ones)
+    SB-room = rw (length-map (SB-bits st ks b) not, length-SB-bits st ks b, sparse-top (slot-bits st) ks (some st ks b) (b .up) (st .dense-levels) (omega (arith, b .dense-range)) (λ (i : Slotted). not (i .entry .start)) (later-emissions (st .dense-levels) 0 ks) (later-of-slotted (slot-bits st) (st .dense-levels) ks)) at (pass-room one-step bit-at (later-emissions (st .dense-levels) 0 ks) cur (map not (SB-bits st ks b)) w later-below later-started later-ones)
 
   -- ---- SV
 
-  slot-ones : (j : ℕ) → has (cursor-ones one-step (slot-at (st .width)) 0 (values-below (slot-emissions (st .width) 0 ks) 64)) j ≡ has (positions 0 (SV-bits st ks b)) j
+  slot-ones : (j : ℕ) → has (cursor-ones one-step (slot-at (slot-width st)) 0 (values-below (slot-emissions (slot-bits st) 0 ks) 64)) j ≡ has (positions 0 (SV-bits st ks b)) j
   slot-ones j =
-      let N : List Node = concat (trie (leaves (st .width) ks)) in
-      let e : values-below (slot-emissions (st .width) 0 ks) 64 ≡ leaf-slots (slotted-of N) = values-slots (st .width) ks 64 (omega arith) ∙ ap leaf-slots (all-values st ks b) in
-      let t = slots-concat (st .width) (slotted-of N) (slotted-wide (st .width) N (rw (nodes-both st (leaves (st .width) ks)) at ((facts st ks b) .wide))) in
-      let z : st .width * 0 ≡ 0 = omega arith in
-      ap (λ (xs : List Bits). has (cursor-ones one-step (slot-at (st .width)) 0 xs) j) e
-      ∙ ap (λ (is : List ℕ). has is j) (slots-ones (st .width) (leaf-slots (slotted-of N)) (t .1))
-      ∙ ap₂ (λ (k : ℕ) (bs : Bits). has (positions k bs) j) z (t .0 ∙ sym (slots-slotted N) ∙ ap (λ (ns : List Node). concat (map slots ns)) (sym (nodes-both st (leaves (st .width) ks))))
+      let N : List Node = concat (trie (key-leaves st ks)) in
+      let e : values-below (slot-emissions (slot-bits st) 0 ks) 64 ≡ leaf-slots (slotted-of N) = values-slots (slot-bits st) ks 64 (omega arith) ∙ ap leaf-slots (all-values st ks b) in
+      let t = slots-concat (slot-width st) (slotted-of N) (slotted-wide (slot-width st) N (rw (nodes-both st (key-leaves st ks)) at ((facts st ks b) .wide))) in
+      let z : slot-width st * 0 ≡ 0 = omega arith in
+      ap (λ (xs : List Bits). has (cursor-ones one-step (slot-at (slot-width st)) 0 xs) j) e
+      ∙ ap (λ (is : List ℕ). has is j) (slots-ones (slot-width st) (leaf-slots (slotted-of N)) (t .1))
+      ∙ ap₂ (λ (k : ℕ) (bs : Bits). has (positions k bs) j) z (t .0 ∙ sym (slots-slotted N) ∙ ap (λ (ns : List Node). concat (map slots ns)) (sym (nodes-both st (key-leaves st ks))))
 
-  slots-top : level-start one-step (slot-emissions (st .width) 0 ks) 64 ≡ length ks
+  slots-top : level-start one-step (slot-emissions (slot-bits st) 0 ks) 64 ≡ length ks
   slots-top =
-      let N : List Node = concat (trie (leaves (st .width) ks)) in
-      sym (start-sum one-step (slot-emissions (st .width) 0 ks) 64)
-      ∙ ap (sum-of one-step) (values-slots (st .width) ks 64 (omega arith) ∙ ap leaf-slots (all-values st ks b))
-      ∙ sum-slots (slotted-of N) ∙ leaves-slotted N ∙ ap leaf-count (sym (nodes-both st (leaves (st .width) ks))) ∙ facts st ks b .leaf-total ∙ leaves-length (st .width) ks
+      let N : List Node = concat (trie (key-leaves st ks)) in
+      sym (start-sum one-step (slot-emissions (slot-bits st) 0 ks) 64)
+      ∙ ap (sum-of one-step) (values-slots (slot-bits st) ks 64 (omega arith) ∙ ap leaf-slots (all-values st ks b))
+      ∙ sum-slots (slotted-of N) ∙ leaves-slotted N ∙ ap leaf-count (sym (nodes-both st (key-leaves st ks))) ∙ facts st ks b .leaf-total ∙ leaves-length (st .hash-width) (st .real-width) ks
 
   module _ (cur : List ℕ) (w : length cur ≡ counters) (c : Cursors-at (leaf-counts ks) 0 cur) where
     -- SV: slots set at n times the leaf cursors, in bytes that were zero
     pub SV-filled : (o rest : Bytes) → Is-bytes o → Is-bytes rest
-        → unpack o ≡ write-all-bits one-step (slot-at (st .width)) (slot-emissions (st .width) 0 ks) (bit-state (unpack (replicate (length (key-bodies st ks .SV)) 0 ++ rest)) cur) .bits
+        → unpack o ≡ write-all-bits one-step (slot-at (slot-width st)) (slot-emissions (slot-bits st) 0 ks) (bit-state (unpack (replicate (length (key-bodies st ks .SV)) 0 ++ rest)) cur) .bits
         → o ≡ key-bodies st ks .SV ++ rest
     SV-filled o rest p q e =
         let y = ap (λ (z : Bodies). z .SV) (bodies-are st ks b) in
-        pass-filled one-step (slot-at (st .width)) (slot-emissions (st .width) 0 ks) cur (SV-bits st ks b) w (slots-below (st .width) 0 ks (first-longer ks (b .keys)) (b .keys) (b .up)) (λ d h. inr (leaf-starts-at (st .width) ks cur c d h))
+        pass-filled one-step (slot-at (slot-width st)) (slot-emissions (slot-bits st) 0 ks) cur (SV-bits st ks b) w (slots-below (slot-bits st) 0 ks (first-longer ks (b .keys)) (b .keys) (b .up)) (λ d h. inr (leaf-starts-at (slot-bits st) ks cur c d h))
         slot-ones _ (ap length y) o rest p q e ∙ ap (λ (z : Bytes). z ++ rest) (sym y)
 
     -- SV: there is room for what is set
-    pub SV-room : Room one-step (slot-at (st .width)) (length ks * st .width) (length ks) (slot-emissions (st .width) 0 ks) cur
-    SV-room = rw (length-SV-bits st ks b, slots-top) at (pass-room one-step (slot-at (st .width)) (slot-emissions (st .width) 0 ks) cur (SV-bits st ks b) w (slots-below (st .width) 0 ks (first-longer ks (b .keys)) (b .keys) (b .up)) (λ d h. inr (leaf-starts-at (st .width) ks cur c d h)) slot-ones)
+    pub SV-room : Room one-step (slot-at (slot-width st)) (length ks * slot-width st) (length ks) (slot-emissions (slot-bits st) 0 ks) cur
+    SV-room = rw (length-SV-bits st ks b, slots-top) at (pass-room one-step (slot-at (slot-width st)) (slot-emissions (slot-bits st) 0 ks) cur (SV-bits st ks b) w (slots-below (slot-bits st) 0 ks (first-longer ks (b .keys)) (b .keys) (b .up)) (λ d h. inr (leaf-starts-at (slot-bits st) ks cur c d h)) slot-ones)
 
   -- ---- DL, DC and DP
 
   DL-ones : (j : ℕ) → has (cursor-ones cell-step (cell-ones 256) 0 (values-below (dense-label-emissions (st .dense-levels) 0 ks) 64)) j ≡ has (positions 0 (DL-bits st ks b)) j
   DL-ones j =
-      ap (λ (xs : List Cell). has (cursor-ones cell-step (cell-ones 256) 0 xs) j) ((mapped-values st ks b) (on-entry label-cell) 0 (st .dense-levels) (dense-label-emissions (st .dense-levels) 0 ks) (slotted-of (dense-nodes st (leaves (st .width) ks))) (label-cells-of-slotted (st .width) (st .dense-levels) ks) (dense-values st ks b))
-      ∙ label-ones (dense-nodes st (leaves (st .width) ks)) ((facts st ks b) .dense-fit) ((facts st ks b) .dense-small) j
+      ap (λ (xs : List Cell). has (cursor-ones cell-step (cell-ones 256) 0 xs) j) ((mapped-values st ks b) (on-entry label-cell) 0 (st .dense-levels) (dense-label-emissions (st .dense-levels) 0 ks) (slotted-of (dense-nodes st (key-leaves st ks))) (label-cells-of-slotted (slot-bits st) (st .dense-levels) ks) (dense-values st ks b))
+      ∙ label-ones (dense-nodes st (key-leaves st ks)) ((facts st ks b) .dense-fit) ((facts st ks b) .dense-small) j
 
   DC-ones : (j : ℕ) → has (cursor-ones cell-step (cell-ones 256) 0 (values-below (dense-child-emissions (st .dense-levels) 0 ks) 64)) j ≡ has (positions 0 (DC-bits st ks b)) j
   DC-ones j =
-      ap (λ (xs : List Cell). has (cursor-ones cell-step (cell-ones 256) 0 xs) j) ((mapped-values st ks b) (on-entry child-cell) 0 (st .dense-levels) (dense-child-emissions (st .dense-levels) 0 ks) (slotted-of (dense-nodes st (leaves (st .width) ks))) (child-cells-of-slotted (st .width) (st .dense-levels) ks) (dense-values st ks b))
-      ∙ child-ones (dense-nodes st (leaves (st .width) ks)) ((facts st ks b) .dense-fit) ((facts st ks b) .dense-small) j
+      ap (λ (xs : List Cell). has (cursor-ones cell-step (cell-ones 256) 0 xs) j) ((mapped-values st ks b) (on-entry child-cell) 0 (st .dense-levels) (dense-child-emissions (st .dense-levels) 0 ks) (slotted-of (dense-nodes st (key-leaves st ks))) (child-cells-of-slotted (slot-bits st) (st .dense-levels) ks) (dense-values st ks b))
+      ∙ child-ones (dense-nodes st (key-leaves st ks)) ((facts st ks b) .dense-fit) ((facts st ks b) .dense-small) j
 
   DP-ones : (j : ℕ) → has (cursor-ones cell-step (cell-ones 1) 0 (values-below (dense-exact-emissions (st .dense-levels) 0 ks) 64)) j ≡ has (positions 0 (DP-bits st ks b)) j
   DP-ones j =
-      ap (λ (xs : List Cell). has (cursor-ones cell-step (cell-ones 1) 0 xs) j) ((mapped-values st ks b) (on-entry exact-cell) 0 (st .dense-levels) (dense-exact-emissions (st .dense-levels) 0 ks) (slotted-of (dense-nodes st (leaves (st .width) ks))) (exact-cells-of-slotted (st .width) (st .dense-levels) ks) (dense-values st ks b))
-      ∙ exact-ones (dense-nodes st (leaves (st .width) ks)) ((facts st ks b) .dense-fit) j
+      ap (λ (xs : List Cell). has (cursor-ones cell-step (cell-ones 1) 0 xs) j) ((mapped-values st ks b) (on-entry exact-cell) 0 (st .dense-levels) (dense-exact-emissions (st .dense-levels) 0 ks) (slotted-of (dense-nodes st (key-leaves st ks))) (exact-cells-of-slotted (slot-bits st) (st .dense-levels) ks) (dense-values st ks b))
+      ∙ exact-ones (dense-nodes st (key-leaves st ks)) ((facts st ks b) .dense-fit) j
 
   label-cells-below : Levels-below 64 (dense-label-emissions (st .dense-levels) 0 ks)
   unfolding dense-label-emissions
@@ -244,13 +244,13 @@ module _ (st : Settings) (ks : List Bytes) (b : Built-from st ks) where
 
   module _ (cur : List ℕ) (w : length cur ≡ counters) (c : Cursors-at (node-counts ks) 0 cur) where
     label-cells-started : Started cell-step (cell-ones 256) (dense-label-emissions (st .dense-levels) 0 ks) cur
-    label-cells-started = dense-started (st .width) ks (some st ks b) (b .up) (st .dense-levels) (omega (arith, b .dense-range)) (on-entry label-cell) cell-step (cell-ones 256) (λ i. refl) (dense-label-emissions (st .dense-levels) 0 ks) (label-cells-of-slotted (st .width) (st .dense-levels) ks) cur c
+    label-cells-started = dense-started (slot-bits st) ks (some st ks b) (b .up) (st .dense-levels) (omega (arith, b .dense-range)) (on-entry label-cell) cell-step (cell-ones 256) (λ i. refl) (dense-label-emissions (st .dense-levels) 0 ks) (label-cells-of-slotted (slot-bits st) (st .dense-levels) ks) cur c
 
     child-cells-started : Started cell-step (cell-ones 256) (dense-child-emissions (st .dense-levels) 0 ks) cur
-    child-cells-started = dense-started (st .width) ks (some st ks b) (b .up) (st .dense-levels) (omega (arith, b .dense-range)) (on-entry child-cell) cell-step (cell-ones 256) (λ i. refl) (dense-child-emissions (st .dense-levels) 0 ks) (child-cells-of-slotted (st .width) (st .dense-levels) ks) cur c
+    child-cells-started = dense-started (slot-bits st) ks (some st ks b) (b .up) (st .dense-levels) (omega (arith, b .dense-range)) (on-entry child-cell) cell-step (cell-ones 256) (λ i. refl) (dense-child-emissions (st .dense-levels) 0 ks) (child-cells-of-slotted (slot-bits st) (st .dense-levels) ks) cur c
 
     exact-cells-started : Started cell-step (cell-ones 1) (dense-exact-emissions (st .dense-levels) 0 ks) cur
-    exact-cells-started = dense-started (st .width) ks (some st ks b) (b .up) (st .dense-levels) (omega (arith, b .dense-range)) (on-entry exact-cell) cell-step (cell-ones 1) (λ i. refl) (dense-exact-emissions (st .dense-levels) 0 ks) (exact-cells-of-slotted (st .width) (st .dense-levels) ks) cur c
+    exact-cells-started = dense-started (slot-bits st) ks (some st ks b) (b .up) (st .dense-levels) (omega (arith, b .dense-range)) (on-entry exact-cell) cell-step (cell-ones 1) (λ i. refl) (dense-exact-emissions (st .dense-levels) 0 ks) (exact-cells-of-slotted (slot-bits st) (st .dense-levels) ks) cur c
 
     -- DL: label bits set in the rows of node cursors, in bytes that were zero
     pub DL-filled : (o rest : Bytes) → Is-bytes o → Is-bytes rest
@@ -262,7 +262,7 @@ module _ (st : Settings) (ks : List Bytes) (b : Built-from st ks) where
 
     -- DL: there is room for what is set
     pub DL-room : Room cell-step (cell-ones 256) (256 * sums (node-counts ks) 0 (st .dense-levels)) (sums (node-counts ks) 0 (st .dense-levels)) (dense-label-emissions (st .dense-levels) 0 ks) cur
-    DL-room = rw (length-DL-bits st ks b, dense-top (st .width) ks (some st ks b) (b .up) (st .dense-levels) (omega (arith, b .dense-range)) (on-entry label-cell) cell-step (λ i. refl) (dense-label-emissions (st .dense-levels) 0 ks) (label-cells-of-slotted (st .width) (st .dense-levels) ks)) at (pass-room cell-step (cell-ones 256) (dense-label-emissions (st .dense-levels) 0 ks) cur (DL-bits st ks b) w label-cells-below label-cells-started DL-ones)
+    DL-room = rw (length-DL-bits st ks b, dense-top (slot-bits st) ks (some st ks b) (b .up) (st .dense-levels) (omega (arith, b .dense-range)) (on-entry label-cell) cell-step (λ i. refl) (dense-label-emissions (st .dense-levels) 0 ks) (label-cells-of-slotted (slot-bits st) (st .dense-levels) ks)) at (pass-room cell-step (cell-ones 256) (dense-label-emissions (st .dense-levels) 0 ks) cur (DL-bits st ks b) w label-cells-below label-cells-started DL-ones)
 
     -- DC: the bits of labels that continue, set in the rows of node cursors, in bytes that were zero
     pub DC-filled : (o rest : Bytes) → Is-bytes o → Is-bytes rest
@@ -274,7 +274,7 @@ module _ (st : Settings) (ks : List Bytes) (b : Built-from st ks) where
 
     -- DC: there is room for what is set
     pub DC-room : Room cell-step (cell-ones 256) (256 * sums (node-counts ks) 0 (st .dense-levels)) (sums (node-counts ks) 0 (st .dense-levels)) (dense-child-emissions (st .dense-levels) 0 ks) cur
-    DC-room = rw (length-DC-bits st ks b, dense-top (st .width) ks (some st ks b) (b .up) (st .dense-levels) (omega (arith, b .dense-range)) (on-entry child-cell) cell-step (λ i. refl) (dense-child-emissions (st .dense-levels) 0 ks) (child-cells-of-slotted (st .width) (st .dense-levels) ks)) at (pass-room cell-step (cell-ones 256) (dense-child-emissions (st .dense-levels) 0 ks) cur (DC-bits st ks b) w child-cells-below child-cells-started DC-ones)
+    DC-room = rw (length-DC-bits st ks b, dense-top (slot-bits st) ks (some st ks b) (b .up) (st .dense-levels) (omega (arith, b .dense-range)) (on-entry child-cell) cell-step (λ i. refl) (dense-child-emissions (st .dense-levels) 0 ks) (child-cells-of-slotted (slot-bits st) (st .dense-levels) ks)) at (pass-room cell-step (cell-ones 256) (dense-child-emissions (st .dense-levels) 0 ks) cur (DC-bits st ks b) w child-cells-below child-cells-started DC-ones)
 
     -- DP: the bits of exact leaves, set at node cursors, in bytes that were zero
     pub DP-filled : (o rest : Bytes) → Is-bytes o → Is-bytes rest
@@ -286,4 +286,4 @@ module _ (st : Settings) (ks : List Bytes) (b : Built-from st ks) where
 
     -- DP: there is room for what is set
     pub DP-room : Room cell-step (cell-ones 1) (sums (node-counts ks) 0 (st .dense-levels)) (sums (node-counts ks) 0 (st .dense-levels)) (dense-exact-emissions (st .dense-levels) 0 ks) cur
-    DP-room = rw (length-DP-bits st ks b, dense-top (st .width) ks (some st ks b) (b .up) (st .dense-levels) (omega (arith, b .dense-range)) (on-entry exact-cell) cell-step (λ i. refl) (dense-exact-emissions (st .dense-levels) 0 ks) (exact-cells-of-slotted (st .width) (st .dense-levels) ks)) at (pass-room cell-step (cell-ones 1) (dense-exact-emissions (st .dense-levels) 0 ks) cur (DP-bits st ks b) w exact-cells-below exact-cells-started DP-ones)
+    DP-room = rw (length-DP-bits st ks b, dense-top (slot-bits st) ks (some st ks b) (b .up) (st .dense-levels) (omega (arith, b .dense-range)) (on-entry exact-cell) cell-step (λ i. refl) (dense-exact-emissions (st .dense-levels) 0 ks) (exact-cells-of-slotted (slot-bits st) (st .dense-levels) ks)) at (pass-room cell-step (cell-ones 1) (dense-exact-emissions (st .dense-levels) 0 ks) cur (DP-bits st ks b) w exact-cells-below exact-cells-started DP-ones)

@@ -6,8 +6,9 @@ use mathlib.Core.List.{List, [], _∷_}
 use native.Mathlib.Omega.{arith}
 use lib.ListN.{length, getD, set}
 use Rattle.spec.specs.Bytes.{Bytes, blocks}
-use Rattle.spec.specs.Image.{Settings}
+use Rattle.spec.specs.Image.{Settings, slot-width}
 use Rattle.theory.specs.BuildLaws.{Built-from}
+use Rattle.build_laws.specs.SlotWidths.{slot-bits}
 use Rattle.build_laws.specs.Emissions.{Emission, emission, map-emissions, map-keys}
 use Rattle.build_laws.specs.Cursors.{sums}
 use Rattle.build_laws.specs.BitPass.{Room, Positions-below}
@@ -124,12 +125,12 @@ module _ (st : Settings) (ks : List Bytes) (b : Built-from st ks) (cur : List �
   room-DP c h = room-more cell-step (cell-ones 1) _ (8 * size) _ counter-max (dense-exact-emissions (st .dense-levels) 0 ks) cur (eight _ size (omega (arith, length-DP st ks b))) (counters-few (Entries DP) ks 0 (st .dense-levels) (b .few) (omega (arith, b .dense-range))) (DP-room st ks b cur w c)
 
   -- the suffix slots: room in so many bytes
-  pub room-SV : Cursors-at (leaf-counts ks) 0 cur → length (key-bodies st ks .SV) ≤ size → Room one-step (slot-at (st .width)) (8 * size) counter-max (slot-emissions (st .width) 0 ks) cur
-  room-SV c h = room-more one-step (slot-at (st .width)) _ (8 * size) _ counter-max (slot-emissions (st .width) 0 ks) cur (eight _ size (omega (arith, length-SV st ks b))) (omega (arith, b .few)) (SV-room st ks b cur w c)
+  pub room-SV : Cursors-at (leaf-counts ks) 0 cur → length (key-bodies st ks .SV) ≤ size → Room one-step (slot-at (slot-width st)) (8 * size) counter-max (slot-emissions (slot-bits st) 0 ks) cur
+  room-SV c h = room-more one-step (slot-at (slot-width st)) _ (8 * size) _ counter-max (slot-emissions (slot-bits st) 0 ks) cur (eight _ size (omega (arith, length-SV st ks b))) (omega (arith, b .few)) (SV-room st ks b cur w c)
 
   -- A body's bytes have room for what its pass writes.
   pub body-room : (body : Body) → Cursors-at (counters-of body ks) (levels-of body (st .dense-levels) .lo) cur → length (body-of body (key-bodies st ks)) ≤ size
-      → Keys-room body (levels-of body (st .dense-levels) .lo) (levels-of body (st .dense-levels) .hi) (st .width) 0 ks size cur
+      → Keys-room body (levels-of body (st .dense-levels) .lo) (levels-of body (st .dense-levels) .hi) (slot-bits st) 0 ks size cur
   body-room (Entries SL) c h = room-map (λ (e : Entry). e .label) one-step at-cursor size counter-max (all-entries (st .dense-levels) 64 0 ks) cur (rw (labels-map (st .dense-levels) ks) at (room-SL c h))
   body-room (Entries SC) c h = room-map (λ (e : Entry). not (e .child)) one-step bit-at (8 * size) counter-max (all-entries (st .dense-levels) 64 0 ks) cur (rw (leaves-map (st .dense-levels) ks) at (room-SC c h))
   body-room (Entries SB) c h = room-map (λ (e : Entry). not (e .start)) one-step bit-at (8 * size) counter-max (all-entries (st .dense-levels) 64 0 ks) cur (rw (later-map (st .dense-levels) ks) at (room-SB c h))

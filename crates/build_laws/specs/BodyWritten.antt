@@ -16,6 +16,7 @@ use Rattle.bits_laws.specs.Parts.{mid-is}
 use Rattle.rank_tables_laws.specs.Entries.{rank-entries, sample-entries}
 use Rattle.rank_tables_laws.specs.Tables.{spanned, Ranks-room, Samples-room}
 use Rattle.rank_tables_laws.specs.declared.Span.{Span}
+use Rattle.build_laws.specs.SlotWidths.{slot-bits}
 use Rattle.build_laws.specs.Limits.{counters, counter-max}
 use Rattle.build_laws.specs.Cursors.{sums}
 use Rattle.build_laws.specs.Counters.{Cursors-at}
@@ -52,7 +53,7 @@ module _ (list : Bytes) (p : Plan) (w : Planned list p) (b : Body) (cnt : List �
 
   -- the pass that fills the body
   abbrev body-pass : Levels → Pass
-  body-pass i = record { body = b; levels = i; width = p .header .width }
+  body-pass i = record { body = b; levels = i; slot = slot-bits (plan-settings p) }
 
   module _ (cur : List ℕ) (wide : length cur ≡ counters) (c : Cursors-at cnt (l .lo) cur) where
     starts : Cursors-at (counters-of b (keys-of list)) (levels-of b (p .header .dense .levels) .lo) cur

@@ -14,6 +14,7 @@ use Rattle.spec.specs.Bytes.{Bytes, bit}
 use Rattle.spec.specs.Image.{has}
 use Rattle.theory.specs.Terms.{Ascending, Keys}
 use Rattle.theory.specs.Neighbours.{next-shared}
+use Rattle.build_laws.specs.SlotWidths.{no-bits}
 use Rattle.build_laws.specs.Emissions.{Emission, emission, level-values, Levels-below}
 use Rattle.build_laws.specs.Cursors.{sum-of, counts, counts-at, sums}
 use Rattle.build_laws.specs.SetBits.{has-nil}
@@ -23,6 +24,7 @@ use Rattle.build_laws.specs.PassEmissions.{start-emissions, slot-emissio
 use Rattle.build_laws.specs.SmallCounters.{keys-few}
 use Rattle.build_laws.specs.Counters.{zeros-at, entry-counts, node-counts, leaf-counts}
 use Rattle.build_laws.specs.Limits.{counters}
+use Rattle.build_laws.specs.declared.SlotBits.{SlotBits}
 
 -- a counter writes nothing
 abbrev pub no-ones : {A : Type 0} → ℕ → A → List ℕ
@@ -71,10 +73,10 @@ level-few {A} d (emission e x ∷ es) = go (eqb d e) (level-few d es)
     go true ih = omega arith
     go false ih = omega arith
 
-length-slots : (n p : ℕ) (ks : List Bytes) → length (slot-emissions n p ks) ≡ length ks
+length-slots : (w : SlotBits) (p : ℕ) (ks : List Bytes) → length (slot-emissions w p ks) ≡ length ks
 unfolding slot-emissions
-length-slots n p [] = refl
-length-slots n p (k ∷ ks) = ap suc (length-slots n (suc (next-shared k ks)) ks)
+length-slots w p [] = refl
+length-slots w p (k ∷ ks) = ap suc (length-slots w (suc (next-shared k ks)) ks)
 
 starts-few : (ks : List Bytes) (d : ℕ) → length (level-values d (start-emissions 0 0 ks)) ≤ 2 * length ks
 unfolding start-emissions
@@ -89,14 +91,14 @@ starts-below ks s a = emissions-below 0 64 _ true 0 ks (first-longer ks s) s a
 -- The counters of entries and leaves have room for a list of keys, none of them above top.
 pub record Counters-room (top : ℕ) (ks : List Bytes) : Type 0 where
   pub entries : Room one-step no-ones 0 top (start-emissions 0 0 ks) (replicate counters 0)
-  pub leaves : Room one-step no-ones 0 top (slot-emissions 0 0 ks) (replicate counters 0)
+  pub leaves : Room one-step no-ones 0 top (slot-emissions no-bits 0 ks) (replicate counters 0)
 
 -- for any list of at most 65,535 keys
 pub counters-room : (top : ℕ) (ks : List Bytes) → 131070 ≤ top → Keys ks → Ascending ks → length ks ≤ 65535 → Counters-room top ks
 counters-room top ks t s a h = record {
   entries = counter-room one-step top (start-emissions 0 0 ks) (starts-below ks s a) (λ d. omega (arith, sum-length (level-values d (start-emissions 0 0 ks)), starts-few ks d));
-  leaves = counter-room one-step top (slot-emissions 0 0 ks) (slots-below 0 0 ks (first-longer ks s) s a)
-      (λ d. omega (arith, sum-length (level-values d (slot-emissions 0 0 ks)), level-few d (slot-emissions 0 0 ks), length-slots 0 0 ks));
+  leaves = counter-room one-step top (slot-emissions no-bits 0 ks) (slots-below no-bits 0 ks (first-longer ks s) s a)
+      (λ d. omega (arith, sum-length (level-values d (slot-emissions no-bits 0 ks)), level-few d (slot-emissions no-bits 0 ks), length-slots no-bits 0 ks));
 }
 
 -- ---- sums
@@ -118,7 +120,7 @@ module _ (ks : List Bytes) (h : length ks ≤ 65535) where
   -- nor more leaves
   pub leaf-counts-few : (d : ℕ) → d < counters → getD (leaf-counts ks) d 0 ≤ 131070
   unfolding leaf-counts
-  leaf-counts-few d l = counter-few one-step (slot-emissions 0 0 ks) 131070 d (omega (arith, sum-length (level-values d (slot-emissions 0 0 ks)), level-few d (slot-emissions 0 0 ks), length-slots 0 0 ks)) l
+  leaf-counts-few d l = counter-few one-step (slot-emissions no-bits 0 ks) 131070 d (omega (arith, sum-length (level-values d (slot-emissions no-bits 0 ks)), level-few d (slot-emissions no-bits 0 ks), length-slots no-bits 0 ks)) l
 
 cond-few : (b : Bool) (x top : ℕ) → x ≤ top → cond b x 0 ≤ top
 cond-few true x top h = h

@@ -5,7 +5,6 @@ use mathlib.Core.List.{List, _++_, map}
 use native.Mathlib.Omega.{arith}
 use lib.ListN.{length}
 use Rattle.spec.specs.Bytes.{Bytes, blocks}
-use Rattle.spec.specs.Leaves.{leaves}
 use Rattle.spec.specs.Image.{Settings, Counts, Row, rows, level-rows, version-rows, level-widths, level-bodies, sizes, in-order, write-records, header, counts, bodies, image}
 use Rattle.theory.specs.Frame.{Paired, records-append}
 use Rattle.theory.specs.LevelStarts.{version-rows-are}
@@ -13,7 +12,7 @@ use Rattle.theory.specs.BuildLaws.{Built-from}
 use Rattle.theory.specs.KeyLeaves.{leaves-length}
 use Rattle.build_laws.specs.Cursors.{sums}
 use Rattle.build_laws.specs.Counters.{entry-counts, node-counts}
-use Rattle.build_laws.specs.KeyBits.{key-bodies}
+use Rattle.build_laws.specs.KeyBits.{key-leaves, key-bodies}
 use Rattle.build_laws.specs.LevelWidths.{widths, widths-are}
 use Rattle.build_laws.specs.LevelRecord.{level-bytes}
 use Rattle.build_laws.specs.Lengths.{dense-nodes-total, sparse-nodes-total, length-SL, length-DL, length-DC, length-DP, length-SC, length-SB, length-SV, length-RL, length-RC, length-RP, length-RS, length-TS}
@@ -32,23 +31,23 @@ row-entries n = omega arith
 
 module _ (st : Settings) (ks : List Bytes) (b : Built-from st ks) where
   -- The counts of the leaf list are those of the counters.
-  pub counts-are : counts (st .dense-levels) (leaves (st .width) ks) ≡ key-counts st ks
+  pub counts-are : counts (st .dense-levels) (key-leaves st ks) ≡ key-counts st ks
   unfolding counts bodies
-  counts-are = rw (leaves-length (st .width) ks, dense-nodes-total st ks b, length-SL st ks b, sparse-nodes-total st ks b)
+  counts-are = rw (leaves-length (st .hash-width) (st .real-width) ks, dense-nodes-total st ks b, length-SL st ks b, sparse-nodes-total st ks b)
 
   twelve-paired : Paired rows (in-order (key-bodies st ks))
   unfolding rows
   twelve-paired = tt
 
   -- The twelve records of either version, and those of its own behind them.
-  records-both : write-records (version-rows (st .version)) (in-order (key-bodies st ks) ++ level-bodies (st .version) (level-widths (leaves (st .width) ks)))
+  records-both : write-records (version-rows (st .version)) (in-order (key-bodies st ks) ++ level-bodies (st .version) (level-widths (key-leaves st ks)))
       ≡ write-records rows (in-order (key-bodies st ks)) ++ level-bytes (st .version) (node-counts ks)
   records-both =
       ap₂ (λ (rs : List Row) (ws : List ℕ). write-records rs (in-order (key-bodies st ks) ++ level-bodies (st .version) ws)) (version-rows-are (st .version)) (widths-are st ks b)
       ∙ records-append rows (level-rows (st .version)) (in-order (key-bodies st ks)) (level-bodies (st .version) (widths (node-counts ks))) twelve-paired
 
   -- The image is its header, by the counters, and the records one behind the other.
-  pub image-is : image st (leaves (st .width) ks) ≡ header st (key-counts st ks) ++ (write-records rows (in-order (key-bodies st ks)) ++ level-bytes (st .version) (node-counts ks))
+  pub image-is : image st (key-leaves st ks) ≡ header st (key-counts st ks) ++ (write-records rows (in-order (key-bodies st ks)) ++ level-bytes (st .version) (node-counts ks))
   unfolding image
   image-is = ap₂ (λ (c : Counts) (bs : Bytes). header st c ++ bs) counts-are records-both
 

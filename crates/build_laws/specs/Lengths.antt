@@ -6,16 +6,16 @@ use native.Mathlib.Omega.{arith}
 use native.Mathlib.Nat.{sub-zero}
 use lib.ListN.{length, length-map}
 use Rattle.spec.specs.Bytes.{Bytes, concat, blocks, ones}
-use Rattle.spec.specs.Leaves.{leaves, leaf}
-use Rattle.spec.specs.Image.{Settings, Bodies, nodes}
+use Rattle.spec.specs.Image.{Settings, slot-width, Bodies, nodes}
 use Rattle.spec.specs.Image as Literal
 use Rattle.spec.specs.Nodes.{is-exact}
+use Rattle.build_laws.specs.SlotWidths.{slot-bits}
 use Rattle.build_laws.specs.TrieEntries.{Slotted, slotted-of, slotted-between, slotted-first, slotted-rest}
 use Rattle.build_laws.specs.Cursors.{sum-of, sums}
 use Rattle.build_laws.specs.NodeBodies.{labels-slotted, nodes-entries, node-step}
 use Rattle.build_laws.specs.TrieFacts.{dense-nodes, sparse-nodes, dense-count, sparse-count}
 use Rattle.build_laws.specs.Counters.{entry-counts, node-counts, entries-total, nodes-total}
-use Rattle.build_laws.specs.KeyBits.{key-bodies, bodies-are, some, fits, facts, chain, DL-bits, DC-bits, DP-bits, SC-bits, SB-bits, SV-bits}
+use Rattle.build_laws.specs.KeyBits.{key-leaves, key-bodies, bodies-are, some, fits, facts, chain, DL-bits, DC-bits, DP-bits, SC-bits, SB-bits, SV-bits}
 use Rattle.theory.specs.BuildLaws.{Built-from}
 use Rattle.theory.specs.NodeBits.{sparse-labels, length-sv}
 use Rattle.theory.specs.SparseBits.{length-sc, length-sb, louds-ones}
@@ -34,34 +34,34 @@ row-ranks k = omega arith
 module _ (st : Settings) (ks : List Bytes) (b : Built-from st ks) where
   -- ---- the header's counts
 
-  nodes-dense : length (dense-nodes st (leaves (st .width) ks)) ≡ sums (node-counts ks) 0 (st .dense-levels)
+  nodes-dense : length (dense-nodes st (key-leaves st ks)) ≡ sums (node-counts ks) 0 (st .dense-levels)
   unfolding dense-nodes
   nodes-dense =
-      sym (nodes-entries (dense-nodes st (leaves (st .width) ks)) (facts st ks b .dense-fit))
-      ∙ ap (sum-of node-step) (slotted-first (st .dense-levels) (leaves (st .width) ks) (omega (arith, b .dense-range)) (chain st ks b .0) (chain st ks b .1) ∙ ap (λ (k : ℕ). slotted-between 0 k (leaves (st .width) ks)) (sym (sub-zero (st .dense-levels))))
-      ∙ nodes-total (st .width) ks (some st ks b) (b .up) 0 (st .dense-levels) (omega arith) (omega (arith, b .dense-range))
+      sym (nodes-entries (dense-nodes st (key-leaves st ks)) (facts st ks b .dense-fit))
+      ∙ ap (sum-of node-step) (slotted-first (st .dense-levels) (key-leaves st ks) (omega (arith, b .dense-range)) (chain st ks b .0) (chain st ks b .1) ∙ ap (λ (k : ℕ). slotted-between 0 k (key-leaves st ks)) (sym (sub-zero (st .dense-levels))))
+      ∙ nodes-total (slot-bits st) ks (some st ks b) (b .up) 0 (st .dense-levels) (omega arith) (omega (arith, b .dense-range))
 
-  nodes-sparse : length (sparse-nodes st (leaves (st .width) ks)) ≡ sums (node-counts ks) (st .dense-levels) 64
+  nodes-sparse : length (sparse-nodes st (key-leaves st ks)) ≡ sums (node-counts ks) (st .dense-levels) 64
   unfolding sparse-nodes
   nodes-sparse =
-      sym (nodes-entries (sparse-nodes st (leaves (st .width) ks)) (facts st ks b .sparse-fit))
-      ∙ ap (sum-of node-step) (slotted-rest (st .dense-levels) (leaves (st .width) ks) (omega (arith, b .dense-range)) (chain st ks b .0) (chain st ks b .1))
-      ∙ nodes-total (st .width) ks (some st ks b) (b .up) (st .dense-levels) 64 (omega (arith, b .dense-range)) (omega arith)
+      sym (nodes-entries (sparse-nodes st (key-leaves st ks)) (facts st ks b .sparse-fit))
+      ∙ ap (sum-of node-step) (slotted-rest (st .dense-levels) (key-leaves st ks) (omega (arith, b .dense-range)) (chain st ks b .0) (chain st ks b .1))
+      ∙ nodes-total (slot-bits st) ks (some st ks b) (b .up) (st .dense-levels) 64 (omega (arith, b .dense-range)) (omega arith)
 
-  entries-sparse : length (concat (map sparse-labels (sparse-nodes st (leaves (st .width) ks)))) ≡ sums (entry-counts ks) (st .dense-levels) 64
+  entries-sparse : length (concat (map sparse-labels (sparse-nodes st (key-leaves st ks)))) ≡ sums (entry-counts ks) (st .dense-levels) 64
   unfolding sparse-nodes
   entries-sparse =
-      ap length (labels-slotted (sparse-nodes st (leaves (st .width) ks))) ∙ length-map (slotted-of (sparse-nodes st (leaves (st .width) ks))) (λ (i : Slotted). i .entry .label)
-      ∙ ap length (slotted-rest (st .dense-levels) (leaves (st .width) ks) (omega (arith, b .dense-range)) (chain st ks b .0) (chain st ks b .1))
-      ∙ entries-total (st .width) ks (some st ks b) (b .up) (st .dense-levels) (omega (arith, b .dense-range))
+      ap length (labels-slotted (sparse-nodes st (key-leaves st ks))) ∙ length-map (slotted-of (sparse-nodes st (key-leaves st ks))) (λ (i : Slotted). i .entry .label)
+      ∙ ap length (slotted-rest (st .dense-levels) (key-leaves st ks) (omega (arith, b .dense-range)) (chain st ks b .0) (chain st ks b .1))
+      ∙ entries-total (slot-bits st) ks (some st ks b) (b .up) (st .dense-levels) (omega (arith, b .dense-range))
 
   -- the header's count of dense nodes
-  pub dense-nodes-total : length (nodes (leaves (st .width) ks) 0 (st .dense-levels)) ≡ sums (node-counts ks) 0 (st .dense-levels)
-  dense-nodes-total = dense-count st (leaves (st .width) ks) (fits st ks b) ∙ nodes-dense
+  pub dense-nodes-total : length (nodes (key-leaves st ks) 0 (st .dense-levels)) ≡ sums (node-counts ks) 0 (st .dense-levels)
+  dense-nodes-total = dense-count st (key-leaves st ks) (fits st ks b) ∙ nodes-dense
 
   -- the header's count of sparse nodes
-  pub sparse-nodes-total : length (nodes (leaves (st .width) ks) (st .dense-levels) 64) ≡ sums (node-counts ks) (st .dense-levels) 64
-  sparse-nodes-total = sparse-count st (leaves (st .width) ks) (fits st ks b) ∙ nodes-sparse
+  pub sparse-nodes-total : length (nodes (key-leaves st ks) (st .dense-levels) 64) ≡ sums (node-counts ks) (st .dense-levels) 64
+  sparse-nodes-total = sparse-count st (key-leaves st ks) (fits st ks b) ∙ nodes-sparse
 
   -- ---- the bodies' lengths
 
@@ -71,29 +71,29 @@ module _ (st : Settings) (ks : List Bytes) (b : Built-from st ks) where
 
   -- the bits of SC, one an entry
   pub length-SC-bits : length (SC-bits st ks b) ≡ sums (entry-counts ks) (st .dense-levels) 64
-  length-SC-bits = length-sc (sparse-nodes st (leaves (st .width) ks)) (facts st ks b .sparse-fit) ∙ entries-sparse
+  length-SC-bits = length-sc (sparse-nodes st (key-leaves st ks)) (facts st ks b .sparse-fit) ∙ entries-sparse
 
   -- the bits of SB, one an entry
   pub length-SB-bits : length (SB-bits st ks b) ≡ sums (entry-counts ks) (st .dense-levels) 64
-  length-SB-bits = length-sb (sparse-nodes st (leaves (st .width) ks)) (facts st ks b .sparse-fit) ∙ entries-sparse
+  length-SB-bits = length-sb (sparse-nodes st (key-leaves st ks)) (facts st ks b .sparse-fit) ∙ entries-sparse
 
   -- the bits of DL, 256 a dense node
   pub length-DL-bits : length (DL-bits st ks b) ≡ 256 * sums (node-counts ks) 0 (st .dense-levels)
-  length-DL-bits = length-dl (dense-nodes st (leaves (st .width) ks)) ∙ ap (λ (k : ℕ). 256 * k) nodes-dense
+  length-DL-bits = length-dl (dense-nodes st (key-leaves st ks)) ∙ ap (λ (k : ℕ). 256 * k) nodes-dense
 
   -- the bits of DC, 256 a dense node
   pub length-DC-bits : length (DC-bits st ks b) ≡ 256 * sums (node-counts ks) 0 (st .dense-levels)
-  length-DC-bits = length-dc (dense-nodes st (leaves (st .width) ks)) ∙ ap (λ (k : ℕ). 256 * k) nodes-dense
+  length-DC-bits = length-dc (dense-nodes st (key-leaves st ks)) ∙ ap (λ (k : ℕ). 256 * k) nodes-dense
 
   -- the bits of DP, one a dense node
   pub length-DP-bits : length (DP-bits st ks b) ≡ sums (node-counts ks) 0 (st .dense-levels)
-  length-DP-bits = length-map (dense-nodes st (leaves (st .width) ks)) is-exact ∙ nodes-dense
+  length-DP-bits = length-map (dense-nodes st (key-leaves st ks)) is-exact ∙ nodes-dense
 
-  -- the bits of SV, n a leaf
-  pub length-SV-bits : length (SV-bits st ks b) ≡ length ks * st .width
+  -- the bits of SV, a slot for each leaf
+  pub length-SV-bits : length (SV-bits st ks b) ≡ length ks * slot-width st
   length-SV-bits =
-      length-sv (st .width) (dense-nodes st (leaves (st .width) ks) ++ sparse-nodes st (leaves (st .width) ks)) (facts st ks b .wide)
-      ∙ ap (λ (k : ℕ). k * st .width) (facts st ks b .leaf-total ∙ leaves-length (st .width) ks)
+      length-sv (slot-width st) (dense-nodes st (key-leaves st ks) ++ sparse-nodes st (key-leaves st ks)) (facts st ks b .wide)
+      ∙ ap (λ (k : ℕ). k * slot-width st) (facts st ks b .leaf-total ∙ leaves-length (st .hash-width) (st .real-width) ks)
 
   -- DL and DC: 32 bytes a dense node
   pub length-DL : length (key-bodies st ks .DL) ≡ 32 * sums (node-counts ks) 0 (st .dense-levels)
@@ -113,8 +113,8 @@ module _ (st : Settings) (ks : List Bytes) (b : Built-from st ks) where
   pub length-SB : length (key-bodies st ks .SB) ≡ blocks 8 (sums (entry-counts ks) (st .dense-levels) 64)
   length-SB = ap (λ (z : Bodies). length (z .SB)) (bodies-are st ks b) ∙ length-pack (SB-bits st ks b) ∙ ap (blocks 8) length-SB-bits
 
-  -- SV: n bits a leaf
-  pub length-SV : length (key-bodies st ks .SV) ≡ blocks 8 (length ks * st .width)
+  -- SV: a slot for each leaf
+  pub length-SV : length (key-bodies st ks .SV) ≡ blocks 8 (length ks * slot-width st)
   length-SV = ap (λ (z : Bodies). length (z .SV)) (bodies-are st ks b) ∙ length-pack (SV-bits st ks b) ∙ ap (blocks 8) length-SV-bits
 
   -- RL and RC: 16 bytes a dense node
@@ -134,7 +134,7 @@ module _ (st : Settings) (ks : List Bytes) (b : Built-from st ks) where
 
   -- as many ones in SB as sparse nodes
   pub ones-SB : ones (SB-bits st ks b) ≡ sums (node-counts ks) (st .dense-levels) 64
-  ones-SB = louds-ones (sparse-nodes st (leaves (st .width) ks)) (facts st ks b .sparse-fit) .0 ∙ nodes-sparse
+  ones-SB = louds-ones (sparse-nodes st (key-leaves st ks)) (facts st ks b .sparse-fit) .0 ∙ nodes-sparse
 
   -- TS: four bytes for each begun 64 sparse nodes
   pub length-TS : length (key-bodies st ks .TS) ≡ 4 * blocks 64 (sums (node-counts ks) (st .dense-levels) 64)

@@ -6,8 +6,8 @@ use native.Mathlib.Omega.{arith}
 use native.Mathlib.Nat.{sub-zero}
 use lib.ListN.{length, getD, length-map, length-append}
 use Rattle.spec.specs.Bytes.{Bytes, concat, iota}
-use Rattle.spec.specs.Leaves.{Leaf, leaves}
-use Rattle.spec.specs.Image.{Settings, on-level, nodes, level-widths}
+use Rattle.spec.specs.Leaves.{Leaf}
+use Rattle.spec.specs.Image.{Settings, slot-width, on-level, nodes, level-widths}
 use Rattle.theory.specs.Terms.{All}
 use Rattle.theory.specs.Lists.{concat-split, all-append}
 use Rattle.theory.specs.LinkedLevels.{Labelled}
@@ -17,13 +17,14 @@ use Rattle.theory.specs.PrefixNodes.{node-at}
 use Rattle.theory.specs.LiteralImage.{prefix-nodes}
 use Rattle.theory.specs.BuildLaws.{Built-from}
 use Rattle.rank_tables_laws.specs.Entries.{iota-snoc}
+use Rattle.build_laws.specs.SlotWidths.{slot-bits}
 use Rattle.build_laws.specs.TrieEntries.{slotted-between, slotted-first}
 use Rattle.build_laws.specs.Cursors.{sum-of, sums}
 use Rattle.build_laws.specs.CounterSums.{sums-in}
 use Rattle.build_laws.specs.NodeBodies.{nodes-entries, node-step}
 use Rattle.build_laws.specs.TrieFacts.{dense-nodes, sparse-nodes, all-split, nodes-both}
 use Rattle.build_laws.specs.Counters.{node-counts, nodes-total}
-use Rattle.build_laws.specs.KeyBits.{some, fits, facts, chain}
+use Rattle.build_laws.specs.KeyBits.{key-leaves, some, fits, facts, chain}
 
 -- the counters of the 64 levels
 unfoldable pub widths : List ℕ → List ℕ
@@ -37,7 +38,7 @@ same-widths f g b q (suc k) a h = ap₂ _∷_ (q a (omega arith)) (same-widths f
 
 module _ (st : Settings) (ks : List Bytes) (b : Built-from st ks) where
   abbrev ls : List Leaf
-  ls = leaves (st .width) ks
+  ls = key-leaves st ks
 
   -- each node of the first d levels has a label
   labelled : (d : ℕ) → All Labelled (trie-dense d ls)
@@ -49,10 +50,10 @@ module _ (st : Settings) (ks : List Bytes) (b : Built-from st ks) where
   -- so many nodes on the levels below d
   nodes-below : (d : ℕ) → d ≤ 64 → length (nodes ls 0 d) ≡ sums (node-counts ks) 0 d
   nodes-below d h =
-      sym (length-map (nodes ls 0 d) (node-at ls)) ∙ ap length (prefix-nodes d ls h (fits st ks b .realizable) (well-sized-depth (st .width) ls (fits st ks b .well-sized)) .first)
+      sym (length-map (nodes ls 0 d) (node-at ls)) ∙ ap length (prefix-nodes d ls h (fits st ks b .realizable) (well-sized-depth (slot-width st) ls (fits st ks b .well-sized)) .first)
       ∙ sym (nodes-entries (trie-dense d ls) (labelled d))
       ∙ ap (sum-of node-step) (slotted-first d ls h (chain st ks b .0) (chain st ks b .1) ∙ ap (λ (k : ℕ). slotted-between 0 k ls) (sym (sub-zero d)))
-      ∙ nodes-total (st .width) ks (some st ks b) (b .up) 0 d (omega arith) h
+      ∙ nodes-total (slot-bits st) ks (some st ks b) (b .up) 0 d (omega arith) h
 
   -- those on one level
   nodes-at : (d : ℕ) → d < 64 → length (on-level ls d) ≡ getD (node-counts ks) d 0

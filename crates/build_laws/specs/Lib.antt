@@ -1,4 +1,5 @@
 pub mod Limits
+pub mod SlotWidths
 pub mod LevelEntries
 pub mod TrieEntries
 pub mod NeighbourLeaves

@@ -10,6 +10,7 @@ use Rattle.spec.specs.Bytes.{Bytes, bit, shared}
 use Rattle.spec.specs.Keys.{keys-of}
 use Rattle.theory.specs.Terms.{Keys, Ascending}
 use Rattle.bits_laws.specs.Bits.{key}
+use Rattle.build_laws.specs.SlotWidths.{no-bits}
 use Rattle.build_laws.specs.KeyRecords.{Records}
 use Rattle.build_laws.specs.LevelEntries.{pred}
 use Rattle.theory.specs.Neighbours.{next-shared}
@@ -23,6 +24,7 @@ use Rattle.build_laws.specs.declared.Entry.{Entry}
 use Rattle.build_laws.specs.declared.Kind.{Kind}
 use Rattle.build_laws.specs.declared.Key.{Key}
 use Rattle.build_laws.specs.declared.Pass.{Pass}
+use Rattle.build_laws.specs.declared.SlotBits.{SlotBits}
 use Rattle.build_laws.specs.declared.Body.{Body}
 use Rattle.build_laws.specs.declared.Body.the-variants.{Entries, Slots}
 use Rattle.build_laws.specs.KeyRecords.{key-size, key-at, shared-behind, Accepted-list, Whole-records}
@@ -101,28 +103,28 @@ unfolding write-entries counts
 write-cursors kind [] s = refl
 write-cursors kind (emission d e ∷ es) s = write-cursors kind es (write-entry kind (emission d e) s) ∙ ap (counts (kind-step kind) es) (entry-cursors kind d e s)
 
-keys-next : (body : Body) (lo hi n p : ℕ) (k : Bytes) (ks : List Bytes) (s : Byte-state)
-    → write-keys body lo hi n p (k ∷ ks) s ≡ write-keys body lo hi n (suc (next-shared k ks)) ks (write-key body lo hi n p (next-shared k ks) k s)
+keys-next : (body : Body) (lo hi : ℕ) (w : SlotBits) (p : ℕ) (k : Bytes) (ks : List Bytes) (s : Byte-state)
+    → write-keys body lo hi w p (k ∷ ks) s ≡ write-keys body lo hi w (suc (next-shared k ks)) ks (write-key body lo hi w p (next-shared k ks) k s)
 unfolding emissions slot-emissions set-all
-keys-next (Entries kind) lo hi n p k ks s = write-append kind (key-entries lo hi p (next-shared k ks) k) (all-entries lo hi (suc (next-shared k ks)) ks) s
-keys-next Slots lo hi n p k ks s = refl
+keys-next (Entries kind) lo hi w p k ks s = write-append kind (key-entries lo hi p (next-shared k ks) k) (all-entries lo hi (suc (next-shared k ks)) ks) s
+keys-next Slots lo hi w p k ks s = refl
 
-rooms-next : (body : Body) (lo hi n p : ℕ) (k : Bytes) (ks : List Bytes) (size : ℕ) (s : Byte-state) → Keys-room body lo hi n p (k ∷ ks) size (s .cursors)
-    → Key-room body lo hi n p (next-shared k ks) k size (s .cursors) × Keys-room body lo hi n (suc (next-shared k ks)) ks size (write-key body lo hi n p (next-shared k ks) k s .cursors)
+rooms-next : (body : Body) (lo hi : ℕ) (w : SlotBits) (p : ℕ) (k : Bytes) (ks : List Bytes) (size : ℕ) (s : Byte-state) → Keys-room body lo hi w p (k ∷ ks) size (s .cursors)
+    → Key-room body lo hi w p (next-shared k ks) k size (s .cursors) × Keys-room body lo hi w (suc (next-shared k ks)) ks size (write-key body lo hi w p (next-shared k ks) k s .cursors)
 unfolding emissions slot-emissions
-rooms-next (Entries kind) lo hi n p k ks size s r =
+rooms-next (Entries kind) lo hi w p k ks size s r =
     let t = room-append (kind-step kind) (kind-ones kind) (capacity kind size) counter-max (key-entries lo hi p (next-shared k ks) k) (all-entries lo hi (suc (next-shared k ks)) ks) (s .cursors) r in
     (t .0, subst (λ (c : List ℕ). Room (kind-step kind) (kind-ones kind) (capacity kind size) counter-max (all-entries lo hi (suc (next-shared k ks)) ks) c) (sym (write-cursors kind (key-entries lo hi p (next-shared k ks) k) s)) (t .1))
-rooms-next Slots lo hi n p k ks size s r = ((r .0, r .1, r .2, tt), r .3)
+rooms-next Slots lo hi w p k ks size s r = ((r .0, r .1, r .2, tt), r .3)
 
-cursors-width : (body : Body) (lo hi n p q : ℕ) (k : Bytes) (s : Byte-state) → length (write-key body lo hi n p q k s .cursors) ≡ length (s .cursors)
-cursors-width (Entries kind) lo hi n p q k s = ap length (write-cursors kind (key-entries lo hi p q k) s) ∙ length-counts (kind-step kind) (key-entries lo hi p q k) (s .cursors)
-cursors-width Slots lo hi n p q k s = length-set (s .cursors) _ _
+cursors-width : (body : Body) (lo hi : ℕ) (w : SlotBits) (p q : ℕ) (k : Bytes) (s : Byte-state) → length (write-key body lo hi w p q k s .cursors) ≡ length (s .cursors)
+cursors-width (Entries kind) lo hi w p q k s = ap length (write-cursors kind (key-entries lo hi p q k) s) ∙ length-counts (kind-step kind) (key-entries lo hi p q k) (s .cursors)
+cursors-width Slots lo hi w p q k s = length-set (s .cursors) _ _
 
-no-keys : (body : Body) (lo hi n p : ℕ) (s : Byte-state) → write-keys body lo hi n p [] s ≡ s
+no-keys : (body : Body) (lo hi : ℕ) (w : SlotBits) (p : ℕ) (s : Byte-state) → write-keys body lo hi w p [] s ≡ s
 unfolding emissions slot-emissions set-all
-no-keys (Entries kind) lo hi n p s = write-none kind s
-no-keys Slots lo hi n p s = refl
+no-keys (Entries kind) lo hi w p s = write-none kind s
+no-keys Slots lo hi w p s = refl
 
 -- what holds between two keys of a pass: what the keys left do gives what all keys do, and there is room for it
 pub record Filling (p : Pass) (s : Bytes) (size at first : ℕ) (z final : Byte-state) : Type 0 where
@@ -151,22 +153,22 @@ module _ (p : Pass) (s : Bytes) (size at first : ℕ) (z final : Byte-state) whe
           let t = next-key s at first (f .ks) h (f .left) in
           let b : Bytes = key s (at + 3) m in
           let e : next-shared b (t .ks) ≡ q = t .shares in
-          let r = rooms-next (p .body) (p .levels .lo) (p .levels .hi) (p .width) first b (t .ks) size z (subst (λ (l : List Bytes). Pass-room p first l size (z .cursors)) (t .is) (f .room)) in
+          let r = rooms-next (p .body) (p .levels .lo) (p .levels .hi) (p .slot) first b (t .ks) size z (subst (λ (l : List Bytes). Pass-room p first l size (z .cursors)) (t .is) (f .room)) in
           let w : suc q ≡ q + 1 = sym (add-one q) in
           let o : Byte-state = pass-key p (key-at s at first) b z in
           record {
             listed = record { within = t .fits; numbers = t .numbers };
             after = omega arith;
-            room = subst (λ (i : ℕ). Key-room (p .body) (p .levels .lo) (p .levels .hi) (p .width) first i b size (z .cursors)) e (r .0);
+            room = subst (λ (i : ℕ). Key-room (p .body) (p .levels .lo) (p .levels .hi) (p .slot) first i b size (z .cursors)) e (r .0);
             behind = record {
               ks = t .ks;
               left = t .behind;
               run = ap (λ (i : ℕ). pass-keys p i (t .ks) o) (sym w)
-                  ∙ sym (ap (λ (i : ℕ). pass-keys p (suc i) (t .ks) (write-key (p .body) (p .levels .lo) (p .levels .hi) (p .width) first i b z)) e)
-                  ∙ sym (keys-next (p .body) (p .levels .lo) (p .levels .hi) (p .width) first b (t .ks) z) ∙ sym (ap (λ (l : List Bytes). pass-keys p first l z) (t .is)) ∙ f .run;
+                  ∙ sym (ap (λ (i : ℕ). pass-keys p (suc i) (t .ks) (write-key (p .body) (p .levels .lo) (p .levels .hi) (p .slot) first i b z)) e)
+                  ∙ sym (keys-next (p .body) (p .levels .lo) (p .levels .hi) (p .slot) first b (t .ks) z) ∙ sym (ap (λ (l : List Bytes). pass-keys p first l z) (t .is)) ∙ f .run;
               room = subst (λ (i : ℕ). Pass-room p i (t .ks) size (o .cursors)) w
-                  (subst (λ (i : ℕ). Pass-room p (suc i) (t .ks) size (write-key (p .body) (p .levels .lo) (p .levels .hi) (p .width) first i b z .cursors)) e (r .1));
-              width = cursors-width (p .body) (p .levels .lo) (p .levels .hi) (p .width) first q b z ∙ f .width;
+                  (subst (λ (i : ℕ). Pass-room p (suc i) (t .ks) size (write-key (p .body) (p .levels .lo) (p .levels .hi) (p .slot) first i b z .cursors)) e (r .1));
+              width = cursors-width (p .body) (p .levels .lo) (p .levels .hi) (p .slot) first q b z ∙ f .width;
             };
           }
 
@@ -176,7 +178,7 @@ module _ (p : Pass) (s : Bytes) (size at first : ℕ) (z final : Byte-state) whe
 
   -- the end of the list
   pub fill-done : length s ≤ at → Filling p s size at first z final → z ≡ final
-  fill-done h f = sym (no-keys (p .body) (p .levels .lo) (p .levels .hi) (p .width) first z) ∙ sym (ap (λ (l : List Bytes). pass-keys p first l z) (at-end s at first (f .ks) h (f .left))) ∙ f .run
+  fill-done h f = sym (no-keys (p .body) (p .levels .lo) (p .levels .hi) (p .slot) first z) ∙ sym (ap (λ (l : List Bytes). pass-keys p first l z) (at-end s at first (f .ks) h (f .left))) ∙ f .run
 
 -- the start of a pass
 pub fill-start : (p : Pass) (s : Bytes) (size : ℕ) (z : Byte-state) → Accepted-list s → length (z .cursors) ≡ counters → Pass-room p 0 (keys-of s) size (z .cursors) → Filling p s size 0 0 z (pass-keys p 0 (keys-of s) z)
@@ -190,9 +192,9 @@ pub record Counting (s : Bytes) (at first : ℕ) (c final : Level-counts) : Type
   pub left : Keys-left s at first ks  -- these keys are left
   pub entries : counts one-step (start-emissions 0 first ks) (c .entries) ≡ final .entries
   pub nodes : counts bit (start-emissions 0 first ks) (c .nodes) ≡ final .nodes
-  pub leaves : counts one-step (slot-emissions 0 first ks) (c .leaves) ≡ final .leaves
+  pub leaves : counts one-step (slot-emissions no-bits first ks) (c .leaves) ≡ final .leaves
   pub entry-room : Counter-room one-step (start-emissions 0 first ks) (c .entries)
-  pub leaf-room : Counter-room one-step (slot-emissions 0 first ks) (c .leaves)
+  pub leaf-room : Counter-room one-step (slot-emissions no-bits first ks) (c .leaves)
 
 -- one key of the counting pass: it is a key of the list, there is room for it, and what holds behind it
 pub record Counted-key (s : Bytes) (at : ℕ) (c final : Level-counts) (k : Key) : Type 0 where
@@ -206,7 +208,7 @@ starts-cons : (p : ℕ) (k : Bytes) (ks : List Bytes) → start-emissions 0 p (k
 unfolding start-emissions emissions
 starts-cons p k ks = refl
 
-slots-cons : (p : ℕ) (k : Bytes) (ks : List Bytes) → slot-emissions 0 p (k ∷ ks) ≡ emission (leaf-level (pred p) (next-shared k ks) (length k)) (key-slot 0 (pred p) (next-shared k ks) k) ∷ slot-emissions 0 (suc (next-shared k ks)) ks
+slots-cons : (p : ℕ) (k : Bytes) (ks : List Bytes) → slot-emissions no-bits p (k ∷ ks) ≡ emission (leaf-level (pred p) (next-shared k ks) (length k)) (key-slot no-bits (pred p) (next-shared k ks) k) ∷ slot-emissions no-bits (suc (next-shared k ks)) ks
 unfolding slot-emissions
 slots-cons p k ks = refl
 
@@ -226,12 +228,12 @@ module _ (s : Bytes) (at first : ℕ) (c final : Level-counts) where
           let starts : start-emissions 0 first (f .ks) ≡ key-starts first q m ++ start-emissions 0 (q + 1) (t .ks) =
           ap (start-emissions 0 first) (t .is) ∙ starts-cons first b (t .ks) ∙ ap₂ (λ (i j : ℕ). key-starts first i j ++ start-emissions 0 (suc i) (t .ks)) (t .shares) size
           ∙ ap (λ (i : ℕ). key-starts first q m ++ start-emissions 0 i (t .ks)) (sym (add-one q)) in
-          let slots : slot-emissions 0 first (f .ks) ≡ emission (leaf-level (pred first) q m) (key-slot 0 (pred first) q b) ∷ slot-emissions 0 (q + 1) (t .ks) =
-          ap (slot-emissions 0 first) (t .is) ∙ slots-cons first b (t .ks)
-          ∙ ap₂ (λ (i j : ℕ). emission (leaf-level (pred first) i j) (key-slot 0 (pred first) i b) ∷ slot-emissions 0 (suc i) (t .ks)) (t .shares) size
-          ∙ ap (λ (i : ℕ). emission (leaf-level (pred first) q m) (key-slot 0 (pred first) q b) ∷ slot-emissions 0 i (t .ks)) (sym (add-one q)) in
+          let slots : slot-emissions no-bits first (f .ks) ≡ emission (leaf-level (pred first) q m) (key-slot no-bits (pred first) q b) ∷ slot-emissions no-bits (q + 1) (t .ks) =
+          ap (slot-emissions no-bits first) (t .is) ∙ slots-cons first b (t .ks)
+          ∙ ap₂ (λ (i j : ℕ). emission (leaf-level (pred first) i j) (key-slot no-bits (pred first) i b) ∷ slot-emissions no-bits (suc i) (t .ks)) (t .shares) size
+          ∙ ap (λ (i : ℕ). emission (leaf-level (pred first) q m) (key-slot no-bits (pred first) q b) ∷ slot-emissions no-bits i (t .ks)) (sym (add-one q)) in
           let re = room-append one-step no-ones 0 counter-max (key-starts first q m) (start-emissions 0 (q + 1) (t .ks)) (c .entries) (rw starts at (f .entry-room)) in
-          let rl : Counter-room one-step (emission (leaf-level (pred first) q m) (key-slot 0 (pred first) q b) ∷ slot-emissions 0 (q + 1) (t .ks)) (c .leaves) = rw slots at (f .leaf-room) in
+          let rl : Counter-room one-step (emission (leaf-level (pred first) q m) (key-slot no-bits (pred first) q b) ∷ slot-emissions no-bits (q + 1) (t .ks)) (c .leaves) = rw slots at (f .leaf-room) in
           record {
             listed = record { within = t .fits; numbers = t .numbers };
             after = omega arith;
@@ -259,7 +261,7 @@ module _ (s : Bytes) (at first : ℕ) (c final : Level-counts) where
       let z = at-end s at first (f .ks) h (f .left) in
       let e : c .entries ≡ final .entries = sym (ap (λ (ks : List Bytes). counts one-step (start-emissions 0 first ks) (c .entries)) z) ∙ f .entries in
       let n : c .nodes ≡ final .nodes = sym (ap (λ (ks : List Bytes). counts bit (start-emissions 0 first ks) (c .nodes)) z) ∙ f .nodes in
-      let l : c .leaves ≡ final .leaves = sym (ap (λ (ks : List Bytes). counts one-step (slot-emissions 0 first ks) (c .leaves)) z) ∙ f .leaves in
+      let l : c .leaves ≡ final .leaves = sym (ap (λ (ks : List Bytes). counts one-step (slot-emissions no-bits first ks) (c .leaves)) z) ∙ f .leaves in
       counts-same e n l
 
 -- the start of the counting pass

@@ -8,9 +8,10 @@ use lib.ListN.{length, getD, replicate}
 use lib.Dec.{leb, eqb}
 use borrow.Author.Tests.{eqb-true, eqb-false}
 use Rattle.spec.specs.Bytes.{Bytes, Bits, shared}
-use Rattle.spec.specs.Leaves.{bits-behind}
+use Rattle.spec.specs.Leaves.{suffix-bits}
 use Rattle.theory.specs.Terms.{Ascending, Keys}
 use Rattle.theory.specs.Order.{shared-comm, above-short}
+use Rattle.build_laws.specs.SlotWidths.{width-of}
 use Rattle.build_laws.specs.LevelEntries.{pred}
 use Rattle.build_laws.specs.TrieEntries.{Slotted}
 use Rattle.theory.specs.Neighbours.{next-shared, next-shared-le, Nonempty}
@@ -19,6 +20,7 @@ use Rattle.build_laws.specs.Emissions.{Emission, emission, level-values,
 use Rattle.build_laws.specs.KeyEntries.{continues-at, slotted-at, exact-slotted, slotted-emissions}
 use Rattle.build_laws.specs.DenseRows.{cell, label-cell, child-cell, exact-cell, on-entry}
 use Rattle.build_laws.specs.declared.Cell.{Cell}
+use Rattle.build_laws.specs.declared.SlotBits.{SlotBits}
 
 -- ---- sparse levels, from lo on
 
@@ -61,42 +63,42 @@ dense-exact-emissions hi p ks = emissions 0 hi (λ p q k d. cell (leb p d) false
 
 -- ---- they are functions of the entries
 
-module _ (n lo : ℕ) (ks : List Bytes) where
+module _ (w : SlotBits) (lo : ℕ) (ks : List Bytes) where
   -- the entries' labels
-  pub label-of-slotted : label-emissions lo 0 ks ≡ map-emissions (λ (i : Slotted). i .entry .label) (slotted-emissions lo 64 n ks)
+  pub label-of-slotted : label-emissions lo 0 ks ≡ map-emissions (λ (i : Slotted). i .entry .label) (slotted-emissions lo 64 w ks)
   unfolding label-emissions slotted-emissions
-  label-of-slotted = sym (map-keys (λ (i : Slotted). i .entry .label) lo 64 (slotted-at n) (exact-slotted n) 0 ks)
+  label-of-slotted = sym (map-keys (λ (i : Slotted). i .entry .label) lo 64 (slotted-at w) (exact-slotted w) 0 ks)
 
   -- whether they are leaves
-  pub leaf-of-slotted : leaf-emissions lo 0 ks ≡ map-emissions (λ (i : Slotted). not (i .entry .child)) (slotted-emissions lo 64 n ks)
+  pub leaf-of-slotted : leaf-emissions lo 0 ks ≡ map-emissions (λ (i : Slotted). not (i .entry .child)) (slotted-emissions lo 64 w ks)
   unfolding leaf-emissions slotted-emissions
-  leaf-of-slotted = sym (map-keys (λ (i : Slotted). not (i .entry .child)) lo 64 (slotted-at n) (exact-slotted n) 0 ks)
+  leaf-of-slotted = sym (map-keys (λ (i : Slotted). not (i .entry .child)) lo 64 (slotted-at w) (exact-slotted w) 0 ks)
 
   -- whether they start no node
-  pub later-of-slotted : later-emissions lo 0 ks ≡ map-emissions (λ (i : Slotted). not (i .entry .start)) (slotted-emissions lo 64 n ks)
+  pub later-of-slotted : later-emissions lo 0 ks ≡ map-emissions (λ (i : Slotted). not (i .entry .start)) (slotted-emissions lo 64 w ks)
   unfolding later-emissions slotted-emissions
-  later-of-slotted = sym (map-keys (λ (i : Slotted). not (i .entry .start)) lo 64 (slotted-at n) (exact-slotted n) 0 ks)
+  later-of-slotted = sym (map-keys (λ (i : Slotted). not (i .entry .start)) lo 64 (slotted-at w) (exact-slotted w) 0 ks)
 
   -- whether they start a node
-  pub start-of-slotted : start-emissions lo 0 ks ≡ map-emissions (λ (i : Slotted). i .entry .start) (slotted-emissions lo 64 n ks)
+  pub start-of-slotted : start-emissions lo 0 ks ≡ map-emissions (λ (i : Slotted). i .entry .start) (slotted-emissions lo 64 w ks)
   unfolding start-emissions slotted-emissions
-  start-of-slotted = sym (map-keys (λ (i : Slotted). i .entry .start) lo 64 (slotted-at n) (exact-slotted n) 0 ks)
+  start-of-slotted = sym (map-keys (λ (i : Slotted). i .entry .start) lo 64 (slotted-at w) (exact-slotted w) 0 ks)
 
-module _ (n hi : ℕ) (ks : List Bytes) where
+module _ (w : SlotBits) (hi : ℕ) (ks : List Bytes) where
   -- their label cells
-  pub label-cells-of-slotted : dense-label-emissions hi 0 ks ≡ map-emissions (on-entry label-cell) (slotted-emissions 0 hi n ks)
+  pub label-cells-of-slotted : dense-label-emissions hi 0 ks ≡ map-emissions (on-entry label-cell) (slotted-emissions 0 hi w ks)
   unfolding dense-label-emissions slotted-emissions
-  label-cells-of-slotted = sym (map-keys (on-entry label-cell) 0 hi (slotted-at n) (exact-slotted n) 0 ks)
+  label-cells-of-slotted = sym (map-keys (on-entry label-cell) 0 hi (slotted-at w) (exact-slotted w) 0 ks)
 
   -- their child cells
-  pub child-cells-of-slotted : dense-child-emissions hi 0 ks ≡ map-emissions (on-entry child-cell) (slotted-emissions 0 hi n ks)
+  pub child-cells-of-slotted : dense-child-emissions hi 0 ks ≡ map-emissions (on-entry child-cell) (slotted-emissions 0 hi w ks)
   unfolding dense-child-emissions slotted-emissions
-  child-cells-of-slotted = sym (map-keys (on-entry child-cell) 0 hi (slotted-at n) (exact-slotted n) 0 ks)
+  child-cells-of-slotted = sym (map-keys (on-entry child-cell) 0 hi (slotted-at w) (exact-slotted w) 0 ks)
 
   -- their exact cells
-  pub exact-cells-of-slotted : dense-exact-emissions hi 0 ks ≡ map-emissions (on-entry exact-cell) (slotted-emissions 0 hi n ks)
+  pub exact-cells-of-slotted : dense-exact-emissions hi 0 ks ≡ map-emissions (on-entry exact-cell) (slotted-emissions 0 hi w ks)
   unfolding dense-exact-emissions slotted-emissions
-  exact-cells-of-slotted = sym (map-keys (on-entry exact-cell) 0 hi (slotted-at n) (exact-slotted n) 0 ks)
+  exact-cells-of-slotted = sym (map-keys (on-entry exact-cell) 0 hi (slotted-at w) (exact-slotted w) 0 ks)
 
 -- the values of all levels, mapped
 pub values-map : {A B : Type 0} (f : A → B) (es : List (Emission A)) (d : ℕ) → values-below (map-emissions f es) d ≡ map f (values-below es d)
@@ -110,15 +112,15 @@ values-map f es (suc d) = ap₂ _++_ (values-map f es d) (level-map f d es) ∙ 
 unfoldable pub leaf-level : ℕ → ℕ → ℕ → ℕ
 leaf-level p q n = cond (eqb q n) n (max p q)
 
--- the slot of a key's leaf, n bits: behind the cut of an open leaf, zeros for an exact one
-unfoldable pub key-slot : ℕ → ℕ → ℕ → Bytes → Bits
-key-slot n p q k = cond (eqb q (length k)) (replicate n false) (bits-behind n (cut-length p q (length k)) k)
+-- the slot of a key's leaf: of an open leaf hash bits and the bits behind its cut, of an exact one zeros
+unfoldable pub key-slot : SlotBits → ℕ → ℕ → Bytes → Bits
+key-slot w p q k = cond (eqb q (length k)) (replicate (width-of w) false) (suffix-bits (w .hash) (w .real) (cut-length p q (length k)) k)
 
 -- the slots of keys, each on its leaf's level
-unfoldable pub slot-emissions : ℕ → ℕ → List Bytes → List (Emission Bits)
+unfoldable pub slot-emissions : SlotBits → ℕ → List Bytes → List (Emission Bits)
 unfolding leaf-level key-slot next-shared
-slot-emissions n p [] = []
-slot-emissions n p (k ∷ ks) = emission (leaf-level (pred p) (next-shared k ks) (length k)) (key-slot n (pred p) (next-shared k ks) k) ∷ slot-emissions n (suc (next-shared k ks)) ks
+slot-emissions w p [] = []
+slot-emissions w p (k ∷ ks) = emission (leaf-level (pred p) (next-shared k ks) (length k)) (key-slot w (pred p) (next-shared k ks) k) ∷ slot-emissions w (suc (next-shared k ks)) ks
 
 -- ---- levels
 
@@ -186,9 +188,9 @@ leaf-level-below p q n u = go (eqb q n) refl
         less z = omega (arith, u .before, u .behind, u .size)
 
 -- every slot is on a level below 64
-pub slots-below : (n p : ℕ) (ks : List Bytes) → Next-longer (pred p) ks → Keys ks → Ascending ks → Levels-below 64 (slot-emissions n p ks)
+pub slots-below : (w : SlotBits) (p : ℕ) (ks : List Bytes) → Next-longer (pred p) ks → Keys ks → Ascending ks → Levels-below 64 (slot-emissions w p ks)
 unfolding slot-emissions
-slots-below n p [] l s a = tt
-slots-below n p (k ∷ ks) l s a =
+slots-below w p [] l s a = tt
+slots-below w p (k ∷ ks) l s a =
     let u = key-numbers (pred p) k ks l s a in
-    (leaf-level-below (pred p) (next-shared k ks) (length k) (u .0), slots-below n (suc (next-shared k ks)) ks (u .1) (s .1) (a .1))
+    (leaf-level-below (pred p) (next-shared k ks) (length k) (u .0), slots-below w (suc (next-shared k ks)) ks (u .1) (s .1) (a .1))

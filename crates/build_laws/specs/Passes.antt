@@ -6,6 +6,7 @@ use lib.ListN.{length, getD, set}
 use lib.Dec.{leb, ltb, eqb}
 use Rattle.spec.specs.Bytes.{Bytes, Bits}
 use Rattle.bits_laws.specs.Bits.{with-bit, key}
+use Rattle.build_laws.specs.SlotWidths.{width-of, no-bits}
 use Rattle.build_laws.specs.LevelEntries.{pred}
 use Rattle.build_laws.specs.Emissions.{Emission, emission, key-emissions, emissions}
 use Rattle.build_laws.specs.KeyEntries.{continues-at, entry-at, exact-entry}
@@ -22,6 +23,7 @@ use Rattle.build_laws.specs.declared.Body.the-variants.{Entries, Slots}
 use Rattle.build_laws.specs.Limits.{counter-max}
 use Rattle.build_laws.specs.declared.Key.{Key}
 use Rattle.build_laws.specs.declared.Pass.{Pass}
+use Rattle.build_laws.specs.declared.SlotBits.{SlotBits}
 use Rattle.build_laws.specs.declared.Levels.{Levels}
 
 -- the bits at these positions set, one after the other
@@ -103,8 +105,8 @@ abbrev pub Entries-room : Kind → List (Emission Entry) → ℕ → List ℕ �
 Entries-room kind es size c = Room (kind-step kind) (kind-ones kind) (capacity kind size) counter-max es c
 
 -- there is room in so many bytes for the bits of slots
-abbrev pub Slots-room : ℕ → List (Emission Bits) → ℕ → List ℕ → Type 0
-Slots-room n es size c = Room one-step (slot-at n) (8 * size) counter-max es c
+abbrev pub Slots-room : SlotBits → List (Emission Bits) → ℕ → List ℕ → Type 0
+Slots-room w es size c = Room one-step (slot-at (width-of w)) (8 * size) counter-max es c
 
 -- ---- a key of the list
 
@@ -133,54 +135,54 @@ listed-later l k = key-emissions (l .lo) (l .hi) (λ d. not (leb (k .first) d)) 
 abbrev pub Bits-room : List (Emission Bool) → ℕ → List ℕ → Type 0
 Bits-room es size c = Room one-step bit-at (8 * size) counter-max es c
 
--- the slot of n bits of a key of these bytes, on the level of its leaf
-abbrev pub listed-slot : ℕ → Key → Bytes → Emission Bits
-listed-slot n k b = emission (leaf-level (pred (k .first)) (k .next) (length b)) (key-slot n (pred (k .first)) (k .next) b)
+-- the slot of a key of these bytes, on the level of its leaf
+abbrev pub listed-slot : SlotBits → Key → Bytes → Emission Bits
+listed-slot w k b = emission (leaf-level (pred (k .first)) (k .next) (length b)) (key-slot w (pred (k .first)) (k .next) b)
 
 -- ---- bodies
 
--- what a key does in a body, n the suffix width
-abbrev pub write-key : Body → ℕ → ℕ → ℕ → ℕ → ℕ → Bytes → Byte-state → Byte-state
-write-key (Entries kind) lo hi n p q k s = write-entries kind (key-entries lo hi p q k) s
-write-key Slots lo hi n p q k s = set-at-cursor one-step (slot-at n) (emission (leaf-level (pred p) q (length k)) (key-slot n (pred p) q k)) s
+-- what a key does in a body
+abbrev pub write-key : Body → ℕ → ℕ → SlotBits → ℕ → ℕ → Bytes → Byte-state → Byte-state
+write-key (Entries kind) lo hi w p q k s = write-entries kind (key-entries lo hi p q k) s
+write-key Slots lo hi w p q k s = set-at-cursor one-step (slot-at (width-of w)) (emission (leaf-level (pred p) q (length k)) (key-slot w (pred p) q k)) s
 
 -- what keys do in a body
-abbrev pub write-keys : Body → ℕ → ℕ → ℕ → ℕ → List Bytes → Byte-state → Byte-state
-write-keys (Entries kind) lo hi n p ks s = write-entries kind (all-entries lo hi p ks) s
-write-keys Slots lo hi n p ks s = set-all one-step (slot-at n) (slot-emissions n p ks) s
+abbrev pub write-keys : Body → ℕ → ℕ → SlotBits → ℕ → List Bytes → Byte-state → Byte-state
+write-keys (Entries kind) lo hi w p ks s = write-entries kind (all-entries lo hi p ks) s
+write-keys Slots lo hi w p ks s = set-all one-step (slot-at (width-of w)) (slot-emissions w p ks) s
 
 -- there is room in so many bytes for what a key does
-abbrev pub Key-room : Body → ℕ → ℕ → ℕ → ℕ → ℕ → Bytes → ℕ → List ℕ → Type 0
-Key-room (Entries kind) lo hi n p q k size c = Room (kind-step kind) (kind-ones kind) (capacity kind size) counter-max (key-entries lo hi p q k) c
-Key-room Slots lo hi n p q k size c = Room one-step (slot-at n) (8 * size) counter-max (emission (leaf-level (pred p) q (length k)) (key-slot n (pred p) q k) ∷ []) c
+abbrev pub Key-room : Body → ℕ → ℕ → SlotBits → ℕ → ℕ → Bytes → ℕ → List ℕ → Type 0
+Key-room (Entries kind) lo hi w p q k size c = Room (kind-step kind) (kind-ones kind) (capacity kind size) counter-max (key-entries lo hi p q k) c
+Key-room Slots lo hi w p q k size c = Room one-step (slot-at (width-of w)) (8 * size) counter-max (emission (leaf-level (pred p) q (length k)) (key-slot w (pred p) q k) ∷ []) c
 
 -- there is room for what keys do
-abbrev pub Keys-room : Body → ℕ → ℕ → ℕ → ℕ → List Bytes → ℕ → List ℕ → Type 0
-Keys-room (Entries kind) lo hi n p ks size c = Room (kind-step kind) (kind-ones kind) (capacity kind size) counter-max (all-entries lo hi p ks) c
-Keys-room Slots lo hi n p ks size c = Room one-step (slot-at n) (8 * size) counter-max (slot-emissions n p ks) c
+abbrev pub Keys-room : Body → ℕ → ℕ → SlotBits → ℕ → List Bytes → ℕ → List ℕ → Type 0
+Keys-room (Entries kind) lo hi w p ks size c = Room (kind-step kind) (kind-ones kind) (capacity kind size) counter-max (all-entries lo hi p ks) c
+Keys-room Slots lo hi w p ks size c = Room one-step (slot-at (width-of w)) (8 * size) counter-max (slot-emissions w p ks) c
 
 -- ---- passes
 
 -- the pass of a body of entries on some levels
 abbrev pub entries-pass : Kind → Levels → Pass
-entries-pass kind l = record { body = Entries kind; levels = l; width = 0 }
+entries-pass kind l = record { body = Entries kind; levels = l; slot = no-bits }
 
--- the pass of the slots of n bits
-abbrev pub slots-pass : ℕ → Pass
-slots-pass n = record { body = Slots; levels = record { lo = 0; hi = 0 }; width = n }
+-- the pass of the slots
+abbrev pub slots-pass : SlotBits → Pass
+slots-pass w = record { body = Slots; levels = record { lo = 0; hi = 0 }; slot = w }
 
 -- what a pass does with one key, of these bytes
 abbrev pub pass-key : Pass → Key → Bytes → Byte-state → Byte-state
-pass-key p k b s = write-key (p .body) (p .levels .lo) (p .levels .hi) (p .width) (k .first) (k .next) b s
+pass-key p k b s = write-key (p .body) (p .levels .lo) (p .levels .hi) (p .slot) (k .first) (k .next) b s
 
 -- what a pass does with keys, the first of which starts nodes from the level `first` on
 abbrev pub pass-keys : Pass → ℕ → List Bytes → Byte-state → Byte-state
-pass-keys p first ks s = write-keys (p .body) (p .levels .lo) (p .levels .hi) (p .width) first ks s
+pass-keys p first ks s = write-keys (p .body) (p .levels .lo) (p .levels .hi) (p .slot) first ks s
 
 -- there is room in so many bytes for what a pass does with one key
 abbrev pub Key-room-of : Pass → Key → Bytes → ℕ → List ℕ → Type 0
-Key-room-of p k b size c = Key-room (p .body) (p .levels .lo) (p .levels .hi) (p .width) (k .first) (k .next) b size c
+Key-room-of p k b size c = Key-room (p .body) (p .levels .lo) (p .levels .hi) (p .slot) (k .first) (k .next) b size c
 
 -- there is room for what it does with keys
 abbrev pub Pass-room : Pass → ℕ → List Bytes → ℕ → List ℕ → Type 0
-Pass-room p first ks size c = Keys-room (p .body) (p .levels .lo) (p .levels .hi) (p .width) first ks size c
+Pass-room p first ks size c = Keys-room (p .body) (p .levels .lo) (p .levels .hi) (p .slot) first ks size c

@@ -10,7 +10,6 @@ use lib.Dec.{ltb}
 use borrow.Author.Tests.{ltb-true, ltb-false}
 use Rattle.spec.specs.Bytes.{Bytes, blocks, le32}
 use Rattle.spec.specs.Keys.{keys-of}
-use Rattle.spec.specs.Leaves.{leaves}
 use Rattle.spec.specs.Image.{Settings, Counts, Row, rows, sizes, in-order, marked, write-records, header, image}
 use Rattle.theory.specs.BuildLaws.{Built-from}
 use Rattle.bits_laws.specs.Bits.{part, placed, rank}
@@ -23,7 +22,7 @@ use Rattle.rank_tables_laws.specs.Entries.{rank-entries, sample-entries}
 use Rattle.build_laws.specs.Limits.{counters, counter-max}
 use Rattle.build_laws.specs.Cursors.{sums}
 use Rattle.build_laws.specs.KeyRecords.{Records}
-use Rattle.build_laws.specs.KeyBits.{key-bodies}
+use Rattle.build_laws.specs.KeyBits.{key-leaves, key-bodies}
 use Rattle.build_laws.specs.CountPass.{Level-counts, list-counts}
 use Rattle.build_laws.specs.BodyChoice.{body-of, counters-of}
 use Rattle.build_laws.specs.BodyRoom.{counters-few}
@@ -106,7 +105,8 @@ module _ (list : Bytes) (p : Plan) (w : Planned list p) where
   plan-short = record {
     version = omega (arith, known-few (p .header .version) (w .ready .built .version-known));
     levels = omega (arith, w .ready .built .dense-range);
-    width = omega (arith, w .ready .built .width-range);
+    real = omega (arith, w .ready .built .real-range);
+    hash = omega (arith, w .ready .built .hash-range);
     leaves = omega (arith, ap (λ (c : Counts). c .leaves) (w .counts), w .ready .built .few);
     dense-nodes = omega (arith, nodes-few);
     sparse-entries = omega (arith, entries-few);
@@ -138,7 +138,8 @@ module _ (list : Bytes) (p : Plan) (w : Planned list p) where
 abbrev pub header-with : Settings → ℕ → ℕ → ℕ → ℕ → Header
 header-with st leaves dense nodes entries = record {
   version = st .version;
-  width = st .width;
+  real = st .real-width;
+  hash = st .hash-width;
   leaves = leaves;
   dense = record { levels = st .dense-levels; nodes = dense };
   sparse = record { nodes = nodes; entries = entries };
@@ -163,7 +164,8 @@ module _ (list : Bytes) (st : Settings) (r : Ready list st) (c : Level-counts) (
     header-short = record {
       version = omega (arith, known-few (st .version) (r .built .version-known));
       levels = omega (arith, r .built .dense-range);
-      width = omega (arith, r .built .width-range);
+      real = omega (arith, r .built .real-range);
+      hash = omega (arith, r .built .hash-range);
       leaves = omega (arith, r .built .few);
       dense-nodes = omega (arith, node-sums 0 (st .dense-levels) (omega (arith, r .built .dense-range)));
       sparse-entries = omega (arith, entry-sums (st .dense-levels) 64 (omega arith));
@@ -431,7 +433,7 @@ module _ (list : Bytes) (p : Plan) (w : Planned list p) (was : Bytes) (room : st
 
 -- the image that a plan is of
 abbrev pub plan-image : Bytes → Plan → Bytes
-plan-image list p = image (plan-settings p) (leaves (p .header .width) (keys-of list))
+plan-image list p = image (plan-settings p) (key-leaves (plan-settings p) (keys-of list))
 
 -- the records behind the twelve, by the counters of the nodes
 abbrev pub plan-levels : Plan → List ℕ → Bytes

@@ -8,9 +8,10 @@ use lib.ListN.{length, replicate}
 use lib.Dec.{leb, ltb, eqb}
 use borrow.Author.Tests.{eqb-true, eqb-false, eq-eqb, ne-eqb, ltb-true, lt-ltb, le-ltb, le-leb}
 use Rattle.spec.specs.Bytes.{Bytes, Bits, filter, concat, bit}
-use Rattle.spec.specs.Leaves.{bits-behind}
+use Rattle.spec.specs.Leaves.{suffix-bits}
 use Rattle.theory.specs.Terms.{All}
 use Rattle.theory.specs.Lists.{nil-of}
+use Rattle.build_laws.specs.SlotWidths.{width-of}
 use Rattle.build_laws.specs.LevelEntries.{pred}
 use Rattle.build_laws.specs.TrieEntries.{Slotted}
 use Rattle.theory.specs.Neighbours.{next-shared}
@@ -21,6 +22,7 @@ use Rattle.build_laws.specs.Cursors.{sum-of}
 use Rattle.build_laws.specs.BytePass.{one-step}
 use Rattle.build_laws.specs.NodeBodies.{slots-in, Slot-wide, leaf-step}
 use Rattle.build_laws.specs.PassEmissions.{leaf-level, key-slot, slot-emissions}
+use Rattle.build_laws.specs.declared.SlotBits.{SlotBits}
 
 -- the slots of the entries that do not continue
 unfoldable pub leaf-slots : List Slotted → List Bits
@@ -54,12 +56,12 @@ left-out i e = rw e
 
 -- ---- one key
 
-module _ (w p q : ℕ) (k : Bytes) (d : ℕ) where
+module _ (w : SlotBits) (p q : ℕ) (k : Bytes) (d : ℕ) where
   exact-first : q ≡ length k → (b : Bool) → leaf-slots (cond b (slotted-at w p q k d ∷ []) []) ≡ []
   exact-first e true = left-out (slotted-at w p q k d) (ap (λ (c : Bool). c || ltb (suc d) (cut-length (pred p) q (length k))) (eq-eqb q (length k) e))
   exact-first e false = leaf-slots-none
 
-  exact-last : (b : Bool) → leaf-slots (cond b (exact-slotted w ∷ []) []) ≡ cond b (replicate w false ∷ []) []
+  exact-last : (b : Bool) → leaf-slots (cond b (exact-slotted w ∷ []) []) ≡ cond b (replicate (width-of w) false ∷ []) []
   exact-last true = kept (exact-slotted w) refl
   exact-last false = leaf-slots-none
 
@@ -67,11 +69,11 @@ module _ (w p q : ℕ) (k : Bytes) (d : ℕ) where
   child-open z = ap₂ (λ (b : Bool) (c : ℕ). b || ltb (suc d) c) (ne-eqb q (length k) z) (cut-open (pred p) q (length k) z)
 
   open-first : (q ≡ length k → ⊥) → leaf-slots (cond (leb (pred p) d && ltb d (cut-length (pred p) q (length k))) (slotted-at w p q k d ∷ []) [])
-      ≡ cond (eqb d (max (pred p) q)) (bits-behind w (cut-length (pred p) q (length k)) k ∷ []) []
+      ≡ cond (eqb d (max (pred p) q)) (suffix-bits (w .hash) (w .real) (cut-length (pred p) q (length k)) k ∷ []) []
   open-first z = ap (λ (c : ℕ). leaf-slots (cond (leb (pred p) d && ltb d c) (slotted-at w p q k d ∷ []) [])) (cut-open (pred p) q (length k) z) ∙ go (eqb d (max (pred p) q)) refl
     where
-      slot-is : continues-at p q (length k) d ≡ false → slotted-at w p q k d .slot ≡ bits-behind w (cut-length (pred p) q (length k)) k
-      slot-is e = ap (λ (b : Bool). cond b [] (bits-behind w (cut-length (pred p) q (length k)) k)) e
+      slot-is : continues-at p q (length k) d ≡ false → slotted-at w p q k d .slot ≡ suffix-bits (w .hash) (w .real) (cut-length (pred p) q (length k)) k
+      slot-is e = ap (λ (b : Bool). cond b [] (suffix-bits (w .hash) (w .real) (cut-length (pred p) q (length k)) k)) e
 
       inner : (a b : Bool) → ltb d (suc (max (pred p) q)) ≡ b → (d ≡ max (pred p) q → ⊥) → leaf-slots (cond (a && b) (slotted-at w p q k d ∷ []) []) ≡ []
       inner true true e n = left-out (slotted-at w p q k d) (child-open z ∙ lt-ltb (suc d) (suc (max (pred p) q)) (near (ltb-true d (suc (max (pred p) q)) e) n))
@@ -81,7 +83,7 @@ module _ (w p q : ℕ) (k : Bytes) (d : ℕ) where
       inner true false e n = leaf-slots-none
       inner false b e n = leaf-slots-none
 
-      go : (b : Bool) → eqb d (max (pred p) q) ≡ b → leaf-slots (cond (leb (pred p) d && ltb d (suc (max (pred p) q))) (slotted-at w p q k d ∷ []) []) ≡ cond b (bits-behind w (cut-length (pred p) q (length k)) k ∷ []) []
+      go : (b : Bool) → eqb d (max (pred p) q) ≡ b → leaf-slots (cond (leb (pred p) d && ltb d (suc (max (pred p) q))) (slotted-at w p q k d ∷ []) []) ≡ cond b (suffix-bits (w .hash) (w .real) (cut-length (pred p) q (length k)) k ∷ []) []
       go true e =
           let h : d ≡ max (pred p) q = eqb-true d (max (pred p) q) e in
           let c : continues-at p q (length k) d ≡ false = child-open z ∙ le-ltb (suc d) (suc (max (pred p) q)) (omega arith) in
@@ -98,17 +100,17 @@ module _ (w p q : ℕ) (k : Bytes) (d : ℕ) where
       ∙ leaf-slots-append (cond (leb (pred p) d && ltb d (cut-length (pred p) q (length k))) (slotted-at w p q k d ∷ []) []) (cond (eqb q (length k) && eqb d (length k)) (exact-slotted w ∷ []) []))
     where
       go : (b : Bool) → eqb q (length k) ≡ b
-          → cond (eqb d (cond b (length k) (max (pred p) q))) (cond b (replicate w false) (bits-behind w (cut-length (pred p) q (length k)) k) ∷ []) []
+          → cond (eqb d (cond b (length k) (max (pred p) q))) (cond b (replicate (width-of w) false) (suffix-bits (w .hash) (w .real) (cut-length (pred p) q (length k)) k) ∷ []) []
           ≡ leaf-slots (cond (leb (pred p) d && ltb d (cut-length (pred p) q (length k))) (slotted-at w p q k d ∷ []) []) ++ leaf-slots (cond (b && eqb d (length k)) (exact-slotted w ∷ []) [])
       go true e = sym (ap₂ _++_ (exact-first (eqb-true q (length k) e) (leb (pred p) d && ltb d (cut-length (pred p) q (length k)))) (exact-last (eqb d (length k))))
-      go false e = sym (ap₂ _++_ (open-first (eqb-false q (length k) e)) leaf-slots-none ∙ append-nil (cond (eqb d (max (pred p) q)) (bits-behind w (cut-length (pred p) q (length k)) k ∷ []) []))
+      go false e = sym (ap₂ _++_ (open-first (eqb-false q (length k) e)) leaf-slots-none ∙ append-nil (cond (eqb d (max (pred p) q)) (suffix-bits (w .hash) (w .real) (cut-length (pred p) q (length k)) k ∷ []) []))
 
 -- ---- all keys
 
 cons-level : (d : ℕ) (e : Emission Bits) (es : List (Emission Bits)) → level-values d (e ∷ es) ≡ level-values d (e ∷ []) ++ level-values d es
 cons-level d e es = level-append d (e ∷ []) es
 
-slots-level : (w d p : ℕ) (ks : List Bytes) → d < 64 → level-values d (slot-emissions w p ks) ≡ leaf-slots (level-values d (emissions 0 64 (slotted-at w) (exact-slotted w) p ks))
+slots-level : (w : SlotBits) (d p : ℕ) (ks : List Bytes) → d < 64 → level-values d (slot-emissions w p ks) ≡ leaf-slots (level-values d (emissions 0 64 (slotted-at w) (exact-slotted w) p ks))
 unfolding slot-emissions emissions
 slots-level w d p [] h = level-none d ∙ sym (ap leaf-slots (level-none d) ∙ leaf-slots-none)
 slots-level w d p (k ∷ ks) h =
@@ -119,12 +121,12 @@ slots-level w d p (k ∷ ks) h =
     ∙ leaf-slots-append (level-values d (key-emissions 0 64 (slotted-at w p q k) (exact-slotted w) (pred p) q (length k))) (level-values d (emissions 0 64 (slotted-at w) (exact-slotted w) (suc q) ks)))
 
 -- the slots on a level are those of its entries that do not continue
-pub level-slots : (w d : ℕ) (ks : List Bytes) → d < 64 → level-values d (slot-emissions w 0 ks) ≡ leaf-slots (level-values d (slotted-emissions 0 64 w ks))
+pub level-slots : (w : SlotBits) (d : ℕ) (ks : List Bytes) → d < 64 → level-values d (slot-emissions w 0 ks) ≡ leaf-slots (level-values d (slotted-emissions 0 64 w ks))
 unfolding slotted-emissions
 level-slots w d ks h = slots-level w d 0 ks h
 
 -- so are those of all levels
-pub values-slots : (w : ℕ) (ks : List Bytes) (m : ℕ) → m ≤ 64 → values-below (slot-emissions w 0 ks) m ≡ leaf-slots (values-below (slotted-emissions 0 64 w ks) m)
+pub values-slots : (w : SlotBits) (ks : List Bytes) (m : ℕ) → m ≤ 64 → values-below (slot-emissions w 0 ks) m ≡ leaf-slots (values-below (slotted-emissions 0 64 w ks) m)
 unfolding values-below
 values-slots w ks zero h = sym leaf-slots-none
 values-slots w ks (suc m) h =

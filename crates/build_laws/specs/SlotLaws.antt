@@ -6,8 +6,9 @@ use mathlib.Core.List.{List, []}
 use lib.ListN.{length, getD, set, replicate}
 use borrow.Author.Tests.{eq-eqb, ne-eqb}
 use Rattle.spec.specs.Bytes.{Bytes, Bits}
-use Rattle.spec.specs.Leaves.{bits-behind}
+use Rattle.spec.specs.Leaves.{suffix-bits}
 use Rattle.spec.specs.Image.{positions}
+use Rattle.build_laws.specs.SlotWidths.{width-of}
 use Rattle.build_laws.specs.NeighbourLeaves.{cut-length}
 use Rattle.build_laws.specs.Emissions.{emission}
 use Rattle.build_laws.specs.BytePass.{byte-state, one-step}
@@ -15,21 +16,22 @@ use Rattle.build_laws.specs.PassEmissions.{key-slot}
 use Rattle.build_laws.specs.BodyLaws.{slot-at}
 use Rattle.build_laws.specs.Passes.{with-bits, set-at-cursor}
 use Rattle.build_laws.specs.CursorWrites.{with-none}
+use Rattle.build_laws.specs.declared.SlotBits.{SlotBits}
 
 no-ones : (n base : ℕ) → positions base (replicate n false) ≡ []
 unfolding positions
 no-ones zero base = refl
 no-ones (suc n) base = no-ones n (suc base)
 
--- an open leaf's slot is behind the cut
-pub slot-open : (n p q m : ℕ) (k : Bytes) → length k ≡ m → (q ≡ m → ⊥) → bits-behind n (cut-length p q m) k ≡ key-slot n p q k
+-- an open leaf's slot has its key's suffix
+pub slot-open : (w : SlotBits) (p q m : ℕ) (k : Bytes) → length k ≡ m → (q ≡ m → ⊥) → suffix-bits (w .hash) (w .real) (cut-length p q m) k ≡ key-slot w p q k
 unfolding key-slot
-slot-open n p q m k e h = sym (rw (ne-eqb q (length k) (λ z. h (z ∙ e))) (ap (λ (i : ℕ). bits-behind n (cut-length p q i) k) e))
+slot-open w p q m k e h = sym (rw (ne-eqb q (length k) (λ z. h (z ∙ e))) (ap (λ (i : ℕ). suffix-bits (w .hash) (w .real) (cut-length p q i) k) e))
 
 -- an exact leaf's slot sets no bit
-pub slot-exact : (n p q m base : ℕ) (k out : Bytes) → length k ≡ m → q ≡ m → out ≡ with-bits (positions base (key-slot n p q k)) out
+pub slot-exact : (w : SlotBits) (p q m base : ℕ) (k out : Bytes) → length k ≡ m → q ≡ m → out ≡ with-bits (positions base (key-slot w p q k)) out
 unfolding key-slot
-slot-exact n p q m base k out e h = sym (rw (eq-eqb q (length k) (h ∙ sym e), no-ones n base) (with-none out))
+slot-exact w p q m base k out e h = sym (rw (eq-eqb q (length k) (h ∙ sym e), no-ones (width-of w) base) (with-none out))
 
 -- a slot is written, and the cursor goes on
 pub slot-done : (cur out o : List ℕ) (d level n base : ℕ) (s : Bits) → d ≡ level → base ≡ n * getD cur d 0 → o ≡ with-bits (positions base s) out

@@ -1,18 +1,19 @@
 -- Setting a number's ones from a bit on sets its bits there. Used by the functions that write suffix slots.
-use Prim.Native.Nat.{ℕ, suc, _+_, _*_, _-_, _/_, _%_, _^_, _≤_, _<_}
+use Prim.Native.Nat.{ℕ, zero, suc, _+_, _*_, _-_, _/_, _%_, _^_, _≤_, _<_}
 use mathlib.Core.Path.{_≡_, refl, sym, ap, ap₂, _∙_}
 use mathlib.Core.Bool.{Bool, true, false}
 use mathlib.Core.List.{[], _∷_}
 use native.Mathlib.Omega.{arith}
-use native.Mathlib.Nat.{mul-mod-left, zero-mul, mul-one, mul-assoc, mul-left-comm, pow-succ'}
+use native.Mathlib.Nat.{add-zero, mul-mod-left, zero-mul, mul-one, mul-assoc, mul-left-comm, pow-succ'}
 use lib.ListN.{length, drop, length-drop, drop-of-length-le}
 use lib.Seq.{drop-nil}
 use lib.Dec.{ltb}
 use borrow.Author.Tests.{ltb-true, ltb-false}
-use Rattle.spec.specs.Bytes.{Bytes, Bits, low-first}
+use Rattle.spec.specs.Bytes.{Bytes, Bits, low-first, padded}
 use Rattle.spec.specs.Image.{positions}
+use Rattle.theory.specs.KeyLeaves.{length-padded}
 use Rattle.bits_laws.specs.Bits.{with-bit, with-ones, with-number}
-use Rattle.bits_laws.specs.NumberLaws.{with-ones-none, with-ones-twice, with-bit-ones, number-set, or-bits, shifted-high, low-drop}
+use Rattle.bits_laws.specs.NumberLaws.{with-ones-none, with-ones-twice, with-bit-ones, number-set, or-bits, shifted-high, low-drop, low-padded}
 use Rattle.build_laws.specs.Passes.{with-bits}
 
 -- a bit that is set at place r of byte q, and the byte's share of the bits behind it
@@ -88,3 +89,34 @@ number-bits bs base s h =
     ∙ ap (λ (z : Bits). with-bits (positions (8 * (q + 1 + 1 + 1)) z) (with-ones (with-ones s₁ (q + 1) (low-first bs₁ % 256)) (q + 1 + 1) (low-first bs₂ % 256))) end
     ∙ number-set s s₁ (with-ones s₁ (q + 1) (low-first bs₁ % 256)) _ base (low-first bs) w refl refl (ap (λ (n : ℕ). with-ones s₁ (q + 1) (n % 256)) l₁)
     (ap₂ (λ (k n : ℕ). with-ones (with-ones s₁ (q + 1) (low-first bs₁ % 256)) k (n % 256)) two l₂))
+
+-- bits from a bit on, in two parts
+part-bits : (m : ℕ) (bs : Bits) (base : ℕ) (s : Bytes) → with-bits (positions base bs) s ≡ with-bits (positions (base + m) (drop m bs)) (with-bits (positions base (padded m bs)) s)
+unfolding with-bits positions padded
+part-bits zero bs base s = ap (λ (i : ℕ). with-bits (positions i bs) s) (sym (add-zero base))
+part-bits (suc m) [] base s =
+    part-bits m [] (suc base) s ∙ ap (λ (bs : Bits). with-bits (positions (suc base + m) bs) (with-bits (positions (suc base) (padded m [])) s)) (drop-nil {A = Bool} m)
+part-bits (suc m) (b ∷ bs) base s = go b (λ z. part-bits m bs (suc base) z)
+  where
+    w : suc base + m ≡ base + suc m
+    w = omega arith
+
+    go : (b : Bool) → ((z : Bytes) → with-bits (positions (suc base) bs) z ≡ with-bits (positions (suc base + m) (drop m bs)) (with-bits (positions (suc base) (padded m bs)) z))
+        → with-bits (positions base (b ∷ bs)) s ≡ with-bits (positions (base + suc m) (drop m bs)) (with-bits (positions base (b ∷ padded m bs)) s)
+    go true ih = ih (with-bit s base) ∙ ap (λ (i : ℕ). with-bits (positions i (drop m bs)) (with-bits (positions (suc base) (padded m bs)) (with-bit s base))) w
+    go false ih = ih s ∙ ap (λ (i : ℕ). with-bits (positions i (drop m bs)) (with-bits (positions (suc base) (padded m bs)) s)) w
+
+-- Setting the ones of the low 16 bits of a number of at most 32 bits, and those of the others behind them, sets its bits.
+pub wide-bits : (bs : Bits) (base : ℕ) (s : Bytes) → length bs ≤ 32 → with-number (with-number s base (low-first bs % 65536)) (base + 16) (low-first bs / 65536) ≡ with-bits (positions base bs) s
+wide-bits bs base s h =
+    let a : length (padded 16 bs) ≤ 16 = omega (arith, length-padded 16 bs) in
+    let b : length (drop 16 bs) ≤ 16 = omega (arith, length-drop 16 bs) in
+    ap₂ (λ (x y : ℕ). with-number (with-number s base x) (base + 16) y) (sym (low-padded 16 bs)) (sym (low-drop 16 bs))
+    ∙ number-bits (drop 16 bs) (base + 16) (with-number s base (low-first (padded 16 bs))) b
+    ∙ ap (with-bits (positions (base + 16) (drop 16 bs))) (number-bits (padded 16 bs) base s a)
+    ∙ sym (part-bits 16 bs base s)
+
+-- Setting the ones of 0 changes nothing.
+pub no-number : (s : Bytes) (i : ℕ) → with-number s i 0 ≡ s
+unfolding low-first with-bits positions
+no-number s i = number-bits [] i s (omega arith)

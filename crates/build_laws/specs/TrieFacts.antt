@@ -6,7 +6,7 @@ use native.Mathlib.Omega.{arith}
 use lib.ListN.{length, take, drop, length-map}
 use Rattle.spec.specs.Bytes.{Bytes, concat}
 use Rattle.spec.specs.Leaves.{Leaf}
-use Rattle.spec.specs.Image.{Settings, nodes, is-leaf}
+use Rattle.spec.specs.Image.{Settings, slot-width, nodes, is-leaf}
 use Rattle.spec.specs.Image as Literal
 use Rattle.spec.specs.Nodes.{Node, is-exact}
 use Rattle.spec.specs.Trie.{leaf-count}
@@ -48,7 +48,7 @@ unfolding dense-nodes sparse-nodes
 nodes-both st ls = concat-split (st .dense-levels) (trie ls)
 
 -- the nodes of such a list's trie
-pub trie-facts : (st : Settings) (ls : List Leaf) → Buildable st ls → Trie-facts (st .width) (length ls) (dense-nodes st ls) (sparse-nodes st ls)
+pub trie-facts : (st : Settings) (ls : List Leaf) → Buildable st ls → Trie-facts (slot-width st) (length ls) (dense-nodes st ls) (sparse-nodes st ls)
 trie-facts st ls v =
     let h = image-holds st ls v in
     let w = h .writable in
@@ -84,7 +84,7 @@ same-bits ls dp sp ds ss p q =
 
 module _ (st : Settings) (ls : List Leaf) (v : Buildable st ls) where
   literal-nodes : Prefix-nodes (st .dense-levels) ls
-  literal-nodes = prefix-nodes (st .dense-levels) ls (omega (arith, v .dense-range)) (v .realizable) (well-sized-depth (st .width) ls (v .well-sized))
+  literal-nodes = prefix-nodes (st .dense-levels) ls (omega (arith, v .dense-range)) (v .realizable) (well-sized-depth (slot-width st) ls (v .well-sized))
 
   -- The bodies of document 01 are those of the trie's dense and sparse nodes.
   pub bodies-levels : Literal.bodies (st .dense-levels) ls

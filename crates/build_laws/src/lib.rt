@@ -1,4 +1,4 @@
-// The types that the laws of the builder speak of: a record of the list, the list as a whole, a key with its neighbours, an entry and its cell, the bodies that a pass fills, a range of levels, a pass, a level's counters, where a record's body comes from, and the plan of an image. No function is declared here.
+// The types that the laws of the builder speak of: a record of the list, the list as a whole, a key with its neighbours, an entry and its cell, the bodies that a pass fills, a range of levels, the bits of a suffix slot, a pass, a level's counters, where a record's body comes from, and the plan of an image. No function is declared here.
 use image_types::Header;
 use image_types::STARTS;
 
@@ -65,11 +65,17 @@ pub struct Cell {
     pub column: usize,
 }
 
-// A pass over the keys: the body that it fills, the levels that it goes over, and the suffix width.
+// How many hash bits and how many real bits a suffix slot has. Its width is both together.
+pub struct SlotBits {
+    pub hash: usize,
+    pub real: usize,
+}
+
+// A pass over the keys: the body that it fills, the levels that it goes over, and the bits of a suffix slot.
 pub struct Pass {
     pub body: Body,
     pub levels: Levels,
-    pub width: usize,
+    pub slot: SlotBits,
 }
 
 // Where a record's body comes from: a pass over the keys; the ranks of an earlier record's body, by that record's number and the words of a block; or the samples of an earlier record's body.

@@ -17,6 +17,7 @@ use build_laws::Counters;
 use build_laws::Kind;
 use build_laws::Levels;
 use build_laws::Pass;
+use build_laws::SlotBits;
 use build_list::read::all_long;
 use build_list::read::read_key;
 use build_marks::write_later;
@@ -131,17 +132,17 @@ fn fill_exact(out: &mut [u8], cur: &mut Counters, s: &[u8], l: Levels)
     fill_exact_cells(out, cur, s, l);
 }
 
-// The slots of n bits of all keys' leaves go to the body, from cursors at the starts of the levels.
-fn fill_slots(out: &mut [u8], cur: &mut Counters, s: &[u8], n: usize)
-    requires { ⌜ Accepted-list (now s) × (length (now cur) ≡ counters) × (n ≤ 16) ⌝ }
-    requires { ⌜ Pass-room (slots-pass n) 0 (keys-of (now s)) (length (now out)) (now cur) ⌝ }
-    ensures { λ _. ⌜ byte-state (now (out .exit)) (now (cur .exit)) ≡ pass-keys (slots-pass n) 0 (keys-of (now (s .entry))) (byte-state (now (out .entry)) (now (cur .entry))) ⌝ }
+// The slots of all keys' leaves go to the body, from cursors at the starts of the levels.
+fn fill_slots(out: &mut [u8], cur: &mut Counters, s: &[u8], slot: SlotBits)
+    requires { ⌜ Accepted-list (now s) × (length (now cur) ≡ counters) × (slot .hash ≤ 16) × (slot .real ≤ 16) ⌝ }
+    requires { ⌜ Pass-room (slots-pass slot) 0 (keys-of (now s)) (length (now out)) (now cur) ⌝ }
+    ensures { λ _. ⌜ byte-state (now (out .exit)) (now (cur .exit)) ≡ pass-keys (slots-pass slot) 0 (keys-of (now (s .entry))) (byte-state (now (out .entry)) (now (cur .entry))) ⌝ }
 {
     let mut at = 0usize;
     let mut first = 0usize;
     while at < s.len() {
         let k = read_key(s, at, first);
-        write_slot(out, cur, s, k, n);
+        write_slot(out, cur, s, k, slot);
         first = k.next + 1;
         at = k.at + k.len;
     }
@@ -149,12 +150,13 @@ fn fill_slots(out: &mut [u8], cur: &mut Counters, s: &[u8], n: usize)
 
 // What a pass has to write of all keys of the list goes to the body, from cursors at the starts of the levels.
 pub fn write_keys(out: &mut [u8], cur: &mut Counters, s: &[u8], pass: Pass)
-    requires { ⌜ Accepted-list (now s) × (length (now cur) ≡ counters) × (pass .width ≤ 16) ⌝ }
+    requires { ⌜ Accepted-list (now s) × (length (now cur) ≡ counters) × (pass .slot .hash ≤ 16) × (pass .slot .real ≤ 16) ⌝ }
     requires { ⌜ Pass-room pass 0 (keys-of (now s)) (length (now out)) (now cur) ⌝ }
     ensures { λ _. ⌜ now (out .exit) ≡ pass-keys pass 0 (keys-of (now (s .entry))) (byte-state (now (out .entry)) (now (cur .entry))) .bytes ⌝ }
 {
     let body = pass.body;
     let l = pass.levels;
+    let slot = pass.slot;
     match body {
         Body::Entries(kind) => match kind {
             Kind::DL => fill_label_cells(out, cur, s, l),
@@ -164,6 +166,6 @@ pub fn write_keys(out: &mut [u8], cur: &mut Counters, s: &[u8], pass: Pass)
             Kind::SC => fill_leaves(out, cur, s, l),
             Kind::SB => fill_later(out, cur, s, l),
         },
-        Body::Slots => fill_slots(out, cur, s, pass.width),
+        Body::Slots => fill_slots(out, cur, s, slot),
     }
 }

@@ -15,6 +15,7 @@ use build_laws::Kind;
 use build_laws::Levels;
 use build_laws::Pass;
 use build_laws::Plan;
+use build_laws::SlotBits;
 use build_laws::Source;
 use build_passes::fill::write_keys;
 use build_passes::flip::flip;
@@ -137,7 +138,10 @@ fn fill_from_keys(out: &mut [u8], len: usize, list: &[u8], plan: Plan, cnt: &Cou
     let pass = Pass {
         body: body,
         levels: levels,
-        width: plan.header.width,
+        slot: SlotBits {
+            hash: plan.header.hash,
+            real: plan.header.real,
+        },
     };
     write_keys(out, &mut cur, list, pass);
     if leaves_flipped(body) {

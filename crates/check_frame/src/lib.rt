@@ -16,10 +16,10 @@ use bits::numbers::wide;
 use check_tables::judge::ranks_at;
 use image_records::header::FIRST_VERSION;
 use image_records::header::MAX_DENSE_LEVELS;
+use image_records::header::MAX_HASH_BITS;
 use image_records::header::MAX_LEAVES;
-use image_records::header::MAX_SUFFIX_BITS;
+use image_records::header::MAX_REAL_BITS;
 use image_records::header::VERSION_AT;
-use image_records::header::ZERO_AT;
 use image_records::header::read_header;
 use image_records::table::BEFORE_BODY;
 use image_records::table::HEADER;
@@ -101,15 +101,14 @@ fn last_end(image: &[u8]) -> RecordEnd
     record_end(image, RECORDS, end)
 }
 
-// The version, the settings, the zero byte and the leaf count are in range.
-fn settings_valid(image: &[u8], h: Header) -> bool
-    requires { ⌜ 22 ≤ length (now image) ⌝ }
-    ensures { λ r. ⌜ r ≡ settings-valid (now (image .entry)) h ⌝ }
+// The version, the settings and the leaf count are in range.
+fn settings_valid(h: Header) -> bool
+    ensures { λ r. ⌜ r ≡ settings-valid h ⌝ }
 {
     ((h.version == FIRST_VERSION) | (h.version == LEVELED_VERSION))
         & (h.dense.levels <= MAX_DENSE_LEVELS)
-        & (h.width <= MAX_SUFFIX_BITS)
-        & (image[ZERO_AT] == 0)
+        & (h.real <= MAX_REAL_BITS)
+        & (h.hash <= MAX_HASH_BITS)
         & (h.leaves <= MAX_LEAVES)
 }
 
@@ -178,12 +177,15 @@ pub fn frame_at(h: Header) -> Frame
     requires { ⌜ Short-fields h ⌝ }
     ensures { λ r. ⌜ r ≡ frame-at h (header-starts h) uncounted ⌝ }
 {
+    let width = h.hash + h.real;
     let starts = record_starts(h);
     let dense = h.dense;
     let sparse = h.sparse;
     Frame {
         version: h.version,
-        width: h.width,
+        real: h.real,
+        hash: h.hash,
+        width,
         leaves: h.leaves,
         dense,
         sparse,
@@ -248,7 +250,7 @@ pub fn read_frame(image: &[u8]) -> FrameRead
         return FrameRead::Refused(FRAME_MISSING);
     }
     let h = read_header(image);
-    if !settings_valid(image, h) {
+    if !settings_valid(h) {
         return FrameRead::Refused(HEADER_WRONG);
     }
     if !lengths_valid(image, h) {

@@ -47,9 +47,9 @@ pub header-stands : (s : Bytes) → 22 ≤ length s → getD s 0 0 ≡ 72 → ge
 unfolding has-header every
 header-stands s l a b = rw (le-leb 22 (length s) l, eq-eqb (getD s 0 0) 72 a, eq-eqb (getD s 1 0) 68 b)
 
--- the header's version, settings, zero byte and leaf count are in range
-abbrev pub settings-valid : Bytes → Header → Bool
-settings-valid s h = known-version (h .version) && leb (h .dense .levels) 4 && leb (h .width) 16 && eqb (getD s 5 0) 0 && leb (h .leaves) 65535
+-- the header's version, settings and leaf count are in range
+abbrev pub settings-valid : Header → Bool
+settings-valid h = known-version (h .version) && leb (h .dense .levels) 4 && leb (h .real) 16 && leb (h .hash) 16 && leb (h .leaves) 65535
 
 -- ---- the records
 
@@ -118,7 +118,7 @@ pub record Frame-stands (s : Bytes) (h : Header) : Type 0 where
 -- besides, what the header says is in range, and each record has the length that it gives
 pub record Laid-out (s : Bytes) (h : Header) : Type 0 where
   pub stands : Frame-stands s h
-  pub settings : settings-valid s h ≡ true
+  pub settings : settings-valid h ≡ true
   pub lengths : lengths-agree (settings-of h) (counts-of h) rows s 22 ≡ true
 
 -- the bodies of the version
@@ -142,27 +142,27 @@ unfolding every
 regroup a b c d e f = simp (and-assoc, and-true)
 
 -- the tests of number 12, by the header by value and the lengths that the records say
-tests-12 : (s : Bytes) (h : Header) → Frame-stands s h → header-valid s (parts s (named (bodies-of s))) (bodies-of s) ≡ (settings-valid s h && lengths-agree (settings-of h) (counts-of h) rows s 22)
+tests-12 : (s : Bytes) (h : Header) → Frame-stands s h → header-valid (parts s (named (bodies-of s))) (bodies-of s) ≡ (settings-valid h && lengths-agree (settings-of h) (counts-of h) rows s 22)
 unfolding header-valid parts sizes
 tests-12 s h p =
     rw (← p .reads .settings, ← p .reads .counts, bodies-first s (p .records), sized-is (settings-of h) (counts-of h) rows s 22 (p .records .middle) (p .records .long) (p .records .twelve))
-    (regroup (known-version (h .version)) (leb (h .dense .levels) 4) (leb (h .width) 16) (eqb (getD s 5 0) 0) (leb (h .leaves) 65535) (lengths-agree (settings-of h) (counts-of h) rows s 22))
+    (regroup (known-version (h .version)) (leb (h .dense .levels) 4) (leb (h .real) 16) (leb (h .hash) 16) (leb (h .leaves) 65535) (lengths-agree (settings-of h) (counts-of h) rows s 22))
 
 -- 11 does not apply
 stands-passes : (s : Bytes) (h : Header) → Frame-stands s h → Passes-11 s (bodies-of s)
 stands-passes s h p = record { header = p .header; bodies = bodies-read s (p .records) }
 
 module _ (s : Bytes) (h : Header) (p : Frame-stands s h) where
-  refused-12 : (settings-valid s h && lengths-agree (settings-of h) (counts-of h) rows s 22) ≡ false → Check-refusal s 12
+  refused-12 : (settings-valid h && lengths-agree (settings-of h) (counts-of h) rows s 22) ≡ false → Check-refusal s 12
   refused-12 e = header-wrong (bodies-of s) (stands-passes s h p) (tests-12 s h p ∙ e)
 
   -- a setting or the leaf count is out of range: 12
-  pub settings-wrong : settings-valid s h ≡ false → Check-refusal s 12
+  pub settings-wrong : settings-valid h ≡ false → Check-refusal s 12
   settings-wrong e = refused-12 (rw e)
 
   -- a length is not the one that the header gives: 12
   pub lengths-wrong : lengths-agree (settings-of h) (counts-of h) rows s 22 ≡ false → Check-refusal s 12
-  lengths-wrong e = refused-12 (rw e (and-false (settings-valid s h)))
+  lengths-wrong e = refused-12 (rw e (and-false (settings-valid h)))
 
 -- ---- the frame
 
@@ -170,7 +170,9 @@ module _ (s : Bytes) (h : Header) (p : Frame-stands s h) where
 abbrev pub frame-at : Header → List ℕ → DenseTotals → Frame
 frame-at h a t = record {
   version = h .version;
-  width = h .width;
+  real = h .real;
+  hash = h .hash;
+  width = h .hash + h .real;
   leaves = h .leaves;
   dense = h .dense;
   sparse = h .sparse;
@@ -234,8 +236,8 @@ pub record Totals (s : Bytes) (dl dc dp n : ℕ) (t : DenseTotals) : Type 0 wher
   pub entries : t .entries ≡ rank (drop dl s) (256 * n) + rank (drop dp s) n
 
 -- five tests that all pass
-five-pass : (a b c d e : Bool) → (a && b && c && d && e) ≡ true → (b ≡ true) × (c ≡ true) × (e ≡ true)
-five-pass true true true true true h = (refl, refl, refl)
+five-pass : (a b c d e : Bool) → (a && b && c && d && e) ≡ true → (b ≡ true) × (c ≡ true) × (d ≡ true) × (e ≡ true)
+five-pass true true true true true h = (refl, refl, refl, refl)
 five-pass false b c d e h = absurd (true≢false (sym h))
 five-pass true false c d e h = absurd (true≢false (sym h))
 five-pass true true false d e h = absurd (true≢false (sym h))
@@ -293,16 +295,18 @@ frame-laid s h t o n =
     let at : r .middle ≡ getD (header-starts h) 12 0 = b .1 ∙ twelve-end h in
     let same : bodies-of s ≡ frame-bodies s (frame-at h (header-starts h) t) =
     bodies-split s r ∙ ap₂ _++_ (b .0 ∙ laid-same s h t) (ap (λ (v : ℕ). bodies-at (level-rows v) s (r .middle)) version ∙ lv .0 ∙ ap (λ (m : ℕ). cond (eqb (h .version) 2) (drop (m + level-gap (h .version)) s ∷ []) []) at) in
-    let q = five-pass (known-version (h .version)) (leb (h .dense .levels) 4) (leb (h .width) 16) (eqb (getD s 5 0) 0) (leb (h .leaves) 65535) (o .settings) in
-    let all : (settings-valid s h && lengths-agree (settings-of h) (counts-of h) rows s 22) ≡ true = rw (o .settings, o .lengths) in
+    let q = five-pass (known-version (h .version)) (leb (h .dense .levels) 4) (leb (h .real) 16) (leb (h .hash) 16) (leb (h .leaves) 65535) (o .settings) in
+    let all : (settings-valid h && lengths-agree (settings-of h) (counts-of h) rows s 22) ≡ true = rw (o .settings, o .lengths) in
     record {
       header = p .header;
       bodies = bodies-read s (p .records) ∙ ap some same;
       parts-are = parts-same s h t (p .reads);
       valid = rw (← same) (tests-12 s h p ∙ all);
       levels = leb-true (h .dense .levels) 4 (q .0);
-      width = leb-true (h .width) 16 (q .1);
-      leaves = leb-true (h .leaves) 65535 (q .2);
+      real = leb-true (h .real) 16 (q .1);
+      hash = leb-true (h .hash) 16 (q .2);
+      width = refl;
+      leaves = leb-true (h .leaves) 65535 (q .3);
       dense = p .reads .short .dense-nodes;
       entries = p .reads .short .sparse-entries;
       sparse = p .reads .short .sparse-nodes;
@@ -385,5 +389,5 @@ accepted-laid s h v r =
     let l = header-long s (q .before .header) in
     let b = bodies-stand s (p .0) l (q .before .bodies) in
     let stands : Frame-stands s h = record { header = q .before .header; records = records-standing s l (b .0); reads = r } in
-    let t = two-pass (settings-valid s h) (lengths-agree (settings-of h) (counts-of h) rows s 22) (sym (tests-12 s h stands) ∙ rw (b .1) (q .header)) in
+    let t = two-pass (settings-valid h) (lengths-agree (settings-of h) (counts-of h) rows s 22) (sym (tests-12 s h stands) ∙ rw (b .1) (q .header)) in
     record { stands = stands; settings = t .0; lengths = t .1 }

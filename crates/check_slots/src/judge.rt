@@ -6,7 +6,7 @@ use super::sparse::sparse_clear;
 use check_slots_levels::levels::last_levels_clear;
 use image_types::Frame;
 
-// Whether number 16 does not apply: an exact leaf's slot is zero, and no suffix bit is set past a key's 64th byte.
+// Whether number 16 does not apply: an exact leaf's slot is zero, and no real bit is set past a key's 64th byte.
 pub fn slots_valid(image: &[u8], f: Frame) -> bool
     requires { ⌜ Passed-to-15 (now image) f ⌝ }
     ensures { λ r. ⌜ r ≡ slots-pass (now (image .entry)) f ⌝ }

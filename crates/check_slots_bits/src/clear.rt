@@ -11,9 +11,9 @@ use bits::numbers::read_from;
 use image_types::BitPos;
 use image_types::ValuePos;
 
-// Whether none of at most 16 bits of s is set from one position to another, by one read.
+// Whether none of at most 32 bits of s is set from one position to another, by one read.
 fn few_clear(s: &[u8], from: BitPos, to: BitPos) -> bool
-    requires { ⌜ (from .0 ≤ to .0) × (to .0 ≤ 8 * length (now s)) × (to .0 ≤ from .0 + 16) ⌝ }
+    requires { ⌜ (from .0 ≤ to .0) × (to .0 ≤ 8 * length (now s)) × (to .0 ≤ from .0 + 32) ⌝ }
     ensures { λ r. ⌜ r ≡ bits-clear (now (s .entry)) (from .0) (to .0) ⌝ }
 {
     let word = read_from(s, from.0 / 8) >> (from.0 % 8);
@@ -38,7 +38,7 @@ fn bytes_clear(s: &[u8], from: usize, to: usize) -> bool
 }
 
 // Whether no bit of s is set from one position to another: the whole bytes between them, and the bits before and behind these.
-pub fn bits_clear(s: &[u8], from: BitPos, to: BitPos) -> bool
+fn bits_clear(s: &[u8], from: BitPos, to: BitPos) -> bool
     requires { ⌜ (from .0 ≤ to .0) × (to .0 ≤ 8 * length (now s)) ⌝ }
     ensures { λ r. ⌜ r ≡ bits-clear (now (s .entry)) (from .0) (to .0) ⌝ }
 {
@@ -64,18 +64,28 @@ pub fn slot_clear(sv: &[u8], leaves: usize, width: usize, slot: ValuePos) -> boo
     few_clear(sv, BitPos(at), BitPos(at + width))
 }
 
-// Whether the slots from one to another have no bit set behind their first byte.
-pub fn past_clear(sv: &[u8], leaves: usize, width: usize, from: ValuePos, to: ValuePos) -> bool
-    requires { ⌜ Slots-sized (now sv) leaves width × (to .0 ≤ leaves) ⌝ }
-    ensures { λ r. ⌜ r ≡ all-from (slot-clear 1 width (bits (now (sv .entry)) (leaves * width))) (from .0) (to .0 - from .0) ⌝ }
+// Whether the slots from one to another have no bit set behind the first ones, of which so many are skipped in each slot. Where none is skipped the slots are one run of bits.
+pub fn past_clear(
+    sv: &[u8],
+    leaves: usize,
+    width: usize,
+    skip: usize,
+    from: ValuePos,
+    to: ValuePos,
+) -> bool
+    requires { ⌜ Slots-sized (now sv) leaves width × (from .0 ≤ to .0) × (to .0 ≤ leaves) ⌝ }
+    ensures { λ r. ⌜ r ≡ all-from (slot-clear skip width (bits (now (sv .entry)) (leaves * width))) (from .0) (to .0 - from .0) ⌝ }
 {
-    if width <= 8 {
+    if skip == 0 {
+        return bits_clear(sv, BitPos(from.0 * width), BitPos(to.0 * width));
+    }
+    if width <= skip {
         return true;
     }
     let mut v = from.0;
     while v < to.0 {
         let at = v * width;
-        if !few_clear(sv, BitPos(at + 8), BitPos(at + width)) {
+        if !few_clear(sv, BitPos(at + skip), BitPos(at + width)) {
             return false;
         }
         v = v + 1;

@@ -1,22 +1,21 @@
 -- The way down the sparse levels to the levels 62 and 63, level by level, and the slots on these two.
-use Prim.Native.Nat.{ℕ, zero, suc, _+_, _-_, _*_, _<_, _≤_}
+use Prim.Native.Nat.{ℕ, zero, suc, _+_, _-_, _<_, _≤_}
 use mathlib.Core.Path.{_≡_, sym, ap, ap₂, _∙_}
 use mathlib.Core.Bool.{Bool, true, cond, _&&_}
 use native.Mathlib.Omega.{arith}
-use native.Mathlib.Nat.{mul-le-mul-right}
-use borrow.Author.Tests.{lt-ltb, le-ltb, eq-eqb}
+use borrow.Author.Tests.{lt-ltb, le-ltb}
 use Rattle.spec.specs.Bytes.{Bytes}
 use Rattle.bits_laws.specs.Bits.{rank}
 use Rattle.bits_laws.specs.RankLaws.{rank-le}
 use Rattle.image_types.specs.declared.Frame.{Frame}
 use Rattle.check_trie_laws.specs.declared.Level.{Level}
-use Rattle.check_trie_laws.specs.Bodies.{sc-body, sv-body}
+use Rattle.check_trie_laws.specs.Bodies.{sc-body}
 use Rattle.check_trie_laws.specs.Levels.{node-count, branches-before, first-entry, Louds-valid, LevelOf, Behind, level-sparse, sparse-level, entry-within, branches-from}
 use Rattle.check_trie_laws.specs.BodyTests.{counts-few}
 use Rattle.check_trie_laws.specs.Ranges.{all-from, from-none}
 use Rattle.check_slots_laws.specs.Passed.{Passed-to-15, bits-pass}
 use Rattle.check_slots_laws.specs.LevelStarts.{level-start, dense-leaf-count, leaves-to, counts, dense-room, start-first, start-low, start-next, start-up, start-last, entries-last, leaves-last}
-use Rattle.check_slots_laws.specs.SlotTests.{clear-at, level-slot, last-levels-clear, slots-within}
+use Rattle.check_slots_laws.specs.SlotTests.{clear-at, level-slot, last-levels-clear}
 
 -- a level by its number: what is known of it, and that its first node is the level's
 pub record Level-at (s : Bytes) (f : Frame) (t : ℕ) (l : Level) : Type 0 where
@@ -116,8 +115,6 @@ module _ (s : Bytes) (f : Frame) (j : Passed-to-15 s f) (some : 0 < f .leaves) w
       let v : level-slot s f 62 ≡ f .leaves = ap (leaves-to s f) (sym b ∙ start-last s f j some) ∙ leaves-last s f j some in
       let w : level-slot s f 63 ≡ f .leaves = ap (leaves-to s f) a ∙ v in
       let z : level-slot s f 63 - level-slot s f 62 ≡ 0 = omega arith in
-      ap₂ _&&_ (ap (all-from (clear-at s f 1) (level-slot s f 62)) z ∙ from-none (clear-at s f 1) (level-slot s f 62)) (eq-eqb _ _ (ap (λ (k : ℕ). rank (sv-body s f) (k * f .width)) w))
-
-  -- the slots of level 63 end with the last
-  pub last-slots-within : level-slot s f 63 * f .width ≤ f .leaves * f .width
-  last-slots-within = mul-le-mul-right {m = level-slot s f 63} {n = f .leaves} (f .width) (slots-within s f j some)
+      let y : f .leaves - level-slot s f 63 ≡ 0 = omega arith in
+      ap₂ _&&_ (ap (all-from (clear-at s f (f .hash + 8)) (level-slot s f 62)) z ∙ from-none (clear-at s f (f .hash + 8)) (level-slot s f 62))
+      (ap (all-from (clear-at s f (f .hash)) (level-slot s f 63)) y ∙ from-none (clear-at s f (f .hash)) (level-slot s f 63))

@@ -9,7 +9,7 @@ use lib.Seq.{take-all, take-append-add}
 use lib.Dec.{leb, ltb, eqb}
 use borrow.Author.Tests.{eqb-true, eqb-false, eq-eqb, le-leb, lt-ltb}
 use Rattle.spec.specs.Bytes.{Bytes, concat, ones, le32}
-use Rattle.spec.specs.Image.{level-starts}
+use Rattle.spec.specs.Image.{slot-width, level-starts}
 use Rattle.spec.specs.Frame.{Parts}
 use Rattle.spec.specs.Nodes.{Shape, Node, zip-entries, split, sparse-shape, sparse-nodes, nodes-of, dense-shapes, children-of, total, later, levels-of}
 use Rattle.spec.specs.Trie.{nodes-valid, leaf-count}
@@ -130,14 +130,14 @@ module _ (s : Bytes) (f : Frame) (j : Passed-to-15 s f) where
   pub nodes-long : length (nodes-of (frame-parts s f)) ≡ node-count f
   unfolding nodes-of sparse-nodes
   nodes-long =
-      length-slotted (q .settings .width) (dense-shapes (q .dl) (q .dc) (q .dp) ++ map sparse-shape (split (zip-entries (q .sl) (q .sc)) (q .sb))) (q .sv)
+      length-slotted (slot-width (q .settings)) (dense-shapes (q .dl) (q .dc) (q .dp) ++ map sparse-shape (split (zip-entries (q .sl) (q .sc)) (q .sb))) (q .sv)
       ∙ long q (parts-sized s f (j .frame)) (bits-good .louds .first) set-count (bits-good .within) (bits-good .extra)
 
   -- the branches that continue before a node
   pub nodes-before : (e : ℕ) → before children-of (nodes-of (frame-parts s f)) e ≡ branches-before s f e
   unfolding nodes-of sparse-nodes
   nodes-before e =
-      before-slotted (q .settings .width) (dense-shapes (q .dl) (q .dc) (q .dp) ++ map sparse-shape (split (zip-entries (q .sl) (q .sc)) (q .sb))) (q .sv) e
+      before-slotted (slot-width (q .settings)) (dense-shapes (q .dl) (q .dc) (q .dp) ++ map sparse-shape (split (zip-entries (q .sl) (q .sc)) (q .sb))) (q .sv) e
       ∙ before-all q (parts-sized s f (j .frame)) (bits-good .louds .first) set-count (bits-good .within) (bits-good .extra) e
       ∙ branches-are (f .dense .nodes) (f .sparse .entries) (dc-body s f) (sc-body s f) (sb-body s f) (bits-room (f .sparse .entries) (sb-body s f) (bodies-sized s f (j .frame) .sb)) e
 

@@ -17,19 +17,19 @@ use Rattle.theory.specs.Lists.{and-both}
 
 -- ---- what number 16 asks of a node
 
--- the slot of the exact leaf that a node is has no bit set behind the first m bytes
+-- the slot of the exact leaf that a node is has no bit set behind its first m bits
 abbrev pub exact-clear : ℕ → Node → Bool
-exact-clear m n = clear-behind m (exact-slot n)
+exact-clear m n = clear (drop m (exact-slot n))
 
 -- nor have the slots of its branches
 abbrev pub open-clear : ℕ → Node → Bool
-open-clear m n = all (λ e. clear-behind m (slot e)) (branches-of n)
+open-clear m n = all (λ e. clear (drop m (slot e))) (branches-of n)
 
 -- nothing is set in no bits
-pub clear-none : (m : ℕ) → clear-behind m [] ≡ true
-unfolding clear-behind clear
+pub clear-none : (m : ℕ) → clear (drop m []) ≡ true
+unfolding clear
 clear-none zero = refl
-clear-none (suc m) = clear-none m
+clear-none (suc m) = refl
 
 clear-drop : (k : ℕ) (s : Bits) → clear s ≡ true → clear (drop k s) ≡ true
 unfolding clear
@@ -37,21 +37,30 @@ clear-drop zero s h = h
 clear-drop (suc k) [] h = refl
 clear-drop (suc k) (b ∷ s) h = clear-drop k s (and-both (not b) (clear s) h .1)
 
--- bits that are clear behind so many bytes are clear behind more
-pub clear-more : (m k : ℕ) (s : Bits) → clear-behind m s ≡ true → clear-behind (m + k) s ≡ true
+-- bits that are clear behind so many are clear behind more
+pub clear-more : (m k : ℕ) (s : Bits) → clear (drop m s) ≡ true → clear (drop (m + k) s) ≡ true
+clear-more m k s h = ap clear (sym (drop-drop k m s)) ∙ clear-drop k (drop m s) h
+
+-- a slot of at most m bits has none behind them
+pub clear-short : (n m : ℕ) (s : Bits) → n ≤ m → clear (drop m (take n s)) ≡ true
+unfolding clear
+clear-short n m s h = ap clear (drop-of-length-le (take n s) {i = m} (omega (arith, length-take n s)))
+
+-- what stands behind m bytes
+behind-bytes : (m : ℕ) (s : Bits) → clear-behind m s ≡ clear (drop (8 * m) s)
 unfolding clear-behind
-clear-more zero zero s h = h
-clear-more zero (suc k) s h = let e : 0 + suc k ≡ suc (0 + k) = omega arith in rw e (clear-more zero k (drop 8 s) (clear-drop 8 s h))
-clear-more (suc m) k s h = let e : suc m + k ≡ suc (m + k) = omega arith in rw e (clear-more m k (drop 8 s) h)
+behind-bytes zero s = refl
+behind-bytes (suc m) s =
+    let e : 8 + 8 * m ≡ 8 * suc m = omega arith in
+    behind-bytes m (drop 8 s) ∙ ap clear (drop-drop (8 * m) 8 s ∙ ap (λ (k : ℕ). drop k s) e)
 
--- a slot of at most 16 bits has none behind two bytes
-pub clear-short : (n : ℕ) (s : Bits) → n ≤ 16 → clear-behind 2 (take n s) ≡ true
-unfolding clear-behind clear
-clear-short n s h = ap clear (drop-drop 8 8 (take n s) ∙ drop-of-length-le (take n s) {i = 16} (omega (arith, length-take n s)))
+-- and behind h bits before these
+pub behind-bits : (h m : ℕ) (s : Bits) → clear-behind m (drop h s) ≡ clear (drop (h + 8 * m) s)
+behind-bits h m s = behind-bytes m (drop h s) ∙ ap clear (drop-drop (8 * m) h s)
 
--- slot v of some bits
+-- slot v of some bits has no bit set behind its first m
 abbrev pub slot-clear : ℕ → ℕ → Bits → ℕ → Bool
-slot-clear m n bs v = clear-behind m (take n (drop (v * n) bs))
+slot-clear m n bs v = clear (drop m (take n (drop (v * n) bs)))
 
 next-slot : (n v : ℕ) (bs : Bits) → drop n (drop (v * n) bs) ≡ drop (suc v * n) bs
 next-slot n v bs = drop-drop n (v * n) bs ∙ ap (λ (k : ℕ). drop k bs) (sym (suc-mul v n))
@@ -59,12 +68,12 @@ next-slot n v bs = drop-drop n (v * n) bs ∙ ap (λ (k : ℕ). drop k bs) (sym 
 -- ---- one node
 
 module _ (m n : ℕ) (bs : Bits) where
-  branches-clear : (v : ℕ) (es : List Entry) → all (λ e. clear-behind m (slot e)) (with-slots n es (drop (v * n) bs)) ≡ all-from (slot-clear m n bs) v (count ends-here es)
+  branches-clear : (v : ℕ) (es : List Entry) → all (λ e. clear (drop m (slot e))) (with-slots n es (drop (v * n) bs)) ≡ all-from (slot-clear m n bs) v (count ends-here es)
   unfolding with-slots all count all-from
   branches-clear v [] = refl
   branches-clear v (entry x true ∷ es) = rw (clear-none m) (branches-clear v es)
   branches-clear v (entry x false ∷ es) =
-      ap (λ (b : Bits). slot-clear m n bs v && all (λ e. clear-behind m (slot e)) (with-slots n es b)) (next-slot n v bs)
+      ap (λ (b : Bits). slot-clear m n bs v && all (λ e. clear (drop m (slot e))) (with-slots n es b)) (next-slot n v bs)
       ∙ ap (λ (t : Bool). slot-clear m n bs v && t) (branches-clear (suc v) es)
 
   past-branches : (v : ℕ) (es : List Entry) → past-slots n es (drop (v * n) bs) ≡ drop ((v + count ends-here es) * n) bs
@@ -91,7 +100,7 @@ module _ (m n : ℕ) (bs : Bits) where
       let e : 1 + count ends-here es ≡ suc (count ends-here es) = omega arith in
       rw e
       (ap (λ (t : Bool). slot-clear m n bs v && t)
-      (ap (λ (b : Bits). all (λ e. clear-behind m (slot e)) (with-slots n es b)) (next-slot n v bs) ∙ branches-clear (suc v) es))
+      (ap (λ (b : Bits). all (λ e. clear (drop m (slot e))) (with-slots n es b)) (next-slot n v bs) ∙ branches-clear (suc v) es))
   node-clear v (shape false es) =
       let e : 0 + count ends-here es ≡ count ends-here es = omega arith in
       rw (e, clear-none m) (branches-clear v es)
@@ -156,18 +165,18 @@ take-slotted n (suc w) (h ∷ hs) bs =
     ap (take (suc w)) (slotted-first n h hs bs) ∙ ap (λ (z : List Node). node-of n h bs ∷ z) (take-slotted n w hs (bits-past n h bs))
     ∙ sym (slotted-first n h (take w hs) bs)
 
-short-branches : (n : ℕ) (es : List Entry) (bs : Bits) → n ≤ 16 → all (λ e. clear-behind 2 (slot e)) (with-slots n es bs) ≡ true
+short-branches : (n m : ℕ) (es : List Entry) (bs : Bits) → n ≤ m → all (λ e. clear (drop m (slot e))) (with-slots n es bs) ≡ true
 unfolding with-slots all
-short-branches n [] bs h = refl
-short-branches n (entry x true ∷ es) bs h = rw (clear-none 2) (short-branches n es bs h)
-short-branches n (entry x false ∷ es) bs h = rw (clear-short n bs h) (short-branches n es (drop n bs) h)
+short-branches n m [] bs h = refl
+short-branches n m (entry x true ∷ es) bs h = rw (clear-none m) (short-branches n m es bs h)
+short-branches n m (entry x false ∷ es) bs h = rw (clear-short n m bs h) (short-branches n m es (drop n bs) h)
 
--- slots of at most 16 bits have none behind two bytes
-pub short-slots : (n : ℕ) (hs : List Shape) (bs : Bits) → n ≤ 16 → all (open-clear 2) (slotted n hs bs) ≡ true
+-- slots of at most m bits have none behind them
+pub short-slots : (n m : ℕ) (hs : List Shape) (bs : Bits) → n ≤ m → all (open-clear m) (slotted n hs bs) ≡ true
 unfolding slotted all node-of
-short-slots n [] bs h = refl
-short-slots n (g ∷ hs) bs h = ap (all (open-clear 2)) (slotted-first n g hs bs) ∙ and (open-clear 2 (node-of n g bs)) (all (open-clear 2) (slotted n hs (bits-past n g bs))) (one g) (short-slots n hs (bits-past n g bs) h)
+short-slots n m [] bs h = refl
+short-slots n m (g ∷ hs) bs h = ap (all (open-clear m)) (slotted-first n g hs bs) ∙ and (open-clear m (node-of n g bs)) (all (open-clear m) (slotted n hs (bits-past n g bs))) (one g) (short-slots n m hs (bits-past n g bs) h)
   where
-    one : (g : Shape) → open-clear 2 (node-of n g bs) ≡ true
-    one (shape true es) = short-branches n es (drop n bs) h
-    one (shape false es) = short-branches n es bs h
+    one : (g : Shape) → open-clear m (node-of n g bs) ≡ true
+    one (shape true es) = short-branches n m es (drop n bs) h
+    one (shape false es) = short-branches n m es bs h

@@ -6,7 +6,7 @@ use mathlib.Core.List.{[], _∷_}
 use lib.Dec.{eqb}
 use borrow.Author.Tests.{eqb-true}
 use Rattle.spec.specs.Bytes.{Bytes, all, ones}
-use Rattle.spec.specs.Frame.{Parts, parts}
+use Rattle.spec.specs.Frame.{read-settings, Parts, parts}
 use Rattle.spec.specs.Nodes.{zip-entries, split, extra-ends, sparse-nodes, nodes-of, levels-of}
 use Rattle.spec.specs.Trie.{first-set, covered, nodes-valid, builders-trie}
 use Rattle.spec.specs.Check.{ranks-valid, slots-valid}
@@ -19,7 +19,7 @@ use Rattle.theory.specs.Lists.{every-true}
 
 -- number 16 does not apply
 abbrev pub slots-pass : Bytes → Frame → Bool
-slots-pass s f = slots-valid 0 (levels-of (nodes-of (parts s (frame-named s f))))
+slots-pass s f = slots-valid (read-settings s .hash-width) 0 (levels-of (nodes-of (parts s (frame-named s f))))
 
 -- the image passed the numbers 11 to 15
 pub record Passed-to-15 (s : Bytes) (f : Frame) : Type 0 where
@@ -63,5 +63,6 @@ module _ (s : Bytes) (f : Frame) (j : Passed-to-15 s f) where
       }
 
   -- number 16 over the frame's parts
-  pub slots-parts : slots-pass s f ≡ slots-valid 0 (levels-of (nodes-of (frame-parts s f)))
-  slots-parts = ap (λ (p : Parts). slots-valid 0 (levels-of (nodes-of p))) (j .frame .parts-are)
+  pub slots-parts : slots-pass s f ≡ slots-valid (f .hash) 0 (levels-of (nodes-of (frame-parts s f)))
+  unfolding parts
+  slots-parts = ap (λ (p : Parts). slots-valid (p .settings .hash-width) 0 (levels-of (nodes-of p))) (j .frame .parts-are)

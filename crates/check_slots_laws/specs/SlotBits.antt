@@ -10,14 +10,13 @@ use lib.Seq.{drop-drop, take-nil}
 use lib.Dec.{eqb}
 use borrow.Author.Tests.{eqb-true, eqb-false, eq-eqb, ne-eqb}
 use Rattle.spec.specs.Bytes.{Bytes, Bits, ones, clear, unpack}
-use Rattle.spec.specs.Check.{clear-behind}
 use Rattle.bits_laws.specs.Bits.{rank}
 use Rattle.bits_laws.specs.RankLaws.{rank-up}
 use Rattle.check_trie_laws.specs.DenseNodes.{ones-take-parts}
 use Rattle.check_trie_laws.specs.ListParts.{drop-take}
 use Rattle.check_trie_laws.specs.Positions.{bits, ones-bits}
 use Rattle.check_trie_laws.specs.Ranges.{all-from, from-none, from-first}
-use Rattle.check_slots_laws.specs.NodeSlots.{clear-none, slot-clear}
+use Rattle.check_slots_laws.specs.NodeSlots.{clear-none, clear-short, slot-clear}
 
 -- no bit from bit a to bit b is set
 abbrev pub bits-clear : Bytes → ℕ → ℕ → Bool
@@ -27,8 +26,8 @@ bits-clear s a b = eqb (rank s a) (rank s b)
 pub record Slots-sized (sv : Bytes) (leaves width : ℕ) : Type 0 where
   -- at most 65,535 leaves
   pub few-leaves : leaves ≤ 65535
-  -- at most 16 bits a slot
-  pub narrow : width ≤ 16
+  -- at most 32 bits a slot
+  pub narrow : width ≤ 32
   -- the bytes hold them all
   pub room : leaves * width ≤ 8 * length sv
 
@@ -53,29 +52,20 @@ clear-bits s n a k h =
     ∙ eqb-apart (ones (take k (drop a (bits s n)))) (rank s a) (rank s (a + k))
     (omega (arith, ones-take-parts a k (bits s n), ones-bits s n a (omega arith), ones-bits s n (a + k) h))
 
-behind : (m : ℕ) (bs : Bits) → clear-behind m bs ≡ clear (drop (8 * m) bs)
-unfolding clear-behind
-behind zero bs = refl
-behind (suc m) bs =
-    let e : 8 + 8 * m ≡ 8 * suc m = omega arith in
-    behind m (drop 8 bs) ∙ ap clear (drop-drop (8 * m) 8 bs ∙ ap (λ (k : ℕ). drop k bs) e)
-
 module _ (s : Bytes) (n w : ℕ) where
-  -- slot v of w bits, behind its first m bytes
-  pub slot-bits : (m v : ℕ) → 8 * m ≤ w → v * w + w ≤ n → slot-clear m w (bits s n) v ≡ bits-clear s (v * w + 8 * m) (v * w + w)
+  -- slot v of w bits, behind its first m
+  pub slot-bits : (m v : ℕ) → m ≤ w → v * w + w ≤ n → slot-clear m w (bits s n) v ≡ bits-clear s (v * w + m) (v * w + w)
   slot-bits m v h l =
-      let e : 8 * m + (w - 8 * m) ≡ w = omega arith in
-      let f : v * w + 8 * m + (w - 8 * m) ≡ v * w + w = omega arith in
-      behind m (take w (drop (v * w) (bits s n)))
-      ∙ ap (λ (k : ℕ). clear (drop (8 * m) (take k (drop (v * w) (bits s n))))) (sym e)
-      ∙ ap clear (drop-take (8 * m) (w - 8 * m) (drop (v * w) (bits s n)) ∙ ap (take (w - 8 * m)) (drop-drop (8 * m) (v * w) (bits s n)))
-      ∙ clear-bits s n (v * w + 8 * m) (w - 8 * m) (omega arith)
-      ∙ ap (bits-clear s (v * w + 8 * m)) f
+      let e : m + (w - m) ≡ w = omega arith in
+      let f : v * w + m + (w - m) ≡ v * w + w = omega arith in
+      ap (λ (k : ℕ). clear (drop m (take k (drop (v * w) (bits s n))))) (sym e)
+      ∙ ap clear (drop-take m (w - m) (drop (v * w) (bits s n)) ∙ ap (take (w - m)) (drop-drop m (v * w) (bits s n)))
+      ∙ clear-bits s n (v * w + m) (w - m) (omega arith)
+      ∙ ap (bits-clear s (v * w + m)) f
 
-  -- a slot of at most so many bytes has nothing behind them
-  pub slot-within : (m v : ℕ) → w ≤ 8 * m → slot-clear m w (bits s n) v ≡ true
-  unfolding clear
-  slot-within m v h = behind m (take w (drop (v * w) (bits s n))) ∙ ap clear (drop-of-length-le (take w (drop (v * w) (bits s n))) {i = 8 * m} (omega (arith, length-take w (drop (v * w) (bits s n)))))
+  -- a slot of at most so many bits has nothing behind them
+  pub slot-within : (m v : ℕ) → w ≤ m → slot-clear m w (bits s n) v ≡ true
+  slot-within m v h = clear-short w m (drop (v * w) (bits s n)) h
 
 -- a run in two parts
 pub bits-parts : (s : Bytes) (a b c : ℕ) → a ≤ b → b ≤ c → bits-clear s a b && bits-clear s b c ≡ bits-clear s a c
@@ -93,7 +83,7 @@ slots-bits s n w (suc k) v h =
     let b : suc v * w ≡ v * w + w = suc-mul v w in
     let c : suc v * w ≤ (suc v + k) * w = up (suc v) k in
     let d : (suc v + k) * w ≤ n = rw a at h in
-    let e : v * w + 8 * 0 ≡ v * w = omega arith in
+    let e : v * w + 0 ≡ v * w = omega arith in
     from-first (slot-clear 0 w (bits s n)) v k
     ∙ ap₂ _&&_ (slot-bits s n w 0 v (omega arith) (omega arith) ∙ ap₂ (bits-clear s) e (sym b)) (slots-bits s n w k (suc v) d)
     ∙ bits-parts s (v * w) (suc v * w) ((suc v + k) * w) (omega arith) c
@@ -104,24 +94,30 @@ slots-bits s n w (suc k) v h =
     up a (suc k) = let e : a + suc k ≡ suc (a + k) = omega arith in rw e (omega (arith, up a k, suc-mul (a + k) w))
 
 -- a slot among so many ends within their bits, which are few
-pub slot-fits : (leaves w v : ℕ) → v < leaves → leaves ≤ 65535 → w ≤ 16 → (v * w + w ≤ leaves * w) × (leaves * w ≤ 1048560)
+pub slot-fits : (leaves w v : ℕ) → v < leaves → leaves ≤ 65535 → w ≤ 32 → (v * w + w ≤ leaves * w) × (leaves * w ≤ 2097120)
 slot-fits leaves w v h l k =
     let e : suc v * w ≡ v * w + w = suc-mul v w in
-    (omega (arith, mul-le-mul-right {m = suc v} {n = leaves} w h), omega (arith, mul-le-mul {n₁ = leaves} {m₁ = w} {n₂ = 65535} {m₂ = 16} l k))
+    (omega (arith, mul-le-mul-right {m = suc v} {n = leaves} w h), omega (arith, mul-le-mul {n₁ = leaves} {m₁ = w} {n₂ = 65535} {m₂ = 32} l k))
+
+-- so are those from one to another, among so many
+pub slots-run : (s : Bytes) (leaves w a b : ℕ) → a ≤ b → b ≤ leaves → bits-clear s (a * w) (b * w) ≡ all-from (slot-clear 0 w (bits s (leaves * w))) a (b - a)
+slots-run s leaves w a b h l =
+    let e : a + (b - a) ≡ b = omega arith in
+    sym (slots-bits s (leaves * w) w (b - a) a (rw e (mul-le-mul-right {m = b} {n = leaves} w l)) ∙ ap (λ (k : ℕ). bits-clear s (a * w) (k * w)) e)
 
 -- behind the last slot stand no bits
 pub slot-past : (s : Bytes) (leaves w m v : ℕ) → leaves ≤ v → slot-clear m w (bits s (leaves * w)) v ≡ true
 slot-past s leaves w m v h =
-    ap (λ (b : Bits). clear-behind m (take w b)) (drop-of-length-le (bits s (leaves * w)) {i = v * w} (omega (arith, length-take (leaves * w) (unpack s), mul-le-mul-right {m = leaves} {n = v} w h)))
-    ∙ ap (clear-behind m) (take-nil {A = Bool} w) ∙ clear-none m
+    ap (λ (b : Bits). clear (drop m (take w b))) (drop-of-length-le (bits s (leaves * w)) {i = v * w} (omega (arith, length-take (leaves * w) (unpack s), mul-le-mul-right {m = leaves} {n = v} w h)))
+    ∙ ap (λ (b : Bits). clear (drop m b)) (take-nil {A = Bool} w) ∙ clear-none m
 
-module _ (s : Bytes) (leaves w v : ℕ) (h : v < leaves) (l : leaves ≤ 65535) (k : w ≤ 16) where
+module _ (s : Bytes) (leaves w v : ℕ) (h : v < leaves) (l : leaves ≤ 65535) (k : w ≤ 32) where
   -- a whole slot
   pub slot-whole : bits-clear s (v * w) (v * w + w) ≡ slot-clear 0 w (bits s (leaves * w)) v
   slot-whole =
-      let e : v * w ≡ v * w + 8 * 0 = omega arith in
+      let e : v * w ≡ v * w + 0 = omega arith in
       ap (λ (a : ℕ). bits-clear s a (v * w + w)) e ∙ sym (slot-bits s (leaves * w) w 0 v (omega arith) (slot-fits leaves w v h l k .0))
 
-  -- what stands behind its first byte
-  pub slot-second : 8 < w → bits-clear s (v * w + 8) (v * w + w) ≡ slot-clear 1 w (bits s (leaves * w)) v
-  slot-second g = sym (slot-bits s (leaves * w) w 1 v (omega arith) (slot-fits leaves w v h l k .0))
+  -- what stands behind its first m bits
+  pub slot-behind : (m : ℕ) → m < w → bits-clear s (v * w + m) (v * w + w) ≡ slot-clear m w (bits s (leaves * w)) v
+  slot-behind m g = sym (slot-bits s (leaves * w) w m v (omega arith) (slot-fits leaves w v h l k .0))

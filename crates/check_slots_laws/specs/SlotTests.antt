@@ -4,15 +4,12 @@ use mathlib.Core.Path.{_≡_, refl, sym, ap, ap₂, _∙_}
 use mathlib.Core.Bool.{Bool, true, false, _&&_, _||_, not}
 use mathlib.Core.List.{List, [], _∷_, _++_, map}
 use native.Mathlib.Omega.{arith}
-use native.Mathlib.Nat.{mul-zero}
 use lib.ListN.{take, drop}
-use borrow.Author.Tests.{eq-eqb}
 use Rattle.spec.specs.Bytes.{Bytes, all}
 use Rattle.spec.specs.Frame.{Parts}
 use Rattle.spec.specs.Nodes.{Shape, Node, zip-entries, split, sparse-shape, sparse-nodes, nodes-of, slotted, dense-shapes, total, levels-of, levels}
 use Rattle.spec.specs.Trie.{nodes-valid}
 use Rattle.spec.specs.Check.{slots-valid}
-use Rattle.bits_laws.specs.Bits.{rank}
 use Rattle.bits_laws.specs.PartLaws.{bits-room}
 use Rattle.image_types.specs.FrameOf.{FrameOf, frame-parts}
 use Rattle.image_types.specs.declared.Frame.{Frame}
@@ -24,20 +21,20 @@ use Rattle.check_trie_laws.specs.Levels.{node-count}
 use Rattle.check_trie_laws.specs.Ranges.{all-from, from-pass}
 use Rattle.check_slots_laws.specs.NodeSlots.{clear-none, exact-clear, open-clear, slot-clear, all-clear, all-exact, exact-from, exact-parts, drop-slotted, take-slotted, short-slots}
 use Rattle.check_slots_laws.specs.LevelSlots.{between-clear, levels-slots}
-use Rattle.check_slots_laws.specs.SlotBits.{bits-clear, Slots-sized, slots-bits}
+use Rattle.check_slots_laws.specs.SlotBits.{Slots-sized}
 use Rattle.check_slots_laws.specs.DenseExact.{dense-slot, dense-exact, dense-exacts}
 use Rattle.check_slots_laws.specs.SparseExact.{is-extra, sparse-slot, sparse-exact, sparse-exacts}
 use Rattle.check_slots_laws.specs.Passed.{slots-pass, Passed-to-15, bits-pass, slots-parts}
 use Rattle.check_slots_laws.specs.LevelStarts.{level-start, dense-leaf-count, leaves-to, levels-whole, start-is, start-up, start-low, start-last, dense-part-leaves, leaves-before, leaves-last}
 use Rattle.theory.specs.TrieTests.{nodes-valid-true}
 
--- slot v has no bit set behind its first m bytes
+-- slot v has no bit set behind its first m bits
 abbrev pub clear-at : Bytes → Frame → ℕ → ℕ → Bool
 clear-at s f m v = slot-clear m (f .width) (bits (sv-body s f) (f .leaves * f .width)) v
 
 -- the slots of an image have the length that the counts give
 pub slots-sized : (s : Bytes) (f : Frame) → FrameOf s f → Slots-sized (sv-body s f) (f .leaves) (f .width)
-slots-sized s f o = record { few-leaves = o .leaves; narrow = o .width; room = bits-room (f .leaves * f .width) (sv-body s f) (bodies-sized s f o .sv) }
+slots-sized s f o = record { few-leaves = o .leaves; narrow = omega (arith, o .width, o .real, o .hash); room = bits-room (f .leaves * f .width) (sv-body s f) (bodies-sized s f o .sv) }
 
 -- the slots of the exact leaves among the dense nodes are clear
 abbrev pub dense-clear : Bytes → Frame → Bool
@@ -55,11 +52,11 @@ sparse-clear s f = all-from (sparse-test s f) 0 (f .sparse .entries)
 abbrev pub level-slot : Bytes → Frame → ℕ → ℕ
 level-slot s f t = leaves-to s f (level-start s f t)
 
--- the slots on level 62 are clear behind their first byte, and those on level 63 are clear
+-- the slots on level 62 are clear behind their hash bits and a byte, and those on level 63 behind their hash bits
 abbrev pub last-levels-clear : Bytes → Frame → Bool
 last-levels-clear s f =
-    all-from (clear-at s f 1) (level-slot s f 62) (level-slot s f 63 - level-slot s f 62)
-    && bits-clear (sv-body s f) (level-slot s f 63 * f .width) (f .leaves * f .width)
+    all-from (clear-at s f (f .hash + 8)) (level-slot s f 62) (level-slot s f 63 - level-slot s f 62)
+    && all-from (clear-at s f (f .hash)) (level-slot s f 63) (f .leaves - level-slot s f 63)
 
 module _ (s : Bytes) (f : Frame) (j : Passed-to-15 s f) (some : 0 < f .leaves) where
   abbrev p : Parts
@@ -79,7 +76,7 @@ module _ (s : Bytes) (f : Frame) (j : Passed-to-15 s f) (some : 0 < f .leaves) w
 
   from-start : slotted w shapes (drop (0 * w) (p .sv)) ≡ nodes-of p
   unfolding nodes-of sparse-nodes
-  from-start = let e : 0 * w ≡ 0 = omega arith in rw e
+  from-start = let e : 0 * w ≡ 0 = omega arith in rw e (ap (λ (z : ℕ). slotted z shapes (p .sv)) (j .frame .width))
 
   exacts : all (exact-clear 0) (nodes-of p) ≡ dense-clear s f && sparse-clear s f
   exacts =
@@ -113,7 +110,14 @@ module _ (s : Bytes) (f : Frame) (j : Passed-to-15 s f) (some : 0 < f .leaves) w
   levels-few : f .dense .levels ≤ 62
   levels-few = omega (arith, j .frame .levels)
 
-  -- the leaves before a level are at most all
+  -- the leaves before level 62 are at most those before level 63
+  pub slots-up : level-slot s f 62 ≤ level-slot s f 63
+  slots-up =
+      let low = start-low s f j some in
+      let z = levels-few in
+      omega (arith, leaves-before s f j some (level-start s f 62) (low 62 (omega arith) (omega arith)), leaves-before s f j some (level-start s f 63) (low 63 (omega arith) (omega arith)), between-total (level-start s f 62) (level-start s f 63) (start-up s f j some 62 (omega arith)))
+
+  -- and these are at most all
   pub slots-within : level-slot s f 63 ≤ f .leaves
   slots-within =
       let low = start-low s f j some 63 (omega (arith, levels-few)) (omega arith) in
@@ -121,13 +125,10 @@ module _ (s : Bytes) (f : Frame) (j : Passed-to-15 s f) (some : 0 < f .leaves) w
       let z = start-last s f j some in
       omega (arith, leaves-before s f j some (level-start s f 63) low, leaves-before s f j some (node-count f) (omega arith), between-total (level-start s f 63) (node-count f) (omega arith), leaves-last s f j some)
 
-  level-63 : all-from (clear-at s f 0) (level-slot s f 63) (level-slot s f 64 - level-slot s f 63) ≡ bits-clear (sv-body s f) (level-slot s f 63 * w) (f .leaves * w)
+  level-63 : all-from (clear-at s f (f .hash)) (level-slot s f 63) (level-slot s f 64 - level-slot s f 63) ≡ all-from (clear-at s f (f .hash)) (level-slot s f 63) (f .leaves - level-slot s f 63)
   level-63 =
       let last : level-slot s f 64 ≡ f .leaves = ap (leaves-to s f) (start-last s f j some) ∙ leaves-last s f j some in
-      let e : level-slot s f 63 + (level-slot s f 64 - level-slot s f 63) ≡ f .leaves = omega (arith, slots-within) in
-      let l : (level-slot s f 63 + (level-slot s f 64 - level-slot s f 63)) * w ≤ f .leaves * w = rw e (omega arith) in
-      slots-bits (sv-body s f) (f .leaves * w) w (level-slot s f 64 - level-slot s f 63) (level-slot s f 63) l
-      ∙ ap (λ (k : ℕ). bits-clear (sv-body s f) (level-slot s f 63 * w) (k * w)) e
+      ap (λ (k : ℕ). all-from (clear-at s f (f .hash)) (level-slot s f 63) (k - level-slot s f 63)) last
 
   -- Number 16 is judged by positions as document 01 says it of the nodes.
   pub number-16 : slots-pass s f ≡ dense-clear s f && sparse-clear s f && last-levels-clear s f
@@ -139,21 +140,21 @@ module _ (s : Bytes) (f : Frame) (j : Passed-to-15 s f) (some : 0 < f .leaves) w
       let e63 = start-is s f j some 63 (omega arith) in
       let e64 = start-is s f j some 64 (omega arith) in
       slots-parts s f j
-      ∙ levels-slots (levels-of (nodes-of p)) (nodes-of p) (q .0) (q .1) short
+      ∙ levels-slots (f .hash) (levels-of (nodes-of p)) (nodes-of p) (q .0) (q .1) short
       ∙ ap₂ _&&_ exacts
       (ap₂ _&&_
-      (ap₂ (λ (a b : ℕ). between-clear 1 a b (nodes-of p)) e62 e63 ∙ between-slots 1 (level-start s f 62) (level-start s f 63) (low 62 (omega arith) (omega arith)) (start-up s f j some 62 (omega arith)))
-      (ap₂ (λ (a b : ℕ). between-clear 0 a b (nodes-of p)) e63 e64 ∙ between-slots 0 (level-start s f 63) (level-start s f 64) (low 63 (omega arith) (omega arith)) (start-up s f j some 63 (omega arith)) ∙ level-63))
+      (ap₂ (λ (a b : ℕ). between-clear (f .hash + 8) a b (nodes-of p)) e62 e63 ∙ between-slots (f .hash + 8) (level-start s f 62) (level-start s f 63) (low 62 (omega arith) (omega arith)) (start-up s f j some 62 (omega arith)))
+      (ap₂ (λ (a b : ℕ). between-clear (f .hash) a b (nodes-of p)) e63 e64 ∙ between-slots (f .hash) (level-start s f 63) (level-start s f 64) (low 63 (omega arith) (omega arith)) (start-up s f j some 63 (omega arith)) ∙ level-63))
     where
-      short : all (open-clear 2) (nodes-of p) ≡ true
-      short = ap (all (open-clear 2)) (sym from-start) ∙ short-slots w shapes (drop (0 * w) (p .sv)) (j .frame .width)
+      short : all (open-clear (f .hash + 16)) (nodes-of p) ≡ true
+      short = ap (all (open-clear (f .hash + 16))) (sym from-start) ∙ short-slots w (f .hash + 16) shapes (drop (0 * w) (p .sv)) (omega (arith, j .frame .width, j .frame .real))
 
 -- no leaves, no slots
 pub no-leaves : (s : Bytes) (f : Frame) → Passed-to-15 s f → f .leaves ≡ 0 → slots-pass s f ≡ true
 unfolding slots-valid levels-of levels all total
 no-leaves s f j z = slots-parts s f j ∙ go (nodes-of (frame-parts s f)) (bits-pass s f j .nodes)
   where
-    go : (ns : List Node) → nodes-valid (f .dense .levels) (f .dense .nodes) (f .leaves) ns ≡ true → slots-valid 0 (levels-of ns) ≡ true
+    go : (ns : List Node) → nodes-valid (f .dense .levels) (f .dense .nodes) (f .leaves) ns ≡ true → slots-valid (f .hash) 0 (levels-of ns) ≡ true
     go [] h = refl
     go (r ∷ ns) h = absurd (omega (arith, nodes-valid-true (f .dense .levels) (f .dense .nodes) (f .leaves) r ns h .some-leaf))
 
@@ -164,7 +165,8 @@ no-bits s f j some z =
     ∙ ap₂ _&&_
     (ap₂ _&&_ (from-pass _ 0 (f .dense .nodes) (λ i a b. pass (is-set (dp-body s f) i) 0 (dense-slot (dl-body s f) (dc-body s f) (dp-body s f) i)))
     (from-pass _ 0 (f .sparse .entries) (λ i a b. pass (is-extra (sl-body s f) (sb-body s f) (f .sparse .entries) i) 0 (sparse-slot (sc-body s f) (dense-leaf-count f) i))))
-    (ap₂ _&&_ (from-pass (clear-at s f 1) (level-slot s f 62) (level-slot s f 63 - level-slot s f 62) (λ i a b. none 1 i)) run)
+    (ap₂ _&&_ (from-pass (clear-at s f (f .hash + 8)) (level-slot s f 62) (level-slot s f 63 - level-slot s f 62) (λ i a b. none (f .hash + 8) i))
+    (from-pass (clear-at s f (f .hash)) (level-slot s f 63) (f .leaves - level-slot s f 63) (λ i a b. none (f .hash) i)))
   where
     none : (m v : ℕ) → clear-at s f m v ≡ true
     none m v = ap (λ (w : ℕ). slot-clear m w (bits (sv-body s f) (f .leaves * f .width)) v) z ∙ clear-none m
@@ -172,12 +174,6 @@ no-bits s f j some z =
     pass : (b : Bool) (m v : ℕ) → (not b || clear-at s f m v) ≡ true
     pass true m v = none m v
     pass false m v = refl
-
-    empty : (k : ℕ) → k * f .width ≡ 0
-    empty k = ap (λ (w : ℕ). k * w) z ∙ mul-zero k
-
-    run : bits-clear (sv-body s f) (level-slot s f 63 * f .width) (f .leaves * f .width) ≡ true
-    run = eq-eqb _ _ (ap (rank (sv-body s f)) (empty (level-slot s f 63) ∙ sym (empty (f .leaves))))
 
 -- Number 16 by its three tests, one after the other
 module _ (s : Bytes) (f : Frame) (j : Passed-to-15 s f) (some : 0 < f .leaves) where

@@ -24,8 +24,8 @@ ones-some (suc k) x h l = go (x % 2) refl (λ m. ones-some k (x / 2) (shr-lt k 1
     go zero e ih = omega (arith, ones-step x, ih (omega arith))
     go (suc d) e ih = omega (arith, ones-step x)
 
--- at most 16 bits from bit a to bit b, by the 64-bit number from a's byte on
-pub few-bits : (s : Bytes) → Small s → (a b : ℕ) → a ≤ b → b ≤ a + 16 → eqb (word s (a / 8) / 2 ^ (a % 8) % 2 ^ (b - a)) 0 ≡ bits-clear s a b
+-- at most 32 bits from bit a to bit b, by the 64-bit number from a's byte on
+pub few-bits : (s : Bytes) → Small s → (a b : ℕ) → a ≤ b → b ≤ a + 32 → eqb (word s (a / 8) / 2 ^ (a % 8) % 2 ^ (b - a)) 0 ≡ bits-clear s a b
 unfolding word ones
 few-bits s small a b h l =
     let k : ℕ = b - a in

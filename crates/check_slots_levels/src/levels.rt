@@ -1,4 +1,4 @@
-// The levels 62 and 63, the only ones with suffix bits past a key's 64th byte. Each level is found from the one above, by the tables.
+// The levels 62 and 63, the only ones with real bits past a key's 64th byte. Each level is found from the one above, by the tables.
 ghost use mathlib.Core.Path.{_≡_};
 ghost use Prim.Native.Nat.{_+_, _≤_, _<_};
 ghost use Rattle.check_trie_laws.specs.Levels.{LevelOf, Behind};
@@ -8,7 +8,6 @@ ghost use Rattle.check_slots_laws.specs.SlotTests.{last-levels-clear};
 use bits::numbers::bytes_for;
 use bits::parts::part;
 use check_levels::tables::level_by_tables;
-use check_slots_bits::clear::bits_clear;
 use check_slots_bits::clear::past_clear;
 use check_trie_laws::Level;
 use image_types::BitPos;
@@ -16,7 +15,7 @@ use image_types::Frame;
 use image_types::NodeNum;
 use image_types::ValuePos;
 
-// The level whose slots may have bits past the 64th byte behind their first byte; all bits of the slots on the level below it are past that byte.
+// The level whose slots may have real bits past the 64th byte behind their first eight; all real bits of the slots on the level below it are past that byte.
 const LEVEL_BEFORE_LAST: usize = 62;
 
 // The level below a sparse level that has a node, by the tables, or the node count where there is none: all entries and all branches that continue stand before it.
@@ -65,7 +64,7 @@ fn first_slot(f: Frame, level: Level) -> ValuePos
     ValuePos(f.totals.entries + level.entry.0 - level.branches)
 }
 
-// Whether no suffix bit is set past a key's 64th byte: the slots on level 62 are clear behind their first byte, and those on level 63 are clear.
+// Whether no real bit is set past a key's 64th byte: the slots on level 62 are clear behind their hash bits and eight real bits, and those on level 63 behind their hash bits.
 pub fn last_levels_clear(image: &[u8], f: Frame) -> bool
     requires { ⌜ Passed-to-15 (now image) f × (0 < f .leaves) ⌝ }
     ensures { λ r. ⌜ r ≡ last-levels-clear (now (image .entry)) f ⌝ }
@@ -77,8 +76,7 @@ pub fn last_levels_clear(image: &[u8], f: Frame) -> bool
     let below = level_below(image, f, level);
     let from = first_slot(f, level);
     let to = first_slot(f, below);
-    let bits = f.leaves * f.width;
-    let sv = part(image, f.sv, bytes_for(bits));
-    past_clear(sv, f.leaves, f.width, from, to)
-        & bits_clear(sv, BitPos(to.0 * f.width), BitPos(bits))
+    let sv = part(image, f.sv, bytes_for(f.leaves * f.width));
+    past_clear(sv, f.leaves, f.width, f.hash + 8, from, to)
+        & past_clear(sv, f.leaves, f.width, f.hash, to, ValuePos(f.leaves))
 }

@@ -141,6 +141,7 @@ module _ (s : Bytes) (f : Frame) (h : FrameOf s f) where
   unfolding spare-clear every named
   spare-is =
       ap (λ (p : Parts). spare-clear p (frame-named s f)) (h .parts-are)
+      ∙ ap (λ (w : ℕ). no-spare (f .dense .nodes) (part s (f .dp) (blocks 8 (f .dense .nodes))) && (no-spare (f .sparse .entries) (part s (f .sc) (blocks 8 (f .sparse .entries))) && (no-spare (f .sparse .entries) (part s (f .sb) (blocks 8 (f .sparse .entries))) && (no-spare (f .leaves * w) (part s (f .sv) (blocks 8 (f .leaves * f .width))) && true)))) (sym (h .width))
       ∙ four (no-spare (f .dense .nodes) (part s (f .dp) (blocks 8 (f .dense .nodes)))) (no-spare (f .sparse .entries) (part s (f .sc) (blocks 8 (f .sparse .entries)))) (no-spare (f .sparse .entries) (part s (f .sb) (blocks 8 (f .sparse .entries)))) (no-spare (f .leaves * f .width) (part s (f .sv) (blocks 8 (f .leaves * f .width))))
 
   -- five tests in a row

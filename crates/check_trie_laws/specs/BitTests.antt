@@ -9,6 +9,7 @@ use lib.Seq.{take-all, take-nil, take-append-le, take-append-add}
 use lib.Dec.{leb, ltb, eqb}
 use borrow.Author.Tests.{eqb-true, eqb-false, eq-eqb, ne-eqb, leb-true, leb-false}
 use Rattle.spec.specs.Bytes.{Bytes, Bits, all, every, count, ones}
+use Rattle.spec.specs.Image.{slot-width}
 use Rattle.spec.specs.Frame.{Parts}
 use Rattle.spec.specs.Nodes.{Entry, entry, continues, Shape, dense-shapes, zip-entries, split, sparse-shape, extra-ends, sparse-nodes, nodes-of, slotted, total}
 use Rattle.spec.specs.Trie.{first-set, covered, nodes-valid, builders-trie}
@@ -254,9 +255,9 @@ module _ (p : Parts) (z : Sized p) where
   unfolding builders-trie bits-valid sparse-nodes nodes-of every
   builders-trie-is =
       gather (first-set (p .sb)) (eqb (ones (p .sb)) (p .counts .sparse-nodes)) (covered (p .dc) (p .dl)) (all extra-ends (split es (p .sb)))
-      (nodes-valid (p .settings .dense-levels) (p .counts .dense-nodes) (p .counts .leaves) (slotted (p .settings .width) (D ++ S) (p .sv)))
+      (nodes-valid (p .settings .dense-levels) (p .counts .dense-nodes) (p .counts .leaves) (slotted (slot-width (p .settings)) (D ++ S) (p .sv)))
       ∙ under (first-set (p .sb) && eqb (ones (p .sb)) (p .counts .sparse-nodes) && covered (p .dc) (p .dl))
-      (all extra-ends (split es (p .sb)) && nodes-valid (p .settings .dense-levels) (p .counts .dense-nodes) (p .counts .leaves) (slotted (p .settings .width) (D ++ S) (p .sv)))
+      (all extra-ends (split es (p .sb)) && nodes-valid (p .settings .dense-levels) (p .counts .dense-nodes) (p .counts .leaves) (slotted (slot-width (p .settings)) (D ++ S) (p .sv)))
       (sparse-valid (eqb (p .counts .dense-nodes) 0) es (p .sb) && dense-nodes-valid true (p .dl) (p .dc) (p .dp) && counts-valid p) rest
     where
       gather : (a b c d e : Bool) → a && (b && (c && (d && (e && true)))) ≡ a && b && c && (d && e)
@@ -266,12 +267,12 @@ module _ (p : Parts) (z : Sized p) where
       gather false b c d e = refl
 
       rest : first-set (p .sb) && eqb (ones (p .sb)) (p .counts .sparse-nodes) && covered (p .dc) (p .dl) ≡ true
-          → all extra-ends (split es (p .sb)) && nodes-valid (p .settings .dense-levels) (p .counts .dense-nodes) (p .counts .leaves) (slotted (p .settings .width) (D ++ S) (p .sv))
+          → all extra-ends (split es (p .sb)) && nodes-valid (p .settings .dense-levels) (p .counts .dense-nodes) (p .counts .leaves) (slotted (slot-width (p .settings)) (D ++ S) (p .sv))
           ≡ sparse-valid (eqb (p .counts .dense-nodes) 0) es (p .sb) && dense-nodes-valid true (p .dl) (p .dc) (p .dp) && counts-valid p
       rest h =
           let a = and-both (first-set (p .sb) && eqb (ones (p .sb)) (p .counts .sparse-nodes)) (covered (p .dc) (p .dl)) h in
           let b = and-both (first-set (p .sb)) (eqb (ones (p .sb)) (p .counts .sparse-nodes)) (a .0) in
-          ap (λ (t : Bool). all extra-ends (split es (p .sb)) && t) (nodes-shapes (p .settings .width) (p .settings .dense-levels) (p .counts .dense-nodes) (p .counts .leaves) (D ++ S) (p .sv) (omega (arith, z .dense)))
+          ap (λ (t : Bool). all extra-ends (split es (p .sb)) && t) (nodes-shapes (slot-width (p .settings)) (p .settings .dense-levels) (p .counts .dense-nodes) (p .counts .leaves) (D ++ S) (p .sv) (omega (arith, z .dense)))
           ∙ under (all extra-ends (split es (p .sb))) (shapes-valid (p .settings .dense-levels) (p .counts .dense-nodes) (p .counts .leaves) (D ++ S))
           (counts-valid p && (dense-nodes-valid true (p .dl) (p .dc) (p .dp) && nodes-from (eqb (p .counts .dense-nodes) 0) S))
           (λ x. nodes-all (b .0) (eqb-true (ones (p .sb)) (p .counts .sparse-nodes) (b .1)) (a .1) x)

@@ -21,8 +21,11 @@ pub const FIRST_VERSION: usize = 1;
 // No image has more dense levels.
 pub const MAX_DENSE_LEVELS: usize = 4;
 
-// No suffix has more bits.
-pub const MAX_SUFFIX_BITS: usize = 16;
+// No suffix slot has more real bits.
+pub const MAX_REAL_BITS: usize = 16;
+
+// No suffix slot has more hash bits.
+pub const MAX_HASH_BITS: usize = 16;
 
 // No image has more leaves.
 pub const MAX_LEAVES: usize = 65535;
@@ -33,11 +36,11 @@ pub const VERSION_AT: usize = 2;
 // The offset of the number of dense levels in a header.
 const DENSE_LEVELS_AT: usize = 3;
 
-// The offset of the suffix width in a header.
-const WIDTH_AT: usize = 4;
+// The offset of the number of real bits in a header.
+const REAL_AT: usize = 4;
 
-// The offset of the byte of a header that is zero.
-pub const ZERO_AT: usize = 5;
+// The offset of the number of hash bits in a header.
+const HASH_AT: usize = 5;
 
 // The offset of the number of leaves in a header.
 const LEAVES_AT: usize = 6;
@@ -69,16 +72,16 @@ pub fn begin_record(out: &mut [u8], at: usize, mark: &[u8; MARK_BYTES], len: usi
     write32(out, at + MARK_BYTES, len);
 }
 
-// The header's first six bytes: its mark, the version, the settings and a zero byte.
-fn write_settings(out: &mut [u8], version: u8, dense: u8, n: u8)
+// The header's first six bytes: its mark and the settings.
+fn write_settings(out: &mut [u8], version: u8, dense: u8, n: u8, h: u8)
     requires { ⌜ 6 ≤ length (now out) ⌝ }
-    ensures { λ _. ⌜ now (out .exit) ≡ placed (now (out .entry)) 0 (first-bytes version dense n) ⌝ }
+    ensures { λ _. ⌜ now (out .exit) ≡ placed (now (out .entry)) 0 (first-bytes version dense n h) ⌝ }
 {
     write_mark(out, 0, b"HD");
     out[VERSION_AT] = version;
     out[DENSE_LEVELS_AT] = dense;
-    out[WIDTH_AT] = n;
-    out[ZERO_AT] = 0;
+    out[REAL_AT] = n;
+    out[HASH_AT] = h;
 }
 
 // The header.
@@ -86,7 +89,13 @@ pub fn write_header(out: &mut [u8], h: Header)
     requires { ⌜ Short-fields h × (22 ≤ length (now out)) ⌝ }
     ensures { λ _. ⌜ now (out .exit) ≡ placed (now (out .entry)) 0 (header (settings-of h) (counts-of h)) ⌝ }
 {
-    write_settings(out, h.version as u8, h.dense.levels as u8, h.width as u8);
+    write_settings(
+        out,
+        h.version as u8,
+        h.dense.levels as u8,
+        h.real as u8,
+        h.hash as u8,
+    );
     write32(out, LEAVES_AT, h.leaves);
     write32(out, DENSE_NODES_AT, h.dense.nodes);
     write32(out, SPARSE_ENTRIES_AT, h.sparse.entries);
@@ -100,7 +109,8 @@ pub fn read_header(image: &[u8]) -> Header
 {
     Header {
         version: wide(image[VERSION_AT]),
-        width: wide(image[WIDTH_AT]),
+        real: wide(image[REAL_AT]),
+        hash: wide(image[HASH_AT]),
         leaves: read32(image, LEAVES_AT),
         dense: Dense {
             levels: wide(image[DENSE_LEVELS_AT]),

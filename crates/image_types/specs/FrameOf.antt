@@ -20,7 +20,7 @@ use Rattle.image_types.specs.declared.Frame.{Frame}
 
 -- what a frame's header says
 abbrev pub header-of : Frame → Header
-header-of f = record { version = f .version; width = f .width; leaves = f .leaves; dense = f .dense; sparse = f .sparse }
+header-of f = record { version = f .version; real = f .real; hash = f .hash; leaves = f .leaves; dense = f .dense; sparse = f .sparse }
 
 -- the twelve bodies at a frame's offsets, of the lengths that its counts give
 abbrev pub twelve-bodies : Bytes → Frame → List Bytes
@@ -81,15 +81,17 @@ pub record Chained (f : Frame) : Type 0 where
   pub ts : f .ts ≡ f .rs + 4 * blocks 512 (f .sparse .entries) + 6
   pub lv : f .lv ≡ f .ts + 4 * blocks 64 (f .sparse .nodes) + level-gap (f .version)
 
--- a frame of an image: each of the twelve bodies stands at its offset with the length that the counts give, LV's is the rest, neither 11 nor 12 applies,
+-- a frame of an image: its settings are in range and its slots have hash bits and real bits, each of the twelve bodies stands at its offset with the length that the counts give, LV's is the rest, neither 11 nor 12 applies,
 -- and the totals are the ones of DC, and those of DL and DP
 pub record FrameOf (s : Bytes) (f : Frame) : Type 0 where
   pub header : has-header s ≡ true
   pub bodies : read-bodies (rows-of s) (drop 22 s) ≡ some (frame-bodies s f)
   pub parts-are : parts s (frame-named s f) ≡ frame-parts s f
-  pub valid : header-valid s (parts s (frame-named s f)) (frame-bodies s f) ≡ true
+  pub valid : header-valid (parts s (frame-named s f)) (frame-bodies s f) ≡ true
   pub levels : f .dense .levels ≤ 4
-  pub width : f .width ≤ 16
+  pub real : f .real ≤ 16
+  pub hash : f .hash ≤ 16
+  pub width : f .width ≡ f .hash + f .real
   pub leaves : f .leaves ≤ 65535
   pub dense : f .dense .nodes < 4294967296
   pub entries : f .sparse .entries < 4294967296
@@ -113,7 +115,7 @@ pub record Within (s : Bytes) (f : Frame) : Type 0 where
   pub rp : f .rp + 4 * blocks 64 (f .dense .nodes) ≤ length s
   pub rs : f .rs + 4 * blocks 512 (f .sparse .entries) ≤ length s
   pub ts : f .ts + 4 * blocks 64 (f .sparse .nodes) ≤ length s
-  pub slots : f .leaves * f .width ≤ 1048560
+  pub slots : f .leaves * f .width ≤ 2097120
 
 -- A frame of an image tells so of each body.
 pub within : (s : Bytes) (f : Frame) → FrameOf s f → Within s f
@@ -130,6 +132,7 @@ within s f o =
     let dp : f .dp + blocks 8 (f .dense .nodes) ≤ length s = omega (arith, o .chained .sl) in
     let dc : f .dc + 32 * f .dense .nodes ≤ length s = omega (arith, o .chained .dp) in
     let dl : f .dl + 32 * f .dense .nodes ≤ length s = omega (arith, o .chained .dc) in
+    let narrow : f .width ≤ 32 = omega (arith, o .real, o .hash, o .width) in
     record {
       dl = dl;
       dc = dc;
@@ -143,5 +146,5 @@ within s f o =
       rp = rp;
       rs = rs;
       ts = ts;
-      slots = mul-le-mul (o .leaves) (o .width);
+      slots = mul-le-mul (o .leaves) narrow;
     }

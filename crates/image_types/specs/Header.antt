@@ -1,5 +1,5 @@
 -- A header by value: the settings and counts of document 01 that it stands for, and a mark and settings as bytes.
-use Prim.Native.Nat.{ℕ, _*_, _≤_, _<_}
+use Prim.Native.Nat.{ℕ, _+_, _*_, _≤_, _<_}
 use mathlib.Core.Path.{_≡_}
 use mathlib.Core.List.{[], _∷_}
 use native.Mathlib.Omega.{arith}
@@ -9,14 +9,19 @@ use Rattle.spec.specs.Bytes.{Bytes, letter}
 use Rattle.spec.specs.Image.{Settings, Counts}
 use Rattle.spec.specs.Frame.{read-settings, read-counts}
 use Rattle.image_types.specs.declared.Header.{Header}
+use Rattle.image_types.specs.declared.Settings.{Settings as Asked}
 
--- version, dense levels and suffix width, as settings
-abbrev pub settings : ℕ → ℕ → ℕ → Settings
-settings version dense n = record { version = version; dense-levels = dense; width = n }
+-- version, dense levels, real bits and hash bits, as settings
+abbrev pub settings : ℕ → ℕ → ℕ → ℕ → Settings
+settings version dense n h = record { version = version; dense-levels = dense; real-width = n; hash-width = h }
+
+-- the settings that are asked for
+abbrev pub asked : Asked → Settings
+asked s = settings (s .version) (s .levels) (s .real) (s .hash)
 
 -- the settings that a header says
 abbrev pub settings-of : Header → Settings
-settings-of h = settings (h .version) (h .dense .levels) (h .width)
+settings-of h = settings (h .version) (h .dense .levels) (h .real) (h .hash)
 
 -- the counts that a header says
 abbrev pub counts-of : Header → Counts
@@ -26,15 +31,16 @@ counts-of h = record { leaves = h .leaves; dense-nodes = h .dense .nodes; sparse
 pub record Short-fields (h : Header) : Type 0 where
   pub version : h .version < 256
   pub levels : h .dense .levels < 256
-  pub width : h .width < 256
+  pub real : h .real < 256
+  pub hash : h .hash < 256
   pub leaves : h .leaves < 4294967296
   pub dense-nodes : h .dense .nodes < 4294967296
   pub sparse-entries : h .sparse .entries < 4294967296
   pub sparse-nodes : h .sparse .nodes < 4294967296
 
 -- the bits of all slots
-pub slots-short : (h : Header) → Short-fields h → h .leaves * h .width < 1099511627776
-slots-short h f = let w : h .width ≤ 256 = omega (arith, f .width) in omega (arith, f .leaves, mul-le-mul-left (h .leaves) w)
+pub slots-short : (h : Header) → Short-fields h → h .leaves * (h .hash + h .real) < 2199023255552
+slots-short h f = let w : h .hash + h .real ≤ 512 = omega (arith, f .real, f .hash) in omega (arith, f .leaves, mul-le-mul-left (h .leaves) w)
 
 -- a header by value is what document 01 reads from the bytes
 pub record Reads-header (s : Bytes) (h : Header) : Type 0 where
@@ -47,5 +53,5 @@ abbrev pub mark-bytes : Bytes → Bytes
 mark-bytes m = getD m 0 0 ∷ getD m 1 0 ∷ []
 
 -- the header's bytes before its counts
-abbrev pub first-bytes : ℕ → ℕ → ℕ → Bytes
-first-bytes version dense n = letter "H" ∷ letter "D" ∷ version ∷ dense ∷ n ∷ 0 ∷ []
+abbrev pub first-bytes : ℕ → ℕ → ℕ → ℕ → Bytes
+first-bytes version dense n h = letter "H" ∷ letter "D" ∷ version ∷ dense ∷ n ∷ h ∷ []

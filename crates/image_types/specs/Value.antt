@@ -10,9 +10,9 @@ use Rattle.image_types.specs.declared.Leaf.{Leaf as Value}
 abbrev pub leaf-of : Value → Leaf
 leaf-of v = record { cut = take (v .len) (v .cut); exact = v .exact; suffix = low-bits (v .width) (v .suffix) }
 
--- the cut key lies within the array, and the suffix has at most 16 bits
+-- the cut key lies within the array, and the suffix has at most 32 bits
 abbrev pub Sized : Value → Type 0
-Sized v = (v .len ≤ 64) × (v .width ≤ 16)
+Sized v = (v .len ≤ 64) × (v .width ≤ 32)
 
 -- The leaf by value that a walk gives: zeros stand behind the cut key, and above the suffix bits.
 abbrev pub value-of : Leaf → Value

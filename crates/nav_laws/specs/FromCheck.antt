@@ -11,8 +11,8 @@ use lib.Dec.{eqb}
 use borrow.Author.Tests.{eq-eqb}
 use Rattle.spec.specs.Bytes.{Bytes, blocks, concat, le32}
 use Rattle.spec.specs.Leaves.{Leaf}
-use Rattle.spec.specs.Image.{Settings, in-order, level-starts, level-bodies}
-use Rattle.spec.specs.Frame.{rows-of, read-bodies, Parts, parts, named}
+use Rattle.spec.specs.Image.{Settings, slot-width, in-order, level-starts, level-bodies}
+use Rattle.spec.specs.Frame.{rows-of, read-bodies, read-settings, Parts, parts, named}
 use Rattle.spec.specs.Nodes.{Node, is-exact, levels-of, nodes-of, read-nodes, read-leaves}
 use Rattle.spec.specs.Check.{verdict}
 use Rattle.image_types.specs.declared.Frame.{Frame}
@@ -20,8 +20,8 @@ use Rattle.bits_laws.specs.Bits.{part}
 use Rattle.image_types.specs.FrameOf.{FrameOf, Within, within, twelve-bodies, frame-bodies, frame-parts}
 use Rattle.nav_laws.specs.NumberBounds.{node-total}
 use Rattle.nav_laws.specs.Accepted.{Body, Holds, Accepted, dense-nodes, sparse-nodes}
-use Rattle.theory.specs.LeafLists.{Realizable, All-well-sized}
-use Rattle.theory.specs.Terms.{Is-bytes}
+use Rattle.theory.specs.LeafLists.{Realizable, All-well-sized, Spare-clear}
+use Rattle.theory.specs.Terms.{Is-bytes, All}
 use Rattle.theory.specs.ReadBack.{read-back}
 use Rattle.theory.specs.ImageParts.{Writable, node-image-bodies, parts-of-nodes, parts-back, nodes-back, image-holds}
 use Rattle.theory.specs.NodeBits.{node-image, version-bodies, bodies, bodies-of, dense-labels, dense-has-child, sparse-labels, sparse-has-child, louds, slots, bodies-bits}
@@ -42,8 +42,13 @@ some-same a b h = cc
 body-same : (cs bs : List Bytes) → cs ≡ bs → (i : ℕ) → getD cs i [] ≡ getD bs i []
 body-same cs bs e i = ap (λ (z : List Bytes). getD z i []) e
 
-module _ (s : Bytes) (f : Frame) (fr : FrameOf s f) (st : Settings) (ls : List Leaf) (ds ss : List Node) (w : Writable (st .width) (length ls) ds ss) (is : s ≡ node-image st (length ls) ds ss)
-    (whole : ds ++ ss ≡ concat (trie ls)) (good : Realizable (st .width) ls) (ok : All-well-sized (st .width) ls) where
+-- the hash bits of an image, by the frame that is read from it
+pub hash-read : (s : Bytes) (f : Frame) → FrameOf s f → read-settings s .hash-width ≡ f .hash
+unfolding parts
+hash-read s f fr = ap (λ (p : Parts). p .settings .hash-width) (fr .parts-are)
+
+module _ (s : Bytes) (f : Frame) (fr : FrameOf s f) (st : Settings) (ls : List Leaf) (ds ss : List Node) (w : Writable (slot-width st) (length ls) ds ss) (is : s ≡ node-image st (length ls) ds ss)
+    (whole : ds ++ ss ≡ concat (trie ls)) (good : Realizable (slot-width st) ls) (ok : All-well-sized (slot-width st) ls) (spares : All (Spare-clear (st .hash-width)) ls) where
   framed : read-bodies (rows-of s) (drop 22 s) ≡ some (version-bodies (st .version) ds ss)
   framed = rw is (node-image-bodies st (length ls) ds ss w)
 
@@ -65,7 +70,7 @@ module _ (s : Bytes) (f : Frame) (fr : FrameOf s f) (st : Settings) (ls : List L
   -- LV holds the first nodes of the levels
   level-body : f .version ≡ 2 → (f .lv ≤ length s) × (drop (f .lv) s ≡ concat (map le32 (starts-from (children-to (ds ++ ss)) (length (ds ++ ss)) 64 0)))
   unfolding level-bodies
-  level-body v = (fr .end, ap first-body behind ∙ ap (λ (ns : List Node). level-starts (map length (levels-of ns))) whole ∙ trie-level-starts (realizable-trie (st .width) ls good ok) ∙ ap (λ (ns : List Node). concat (map le32 (starts-from (children-to ns) (length ns) 64 0))) (sym whole))
+  level-body v = (fr .end, ap first-body behind ∙ ap (λ (ns : List Node). level-starts (map length (levels-of ns))) whole ∙ trie-level-starts (realizable-trie (slot-width st) ls good ok) ∙ ap (λ (ns : List Node). concat (map le32 (starts-from (children-to ns) (length ns) 64 0))) (sym whole))
     where
       first-body : List Bytes → Bytes
       first-body bs = getD bs 0 []
@@ -81,8 +86,11 @@ module _ (s : Bytes) (f : Frame) (fr : FrameOf s f) (st : Settings) (ls : List L
           ap (λ (t : Bool). cond t (drop (f .lv) s ∷ []) []) (sym here) ∙ ap (drop 12) all-same
           ∙ ap (λ (t : Bool). cond t (level-starts (map length (levels-of (ds ++ ss))) ∷ []) []) there
 
-  width-same : f .width ≡ st .width
-  width-same = ap (λ (p : Parts). p .settings .width) parts-same
+  hash-same : f .hash ≡ st .hash-width
+  hash-same = ap (λ (p : Parts). p .settings .hash-width) parts-same
+
+  width-same : f .width ≡ slot-width st
+  width-same = fr .width ∙ ap (λ (p : Parts). slot-width (p .settings)) parts-same
 
   leaves-same : f .leaves ≡ length ls
   leaves-same = ap (λ (p : Parts). p .counts .leaves) parts-same
@@ -107,13 +115,18 @@ module _ (s : Bytes) (f : Frame) (fr : FrameOf s f) (st : Settings) (ls : List L
 
   holds : Holds s f ds ss ls
   holds = record {
+    hash-is = hash-read s f fr;
+    width-is = fr .width;
+    hash-range = fr .hash;
+    real-range = fr .real;
     writable = rw (width-same, leaves-same) w;
     dense-size = sym dense-same;
     entry-size = sym entries-same;
     sparse-size = sym sparse-same;
-    node-total = λ h. let l = length-append ds ss in omega (arith, dense-same, sparse-same, node-total (st .width) ls (ds ++ ss) good ok whole (omega (arith, dense-same, sparse-same)));
+    node-total = λ h. let l = length-append ds ss in omega (arith, dense-same, sparse-same, node-total (slot-width st) ls (ds ++ ss) good ok whole (omega (arith, dense-same, sparse-same)));
     realizable = rw width-same good;
     well-sized = rw width-same ok;
+    spare = rw hash-same spares;
     trie-is = whole;
     DL = body-at s _ (f .dl) (32 * f .dense .nodes) (omega (arith, inside .dl)) (body 0);
     DC = body-at s _ (f .dc) (32 * f .dense .nodes) (omega (arith, inside .dc)) (body 1);
@@ -148,5 +161,5 @@ pub checked-accepted : (s : Bytes) (f : Frame) → Is-bytes s → FrameOf s f �
 checked-accepted s f small fr v =
     let a = accepted-is-image s small v in
     let h = image-holds (a .settings) (a .leaves) (a .fits) in
-    read-holds s f fr (a .settings) (a .leaves) (h .dense-nodes) (h .sparse-nodes) (h .writable) (a .image-is ∙ h .image-is) (h .whole) (a .fits .realizable) (a .fits .well-sized)
+    read-holds s f fr (a .settings) (a .leaves) (h .dense-nodes) (h .sparse-nodes) (h .writable) (a .image-is ∙ h .image-is) (h .whole) (a .fits .realizable) (a .fits .well-sized) (a .fits .spare)
     (sym (ap read-leaves (a .image-is) ∙ read-back (a .settings) (a .leaves) (a .fits)))

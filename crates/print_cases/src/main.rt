@@ -18,6 +18,8 @@ fn main() {
     print_file(b"empty_list");
     print_file(b"dense_levels");
     print_file(b"suffixes");
+    print_file(b"hash_bits");
+    print_file(b"hash_and_real_bits");
     print_file(b"pages");
     print_file(b"empty_file");
     print_file(b"bytes_left_over");

@@ -196,8 +196,8 @@ length-map f (b ∷ s) = ap suc (length-map f s)
 pub length-bit-digits : (k x : ℕ) → length (map bit-digit (low-bits k x)) ≡ k
 length-bit-digits k x = length-map bit-digit (low-bits k x) ∙ length-low-bits k x
 
--- the text of at most 16 suffix bits
-length-suffix : (e : Bool) (s : Bits) → length s ≤ 16 → length (suffix-text e s) ≤ 16
+-- the text of at most 32 suffix bits
+length-suffix : (e : Bool) (s : Bits) → length s ≤ 32 → length (suffix-text e s) ≤ 32
 unfolding suffix-text
 length-suffix true s h = omega arith
 length-suffix false [] h = omega arith
@@ -227,12 +227,12 @@ pub length-pieces : (i : ℕ) (l : Leaf) → length (line i l) ≡ length (decim
 length-pieces i l =
     omega (arith, ap length (line-is i l) ∙ length-append (decimal i ++ cut-text l ++ slot-text l) (10 ∷ []), length-append (decimal i ++ cut-text l) (slot-text l), length-append (decimal i) (cut-text l))
 
--- the bytes of a line at most: 10 digits, blanks and the kind, 128 digits of the key, 16 suffix bits, the line feed
+-- the bytes of a line at most: 10 digits, blanks and the kind, 128 digits of the key, 32 suffix bits, the line feed
 abbrev pub longest-line : ℕ
-longest-line = 159
+longest-line = 175
 
 -- no line is longer, for a leaf number of at most 10 digits
-pub length-line : (i : ℕ) (l : Leaf) → i < 10 ^ 10 → length (l .cut) ≤ 64 → length (l .suffix) ≤ 16 → length (line i l) ≤ longest-line
+pub length-line : (i : ℕ) (l : Leaf) → i < 10 ^ 10 → length (l .cut) ≤ 64 → length (l .suffix) ≤ 32 → length (line i l) ≤ longest-line
 length-line i l h k n = omega (arith, length-pieces i l, length-decimal 9 i h, length-hex (l .cut), length-suffix (l .exact) (l .suffix) n)
 
 -- ---- the whole text

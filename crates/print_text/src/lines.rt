@@ -16,7 +16,7 @@ use image_types::Leaf;
 
 // Bits as digits: the low width bits of suffix, the lowest first.
 fn write_bits(out: &mut [u8], at: usize, suffix: usize, width: usize) -> usize
-    requires { ⌜ (width ≤ 16) × (at + width ≤ length (now out)) ⌝ }
+    requires { ⌜ (width ≤ 32) × (at + width ≤ length (now out)) ⌝ }
     ensures { λ r. ⌜ Written (now (out .entry)) at (map bit-digit (low-bits width suffix)) (now (out .exit)) r ⌝ }
 {
     let mut next = at;
@@ -28,9 +28,9 @@ fn write_bits(out: &mut [u8], at: usize, suffix: usize, width: usize) -> usize
     next
 }
 
-// The suffix bits of an open leaf, or "-" where there is nothing to print.
+// The suffix bits of an open leaf, hash bits before real bits, or "-" where there are none to print.
 pub fn write_suffix(out: &mut [u8], at: usize, exact: bool, suffix: usize, width: usize) -> usize
-    requires { ⌜ (width ≤ 16) × (at + length (suffix-text exact (low-bits width suffix)) ≤ length (now out)) ⌝ }
+    requires { ⌜ (width ≤ 32) × (at + length (suffix-text exact (low-bits width suffix)) ≤ length (now out)) ⌝ }
     ensures { λ r. ⌜ Written (now (out .entry)) at (suffix-text exact (low-bits width suffix)) (now (out .exit)) r ⌝ }
 {
     if exact {
@@ -74,7 +74,7 @@ fn write_slot(out: &mut [u8], at: usize, l: Leaf) -> usize
 }
 
 // The bytes that a line takes at most.
-pub const LONGEST_LINE: usize = 159;
+pub const LONGEST_LINE: usize = 175;
 
 // The line of leaf number i. A program that has LONGEST_LINE bytes left in its buffer has room for it.
 pub fn write_line(out: &mut [u8], at: usize, i: usize, l: Leaf) -> usize

@@ -3,6 +3,7 @@ ghost use Prim.Native.Nat.{_^_, _<_};
 ghost use Rattle.image_types.specs.Value.{Sized};
 use libc::STDIN_FILENO;
 use libc::STDOUT_FILENO;
+use print_text::lines::LONGEST_LINE;
 use print_text::lines::write_line;
 use print_text::lines::write_refused;
 use walk::next;
@@ -17,7 +18,7 @@ const PLACES: usize = 6;
 fn print_said(s: Standing, number: usize)
     requires { ⌜ Sized (s .leaf) × (number < 10 ^ 10) ⌝ }
 {
-    let mut line = [0u8; 160];
+    let mut line = [0u8; LONGEST_LINE];
     let stand = s.stand;
     match stand {
         Stand::Leaf => {

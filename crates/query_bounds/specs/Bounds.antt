@@ -5,7 +5,7 @@ use mathlib.Core.Bool.{Bool, true, false, not, _&&_}
 use native.Mathlib.Omega.{arith}
 use lib.ListN.{length, getD, drop}
 use Rattle.spec.specs.Bytes.{Bytes, bit, shared}
-use Rattle.spec.specs.Nodes.{is-exact, read-leaves}
+use Rattle.spec.specs.Nodes.{is-exact}
 use Rattle.spec.specs.Questions.{counted}
 use Rattle.image_types.specs.declared.Frame.{Frame}
 use Rattle.image_types.specs.declared.ValuePos.{ValuePos}
@@ -13,7 +13,7 @@ use Rattle.nav_laws.specs.declared.BranchKind.the-variants.{Absent, Leaf, Child
 use Rattle.nav_laws.specs.declared.Found.{Found}
 use Rattle.nav_laws.specs.declared.LeafStop.{LeafStop}
 use Rattle.nav_laws.specs.declared.LeafStop.the-variants.{Nowhere, Open}
-use Rattle.nav_laws.specs.Accepted.{Accepted, nodes}
+use Rattle.nav_laws.specs.Accepted.{Accepted, nodes, real-leaves}
 use Rattle.nav_laws.specs.Slots.{node-at, slot-number, slot-of}
 use Rattle.nav_laws.specs.Descent.{child-number}
 use Rattle.nav_laws.specs.NextLabel.{kind-with}
@@ -21,7 +21,7 @@ use Rattle.nav_laws.specs.Positions.{branches, place, child-at, slot-at}
 use Rattle.nav_laws.specs.FoundBranch.{node-count, Is-position, Found-branch, Behind-branch}
 use Rattle.query_laws.specs.declared.BoundEnd.{BoundEnd}
 use Rattle.query_laws.specs.declared.BoundEnd.the-variants as End
-use Rattle.query_laws.specs.Bounds.{high-passed, low-reached}
+use Rattle.query_laws.specs.Bounds.{slot-passed, slot-reached}
 use Rattle.query_laws.specs.OpenBetween.{Open-between, open-between}
 use Rattle.query_laws.specs.LevelSums.{slots-below}
 use Rattle.query_laws.specs.Leads.{Leads, Branch-missing, Leaf-behind, along, shared-byte}
@@ -74,7 +74,7 @@ pub record Leaf-shared (s : Bytes) (f : Frame) (lo hi : Bytes) (m p d : ℕ) : T
   pub position : Is-position s f m p
   pub cut : Open-between s f lo hi (slot-at s f m p) d
   -- the leaf alone is left
-  pub count-is : counted (read-leaves s) lo hi ≡ bit (open-between s f lo hi (slot-at s f m p) d)
+  pub count-is : counted (real-leaves s f) lo hi ≡ bit (open-between s f lo hi (slot-at s f m p) d)
 
 -- ---- the bound of a key
 
@@ -139,31 +139,31 @@ module _ (s : Bytes) (f : Frame) (key : Bytes) (r : Bound) (o : Key-ended s f ke
 
   -- nothing is passed
   pub passed-nowhere : r .end ≡ End.NoLeaf → passed-there s f key ≡ 0
-  passed-nowhere e = value-none s f (o .accepted) key stop depth (o .stop-is .leads) false (high-passed (length key)) (stop-at End.NoLeaf e)
+  passed-nowhere e = value-none s f (o .accepted) key stop depth (o .stop-is .leads) false (slot-passed (f .hash) (length key)) (stop-at End.NoLeaf e)
 
   -- nor where the key ends at a node
   pub passed-node : r .end ≡ End.Node → passed-there s f key ≡ 0
   passed-node e = end-unpassed s f (o .accepted) key depth (is-exact (node-at (nodes s f) (r .level .node .0))) (rw e at (o .stop-is))
 
   -- an open leaf is passed by its highest key
-  pub passed-leaf : (v : ValuePos) → r .end ≡ End.Leaf v → passed-there s f key ≡ bit (high-passed (length key) (slot-of (f .width) (nodes s f) (v .0)) (drop depth key))
-  passed-leaf v e = value-open s f (o .accepted) key stop depth (o .stop-is .leads) false (high-passed (length key)) v (stop-at (End.Leaf v) e)
+  pub passed-leaf : (v : ValuePos) → r .end ≡ End.Leaf v → passed-there s f key ≡ bit (slot-passed (f .hash) (length key) (slot-of (f .width) (nodes s f) (v .0)) (drop depth key))
+  passed-leaf v e = value-open s f (o .accepted) key stop depth (o .stop-is .leads) false (slot-passed (f .hash) (length key)) v (stop-at (End.Leaf v) e)
 
   -- nothing is reached
   pub reached-nowhere : r .end ≡ End.NoLeaf → reached-there s f key ≡ 0
-  reached-nowhere e = value-none s f (o .accepted) key stop depth (o .stop-is .leads) true (low-reached (length key)) (stop-at End.NoLeaf e)
+  reached-nowhere e = value-none s f (o .accepted) key stop depth (o .stop-is .leads) true (slot-reached (f .hash) (length key)) (stop-at End.NoLeaf e)
 
   -- a node is reached if it is an exact leaf
   pub reached-node : r .end ≡ End.Node → reached-there s f key ≡ bit (is-exact (node-at (nodes s f) (r .level .node .0)))
   reached-node e = go (is-exact (node-at (nodes s f) (r .level .node .0))) (stop-at End.Node e)
     where
       go : (b : Bool) → stop ≡ exact-stop b → reached-there s f key ≡ bit b
-      go true q = value-exact s f (o .accepted) key stop depth (o .stop-is .leads) true (low-reached (length key)) q
-      go false q = value-none s f (o .accepted) key stop depth (o .stop-is .leads) true (low-reached (length key)) q
+      go true q = value-exact s f (o .accepted) key stop depth (o .stop-is .leads) true (slot-reached (f .hash) (length key)) q
+      go false q = value-none s f (o .accepted) key stop depth (o .stop-is .leads) true (slot-reached (f .hash) (length key)) q
 
   -- an open leaf is reached by its lowest key
-  pub reached-leaf : (v : ValuePos) → r .end ≡ End.Leaf v → reached-there s f key ≡ bit (low-reached (length key) (slot-of (f .width) (nodes s f) (v .0)) (drop depth key))
-  reached-leaf v e = value-open s f (o .accepted) key stop depth (o .stop-is .leads) true (low-reached (length key)) v (stop-at (End.Leaf v) e)
+  pub reached-leaf : (v : ValuePos) → r .end ≡ End.Leaf v → reached-there s f key ≡ bit (slot-reached (f .hash) (length key) (slot-of (f .width) (nodes s f) (v .0)) (drop depth key))
+  reached-leaf v e = value-open s f (o .accepted) key stop depth (o .stop-is .leads) true (slot-reached (f .hash) (length key)) v (stop-at (End.Leaf v) e)
 
 -- ---- along the way that two keys share
 
@@ -224,19 +224,19 @@ module _ (s : Bytes) (f : Frame) (a : Accepted s f) (lo hi : Bytes) (g : length 
       (λ d m c o b q. parted-next m d (o (omega arith)) (omega arith) (b .branch) (b .here .found) (b .continues) c (b .child-is)) l
 
   -- By the same sums: what hi has reached where both keys lead, less what lo has passed there.
-  count-same : (stop : LeafStop) (d : ℕ) → Same-stop s f lo hi stop d → (u v : ℕ) → u ≡ passed-there s f lo → v ≡ reached-there s f hi → counted (read-leaves s) lo hi ≡ v - u
+  count-same : (stop : LeafStop) (d : ℕ) → Same-stop s f lo hi stop d → (u v : ℕ) → u ≡ passed-there s f lo → v ≡ reached-there s f hi → counted (real-leaves s f) lo hi ≡ v - u
   count-same stop d t u v p q = omega (arith, count-bounds s f a lo hi g h (slots-below (nodes s f) 64 0 lo) (slots-below (nodes s f) 64 0 hi) u v refl refl p q, t .sums)
 
   -- Where both keys lead nowhere, no leaf lies between them.
-  none-between : (d : ℕ) → Same-stop s f lo hi Nowhere d → counted (read-leaves s) lo hi ≡ 0
-  none-between d t = count-same Nowhere d t 0 0 (sym (value-none s f a lo Nowhere d (t .lower .leads) false (high-passed (length lo)) refl)) (sym (value-none s f a hi Nowhere d (t .upper .leads) true (low-reached (length hi)) refl))
+  none-between : (d : ℕ) → Same-stop s f lo hi Nowhere d → counted (real-leaves s f) lo hi ≡ 0
+  none-between d t = count-same Nowhere d t 0 0 (sym (value-none s f a lo Nowhere d (t .lower .leads) false (slot-passed (f .hash) (length lo)) refl)) (sym (value-none s f a hi Nowhere d (t .upper .leads) true (slot-reached (f .hash) (length hi)) refl))
 
   -- An image without nodes has no leaf between two keys.
-  pub count-nowhere : node-count f ≡ 0 → counted (read-leaves s) lo hi ≡ 0
+  pub count-nowhere : node-count f ≡ 0 → counted (real-leaves s f) lo hi ≡ 0
   count-nowhere z = none-between 0 (record { sums = sum-nowhere s f a lo g z ∙ sym (sum-nowhere s f a hi h z); lower = stopped-nowhere s f a lo z; upper = stopped-nowhere s f a hi z })
 
   -- Nor has one in which a node on the shared way has no branch with the next shared byte.
-  pub count-absent : Branch-missing s f lo (shared lo hi) → counted (read-leaves s) lo hi ≡ 0
+  pub count-absent : Branch-missing s f lo (shared lo hi) → counted (real-leaves s f) lo hi ≡ 0
   count-absent t = none-between (t .depth + 1) (same-none (t .node) (t .depth) (leads-parted (t .leads) (omega (arith, t .inside))) (t .inside) (t .branch) (t .here .found) (t .absent))
 
   -- Where the shared way ends at an open leaf, that leaf alone can lie between the keys.
@@ -248,8 +248,8 @@ module _ (s : Bytes) (f : Frame) (a : Accepted s f) (lo hi : Bytes) (g : length 
       record {
         position = record { accepted = a; within = rw (t .at-is) (t .here .found .at-is .within) };
         cut = record { accepted = a; slot-in = y .lower .leaf-in v refl; lo-in = y .lower .depth-in; hi-in = y .upper .depth-in; lo-short = g; hi-short = h };
-        count-is = count-same (Open v) d y _ _ (sym (value-open s f a lo (Open v) d (y .lower .leads) false (high-passed (length lo)) v refl)) (sym (value-open s f a hi (Open v) d (y .upper .leads) true (low-reached (length hi)) v refl))
-            ∙ one-less (high-passed (length lo) (slot-of (f .width) (nodes s f) (v .0)) (drop d lo)) (low-reached (length hi) (slot-of (f .width) (nodes s f) (v .0)) (drop d hi));
+        count-is = count-same (Open v) d y _ _ (sym (value-open s f a lo (Open v) d (y .lower .leads) false (slot-passed (f .hash) (length lo)) v refl)) (sym (value-open s f a hi (Open v) d (y .upper .leads) true (slot-reached (f .hash) (length hi)) v refl))
+            ∙ one-less (slot-passed (f .hash) (length lo) (slot-of (f .width) (nodes s f) (v .0)) (drop d lo)) (slot-reached (f .hash) (length hi) (slot-of (f .width) (nodes s f) (v .0)) (drop d hi));
       }
     where
       one-less : (p r : Bool) → bit r - bit p ≡ bit (not p && r)
@@ -300,6 +300,6 @@ module _ (s : Bytes) (f : Frame) (a : Accepted s f) (key : Bytes) (short : lengt
 
 -- Two bounds from where the keys part: their sums, as far as they differ, and what counts where each key leads.
 pub count-parted : (s : Bytes) (f : Frame) (lo hi : Bytes) (above : ℕ) (a b : Bound) → Accepted s f → length lo ≤ 64 → length hi ≤ 64 → Bound-ended s f lo above a → Bound-ended s f hi above b → (r : BoundSums) → Sums-apart s f (a .level) (b .level) r
-    → (u v : ℕ) → u ≡ passed-there s f lo → v ≡ reached-there s f hi → counted (read-leaves s) lo hi ≡ (r .upper + v) - (r .lower + u)
+    → (u v : ℕ) → u ≡ passed-there s f lo → v ≡ reached-there s f hi → counted (real-leaves s f) lo hi ≡ (r .upper + v) - (r .lower + u)
 count-parted s f lo hi above a b z g h x y r t u v p q =
     omega (arith, count-bounds s f z lo hi g h (slots-below (nodes s f) 64 0 lo) (slots-below (nodes s f) 64 0 hi) u v refl refl p q, x .ended .sums, y .ended .sums, t .apart)

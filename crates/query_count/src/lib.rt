@@ -2,9 +2,8 @@
 ghost use mathlib.Core.Path.{_≡_};
 ghost use Prim.Native.Nat.{_-_, _≤_};
 ghost use lib.ListN.{length};
-ghost use Rattle.spec.specs.Nodes.{read-leaves};
 ghost use Rattle.spec.specs.Questions.{counted};
-ghost use Rattle.nav_laws.specs.Accepted.{Accepted};
+ghost use Rattle.nav_laws.specs.Accepted.{Accepted, real-leaves};
 ghost use Rattle.query_bounds.specs.Bounds.{Parted};
 use bits::numbers::one_if;
 use image_types::Frame;
@@ -32,7 +31,7 @@ fn difference(upto: usize, below: usize) -> usize
 // The count from the node at which the ways of both keys part: each bound has its own sum from there.
 fn count_apart(image: &[u8], f: Frame, lo: &[u8], hi: &[u8], fork: LevelSum) -> usize
     requires { ⌜ Parted (now image) f (now lo) (now hi) (fork .node .0) (fork .depth) × (fork .sum ≡ 0) ⌝ }
-    ensures { λ r. ⌜ r ≡ counted (read-leaves (now (image .entry))) (now (lo .entry)) (now (hi .entry)) ⌝ }
+    ensures { λ r. ⌜ r ≡ counted (real-leaves (now (image .entry)) f) (now (lo .entry)) (now (hi .entry)) ⌝ }
 {
     let lower = bound_from(image, f, lo, fork);
     let upper = bound_from(image, f, hi, fork);
@@ -45,7 +44,7 @@ fn count_apart(image: &[u8], f: Frame, lo: &[u8], hi: &[u8], fork: LevelSum) -> 
 // How many leaves have a possible key from lo to hi, both included. No leaf on the way that both keys share lies between the two bounds, so none is counted there; an open leaf to which both lead is the only one left.
 pub fn count(image: &[u8], f: Frame, lo: &[u8], hi: &[u8]) -> usize
     requires { ⌜ Accepted (now image) f × (length (now lo) ≤ 64) × (length (now hi) ≤ 64) ⌝ }
-    ensures { λ r. ⌜ r ≡ counted (read-leaves (now (image .entry))) (now (lo .entry)) (now (hi .entry)) ⌝ }
+    ensures { λ r. ⌜ r ≡ counted (real-leaves (now (image .entry)) f) (now (lo .entry)) (now (hi .entry)) ⌝ }
 {
     let n = shared(lo, hi);
     let end = follow(image, f, lo, n);

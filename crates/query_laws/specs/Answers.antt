@@ -15,12 +15,12 @@ use Rattle.nav_laws.specs.declared.LeafStop.{LeafStop}
 use Rattle.nav_laws.specs.declared.LeafStop.the-variants.{Nowhere, Exact, Open}
 use Rattle.nav_laws.specs.Slots.{slot-of}
 use Rattle.nav_laws.specs.Descent.{descend, leaves-below, value}
-use Rattle.query_laws.specs.Bounds.{high-passed, low-reached}
+use Rattle.query_laws.specs.Bounds.{slot-passed, slot-reached}
 use Rattle.query_laws.specs.Ordered.{passed, reached, counted-is}
 use Rattle.query_laws.specs.LevelSums.{slots-below, slots-nothing, below-sums}
 use Rattle.query_laws.specs.Root.{leads-to-leaf, led-is, passed-is, reached-is}
 use Rattle.query_laws.specs.Steps.{stop-of}
-use Rattle.nav_laws.specs.Accepted.{Accepted, nodes}
+use Rattle.nav_laws.specs.Accepted.{Accepted, nodes, real-leaves, real-realizable, real-sized}
 
 -- bytes by position are bytes
 pub all-small : (k : Bytes) → ((i : ℕ) → getD k i 0 < 256) → Is-bytes k
@@ -36,11 +36,11 @@ module _ (s : Bytes) (f : Frame) (a : Accepted s f) (k : Bytes) where
   pub led-stops : (ends : Bool) (q : Bits → Bytes → Bool) → count (leads-to-leaf ends q k) (read-leaves s) ≡ value ends q (f .width) (nodes s f) (descend (nodes s f) 0 k)
   led-stops ends q = led-is (f .width) (f .width) (read-leaves s) (nodes s f) (a .realizable) (a .well-sized) (a .trie-is) (a .writable .wide) ends q k
 
-  passed-stops : passed (read-leaves s) k ≡ leaves-below (nodes s f) 64 0 0 k + value false (high-passed (length k)) (f .width) (nodes s f) (descend (nodes s f) 0 k)
-  passed-stops = passed-is (f .width) (f .width) (read-leaves s) (nodes s f) (a .realizable) (a .well-sized) (a .trie-is) (a .writable .wide) k
+  passed-stops : passed (real-leaves s f) k ≡ leaves-below (nodes s f) 64 0 0 k + value false (slot-passed (f .hash) (length k)) (f .width) (nodes s f) (descend (nodes s f) 0 k)
+  passed-stops = passed-is (f .width) (f .width) (read-leaves s) (nodes s f) (a .realizable) (a .well-sized) (a .trie-is) (a .writable .wide) (f .hash) k
 
-  reached-stops : reached (read-leaves s) k ≡ leaves-below (nodes s f) 64 0 0 k + value true (low-reached (length k)) (f .width) (nodes s f) (descend (nodes s f) 0 k)
-  reached-stops = reached-is (f .width) (f .width) (read-leaves s) (nodes s f) (a .realizable) (a .well-sized) (a .trie-is) (a .writable .wide) k
+  reached-stops : reached (real-leaves s f) k ≡ leaves-below (nodes s f) 64 0 0 k + value true (slot-reached (f .hash) (length k)) (f .width) (nodes s f) (descend (nodes s f) 0 k)
+  reached-stops = reached-is (f .width) (f .width) (read-leaves s) (nodes s f) (a .realizable) (a .well-sized) (a .trie-is) (a .writable .wide) (f .hash) k
 
   module _ (stop : LeafStop) (d : ℕ) (e : descend (nodes s f) 0 k ≡ stop-of stop (drop d k)) where
     -- What counts where the key leads: nothing; an exact leaf; an open one that passes the test.
@@ -58,19 +58,19 @@ module _ (s : Bytes) (f : Frame) (a : Accepted s f) (k : Bytes) where
       value-open v h = ap (value ends q (f .width) (nodes s f)) e ∙ rw h
 
 -- Count: the leaves that the upper bound has reached, less those that the lower one has passed.
-pub count-is : (s : Bytes) (f : Frame) → Accepted s f → (lo hi : Bytes) → counted (read-leaves s) lo hi ≡ reached (read-leaves s) hi - passed (read-leaves s) lo
-count-is s f a lo hi = counted-is (f .width) (read-leaves s) lo hi (a .realizable .ordered) (a .well-sized)
+pub count-is : (s : Bytes) (f : Frame) → Accepted s f → (lo hi : Bytes) → counted (real-leaves s f) lo hi ≡ reached (real-leaves s f) hi - passed (real-leaves s f) lo
+count-is s f a lo hi = counted-is (f .real) (real-leaves s f) lo hi (real-realizable s f a .ordered) (real-sized s f a)
 
 -- By the bounds of both keys: the sums of their slot numbers, and what counts where each key leads.
 pub count-bounds : (s : Bytes) (f : Frame) → Accepted s f → (lo hi : Bytes) → length lo ≤ 64 → length hi ≤ 64 → (a b u v : ℕ) → a ≡ slots-below (nodes s f) 64 0 lo → b ≡ slots-below (nodes s f) 64 0 hi
-    → u ≡ value false (high-passed (length lo)) (f .width) (nodes s f) (descend (nodes s f) 0 lo) → v ≡ value true (low-reached (length hi)) (f .width) (nodes s f) (descend (nodes s f) 0 hi)
-    → counted (read-leaves s) lo hi ≡ (b + v) - (a + u)
+    → u ≡ value false (slot-passed (f .hash) (length lo)) (f .width) (nodes s f) (descend (nodes s f) 0 lo) → v ≡ value true (slot-reached (f .hash) (length hi)) (f .width) (nodes s f) (descend (nodes s f) 0 hi)
+    → counted (real-leaves s f) lo hi ≡ (b + v) - (a + u)
 count-bounds s f z lo hi g h a b u v d e p q =
     count-is s f z lo hi ∙ omega (arith, passed-stops s f z lo, reached-stops s f z hi, below-sums (nodes s f) 64 0 0 lo (omega arith) g, below-sums (nodes s f) 64 0 0 hi (omega arith) h)
 
 -- The leaves that a key has passed: the sum of the slot numbers of its bound, with what counts where it leads, less that of the empty key's.
 pub passed-sums : (s : Bytes) (f : Frame) → Accepted s f → (k : Bytes) (starts sum : ℕ) → length k ≤ 64 → starts ≡ slots-below (nodes s f) 64 0 []
-    → slots-below (nodes s f) 64 0 k + value false (high-passed (length k)) (f .width) (nodes s f) (descend (nodes s f) 0 k) ≡ sum → (starts ≤ sum) × (sum - starts ≡ passed (read-leaves s) k)
+    → slots-below (nodes s f) 64 0 k + value false (slot-passed (f .hash) (length k)) (f .width) (nodes s f) (descend (nodes s f) 0 k) ≡ sum → (starts ≤ sum) × (sum - starts ≡ passed (real-leaves s f) k)
 passed-sums s f a k starts sum h p q =
     let n = slots-nothing (nodes s f) 64 0 in
     let w = below-sums (nodes s f) 64 0 0 k (omega arith) h in

@@ -9,7 +9,7 @@ use lib.Dec.{ltb, eqb}
 use borrow.Author.Tests.{eq-eqb, ne-eqb, eqb-true, eqb-false, ltb-true, ltb-false, lt-ltb, le-ltb}
 use Rattle.spec.specs.Bytes.{Bytes, Bits, blocks, begins, equal, filled}
 use Rattle.spec.specs.Keys.{below}
-use Rattle.spec.specs.Leaves.{Leaf, highest, lowest, trimmed}
+use Rattle.spec.specs.Leaves.{Leaf, real, highest, lowest, trimmed}
 use Rattle.theory.specs.Order.{below-asym, equal-order}
 use Rattle.nav_laws.specs.Counting.{counts}
 
@@ -32,6 +32,13 @@ high-passed n s r = below (high-rest (n - length r) s) r
 unfoldable pub low-reached : ℕ → Bits → Bytes → Bool
 unfolding low-rest below
 low-reached n s r = not (below r (low-rest (n - length r) s))
+
+-- The same of a slot whose real bits stand behind h hash bits.
+abbrev pub slot-passed : ℕ → ℕ → Bits → Bytes → Bool
+slot-passed h n s r = high-passed n (drop h s) r
+
+abbrev pub slot-reached : ℕ → ℕ → Bits → Bytes → Bool
+slot-reached h n s r = low-reached n (drop h s) r
 
 -- a test and one that never passes
 pub and-false : (b : Bool) → b && false ≡ false
@@ -126,3 +133,15 @@ lowest-counts l k = go (l .exact)
         ∙ ap (λ (b : Bool). (below (l .cut) k && not (begins (l .cut) k)) || b)
         (if-begins (l .cut) k (λ r. not (below r (low-rest (length (l .cut)) (l .suffix)))) (λ r. not (below r (low-rest (length k - length r) (l .suffix))))
         (λ h. ap (λ (c : ℕ). not (below (drop (length (l .cut)) k) (low-rest c (l .suffix)))) (sym (cut-length (l .cut) k h))))
+
+-- ---- leaves with hash bits
+
+-- The highest key of a leaf with its hash bits struck out.
+pub real-highest : (h : ℕ) (l : Leaf) (k : Bytes) → below (highest (real h l)) k ≡ counts false (slot-passed h (length k)) k l
+unfolding counts real
+real-highest h l k = highest-counts (real h l) k
+
+-- Its lowest key.
+pub real-lowest : (h : ℕ) (l : Leaf) (k : Bytes) → not (below k (lowest (real h l))) ≡ counts true (slot-reached h (length k)) k l
+unfolding counts real
+real-lowest h l k = lowest-counts (real h l) k

@@ -7,7 +7,7 @@ use native.Mathlib.Omega.{arith}
 use lib.ListN.{length, getD, take, set, length-set}
 use lib.Seq.{take-take}
 use Rattle.spec.specs.Bytes.{Bytes, Bits}
-use Rattle.spec.specs.Leaves.{Leaf, lowest}
+use Rattle.spec.specs.Leaves.{Leaf, real, lowest}
 use Rattle.image_types.specs.declared.Frame.{Frame}
 use Rattle.image_types.specs.declared.NodeNum.{NodeNum}
 use Rattle.image_types.specs.declared.ValuePos.{ValuePos}
@@ -32,7 +32,7 @@ use Rattle.query_laws.specs.Seeking.{Has-higher}
 -- An optional leaf is the one at this stop, whose cut key is the first `depth` bytes of `cut`.
 pub record Has-key (s : Bytes) (f : Frame) (leaf : Option Leaf) (stop : LeafStop) (cut : Bytes) (depth : ℕ) : Type 0 where
   -- both have the same lowest key
-  pub low-is : low-each leaf ≡ low-of (f .width) (nodes s f) stop (take depth cut)
+  pub low-is : low-each (f .hash) leaf ≡ low-of (f .hash) (f .width) (nodes s f) stop (take depth cut)
   -- a cut key has at most 64 bytes
   pub depth-in : depth ≤ 64
   -- an open leaf's slot is one of the leaves
@@ -48,7 +48,7 @@ pub record Leaf-at (s : Bytes) (f : Frame) (stop : LeafStop) (key : Bytes) (dept
 
 -- The lowest key of the leaf at a stop with this cut key is the first n bytes of a key of 64.
 pub record Lowest-key (s : Bytes) (f : Frame) (stop : LeafStop) (cut key : Bytes) (n : ℕ) : Type 0 where
-  pub low-is : low-of (f .width) (nodes s f) stop cut ≡ some (take n key)
+  pub low-is : low-of (f .hash) (f .width) (nodes s f) stop cut ≡ some (take n key)
   pub upto : n ≤ 64
   pub key-size : length key ≡ 64
 
@@ -58,12 +58,12 @@ no-key s f cut = record { low-is = refl; depth-in = omega arith; slot-in = λ v 
 
 -- the open leaf behind the first d bytes of `cut`
 pub open-key : (s : Bytes) (f : Frame) (v : ValuePos) (cut : Bytes) (d : ℕ) → d ≤ 64 → v .0 < f .leaves → Has-key s f (some (record { cut = take d cut; exact = false; suffix = slot-of (f .width) (nodes s f) (v .0) })) (Open v) cut d
-unfolding lowest low-rest
+unfolding lowest low-rest real
 open-key s f v cut d h i = record { low-is = refl; depth-in = h; slot-in = λ u q. let e : v ≡ u = cc in rw e at i }
 
 -- the exact leaf there
 exact-key : (s : Bytes) (f : Frame) (suffix : Bits) (cut : Bytes) (d : ℕ) → d ≤ 64 → Has-key s f (some (record { cut = take d cut; exact = true; suffix = suffix })) Exact cut d
-unfolding lowest
+unfolding lowest real
 exact-key s f suffix cut d h = record { low-is = refl; depth-in = h; slot-in = λ u q. let z : _≡_ {A = ℕ} 0 1 = cc in absurd (omega arith) }
 
 -- ---- a key that begins with the start

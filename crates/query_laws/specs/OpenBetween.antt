@@ -6,7 +6,7 @@ use Rattle.spec.specs.Bytes.{Bytes}
 use Rattle.image_types.specs.declared.Frame.{Frame}
 use Rattle.nav_laws.specs.Accepted.{Accepted, nodes}
 use Rattle.nav_laws.specs.Slots.{slot-of}
-use Rattle.query_laws.specs.Bounds.{high-passed, low-reached}
+use Rattle.query_laws.specs.Bounds.{slot-passed, slot-reached}
 
 -- The slot of an open leaf whose cut key is the first d bytes of both bounds.
 pub record Open-between (s : Bytes) (f : Frame) (lo hi : Bytes) (slot d : ℕ) : Type 0 where
@@ -20,4 +20,4 @@ pub record Open-between (s : Bytes) (f : Frame) (lo hi : Bytes) (slot d : ℕ) :
 -- whether that leaf neither ends below the lower bound nor starts above the upper
 abbrev pub open-between : Bytes → Frame → Bytes → Bytes → ℕ → ℕ → Bool
 open-between s f lo hi slot d =
-    not (high-passed (length lo) (slot-of (f .width) (nodes s f) slot) (drop d lo)) && low-reached (length hi) (slot-of (f .width) (nodes s f) slot) (drop d hi)
+    not (slot-passed (f .hash) (length lo) (slot-of (f .width) (nodes s f) slot) (drop d lo)) && slot-reached (f .hash) (length hi) (slot-of (f .width) (nodes s f) slot) (drop d hi)

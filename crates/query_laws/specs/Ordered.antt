@@ -9,11 +9,11 @@ use lib.Dec.{ltb}
 use borrow.Author.Tests.{lt-ltb}
 use Rattle.spec.specs.Bytes.{Bytes, bit, any, count}
 use Rattle.spec.specs.Keys.{below}
-use Rattle.spec.specs.Leaves.{Leaf, highest, lowest}
+use Rattle.spec.specs.Leaves.{Leaf, real, reals, highest, lowest}
 use Rattle.spec.specs.Questions.{meets, range, counted, seek, seek-from, Sought, none as none-found, found, greater}
 use Rattle.theory.specs.Choices.{possible-split}
 use Rattle.theory.specs.Intervals.{lowest-possible, highest-possible}
-use Rattle.theory.specs.LeafLists.{Ordered, Before-all, before-below, Possible-key, Well-sized, All-well-sized}
+use Rattle.theory.specs.LeafLists.{Ordered, Before-all, before-below, Possible-key, Real-sized, All-real-sized}
 use Rattle.theory.specs.Order.{below-asym, below-le-lt, below-lt-le}
 
 -- the leaves whose highest key lies below the key
@@ -28,10 +28,10 @@ reached ls k = count (λ l. not (below k (lowest l))) ls
 
 -- ---- what one leaf says of those behind it
 
-poss-below : {n : ℕ} (l m : Leaf) (a b : Bytes) → Possible-key n l a → Possible-key n m b → Before-all l (m ∷ []) → below a b ≡ true
+poss-below : {n : ℕ} (l m : Leaf) (a b : Bytes) → Possible-key 0 n l a → Possible-key 0 n m b → Before-all l (m ∷ []) → below a b ≡ true
 poss-below l m a b p r f = rw (p .split, r .split) (before-below (p .rest) (r .rest) (p .ends) (f .0))
 
-none-passed : {n : ℕ} (k : Bytes) (l : Leaf) (ls : List Leaf) → Well-sized n l → All-well-sized n ls → Before-all l ls → below (highest l) k ≡ false → passed ls k ≡ 0
+none-passed : {n : ℕ} (k : Bytes) (l : Leaf) (ls : List Leaf) → Real-sized n l → All-real-sized n ls → Before-all l ls → below (highest l) k ≡ false → passed ls k ≡ 0
 unfolding passed count
 none-passed k l [] o os f h = refl
 none-passed k l (m ∷ ls) o os f h =
@@ -46,7 +46,7 @@ none-passed k l (m ∷ ls) o os f h =
         go false e = refl
 
 -- a key below the lowest key of a leaf reaches none behind it
-none-reached : {n : ℕ} (k : Bytes) (l : Leaf) (ls : List Leaf) → Well-sized n l → All-well-sized n ls → Before-all l ls → below k (lowest l) ≡ true → reached ls k ≡ 0
+none-reached : {n : ℕ} (k : Bytes) (l : Leaf) (ls : List Leaf) → Real-sized n l → All-real-sized n ls → Before-all l ls → below k (lowest l) ≡ true → reached ls k ≡ 0
 unfolding reached count
 none-reached k l [] o os f h = refl
 none-reached k l (m ∷ ls) o os f h =
@@ -56,7 +56,7 @@ none-reached k l (m ∷ ls) o os f h =
 -- ---- count and range
 
 -- Count: the leaves that are reached by the upper bound, less those that the lower one has passed.
-pub counted-is : (n : ℕ) (ls : List Leaf) (lo hi : Bytes) → Ordered ls → All-well-sized n ls → counted ls lo hi ≡ reached ls hi - passed ls lo
+pub counted-is : (n : ℕ) (ls : List Leaf) (lo hi : Bytes) → Ordered ls → All-real-sized n ls → counted ls lo hi ≡ reached ls hi - passed ls lo
 unfolding counted reached passed count meets
 counted-is n [] lo hi a o = refl
 counted-is n (l ∷ ls) lo hi a o = go (below hi (lowest l)) refl (below (highest l) lo) refl (counted-is n ls lo hi (a .1) (o .1))
@@ -85,30 +85,31 @@ range-counted ls lo hi = any-bit (meets lo hi) ls
 
 -- ---- seek
 
--- the first leaf that the key has not passed
-unfoldable pub next-leaf : List Leaf → Bytes → Option Leaf
-unfolding below highest
-next-leaf [] k = none
-next-leaf (l ∷ ls) k = cond (below (highest l) k) (next-leaf ls k) (some l)
+-- the first leaf that the key has not passed, of leaves with h hash bits
+unfoldable pub next-leaf : ℕ → List Leaf → Bytes → Option Leaf
+unfolding below highest real
+next-leaf h [] k = none
+next-leaf h (l ∷ ls) k = cond (below (highest (real h l)) k) (next-leaf h ls k) (some l)
 
 -- what a seek finds: the leaf's number, and the greater of the start and its lowest key
-unfoldable pub found-leaf : Option Leaf → ℕ → Bytes → Sought
-unfolding greater lowest
-found-leaf none i start = none-found
-found-leaf (some l) i start = found i (greater start (lowest l))
+unfoldable pub found-leaf : ℕ → Option Leaf → ℕ → Bytes → Sought
+unfolding greater lowest real
+found-leaf h none i start = none-found
+found-leaf h (some l) i start = found i (greater start (lowest (real h l)))
 
 -- Seek: the first leaf that the start has not passed, its number the leaves that it has passed.
-seek-from-is : (n i : ℕ) (ls : List Leaf) (start : Bytes) → Ordered ls → All-well-sized n ls → seek-from i ls start ≡ found-leaf (next-leaf ls start) (i + passed ls start) start
-unfolding seek-from found-leaf next-leaf passed count
-seek-from-is n i [] start a o = refl
-seek-from-is n i (l ∷ ls) start a o = go (below (highest l) start) refl (seek-from-is n (suc i) ls start (a .1) (o .1))
+seek-from-is : (h n i : ℕ) (ls : List Leaf) (start : Bytes) → Ordered (reals h ls) → All-real-sized n (reals h ls)
+    → seek-from i (reals h ls) start ≡ found-leaf h (next-leaf h ls start) (i + passed (reals h ls) start) start
+unfolding seek-from found-leaf next-leaf passed count reals
+seek-from-is h n i [] start a o = refl
+seek-from-is h n i (l ∷ ls) start a o = go (below (highest (real h l)) start) refl (seek-from-is h n (suc i) ls start (a .1) (o .1))
   where
-    go : (p : Bool) → below (highest l) start ≡ p → seek-from (suc i) ls start ≡ found-leaf (next-leaf ls start) (suc i + passed ls start) start
-        → cond p (seek-from (suc i) ls start) (found i (greater start (lowest l)))
-        ≡ found-leaf (cond p (next-leaf ls start) (some l)) (i + cond p (suc (passed ls start)) (passed ls start)) start
-    go true e ih = ih ∙ ap (λ (z : ℕ). found-leaf (next-leaf ls start) z start) (omega arith)
-    go false e ih = ap (λ (z : ℕ). found z (greater start (lowest l))) (omega (arith, none-passed start l ls (o .0) (o .1) (a .0) e))
+    go : (p : Bool) → below (highest (real h l)) start ≡ p → seek-from (suc i) (reals h ls) start ≡ found-leaf h (next-leaf h ls start) (suc i + passed (reals h ls) start) start
+        → cond p (seek-from (suc i) (reals h ls) start) (found i (greater start (lowest (real h l))))
+        ≡ found-leaf h (cond p (next-leaf h ls start) (some l)) (i + cond p (suc (passed (reals h ls) start)) (passed (reals h ls) start)) start
+    go true e ih = ih ∙ ap (λ (z : ℕ). found-leaf h (next-leaf h ls start) z start) (omega arith)
+    go false e ih = ap (λ (z : ℕ). found z (greater start (lowest (real h l)))) (omega (arith, none-passed start (real h l) (reals h ls) (o .0) (o .1) (a .0) e))
 
-pub seek-is : (n : ℕ) (ls : List Leaf) (start : Bytes) → Ordered ls → All-well-sized n ls → seek ls start ≡ found-leaf (next-leaf ls start) (passed ls start) start
+pub seek-is : (h n : ℕ) (ls : List Leaf) (start : Bytes) → Ordered (reals h ls) → All-real-sized n (reals h ls) → seek (reals h ls) start ≡ found-leaf h (next-leaf h ls start) (passed (reals h ls) start) start
 unfolding seek
-seek-is n ls start a o = seek-from-is n 0 ls start a o ∙ ap (λ (z : ℕ). found-leaf (next-leaf ls start) z start) (omega arith)
+seek-is h n ls start a o = seek-from-is h n 0 ls start a o ∙ ap (λ (z : ℕ). found-leaf h (next-leaf h ls start) z start) (omega arith)

@@ -9,14 +9,14 @@ use lib.Dec.{ltb}
 use borrow.Author.Tests.{ltb-true, ltb-false, lt-ltb, le-ltb}
 use Rattle.spec.specs.Bytes.{Bytes, bit, any, count, shared}
 use Rattle.spec.specs.Keys as keys
-use Rattle.spec.specs.Leaves.{Leaf, highest, lowest}
+use Rattle.spec.specs.Leaves.{Leaf, real, reals, highest, lowest}
 use Rattle.spec.specs.Nodes.{Group, is-exact, read-leaves}
 use Rattle.spec.specs.Questions.{range}
 use Rattle.image_types.specs.declared.Frame.{Frame}
 use Rattle.nav_laws.specs.declared.BranchKind.{BranchKind}
 use Rattle.nav_laws.specs.declared.BranchKind.the-variants.{Absent, Leaf as Ends, Child}
 use Rattle.nav_laws.specs.declared.Found.{Found}
-use Rattle.nav_laws.specs.Accepted.{Accepted, nodes}
+use Rattle.nav_laws.specs.Accepted.{Accepted, nodes, real-leaves, real-realizable, real-sized}
 use Rattle.nav_laws.specs.Below.{below, On-level, Root, level-child, level-node, level-left, level-branch}
 use Rattle.nav_laws.specs.Counting.{counts}
 use Rattle.nav_laws.specs.FoundBranch.{node-count, Is-node}
@@ -26,11 +26,11 @@ use Rattle.nav_laws.specs.PathSteps.{node-in}
 use Rattle.nav_laws.specs.Positions.{branches, place, child-at, slot-at, Within, Branch-at}
 use Rattle.nav_laws.specs.Slots.{node-at, slot-of}
 use Rattle.query_laws.specs.AtLabel.{at-label, size-from, at-absent, at-open, at-child}
-use Rattle.query_laws.specs.Bounds.{high-passed, low-reached, highest-counts, lowest-counts}
+use Rattle.query_laws.specs.Bounds.{slot-passed, slot-reached, real-highest, real-lowest}
 use Rattle.query_laws.specs.Ordered.{passed, reached, counted-is, range-counted}
 use Rattle.query_laws.specs.OpenBetween.{open-between}
 use Rattle.query_laws.specs.Parting.{some-left, some-reached, some-met, left-none, reached-none, left-open, reached-open, ahead-none, named-place, named-kind, ahead-lower, ahead-upto, ahead-higher, left-higher, left-same, reached-end, reached-exact, reached-lower, reached-same, met-none, met-open, met-same, met-past, met-above, met-between, met-parted, left-end, met-end}
-use Rattle.query_laws.specs.Root.{count-same}
+use Rattle.query_laws.specs.Root.{count-map}
 use Rattle.query_laws.specs.Seeking.{first-child}
 use Rattle.query_laws.specs.Seeks.{root-of, some-leaf}
 use Rattle.query_laws.specs.Followed.{node-length}
@@ -62,22 +62,22 @@ abbrev pub group-behind : Bytes → Frame → Bytes → ℕ → ℕ → Group
 group-behind s f key m d = at-label (nodes s f) (64 - (d + 1)) m (getD key d 0)
 
 -- whether a leaf of a group does not end below lo, the first d bytes of lo before its cut key
-abbrev pub left-of : Bytes → ℕ → Group → Bool
-left-of lo d g = some-left (high-passed (length lo)) (drop d lo) g
+abbrev pub left-of : Frame → Bytes → ℕ → Group → Bool
+left-of f lo d g = some-left (slot-passed (f .hash) (length lo)) (drop d lo) g
 
 -- whether one does not start above hi
-abbrev pub reached-of : Bytes → ℕ → Group → Bool
-reached-of hi d g = some-reached (low-reached (length hi)) (drop d hi) g
+abbrev pub reached-of : Frame → Bytes → ℕ → Group → Bool
+reached-of f hi d g = some-reached (slot-reached (f .hash) (length hi)) (drop d hi) g
 
 -- whether one does neither, lo not above hi
-abbrev pub met-of : Bytes → Bytes → ℕ → Group → Bool
-met-of lo hi d g = some-met (high-passed (length lo)) (low-reached (length hi)) (drop d lo) (drop d hi) g
+abbrev pub met-of : Frame → Bytes → Bytes → ℕ → Group → Bool
+met-of f lo hi d g = some-met (slot-passed (f .hash) (length lo)) (slot-reached (f .hash) (length hi)) (drop d lo) (drop d hi) g
 
 -- The first d bytes of both bounds lead to node m, and the leaves at or below it decide the range.
 pub record Both-at (s : Bytes) (f : Frame) (lo hi : Bytes) (m d : ℕ) : Type 0 where
   pub lower : Key-at s f lo m d
   pub upper : Key-at s f hi m d
-  pub decides : range (read-leaves s) lo hi ≡ bit (met-of lo hi d (group-below s f m d))
+  pub decides : range (real-leaves s f) lo hi ≡ bit (met-of f lo hi d (group-below s f m d))
 
 -- The first d bytes of both bounds are the cut key of the open leaf behind the branch of node m at position p, and this leaf decides the range.
 pub record Both-leaf (s : Bytes) (f : Frame) (lo hi : Bytes) (m p d : ℕ) : Type 0 where
@@ -85,11 +85,11 @@ pub record Both-leaf (s : Bytes) (f : Frame) (lo hi : Bytes) (m p d : ℕ) : Typ
   pub slot-in : slot-at s f m p < f .leaves
   pub lo-in : d ≤ length lo
   pub hi-in : d ≤ length hi
-  pub decides : range (read-leaves s) lo hi ≡ bit (open-between s f lo hi (slot-at s f m p) d)
+  pub decides : range (real-leaves s f) lo hi ≡ bit (open-between s f lo hi (slot-at s f m p) d)
 
 -- no leaf is reached where there is none
-pub reached-empty : (key : Bytes) (d : ℕ) (g : Group) → g ≡ [] → reached-of key d g ≡ false
-reached-empty key d g e = rw e (reached-none (low-reached (length key)) (drop d key))
+pub reached-empty : (f : Frame) (key : Bytes) (d : ℕ) (g : Group) → g ≡ [] → reached-of f key d g ≡ false
+reached-empty f key d g e = rw e (reached-none (slot-reached (f .hash) (length key)) (drop d key))
 
 -- ---- behind a branch
 
@@ -121,23 +121,23 @@ module _ {s : Bytes} {f : Frame} {key : Bytes} {m d : ℕ} {kind : BranchKind} {
   child-key c e h = record { accepted = b .from .accepted; short = b .from .short; depth-in = omega (arith, b .more); level = child-level c e h }
 
   -- what they say of the lower bound
-  pub left-nothing : kind ≡ Absent → left-of key (d + 1) (group-behind s f key m d) ≡ false
-  left-nothing h = rw (behind-absent h) (left-none (high-passed (length key)) (drop (d + 1) key))
+  pub left-nothing : kind ≡ Absent → left-of f key (d + 1) (group-behind s f key m d) ≡ false
+  left-nothing h = rw (behind-absent h) (left-none (slot-passed (f .hash) (length key)) (drop (d + 1) key))
 
-  pub left-leaf : (slot : ℕ) → slot ≡ slot-at s f m p → kind ≡ Ends → left-of key (d + 1) (group-behind s f key m d) ≡ not (high-passed (length key) (slot-of (f .width) (nodes s f) slot) (drop (d + 1) key))
-  left-leaf slot e h = rw (behind-open slot e h) (left-open (high-passed (length key)) (drop (d + 1) key) (slot-of (f .width) (nodes s f) slot))
+  pub left-leaf : (slot : ℕ) → slot ≡ slot-at s f m p → kind ≡ Ends → left-of f key (d + 1) (group-behind s f key m d) ≡ not (slot-passed (f .hash) (length key) (slot-of (f .width) (nodes s f) slot) (drop (d + 1) key))
+  left-leaf slot e h = rw (behind-open slot e h) (left-open (slot-passed (f .hash) (length key)) (drop (d + 1) key) (slot-of (f .width) (nodes s f) slot))
 
-  pub left-child : (c : ℕ) → c ≡ child-at s f m p → kind ≡ Child → left-of key (d + 1) (group-behind s f key m d) ≡ left-of key (d + 1) (group-below s f c (d + 1))
+  pub left-child : (c : ℕ) → c ≡ child-at s f m p → kind ≡ Child → left-of f key (d + 1) (group-behind s f key m d) ≡ left-of f key (d + 1) (group-below s f c (d + 1))
   left-child c e h = rw (behind-child c e h)
 
   -- and of the upper
-  pub reached-nothing : kind ≡ Absent → reached-of key (d + 1) (group-behind s f key m d) ≡ false
-  reached-nothing h = reached-empty key (d + 1) (group-behind s f key m d) (behind-absent h)
+  pub reached-nothing : kind ≡ Absent → reached-of f key (d + 1) (group-behind s f key m d) ≡ false
+  reached-nothing h = reached-empty f key (d + 1) (group-behind s f key m d) (behind-absent h)
 
-  pub reached-leaf : (slot : ℕ) → slot ≡ slot-at s f m p → kind ≡ Ends → reached-of key (d + 1) (group-behind s f key m d) ≡ low-reached (length key) (slot-of (f .width) (nodes s f) slot) (drop (d + 1) key)
-  reached-leaf slot e h = rw (behind-open slot e h) (reached-open (low-reached (length key)) (drop (d + 1) key) (slot-of (f .width) (nodes s f) slot))
+  pub reached-leaf : (slot : ℕ) → slot ≡ slot-at s f m p → kind ≡ Ends → reached-of f key (d + 1) (group-behind s f key m d) ≡ slot-reached (f .hash) (length key) (slot-of (f .width) (nodes s f) slot) (drop (d + 1) key)
+  reached-leaf slot e h = rw (behind-open slot e h) (reached-open (slot-reached (f .hash) (length key)) (drop (d + 1) key) (slot-of (f .width) (nodes s f) slot))
 
-  pub reached-child : (c : ℕ) → c ≡ child-at s f m p → kind ≡ Child → reached-of key (d + 1) (group-behind s f key m d) ≡ reached-of key (d + 1) (group-below s f c (d + 1))
+  pub reached-child : (c : ℕ) → c ≡ child-at s f m p → kind ≡ Child → reached-of f key (d + 1) (group-behind s f key m d) ≡ reached-of f key (d + 1) (group-below s f c (d + 1))
   reached-child c e h = rw (behind-child c e h)
 
 -- ---- at a node
@@ -156,34 +156,34 @@ module _ {s : Bytes} {f : Frame} {key : Bytes} {m d : ℕ} (n : Key-at s f key m
 
     -- ---- along the lower bound
 
-    left-byte : left-of key d (group-below s f m d) ≡ some-left (high-passed (length key)) (getD key d 0 ∷ drop (d + 1) key) (below (nodes s f) (suc (64 - (d + 1))) m)
+    left-byte : left-of f key d (group-below s f m d) ≡ some-left (slot-passed (f .hash) (length key)) (getD key d 0 ∷ drop (d + 1) key) (below (nodes s f) (suc (64 - (d + 1))) m)
     left-byte = rw (key-next key d more, levels)
 
     -- a label above its byte: a leaf is left
-    pub left-above : is-there (first-kind (drop (place s f m (getD key d 0 + 1)) (branches s f m))) ≡ true → left-of key d (group-below s f m d) ≡ true
-    left-above h = left-byte ∙ left-higher (nodes s f) (64 - (d + 1)) m on (high-passed (length key)) (getD key d 0) (drop (d + 1) key) h
+    pub left-above : is-there (first-kind (drop (place s f m (getD key d 0 + 1)) (branches s f m))) ≡ true → left-of f key d (group-below s f m d) ≡ true
+    left-above h = left-byte ∙ left-higher (nodes s f) (64 - (d + 1)) m on (slot-passed (f .hash) (length key)) (getD key d 0) (drop (d + 1) key) h
 
     -- none: those behind its byte decide
-    pub left-on : is-there (first-kind (drop (place s f m (getD key d 0 + 1)) (branches s f m))) ≡ false → left-of key d (group-below s f m d) ≡ left-of key (d + 1) (group-behind s f key m d)
-    left-on h = left-byte ∙ left-same (nodes s f) (64 - (d + 1)) m on (high-passed (length key)) (getD key d 0) (drop (d + 1) key) h
+    pub left-on : is-there (first-kind (drop (place s f m (getD key d 0 + 1)) (branches s f m))) ≡ false → left-of f key d (group-below s f m d) ≡ left-of f key (d + 1) (group-behind s f key m d)
+    left-on h = left-byte ∙ left-same (nodes s f) (64 - (d + 1)) m on (slot-passed (f .hash) (length key)) (getD key d 0) (drop (d + 1) key) h
 
     -- ---- along the upper bound
 
-    reached-byte : reached-of key d (group-below s f m d) ≡ some-reached (low-reached (length key)) (getD key d 0 ∷ drop (d + 1) key) (below (nodes s f) (suc (64 - (d + 1))) m)
+    reached-byte : reached-of f key d (group-below s f m d) ≡ some-reached (slot-reached (f .hash) (length key)) (getD key d 0 ∷ drop (d + 1) key) (below (nodes s f) (suc (64 - (d + 1))) m)
     reached-byte = rw (key-next key d more, levels)
 
     -- the node is an exact leaf: it is reached
-    pub reached-here : is-exact (node-at (nodes s f) m) ≡ true → reached-of key d (group-below s f m d) ≡ true
-    reached-here h = reached-byte ∙ reached-exact (nodes s f) (64 - (d + 1)) m on (low-reached (length key)) (getD key d 0) (drop (d + 1) key) h
+    pub reached-here : is-exact (node-at (nodes s f) m) ≡ true → reached-of f key d (group-below s f m d) ≡ true
+    reached-here h = reached-byte ∙ reached-exact (nodes s f) (64 - (d + 1)) m on (slot-reached (f .hash) (length key)) (getD key d 0) (drop (d + 1) key) h
 
     -- a label below its byte: the leaves behind it are reached
-    pub reached-under : size-from (nodes s f) (64 - (d + 1)) m (getD key d 0) < size-from (nodes s f) (64 - (d + 1)) m 0 → reached-of key d (group-below s f m d) ≡ true
-    reached-under h = reached-byte ∙ reached-lower (nodes s f) (64 - (d + 1)) m on (low-reached (length key)) (getD key d 0) (drop (d + 1) key) h
+    pub reached-under : size-from (nodes s f) (64 - (d + 1)) m (getD key d 0) < size-from (nodes s f) (64 - (d + 1)) m 0 → reached-of f key d (group-below s f m d) ≡ true
+    reached-under h = reached-byte ∙ reached-lower (nodes s f) (64 - (d + 1)) m on (slot-reached (f .hash) (length key)) (getD key d 0) (drop (d + 1) key) h
 
     -- neither: those behind its byte decide
     pub reached-on : is-exact (node-at (nodes s f) m) ≡ false → size-from (nodes s f) (64 - (d + 1)) m (getD key d 0) ≡ size-from (nodes s f) (64 - (d + 1)) m 0
-        → reached-of key d (group-below s f m d) ≡ reached-of key (d + 1) (group-behind s f key m d)
-    reached-on h e = reached-byte ∙ reached-same (nodes s f) (64 - (d + 1)) m on (low-reached (length key)) (getD key d 0) (drop (d + 1) key) h e
+        → reached-of f key d (group-below s f m d) ≡ reached-of f key (d + 1) (group-behind s f key m d)
+    reached-on h e = reached-byte ∙ reached-same (nodes s f) (64 - (d + 1)) m on (slot-reached (f .hash) (length key)) (getD key d 0) (drop (d + 1) key) h e
 
     -- ---- the first branch from a label on, the key's byte no lower
 
@@ -223,65 +223,65 @@ module _ {s : Bytes} {f : Frame} {key : Bytes} {m d : ℕ} (n : Key-at s f key m
     left = omega (arith, level-left (nodes s f) (64 - d) m (n .level))
 
     -- The lower bound has ended: it has passed no leaf at or below the node.
-    pub left-stop : left-of key d (group-below s f m d) ≡ true
-    left-stop = rw (drop-of-length-le key {i = d} ended) (left-end (nodes s f) (64 - d) m (n .level) (high-passed (length key)))
+    pub left-stop : left-of f key d (group-below s f m d) ≡ true
+    left-stop = rw (drop-of-length-le key {i = d} ended) (left-end (nodes s f) (64 - d) m (n .level) (slot-passed (f .hash) (length key)))
 
     -- The upper bound has ended: it reaches the exact leaf that the node is.
-    pub reached-stop : reached-of key d (group-below s f m d) ≡ is-exact (node-at (nodes s f) m)
-    reached-stop = rw (drop-of-length-le key {i = d} ended, left) (reached-end (nodes s f) (63 - d) m (rw left at (n .level)) (low-reached (length key)))
+    pub reached-stop : reached-of f key d (group-below s f m d) ≡ is-exact (node-at (nodes s f) m)
+    reached-stop = rw (drop-of-length-le key {i = d} ended, left) (reached-end (nodes s f) (63 - d) m (rw left at (n .level)) (slot-reached (f .hash) (length key)))
 
 -- ---- along both bounds
 
 module _ {s : Bytes} {f : Frame} {lo hi : Bytes} {m d : ℕ} (n : Key-at s f lo m d) (u : Key-at s f hi m d) where
   -- The lower bound has ended: the upper decides.
-  pub met-stop : length lo ≤ d → met-of lo hi d (group-below s f m d) ≡ reached-of hi d (group-below s f m d)
-  met-stop h = rw (drop-of-length-le lo {i = d} h) (met-end (nodes s f) (64 - d) m (n .level) (high-passed (length lo)) (low-reached (length hi)) (drop d hi))
+  pub met-stop : length lo ≤ d → met-of f lo hi d (group-below s f m d) ≡ reached-of f hi d (group-below s f m d)
+  met-stop h = rw (drop-of-length-le lo {i = d} h) (met-end (nodes s f) (64 - d) m (n .level) (slot-passed (f .hash) (length lo)) (slot-reached (f .hash) (length hi)) (drop d hi))
 
   module _ (more : d < length lo) where
-    met-byte : met-of lo hi d (group-below s f m d) ≡ some-met (high-passed (length lo)) (low-reached (length hi)) (getD lo d 0 ∷ drop (d + 1) lo) (drop d hi) (below (nodes s f) (suc (64 - (d + 1))) m)
+    met-byte : met-of f lo hi d (group-below s f m d) ≡ some-met (slot-passed (f .hash) (length lo)) (slot-reached (f .hash) (length hi)) (getD lo d 0 ∷ drop (d + 1) lo) (drop d hi) (below (nodes s f) (suc (64 - (d + 1))) m)
     met-byte = rw (key-next lo d more, levels n more)
 
     -- The upper bound has ended, and the lower has not.
-    pub met-ended : length hi ≤ d → met-of lo hi d (group-below s f m d) ≡ false
+    pub met-ended : length hi ≤ d → met-of f lo hi d (group-below s f m d) ≡ false
     met-ended h =
-        met-byte ∙ rw (drop-of-length-le hi {i = d} h) (met-past (nodes s f) (64 - (d + 1)) m (on n more) (high-passed (length lo)) (low-reached (length hi)) (drop (d + 1) lo) [] (getD lo d 0))
+        met-byte ∙ rw (drop-of-length-le hi {i = d} h) (met-past (nodes s f) (64 - (d + 1)) m (on n more) (slot-passed (f .hash) (length lo)) (slot-reached (f .hash) (length hi)) (drop (d + 1) lo) [] (getD lo d 0))
 
     module _ (further : d < length hi) where
-      met-bytes : met-of lo hi d (group-below s f m d) ≡ some-met (high-passed (length lo)) (low-reached (length hi)) (getD lo d 0 ∷ drop (d + 1) lo) (getD hi d 0 ∷ drop (d + 1) hi) (below (nodes s f) (suc (64 - (d + 1))) m)
+      met-bytes : met-of f lo hi d (group-below s f m d) ≡ some-met (slot-passed (f .hash) (length lo)) (slot-reached (f .hash) (length hi)) (getD lo d 0 ∷ drop (d + 1) lo) (getD hi d 0 ∷ drop (d + 1) hi) (below (nodes s f) (suc (64 - (d + 1))) m)
       met-bytes = met-byte ∙ rw (key-next hi d further)
 
       -- Both go on with the same byte.
-      met-on : getD lo d 0 ≡ getD hi d 0 → met-of lo hi d (group-below s f m d) ≡ met-of lo hi (d + 1) (group-behind s f lo m d)
+      met-on : getD lo d 0 ≡ getD hi d 0 → met-of f lo hi d (group-below s f m d) ≡ met-of f lo hi (d + 1) (group-behind s f lo m d)
       met-on e =
           met-bytes
-          ∙ rw (← e) (met-same (nodes s f) (64 - (d + 1)) m (on n more) (high-passed (length lo)) (low-reached (length hi)) (drop (d + 1) lo) (drop (d + 1) hi) (getD lo d 0))
+          ∙ rw (← e) (met-same (nodes s f) (64 - (d + 1)) m (on n more) (slot-passed (f .hash) (length lo)) (slot-reached (f .hash) (length hi)) (drop (d + 1) lo) (drop (d + 1) hi) (getD lo d 0))
 
       -- The lower bound lies above the upper.
-      pub met-crossed : getD hi d 0 < getD lo d 0 → met-of lo hi d (group-below s f m d) ≡ false
+      pub met-crossed : getD hi d 0 < getD lo d 0 → met-of f lo hi d (group-below s f m d) ≡ false
       met-crossed h =
-          met-bytes ∙ met-above (nodes s f) (64 - (d + 1)) m (on n more) (high-passed (length lo)) (low-reached (length hi)) (drop (d + 1) lo) (drop (d + 1) hi) (getD lo d 0) (getD hi d 0) h
+          met-bytes ∙ met-above (nodes s f) (64 - (d + 1)) m (on n more) (slot-passed (f .hash) (length lo)) (slot-reached (f .hash) (length hi)) (drop (d + 1) lo) (drop (d + 1) hi) (getD lo d 0) (getD hi d 0) h
 
       -- They part, and a label stands between their bytes.
-      pub met-inside : size-from (nodes s f) (64 - (d + 1)) m (getD hi d 0) < size-from (nodes s f) (64 - (d + 1)) m (getD lo d 0 + 1) → met-of lo hi d (group-below s f m d) ≡ true
+      pub met-inside : size-from (nodes s f) (64 - (d + 1)) m (getD hi d 0) < size-from (nodes s f) (64 - (d + 1)) m (getD lo d 0 + 1) → met-of f lo hi d (group-below s f m d) ≡ true
       met-inside h =
-          met-bytes ∙ met-between (nodes s f) (64 - (d + 1)) m (on n more) (high-passed (length lo)) (low-reached (length hi)) (drop (d + 1) lo) (drop (d + 1) hi) (getD lo d 0) (getD hi d 0) h
+          met-bytes ∙ met-between (nodes s f) (64 - (d + 1)) m (on n more) (slot-passed (f .hash) (length lo)) (slot-reached (f .hash) (length hi)) (drop (d + 1) lo) (drop (d + 1) hi) (getD lo d 0) (getD hi d 0) h
 
       -- They part, and none does: each is asked alone.
       pub met-apart : size-from (nodes s f) (64 - (d + 1)) m (getD hi d 0) ≡ size-from (nodes s f) (64 - (d + 1)) m (getD lo d 0 + 1)
-          → met-of lo hi d (group-below s f m d) ≡ left-of lo (d + 1) (group-behind s f lo m d) || reached-of hi (d + 1) (group-behind s f hi m d)
+          → met-of f lo hi d (group-below s f m d) ≡ left-of f lo (d + 1) (group-behind s f lo m d) || reached-of f hi (d + 1) (group-behind s f hi m d)
       met-apart h =
-          met-bytes ∙ met-parted (nodes s f) (64 - (d + 1)) m (on n more) (high-passed (length lo)) (low-reached (length hi)) (drop (d + 1) lo) (drop (d + 1) hi) (getD lo d 0) (getD hi d 0) h
+          met-bytes ∙ met-parted (nodes s f) (64 - (d + 1)) m (on n more) (slot-passed (f .hash) (length lo)) (slot-reached (f .hash) (length hi)) (drop (d + 1) lo) (drop (d + 1) hi) (getD lo d 0) (getD hi d 0) h
 
 -- ---- from the root
 
 module _ (s : Bytes) (f : Frame) (a : Accepted s f) where
-  passed-counts : (ls : List Leaf) (k : Bytes) → passed ls k ≡ count (counts false (high-passed (length k)) k) ls
-  unfolding passed
-  passed-counts ls k = count-same (λ l. keys.below (highest l) k) (counts false (high-passed (length k)) k) ls (λ l. highest-counts l k)
+  passed-counts : (ls : List Leaf) (k : Bytes) → passed (reals (f .hash) ls) k ≡ count (counts false (slot-passed (f .hash) (length k)) k) ls
+  unfolding passed reals
+  passed-counts ls k = count-map (λ l. keys.below (highest l) k) (real (f .hash)) (counts false (slot-passed (f .hash) (length k)) k) ls (λ l. real-highest (f .hash) l k)
 
-  reached-counts : (ls : List Leaf) (k : Bytes) → reached ls k ≡ count (counts true (low-reached (length k)) k) ls
-  unfolding reached
-  reached-counts ls k = count-same (λ l. not (keys.below k (lowest l))) (counts true (low-reached (length k)) k) ls (λ l. lowest-counts l k)
+  reached-counts : (ls : List Leaf) (k : Bytes) → reached (reals (f .hash) ls) k ≡ count (counts true (slot-reached (f .hash) (length k)) k) ls
+  unfolding reached reals
+  reached-counts ls k = count-map (λ l. not (keys.below k (lowest l))) (real (f .hash)) (counts true (slot-reached (f .hash) (length k)) k) ls (λ l. real-lowest (f .hash) l k)
 
   difference : (r p : ℕ) → ltb 0 (r - p) ≡ ltb p r
   difference r p = go (ltb p r) refl
@@ -291,19 +291,19 @@ module _ (s : Bytes) (f : Frame) (a : Accepted s f) where
       go false e = le-ltb 0 (r - p) (omega (arith, ltb-false p r e))
 
   -- Over the leaves of an image with nodes, those at or below its root.
-  range-root : 0 < node-count f → (lo hi : Bytes) → range (read-leaves s) lo hi ≡ bit (met-of lo hi 0 (group-below s f 0 0))
+  range-root : 0 < node-count f → (lo hi : Bytes) → range (real-leaves s f) lo hi ≡ bit (met-of f lo hi 0 (group-below s f 0 0))
   unfolding some-met
   range-root h lo hi =
-      range-counted (read-leaves s) lo hi ∙ ap (λ (c : ℕ). bit (ltb 0 c)) (counted-is (f .width) (read-leaves s) lo hi (a .realizable .ordered) (a .well-sized))
-      ∙ ap bit (difference (reached (read-leaves s) hi) (passed (read-leaves s) lo) ∙ ap₂ ltb (passed-counts (read-leaves s) lo) (reached-counts (read-leaves s) hi))
+      range-counted (real-leaves s f) lo hi ∙ ap (λ (c : ℕ). bit (ltb 0 c)) (counted-is (f .real) (real-leaves s f) lo hi (real-realizable s f a .ordered) (real-sized s f a))
+      ∙ ap bit (difference (reached (real-leaves s f) hi) (passed (real-leaves s f) lo) ∙ ap₂ ltb (passed-counts (read-leaves s) lo) (reached-counts (read-leaves s) hi))
       ∙ rw (root-of s f a (some-leaf s f a h) .whole)
 
   -- An image without nodes has no leaf.
-  pub range-nowhere : node-count f ≡ 0 → (lo hi : Bytes) → range (read-leaves s) lo hi ≡ 0
-  unfolding range any
+  pub range-nowhere : node-count f ≡ 0 → (lo hi : Bytes) → range (real-leaves s f) lo hi ≡ 0
+  unfolding range any reals
   range-nowhere z lo hi = go (read-leaves s) (root-of s f a)
     where
-      go : (ls : List Leaf) → (0 < length ls → Root (nodes s f) ls) → range ls lo hi ≡ 0
+      go : (ls : List Leaf) → (0 < length ls → Root (nodes s f) ls) → range (reals (f .hash) ls) lo hi ≡ 0
       go [] r = refl
       go (l ∷ ls) r = absurd (omega (arith, level-node (nodes s f) 64 0 (r (omega arith) .on), node-length s f a))
 
@@ -323,8 +323,8 @@ module _ {s : Bytes} {f : Frame} {lo hi : Bytes} {m d : ℕ} (both : Both-at s f
   both-more = shared-byte lo hi d h .1
 
   -- the leaves behind the branch decide
-  both-behind : (g : Group) → group-behind s f lo m d ≡ g → range (read-leaves s) lo hi ≡ bit (met-of lo hi (d + 1) g)
-  both-behind g e = both .decides ∙ ap bit (met-on (both .lower) (both .upper) (t .more) both-more (shared-byte lo hi d h .2) ∙ ap (met-of lo hi (d + 1)) e)
+  both-behind : (g : Group) → group-behind s f lo m d ≡ g → range (real-leaves s f) lo hi ≡ bit (met-of f lo hi (d + 1) g)
+  both-behind g e = both .decides ∙ ap bit (met-on (both .lower) (both .upper) (t .more) both-more (shared-byte lo hi d h .2) ∙ ap (met-of f lo hi (d + 1)) e)
 
   -- those at or below a child, to which both go on
   both-child : (c : ℕ) → c ≡ child-at s f m (b .at .0) → b .kind ≡ Child → Both-at s f lo hi c (d + 1)
@@ -341,12 +341,12 @@ module _ {s : Bytes} {f : Frame} {lo hi : Bytes} {m d : ℕ} (both : Both-at s f
     slot-in = open-in both-branch slot refl k;
     lo-in = omega (arith, t .more);
     hi-in = omega (arith, both-more);
-    decides = both-behind (record { cut = []; exact = false; suffix = bits } ∷ []) (behind-open both-branch slot refl k) ∙ ap bit (met-open (high-passed (length lo)) (low-reached (length hi)) (drop (d + 1) lo) (drop (d + 1) hi) bits);
+    decides = both-behind (record { cut = []; exact = false; suffix = bits } ∷ []) (behind-open both-branch slot refl k) ∙ ap bit (met-open (slot-passed (f .hash) (length lo)) (slot-reached (f .hash) (length hi)) (drop (d + 1) lo) (drop (d + 1) hi) bits);
   }
 
   -- none
-  both-absent : b .kind ≡ Absent → range (read-leaves s) lo hi ≡ 0
-  both-absent k = both-behind [] (behind-absent both-branch k) ∙ ap bit (met-none (high-passed (length lo)) (low-reached (length hi)) (drop (d + 1) lo) (drop (d + 1) hi))
+  both-absent : b .kind ≡ Absent → range (real-leaves s f) lo hi ≡ 0
+  both-absent k = both-behind [] (behind-absent both-branch k) ∙ ap bit (met-none (slot-passed (f .hash) (length lo)) (slot-reached (f .hash) (length hi)) (drop (d + 1) lo) (drop (d + 1) hi))
 
 module _ (s : Bytes) (f : Frame) (lo hi : Bytes) (a : Accepted s f) (lo-short : length lo ≤ 64) (hi-short : length hi ≤ 64) where
   -- The bytes lead to a node: the leaves at or below it decide.
@@ -357,7 +357,7 @@ module _ (s : Bytes) (f : Frame) (lo hi : Bytes) (a : Accepted s f) (lo-short : 
       start z q = record { lower = key-root s f a z lo lo-short; upper = key-root s f a z hi hi-short; decides = range-root s f a z lo hi }
 
   -- They lead to a node that has no branch with the next of them: no leaf is in the range.
-  pub range-absent : {n : ℕ} → n ≤ shared lo hi → Branch-missing s f lo n → range (read-leaves s) lo hi ≡ 0
+  pub range-absent : {n : ℕ} → n ≤ shared lo hi → Branch-missing s f lo n → range (real-leaves s f) lo hi ≡ 0
   range-absent h t = both-absent (range-node (omega (arith, t .inside)) (t .leads)) (omega (arith, t .inside)) (t .here) (t .absent)
 
   -- They lead to an open leaf, which decides.

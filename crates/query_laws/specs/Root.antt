@@ -2,20 +2,20 @@
 use Prim.Native.Nat.{ℕ, zero, suc, _+_, _-_, _<_, _≤_}
 use mathlib.Core.Path.{_≡_, refl, sym, ap, _∙_}
 use mathlib.Core.Bool.{Bool, true, false, cond, not, _&&_, _||_, true≢false}
-use mathlib.Core.List.{List, [], _∷_, _++_}
+use mathlib.Core.List.{List, [], _∷_, _++_, map}
 use native.Mathlib.Omega.{arith}
 use lib.ListN.{length, take, drop, length-append}
 use lib.Seq.{take-all}
 use Rattle.spec.specs.Bytes.{Bytes, Bits, bit, count, concat, equal, begins, bits-of, padded, same-bits}
 use Rattle.spec.specs.Keys.{below}
-use Rattle.spec.specs.Leaves.{Leaf, highest, lowest}
+use Rattle.spec.specs.Leaves.{Leaf, real, reals, highest, lowest}
 use Rattle.spec.specs.Nodes.{Node, children, total, children-of}
 use Rattle.spec.specs.Trie.{open-leaves, leaf-count}
 use Rattle.nav_laws.specs.Counting.{labels-below, counts}
 use Rattle.nav_laws.specs.Slots.{leaves-before, slot-number}
 use Rattle.nav_laws.specs.Descent.{children-before, child-number, goes-on, ends-at, Stop, miss, at-exact, at-open, descend, leaves-below, between-same, value, level-counted, Stands, stands-next, children-first}
 use Rattle.nav_laws.specs.NumberBounds.{children-up, node-total}
-use Rattle.query_laws.specs.Bounds.{and-false, high-passed, low-reached, highest-counts, lowest-counts}
+use Rattle.query_laws.specs.Bounds.{and-false, slot-passed, slot-reached, real-highest, real-lowest}
 use Rattle.query_laws.specs.Ordered.{passed, reached}
 use Rattle.theory.specs.LeafLists.{Realizable, All-well-sized}
 use Rattle.theory.specs.Terms.{All}
@@ -119,6 +119,12 @@ unfolding count
 count-same p r [] h = refl
 count-same p r (x ∷ xs) h = rw (h x, count-same p r xs h)
 
+-- a count over members that are changed first
+pub count-map : {A : Type 0} (p : A → Bool) (g : A → A) (r : A → Bool) (xs : List A) → ((x : A) → p (g x) ≡ r x) → count p (map g xs) ≡ count r xs
+unfolding count
+count-map p g r [] h = refl
+count-map p g r (x ∷ xs) h = rw (h x, count-map p g r xs h)
+
 -- The bits of the rest of a key begin with the suffix, zeros where they have ended.
 unfoldable pub has-suffix : Bits → Bytes → Bool
 unfolding same-bits padded bits-of
@@ -168,15 +174,15 @@ count-sum p q r (x ∷ xs) h = go (p x) (q x) (r x) (h x) (count-sum p q r xs h)
     go false false false e ih = omega arith
 
 module _ (n w : ℕ) (ls : List Leaf) (ns : List Node) (g : Realizable n ls) (o : All-well-sized n ls) (e : ns ≡ concat (trie ls)) (wide : All (Slots-width w) ns) where
-  -- The leaves whose highest key lies below the key.
-  pub passed-is : (k : Bytes) → passed ls k ≡ leaves-below ns 64 0 0 k + value false (high-passed (length k)) w ns (descend ns 0 k)
-  unfolding passed
-  passed-is k = count-same (λ l. below (highest l) k) (counts false (high-passed (length k)) k) ls (λ l. highest-counts l k) ∙ trie-counted n w ls ns g o e wide false (high-passed (length k)) k
+  -- The leaves whose highest key, with their h hash bits struck out, lies below the key.
+  pub passed-is : (h : ℕ) (k : Bytes) → passed (reals h ls) k ≡ leaves-below ns 64 0 0 k + value false (slot-passed h (length k)) w ns (descend ns 0 k)
+  unfolding passed reals
+  passed-is h k = count-map (λ l. below (highest l) k) (real h) (counts false (slot-passed h (length k)) k) ls (λ l. real-highest h l k) ∙ trie-counted n w ls ns g o e wide false (slot-passed h (length k)) k
 
   -- The leaves whose lowest key does not lie above the key.
-  pub reached-is : (k : Bytes) → reached ls k ≡ leaves-below ns 64 0 0 k + value true (low-reached (length k)) w ns (descend ns 0 k)
-  unfolding reached
-  reached-is k = count-same (λ l. not (below k (lowest l))) (counts true (low-reached (length k)) k) ls (λ l. lowest-counts l k) ∙ trie-counted n w ls ns g o e wide true (low-reached (length k)) k
+  pub reached-is : (h : ℕ) (k : Bytes) → reached (reals h ls) k ≡ leaves-below ns 64 0 0 k + value true (slot-reached h (length k)) w ns (descend ns 0 k)
+  unfolding reached reals
+  reached-is h k = count-map (λ l. not (below k (lowest l))) (real h) (counts true (slot-reached h (length k)) k) ls (λ l. real-lowest h l k) ∙ trie-counted n w ls ns g o e wide true (slot-reached h (length k)) k
 
   -- The leaves to which a key leads, by where it leads from the root: one or none.
   pub led-is : (ends : Bool) (q : Bits → Bytes → Bool) (k : Bytes) → count (leads-to-leaf ends q k) ls ≡ value ends q w ns (descend ns 0 k)

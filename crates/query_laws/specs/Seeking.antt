@@ -29,7 +29,7 @@ use Rattle.query_laws.specs.declared.LastHigher.{LastHigher}
 use Rattle.query_laws.specs.declared.LastHigher.the-variants.{None, At}
 use Rattle.query_laws.specs.declared.BoundEnd.{BoundEnd}
 use Rattle.query_laws.specs.declared.BoundEnd.the-variants as End
-use Rattle.query_laws.specs.Bounds.{high-passed}
+use Rattle.query_laws.specs.Bounds.{slot-passed}
 use Rattle.query_laws.specs.FirstLeaf.{leaf-below, leaf-behind}
 use Rattle.query_laws.specs.Next.{head-of, behind-each, higher-at, higher-kept, higher-taken, next-from, next-end, next-absent, next-open, next-child}
 use Rattle.query_laws.specs.Ordered.{next-leaf}
@@ -82,7 +82,7 @@ pub record Following (s : Bytes) (f : Frame) (start : Bytes) (higher : LastHighe
   -- the last higher label stands above it
   pub higher-in : Higher-in s f start depth higher
   -- the leaf that is sought stands at or below it, or else behind the last higher label
-  pub leaf-is : next-leaf (read-leaves s) start ≡ next-from (high-passed (length start)) (nodes s f) (64 - depth) node (take depth start) (drop depth start) (higher-leaf (nodes s f) start higher)
+  pub leaf-is : next-leaf (f .hash) (read-leaves s) start ≡ next-from (slot-passed (f .hash) (length start)) (nodes s f) (64 - depth) node (take depth start) (drop depth start) (higher-leaf (nodes s f) start higher)
 
 -- With node m at depth d passed, the last higher label is this one.
 pub record Higher-passed (s : Bytes) (f : Frame) (start : Bytes) (m d : ℕ) (before after : LastHigher) : Type 0 where
@@ -94,7 +94,7 @@ pub record Higher-passed (s : Bytes) (f : Frame) (start : Bytes) (m d : ℕ) (be
 -- Where following the start has ended.
 pub record Key-followed (s : Bytes) (f : Frame) (start : Bytes) (end : BoundEnd) (higher : LastHigher) (node depth sum : ℕ) : Type 0 where
   -- there the leaf that is sought stands
-  pub leaf-is : next-leaf (read-leaves s) start ≡ end-leaf (f .width) (nodes s f) start end higher node depth
+  pub leaf-is : next-leaf (f .hash) (read-leaves s) start ≡ end-leaf (f .width) (nodes s f) start end higher node depth
   pub end-in : End-in (nodes s f) (f .leaves) end node depth
   pub higher-in : Higher-in s f start depth higher
   -- the start's bound on the level below
@@ -145,8 +145,8 @@ module _ (s : Bytes) (f : Frame) (a : Accepted s f) (start : Bytes) where
   pub followed-end : {higher : LastHigher} {m d sum : ℕ} → Following s f start higher m d sum → length start ≤ d → Key-followed s f start End.Node higher m d sum
   followed-end {higher} {m} {d} {sum} o h = record {
     leaf-is =
-        o .leaf-is ∙ ap (λ (k : Bytes). next-from (high-passed (length start)) (nodes s f) (64 - d) m (take d start) k (higher-leaf (nodes s f) start higher)) (drop-of-length-le start {i = d} h)
-        ∙ next-end (high-passed (length start)) (nodes s f) (64 - d) m (take d start) (higher-leaf (nodes s f) start higher) (o .level);
+        o .leaf-is ∙ ap (λ (k : Bytes). next-from (slot-passed (f .hash) (length start)) (nodes s f) (64 - d) m (take d start) k (higher-leaf (nodes s f) start higher)) (drop-of-length-le start {i = d} h)
+        ∙ next-end (slot-passed (f .hash) (length start)) (nodes s f) (64 - d) m (take d start) (higher-leaf (nodes s f) start higher) (o .level);
     end-in = o .level;
     higher-in = o .higher-in;
     sums = summed-end s f a start m d sum (o .leads) h;
@@ -178,11 +178,11 @@ module _ {s : Bytes} {f : Frame} {start : Bytes} {higher : LastHigher} {m d sum 
   cut-next = rw (add-one d) (sym (take-suc start d 0 (p .more)))
 
   -- the leaf that is sought, before the next byte of the start
-  byte-leaf : next-leaf (read-leaves s) start
-      ≡ next-from (high-passed (length start)) (nodes s f) (suc (64 - (d + 1))) m (take d start) (getD start d 0 ∷ drop (d + 1) start) (higher-leaf (nodes s f) start higher)
+  byte-leaf : next-leaf (f .hash) (read-leaves s) start
+      ≡ next-from (slot-passed (f .hash) (length start)) (nodes s f) (suc (64 - (d + 1))) m (take d start) (getD start d 0 ∷ drop (d + 1) start) (higher-leaf (nodes s f) start higher)
   byte-leaf =
-      p .from .leaf-is ∙ ap (λ (k : Bytes). next-from (high-passed (length start)) (nodes s f) (64 - d) m (take d start) k (higher-leaf (nodes s f) start higher)) (key-next start d (p .more))
-      ∙ ap (λ (l : ℕ). next-from (high-passed (length start)) (nodes s f) l m (take d start) (getD start d 0 ∷ drop (d + 1) start) (higher-leaf (nodes s f) start higher)) level-more
+      p .from .leaf-is ∙ ap (λ (k : Bytes). next-from (slot-passed (f .hash) (length start)) (nodes s f) (64 - d) m (take d start) k (higher-leaf (nodes s f) start higher)) (key-next start d (p .more))
+      ∙ ap (λ (l : ℕ). next-from (slot-passed (f .hash) (length start)) (nodes s f) l m (take d start) (getD start d 0 ∷ drop (d + 1) start) (higher-leaf (nodes s f) start higher)) level-more
 
   on : On-level (nodes s f) (suc (64 - (d + 1))) m
   on = rw level-more at (p .from .level)
@@ -191,7 +191,7 @@ module _ {s : Bytes} {f : Frame} {start : Bytes} {higher : LastHigher} {m d sum 
   pub followed-none : b .kind ≡ Kind.Absent → Key-followed s f start End.NoLeaf after (child .0) (d + 1) (sum + slot .0)
   followed-none k = record {
     leaf-is =
-        byte-leaf ∙ next-absent (high-passed (length start)) (nodes s f) (64 - (d + 1)) m on (take d start) (getD start d 0) (drop (d + 1) start) (higher-leaf (nodes s f) start higher) (sym (p .found .kind-is) ∙ k)
+        byte-leaf ∙ next-absent (slot-passed (f .hash) (length start)) (nodes s f) (64 - (d + 1)) m on (take d start) (getD start d 0) (drop (d + 1) start) (higher-leaf (nodes s f) start higher) (sym (p .found .kind-is) ∙ k)
         ∙ p .passed .leaf-is;
     end-in = tt;
     higher-in = p .passed .higher-in;
@@ -207,12 +207,12 @@ module _ {s : Bytes} {f : Frame} {start : Bytes} {higher : LastHigher} {m d sum 
   sum-small = omega (arith, slot-is, slot-range (nodes s f) m (place s f m (getD start d 0)) .1, a .writable .leaf-total, a .writable .few, p .from .leads .small, p .more, p .short)
 
   -- The branch ends at an open leaf, which the start has passed or not.
-  pub followed-leaf : b .kind ≡ Kind.Leaf → (t : Bool) → t ≡ high-passed (length start) (slot-of (f .width) (nodes s f) (slot .0)) (drop (d + 1) start)
+  pub followed-leaf : b .kind ≡ Kind.Leaf → (t : Bool) → t ≡ slot-passed (f .hash) (length start) (slot-of (f .width) (nodes s f) (slot .0)) (drop (d + 1) start)
       → Key-followed s f start (leaf-end t slot) after (child .0) (d + 1) (sum + slot .0 + bit t)
   followed-leaf k t is = record {
     leaf-is =
         byte-leaf
-        ∙ next-open (high-passed (length start)) (nodes s f) (64 - (d + 1)) m on (take d start) (getD start d 0) (drop (d + 1) start) (higher-leaf (nodes s f) start higher) (f .width) (a .writable .wide) (sym (p .found .kind-is) ∙ k)
+        ∙ next-open (slot-passed (f .hash) (length start)) (nodes s f) (64 - (d + 1)) m on (take d start) (getD start d 0) (drop (d + 1) start) (higher-leaf (nodes s f) start higher) (f .width) (a .writable .wide) (sym (p .found .kind-is) ∙ k)
         ∙ rw (p .passed .leaf-is, cut-next, ← slot-is, ← is) (leaf-there t);
     end-in = slot-there t;
     higher-in = p .passed .higher-in;
@@ -234,7 +234,7 @@ module _ {s : Bytes} {f : Frame} {start : Bytes} {higher : LastHigher} {m d sum 
     level = rw child-is (level-child (nodes s f) (64 - (d + 1)) m (place s f m (getD start d 0)) on (first-child (getD start d 0) (drop (place s f m (getD start d 0)) (branches s f m)) (sym (p .found .kind-is) ∙ k)));
     higher-in = p .passed .higher-in;
     leaf-is =
-        byte-leaf ∙ next-child (high-passed (length start)) (nodes s f) (64 - (d + 1)) m on (take d start) (getD start d 0) (drop (d + 1) start) (higher-leaf (nodes s f) start higher) (sym (p .found .kind-is) ∙ k)
+        byte-leaf ∙ next-child (slot-passed (f .hash) (length start)) (nodes s f) (64 - (d + 1)) m on (take d start) (getD start d 0) (drop (d + 1) start) (higher-leaf (nodes s f) start higher) (sym (p .found .kind-is) ∙ k)
         ∙ rw (p .passed .leaf-is, cut-next, child-is);
   }
 
@@ -242,13 +242,13 @@ module _ {s : Bytes} {f : Frame} {start : Bytes} {higher : LastHigher} {m d sum 
 
 module _ {s : Bytes} {f : Frame} {start : Bytes} {end : BoundEnd} {higher : LastHigher} {m d sum : ℕ} (k : Key-followed s f start end higher m d sum) where
   -- at no leaf
-  pub ended-nowhere : end ≡ End.NoLeaf → next-leaf (read-leaves s) start ≡ higher-leaf (nodes s f) start higher
+  pub ended-nowhere : end ≡ End.NoLeaf → next-leaf (f .hash) (read-leaves s) start ≡ higher-leaf (nodes s f) start higher
   ended-nowhere e = k .leaf-is ∙ ap (λ (x : BoundEnd). end-leaf (f .width) (nodes s f) start x higher m d) e
 
   -- at a node
-  pub ended-node : end ≡ End.Node → (next-leaf (read-leaves s) start ≡ leaf-below (nodes s f) start m d) × On-level (nodes s f) (64 - d) m
+  pub ended-node : end ≡ End.Node → (next-leaf (f .hash) (read-leaves s) start ≡ leaf-below (nodes s f) start m d) × On-level (nodes s f) (64 - d) m
   ended-node e = (k .leaf-is ∙ ap (λ (x : BoundEnd). end-leaf (f .width) (nodes s f) start x higher m d) e, rw e at (k .end-in))
 
   -- at an open leaf
-  pub ended-leaf : (v : ValuePos) → end ≡ End.Leaf v → (next-leaf (read-leaves s) start ≡ some (record { cut = take d start; exact = false; suffix = slot-of (f .width) (nodes s f) (v .0) })) × (v .0 < f .leaves)
+  pub ended-leaf : (v : ValuePos) → end ≡ End.Leaf v → (next-leaf (f .hash) (read-leaves s) start ≡ some (record { cut = take d start; exact = false; suffix = slot-of (f .width) (nodes s f) (v .0) })) × (v .0 < f .leaves)
   ended-leaf v e = (k .leaf-is ∙ ap (λ (x : BoundEnd). end-leaf (f .width) (nodes s f) start x higher m d) e, rw e at (k .end-in))

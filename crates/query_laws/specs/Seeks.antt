@@ -5,9 +5,9 @@ use mathlib.Core.Bool.{false}
 use mathlib.Core.List.{List, [], _∷_, _++_}
 use mathlib.Core.Option.{Option, none, some}
 use native.Mathlib.Omega.{arith}
-use lib.ListN.{length}
+use lib.ListN.{length, drop}
 use Rattle.spec.specs.Bytes.{Bytes, concat}
-use Rattle.spec.specs.Leaves.{Leaf, lowest}
+use Rattle.spec.specs.Leaves.{Leaf, real, lowest}
 use Rattle.spec.specs.Nodes.{Node, read-leaves}
 use Rattle.spec.specs.Questions.{Sought, found, greater}
 use Rattle.spec.specs.Questions as spec
@@ -20,40 +20,40 @@ use Rattle.nav_laws.specs.Below.{below, On-level, Root, level-node, trie-root}
 use Rattle.nav_laws.specs.Counting.{counts}
 use Rattle.nav_laws.specs.FoundBranch.{node-count}
 use Rattle.nav_laws.specs.Slots.{slot-of}
-use Rattle.query_laws.specs.Bounds.{low-rest, high-passed, highest-counts}
+use Rattle.query_laws.specs.Bounds.{low-rest, slot-passed, real-highest}
 use Rattle.query_laws.specs.Followed.{node-length}
 use Rattle.query_laws.specs.Next.{or-else, next-of, behind-each, next-from}
 use Rattle.query_laws.specs.Ordered.{next-leaf, found-leaf}
 
 -- ---- the lowest key of the leaf that is found
 
--- the lowest key of an optional leaf
-abbrev pub low-each : Option Leaf → Option Bytes
-low-each none = none
-low-each (some l) = some (lowest l)
+-- the lowest key of an optional leaf with h hash bits
+abbrev pub low-each : ℕ → Option Leaf → Option Bytes
+low-each h none = none
+low-each h (some l) = some (lowest (real h l))
 
--- the lowest key of the leaf at a stop with this cut key: none; of an exact leaf the cut key itself; of an open leaf the cut key and the suffix
-abbrev pub low-of : ℕ → List Node → LeafStop → Bytes → Option Bytes
-low-of w ns Nowhere cut = none
-low-of w ns Exact cut = some cut
-low-of w ns (Open v) cut = some (cut ++ low-rest (length cut) (slot-of w ns (v .0)))
+-- the lowest key of the leaf at a stop with this cut key: none; of an exact leaf the cut key itself; of an open leaf the cut key and the real bits of its suffix
+abbrev pub low-of : ℕ → ℕ → List Node → LeafStop → Bytes → Option Bytes
+low-of h w ns Nowhere cut = none
+low-of h w ns Exact cut = some cut
+low-of h w ns (Open v) cut = some (cut ++ low-rest (length cut) (drop h (slot-of w ns (v .0))))
 
 -- what a seek finds, by the lowest key of the leaf
 abbrev pub found-low : Option Bytes → ℕ → Bytes → Sought
 found-low none i start = spec.none
 found-low (some k) i start = found i (greater start k)
 
-pub found-each : (o : Option Leaf) (i : ℕ) (start : Bytes) → found-leaf o i start ≡ found-low (low-each o) i start
+pub found-each : (h : ℕ) (o : Option Leaf) (i : ℕ) (start : Bytes) → found-leaf h o i start ≡ found-low (low-each h o) i start
 unfolding found-leaf
-found-each none i start = refl
-found-each (some l) i start = refl
+found-each h none i start = refl
+found-each h (some l) i start = refl
 
 -- ---- from the root
 
-next-leaf-of : (ls : List Leaf) (k : Bytes) → next-leaf ls k ≡ next-of (counts false (high-passed (length k)) k) ls
+next-leaf-of : (h : ℕ) (ls : List Leaf) (k : Bytes) → next-leaf h ls k ≡ next-of (counts false (slot-passed h (length k)) k) ls
 unfolding next-leaf next-of
-next-leaf-of [] k = refl
-next-leaf-of (l ∷ ls) k = rw (highest-counts l k, next-leaf-of ls k)
+next-leaf-of h [] k = refl
+next-leaf-of h (l ∷ ls) k = rw (real-highest h l k, next-leaf-of h ls k)
 
 behind-nothing : (o : Option Leaf) → or-else (behind-each [] o) none ≡ o
 behind-nothing none = refl
@@ -74,11 +74,11 @@ module _ (s : Bytes) (f : Frame) (a : Accepted s f) where
       go (l ∷ ls) e = omega arith
 
   -- An image without nodes has no leaf that a key has not passed.
-  pub next-nowhere : node-count f ≡ 0 → (k : Bytes) → next-leaf (read-leaves s) k ≡ none
+  pub next-nowhere : node-count f ≡ 0 → (k : Bytes) → next-leaf (f .hash) (read-leaves s) k ≡ none
   unfolding next-leaf
   next-nowhere z k = go (read-leaves s) root-of
     where
-      go : (ls : List Leaf) → (0 < length ls → Root (nodes s f) ls) → next-leaf ls k ≡ none
+      go : (ls : List Leaf) → (0 < length ls → Root (nodes s f) ls) → next-leaf (f .hash) ls k ≡ none
       go [] r = refl
       go (l ∷ ls) r = absurd (omega (arith, level-node (nodes s f) 64 0 (r (omega arith) .on), node-length s f a))
 
@@ -87,8 +87,8 @@ module _ (s : Bytes) (f : Frame) (a : Accepted s f) where
   root-level h = root-of (some-leaf h) .on
 
   -- The first leaf that a key has not passed, from the root on.
-  pub next-root : 0 < node-count f → (k : Bytes) → next-leaf (read-leaves s) k ≡ next-from (high-passed (length k)) (nodes s f) 64 0 [] k none
+  pub next-root : 0 < node-count f → (k : Bytes) → next-leaf (f .hash) (read-leaves s) k ≡ next-from (slot-passed (f .hash) (length k)) (nodes s f) 64 0 [] k none
   unfolding next-from
   next-root h k =
-      next-leaf-of (read-leaves s) k ∙ ap (next-of (counts false (high-passed (length k)) k)) (sym (root-of (some-leaf h) .whole))
-      ∙ sym (behind-nothing (next-of (counts false (high-passed (length k)) k) (below (nodes s f) 64 0)))
+      next-leaf-of (f .hash) (read-leaves s) k ∙ ap (next-of (counts false (slot-passed (f .hash) (length k)) k)) (sym (root-of (some-leaf h) .whole))
+      ∙ sym (behind-nothing (next-of (counts false (slot-passed (f .hash) (length k)) k) (below (nodes s f) 64 0)))

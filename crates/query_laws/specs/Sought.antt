@@ -3,7 +3,8 @@ use Prim.Native.Nat.{ℕ, _≤_}
 use mathlib.Core.Path.{_≡_}
 use lib.ListN.{take}
 use Rattle.spec.specs.Bytes.{Bytes}
-use Rattle.spec.specs.Nodes.{read-leaves}
+use Rattle.image_types.specs.declared.Frame.{Frame}
+use Rattle.nav_laws.specs.Accepted.{real-leaves}
 use Rattle.spec.specs.Questions.{Sought, none, found, seek}
 use Rattle.query_laws.specs.declared.SoughtLeaf.{SoughtLeaf}
 use Rattle.query_laws.specs.declared.SoughtLeaf.the-variants.{None, At}
@@ -19,9 +20,9 @@ Number-in None = Unit
 Number-in (At i) = i ≤ 65535
 
 -- A seek from the start finds this leaf, with the first n bytes of `key` as its key.
-pub record Is-sought (s start : Bytes) (leaf : SoughtLeaf) (key : Bytes) (n : ℕ) : Type 0 where
+pub record Is-sought (s : Bytes) (f : Frame) (start : Bytes) (leaf : SoughtLeaf) (key : Bytes) (n : ℕ) : Type 0 where
   -- leaf and key are those of document 01's seek
-  pub answer : sought-of leaf (take n key) ≡ seek (read-leaves s) start
+  pub answer : sought-of leaf (take n key) ≡ seek (real-leaves s f) start
   -- a key has at most 64 bytes
   pub key-in : n ≤ 64
   pub number-in : Number-in leaf

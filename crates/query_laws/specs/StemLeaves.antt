@@ -9,12 +9,12 @@ use lib.Dec.{leb, ltb, eqb}
 use borrow.Author.Tests.{le-leb, lt-leb, eq-eqb, lt-ltb, le-ltb, not-true}
 use Rattle.spec.specs.Bytes.{Bytes, Bits, any, bit, begins, fill, filled}
 use Rattle.spec.specs.Keys.{below, within}
-use Rattle.spec.specs.Leaves.{Leaf, trimmed, lowest, highest}
+use Rattle.spec.specs.Leaves.{Leaf, real, reals, trimmed, lowest, highest}
 use Rattle.spec.specs.Questions.{meets, range, stem-end, begins-with}
 use Rattle.theory.specs.Terms.{Is-bytes, Key, Bound}
 use Rattle.theory.specs.Lists.{and-both, le-or-lt, bytes-drop}
 use Rattle.theory.specs.Order.{below-nil, below-append, prefix-append, begins-append, begins-through}
-use Rattle.theory.specs.LeafLists.{Well-sized, All-well-sized}
+use Rattle.theory.specs.LeafLists.{Real-sized, All-real-sized}
 use Rattle.theory.specs.Intervals.{fill-order, fill-tight, trimmed-below, combine, bytes-filled, bytes-trimmed, trimmed-length, lowest-key, highest-key}
 use Rattle.theory.specs.Stems.{below-ff, stem-exactly}
 use Rattle.query_laws.specs.Bounds.{high-rest, low-rest}
@@ -27,10 +27,14 @@ unfolding fill
 agrees s [] = true
 agrees s (y ∷ r) = (leb (fill false 8 s) y && leb y (fill true 8 s)) && agrees (drop 8 s) r
 
--- The leaf has a possible key that begins with the stem, by its cut key.
-unfoldable pub covers : Bytes → Leaf → Bool
-unfolding begins agrees
-covers stem l = begins stem (l .cut) || (not (l .exact) && (begins (l .cut) stem && agrees (l .suffix) (drop (length (l .cut)) stem)))
+-- The same of a slot whose real bits stand behind h hash bits.
+abbrev pub slot-agrees : ℕ → Bits → Bytes → Bool
+slot-agrees h s r = agrees (drop h s) r
+
+-- The leaf has a possible key that begins with the stem, by its cut key, and by a test q of an open leaf's suffix against the rest of the stem.
+unfoldable pub covers : (Bits → Bytes → Bool) → Bytes → Leaf → Bool
+unfolding begins
+covers q stem l = begins stem (l .cut) || (not (l .exact) && (begins (l .cut) stem && q (l .suffix) (drop (length (l .cut)) stem)))
 
 -- ---- the suffix
 
@@ -130,7 +134,7 @@ high-begins l = go (l .exact)
     go true = rw (append-nil (l .cut)) at (begins-append (l .cut) [])
     go false = begins-append (l .cut) (high-rest (length (l .cut)) (l .suffix))
 
-module _ {n : ℕ} (l : Leaf) (o : Well-sized n l) (stem : Bytes) (b : Bound stem) where
+module _ {n : ℕ} (l : Leaf) (o : Real-sized n l) (stem : Bytes) (b : Bound stem) where
   -- a key of the leaf that begins with the stem is in the stem's range
   in-range : (k : Bytes) → Key k → begins (l .cut) k ≡ true → begins stem (l .cut) ≡ true → (below k stem ≡ false) × (below (stem-end stem) k ≡ false)
   unfolding within
@@ -170,7 +174,7 @@ module _ {n : ℕ} (l : Leaf) (o : Well-sized n l) (stem : Bytes) (b : Bound ste
       go false = open-leaf (begins (l .cut) stem) refl
 
   -- The leaf meets the stem's range exactly if it has a possible key that begins with the stem.
-  meets-covers : meets stem (stem-end stem) l ≡ covers stem l
+  meets-covers : meets stem (stem-end stem) l ≡ covers agrees stem l
   unfolding meets covers
   meets-covers = go (begins stem (l .cut)) refl
     where
@@ -179,13 +183,13 @@ module _ {n : ℕ} (l : Leaf) (o : Well-sized n l) (stem : Bytes) (b : Bound ste
       go true p = rw (in-range (lowest l) (lowest-key l o) (low-begins l) p .1, in-range (highest l) (highest-key l o) (high-begins l) p .0)
       go false p = outside-cut p
 
--- over the leaves
-any-covers : (n : ℕ) (ls : List Leaf) → All-well-sized n ls → (stem : Bytes) → Bound stem → any (meets stem (stem-end stem)) ls ≡ any (covers stem) ls
-unfolding any
-any-covers n [] o stem b = refl
-any-covers n (l ∷ ls) o stem b = ap₂ _||_ (meets-covers l (o .0) stem b) (any-covers n ls (o .1) stem b)
+-- over leaves with their h hash bits struck out
+any-covers : (h n : ℕ) (ls : List Leaf) → All-real-sized n (reals h ls) → (stem : Bytes) → Bound stem → any (meets stem (stem-end stem)) (reals h ls) ≡ any (covers (slot-agrees h) stem) ls
+unfolding any reals covers real
+any-covers h n [] o stem b = refl
+any-covers h n (l ∷ ls) o stem b = ap₂ _||_ (meets-covers (real h l) (o .0) stem b) (any-covers h n ls (o .1) stem b)
 
 -- Begins-with: 1 if some leaf has a possible key that begins with the stem, else 0.
-pub begins-covers : (n : ℕ) (ls : List Leaf) → All-well-sized n ls → (stem : Bytes) → Bound stem → begins-with ls stem ≡ bit (any (covers stem) ls)
+pub begins-covers : (h n : ℕ) (ls : List Leaf) → All-real-sized n (reals h ls) → (stem : Bytes) → Bound stem → begins-with (reals h ls) stem ≡ bit (any (covers (slot-agrees h) stem) ls)
 unfolding begins-with range
-begins-covers n ls o stem b = ap bit (any-covers n ls o stem b)
+begins-covers h n ls o stem b = ap bit (any-covers h n ls o stem b)

@@ -17,6 +17,8 @@ use Rattle.spec.specs.Leaves.{trimmed}
 use Rattle.spec.specs.Nodes.{Node}
 use Rattle.spec.specs.Trie.{leaf-count}
 use Rattle.bits_laws.specs.Bits.{bit-at}
+use Rattle.image_types.specs.declared.Frame.{Frame}
+use Rattle.nav_laws.specs.Accepted.{Accepted, nodes, hash-slot, real-slot}
 use Rattle.nav_laws.specs.Slots.{slot-of}
 use Rattle.nav_laws.specs.Stored.{Starts, bits-at, bits-room}
 use Rattle.query_laws.specs.Bounds.{high-rest, low-rest, high-passed, low-reached}
@@ -248,9 +250,28 @@ bit-le true = omega arith
 bit-le false = omega arith
 
 -- slots stay small numbers
-pub slot-small : (v w : ℕ) → v ≤ 65535 → w ≤ 16 → v * w ≤ 1048560
+pub slot-small : (v w : ℕ) → v ≤ 65535 → w ≤ 32 → v * w ≤ 2097120
 slot-small v w a b = let m = mul-le-mul-right w a in let n = mul-le-mul-left 65535 b in omega arith
 
 -- the bytes of a key from byte i on
 pub key-next : (k : Bytes) (i : ℕ) → i < length k → drop i k ≡ getD k i 0 ∷ drop (i + 1) k
 key-next k i h = drop-cons k i 0 h ∙ ap (λ (z : ℕ). getD k i 0 ∷ drop z k) (sym (add-one i))
+
+-- ---- a slot of an accepted image
+
+module _ (s : Bytes) (f : Frame) (a : Accepted s f) (v : ℕ) (h : v < f .leaves) where
+  -- it has hash bits and real bits
+  whole-length : length (slot-of (f .width) (nodes s f) v) ≡ f .width
+  whole-length = slot-length (f .width) (nodes s f) (drop (f .sv) s) (a .writable .wide) (a .SV .1) v (omega (arith, a .writable .leaf-total))
+
+  -- as many real bits as the header says
+  pub real-length : length (real-slot s f v) ≡ f .real
+  real-length = omega (arith, length-drop (f .hash) (slot-of (f .width) (nodes s f) v), whole-length, a .width-is)
+
+  -- and as many hash bits
+  pub hash-length : length (hash-slot s f v) ≡ f .hash
+  hash-length = length-take-le (f .hash) (slot-of (f .width) (nodes s f) v) (omega (arith, whole-length, a .width-is))
+
+  -- behind its real bits there are none
+  pub real-past : (ones : Bool) (i : ℕ) → f .real ≤ i → getD (real-slot s f v) i ones ≡ ones
+  real-past ones i l = List·getD-eq-default (real-slot s f v) ones (omega (arith, real-length))

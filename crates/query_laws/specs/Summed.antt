@@ -14,7 +14,7 @@ use Rattle.nav_laws.specs.declared.BranchKind.{BranchKind}
 use Rattle.nav_laws.specs.declared.BranchKind.the-variants.{Absent, Leaf, Child}
 use Rattle.nav_laws.specs.declared.LeafStop.{LeafStop}
 use Rattle.nav_laws.specs.declared.LeafStop.the-variants.{Nowhere, Exact, Open}
-use Rattle.query_laws.specs.Bounds.{high-passed, low-reached}
+use Rattle.query_laws.specs.Bounds.{slot-passed, slot-reached}
 use Rattle.nav_laws.specs.Slots.{node-at, leaves-before, slot-number, slot-of}
 use Rattle.nav_laws.specs.Descent.{descend, children-before, child-number, value}
 use Rattle.nav_laws.specs.NextLabel.{kind-with}
@@ -34,11 +34,11 @@ level-starts s f = slots-below (nodes s f) 64 0 []
 
 -- what counts where a key leads, beside the slot numbers of its bound: 1 for an open leaf that it has passed
 abbrev pub passed-there : Bytes → Frame → Bytes → ℕ
-passed-there s f key = value false (high-passed (length key)) (f .width) (nodes s f) (descend (nodes s f) 0 key)
+passed-there s f key = value false (slot-passed (f .hash) (length key)) (f .width) (nodes s f) (descend (nodes s f) 0 key)
 
 -- the same for the leaves that it has reached: 1 for an exact leaf, and for an open one that it has reached
 abbrev pub reached-there : Bytes → Frame → Bytes → ℕ
-reached-there s f key = value true (low-reached (length key)) (f .width) (nodes s f) (descend (nodes s f) 0 key)
+reached-there s f key = value true (slot-reached (f .hash) (length key)) (f .width) (nodes s f) (descend (nodes s f) 0 key)
 
 -- the first bytes of a key lead to a node, with the sum of the slot numbers on the levels above it
 pub record Leading (s : Bytes) (f : Frame) (key : Bytes) (node depth sum : ℕ) : Type 0 where
@@ -113,8 +113,8 @@ module _ (s : Bytes) (f : Frame) (a : Accepted s f) (key : Bytes) where
 
   -- an exact leaf at the key's end is not passed
   pub end-unpassed : (d : ℕ) (b : Bool) → Stopped s f key (exact-stop b) d → passed-there s f key ≡ 0
-  end-unpassed d true t = value-exact s f a key Exact d (t .leads) false (high-passed (length key)) refl
-  end-unpassed d false t = value-none s f a key Nowhere d (t .leads) false (high-passed (length key)) refl
+  end-unpassed d true t = value-exact s f a key Exact d (t .leads) false (slot-passed (f .hash) (length key)) refl
+  end-unpassed d false t = value-none s f a key Nowhere d (t .leads) false (slot-passed (f .hash) (length key)) refl
 
   module _ (m d sum : ℕ) (o : Leading s f key m d sum) where
     -- the end of the key, at a node that may be an exact leaf
@@ -167,12 +167,12 @@ module _ (s : Bytes) (f : Frame) (a : Accepted s f) (key : Bytes) where
       ended-leaf k v e = off (λ q. let n : _≡_ {A = ℕ} 0 1 = cc in omega arith) (Open v) (stopped-open s f a key m d kind h is v (e ∙ slot-is) k (o .leads))
 
       pub summed-none : kind ≡ Absent → Summed s f key child (d + 1) (sum + slot)
-      summed-none k = let e = ended-none k in unsummed Nowhere child (d + 1) (sum + slot) e (value-none s f a key Nowhere (d + 1) (e .stop-is .leads) false (high-passed (length key)) refl)
+      summed-none k = let e = ended-none k in unsummed Nowhere child (d + 1) (sum + slot) e (value-none s f a key Nowhere (d + 1) (e .stop-is .leads) false (slot-passed (f .hash) (length key)) refl)
 
       -- an open leaf counts if the key has passed it
-      pub summed-leaf : kind ≡ Leaf → Summed s f key child (d + 1) (sum + slot + bit (high-passed (length key) (slot-of (f .width) (nodes s f) slot) (drop (d + 1) key)))
+      pub summed-leaf : kind ≡ Leaf → Summed s f key child (d + 1) (sum + slot + bit (slot-passed (f .hash) (length key) (slot-of (f .width) (nodes s f) slot) (drop (d + 1) key)))
       summed-leaf k =
           let v : ValuePos = record { 0 = slot } in
           let e = ended-leaf k v refl in
-          let b = high-passed (length key) (slot-of (f .width) (nodes s f) slot) (drop (d + 1) key) in
-          summed (Open v) child (d + 1) (sum + slot) e (bit b) (bit-le b) (value-open s f a key (Open v) (d + 1) (e .stop-is .leads) false (high-passed (length key)) v refl)
+          let b = slot-passed (f .hash) (length key) (slot-of (f .width) (nodes s f) slot) (drop (d + 1) key) in
+          summed (Open v) child (d + 1) (sum + slot) e (bit b) (bit-le b) (value-open s f a key (Open v) (d + 1) (e .stop-is .leads) false (slot-passed (f .hash) (length key)) v refl)

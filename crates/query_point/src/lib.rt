@@ -9,8 +9,7 @@ ghost use Rattle.nav_laws.specs.Slots.{node-at, slot-of};
 ghost use Rattle.nav_laws.specs.Accepted.{Accepted, nodes};
 ghost use Rattle.nav_laws.specs.Positions.{slot-at};
 ghost use Rattle.nav_laws.specs.FoundBranch.{Is-node, Is-position};
-ghost use Rattle.query_laws.specs.Root.{has-suffix};
-ghost use Rattle.query_laws.specs.Rules.{rule-of};
+ghost use Rattle.query_laws.specs.Rules.{rule-of, slot-has};
 use image_types::BitPos;
 use image_types::Frame;
 use image_types::NodeNum;
@@ -19,17 +18,22 @@ use nav_nodes::is_exact;
 use query_follow::follow;
 use query_laws::KeyEnd;
 use query_laws::Rule;
-use query_suffix::suffix_equals;
+use query_suffix::hash_equals;
+use query_suffix::real_equals;
 
-// Whether a key, whose first d bytes lead to the open leaf behind a branch, has the leaf's suffix. No slot is looked up where slots have no bits.
+// Whether a key, whose first d bytes lead to the open leaf behind a branch, has the leaf's suffix: its real bits and its hash bits. No slot is looked up where slots have no bits, and no key is hashed whose real bits differ.
 fn leaf_has(image: &[u8], f: Frame, m: NodeNum, at: BitPos, key: &[u8], d: usize) -> bool
     requires { ⌜ Is-position (now image) f (m .0) (at .0) × (slot-at (now image) f (m .0) (at .0) < f .leaves) × (d ≤ length (now key)) ⌝ }
-    ensures { λ r. ⌜ r ≡ has-suffix (slot-of (f .width) (nodes (now (image .entry)) f) (slot-at (now (image .entry)) f (m .0) (at .0))) (drop d (now (key .entry))) ⌝ }
+    ensures { λ r. ⌜ r ≡ slot-has (f .hash) (now (key .entry)) (slot-of (f .width) (nodes (now (image .entry)) f) (slot-at (now (image .entry)) f (m .0) (at .0))) (drop d (now (key .entry))) ⌝ }
 {
     if f.width == 0 {
         return true;
     }
-    suffix_equals(image, f, slot(image, f, m, at), key, d)
+    let leaf = slot(image, f, m, at);
+    if !real_equals(image, f, leaf, key, d) {
+        return false;
+    }
+    hash_equals(image, f, leaf, key)
 }
 
 // The rule of a key that ends at a node: the node is no exact leaf, or it is one.
@@ -46,7 +50,7 @@ fn node_rule(image: &[u8], f: Frame, m: NodeNum) -> Rule
 // The rule of a key whose first d bytes lead to the open leaf behind a branch: the key has the leaf's suffix, or another.
 fn leaf_rule(image: &[u8], f: Frame, m: NodeNum, at: BitPos, key: &[u8], d: usize) -> Rule
     requires { ⌜ Is-position (now image) f (m .0) (at .0) × (slot-at (now image) f (m .0) (at .0) < f .leaves) × (d ≤ length (now key)) ⌝ }
-    ensures { λ r. ⌜ rule-of r ≡ cond (has-suffix (slot-of (f .width) (nodes (now (image .entry)) f) (slot-at (now (image .entry)) f (m .0) (at .0))) (drop d (now (key .entry)))) suffix-equal suffix-other ⌝ }
+    ensures { λ r. ⌜ rule-of r ≡ cond (slot-has (f .hash) (now (key .entry)) (slot-of (f .width) (nodes (now (image .entry)) f) (slot-at (now (image .entry)) f (m .0) (at .0))) (drop d (now (key .entry)))) suffix-equal suffix-other ⌝ }
 {
     if leaf_has(image, f, m, at, key, d) {
         return Rule::SuffixEqual;
@@ -57,7 +61,7 @@ fn leaf_rule(image: &[u8], f: Frame, m: NodeNum, at: BitPos, key: &[u8], d: usiz
 // The rule behind the point question's reply to a key, by where the key leads from the root: one label search a level, and one look at the node or the leaf there.
 pub fn descend(image: &[u8], f: Frame, key: &[u8]) -> Rule
     requires { ⌜ Accepted (now image) f × (length (now key) ≤ 64) ⌝ }
-    ensures { λ r. ⌜ rule-of r ≡ rule (read-leaves (now (image .entry))) (now (key .entry)) ⌝ }
+    ensures { λ r. ⌜ rule-of r ≡ rule (f .hash) (read-leaves (now (image .entry))) (now (key .entry)) ⌝ }
 {
     let end = follow(image, f, key, key.len());
     match end {

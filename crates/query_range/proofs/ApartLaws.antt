@@ -26,14 +26,14 @@ or-false false = refl
 module _ {s : Bytes} {f : Frame} {lo hi : Bytes} {m d : ℕ} (n : Key-at s f lo m d) (u : Key-at s f hi m d) (more : d < length lo) (further : d < length hi)
     (none : size-from (nodes s f) (64 - (d + 1)) m (getD hi d 0) ≡ size-from (nodes s f) (64 - (d + 1)) m (getD lo d 0 + 1)) where
   -- no leaf stands behind the upper bound's byte: the lower bound decides
-  pub apart-lower : group-behind s f hi m d ≡ [] → met-of lo hi d (group-below s f m d) ≡ left-of lo (d + 1) (group-behind s f lo m d)
+  pub apart-lower : group-behind s f hi m d ≡ [] → met-of f lo hi d (group-below s f m d) ≡ left-of f lo (d + 1) (group-behind s f lo m d)
   apart-lower e =
-      met-apart n u more further none ∙ ap (λ (b : Bool). left-of lo (d + 1) (group-behind s f lo m d) || b) (reached-empty hi (d + 1) (group-behind s f hi m d) e) ∙ or-false (left-of lo (d + 1) (group-behind s f lo m d))
+      met-apart n u more further none ∙ ap (λ (b : Bool). left-of f lo (d + 1) (group-behind s f lo m d) || b) (reached-empty f hi (d + 1) (group-behind s f hi m d) e) ∙ or-false (left-of f lo (d + 1) (group-behind s f lo m d))
 
   -- a leaf behind the lower bound's byte is left
-  pub apart-left : left-of lo (d + 1) (group-behind s f lo m d) ≡ true → met-of lo hi d (group-below s f m d) ≡ true
-  apart-left e = met-apart n u more further none ∙ ap (λ (b : Bool). b || reached-of hi (d + 1) (group-behind s f hi m d)) e
+  pub apart-left : left-of f lo (d + 1) (group-behind s f lo m d) ≡ true → met-of f lo hi d (group-below s f m d) ≡ true
+  apart-left e = met-apart n u more further none ∙ ap (λ (b : Bool). b || reached-of f hi (d + 1) (group-behind s f hi m d)) e
 
   -- none is: the upper bound decides
-  pub apart-upper : left-of lo (d + 1) (group-behind s f lo m d) ≡ false → met-of lo hi d (group-below s f m d) ≡ reached-of hi (d + 1) (group-behind s f hi m d)
-  apart-upper e = met-apart n u more further none ∙ ap (λ (b : Bool). b || reached-of hi (d + 1) (group-behind s f hi m d)) e
+  pub apart-upper : left-of f lo (d + 1) (group-behind s f lo m d) ≡ false → met-of f lo hi d (group-below s f m d) ≡ reached-of f hi (d + 1) (group-behind s f hi m d)
+  apart-upper e = met-apart n u more further none ∙ ap (λ (b : Bool). b || reached-of f hi (d + 1) (group-behind s f hi m d)) e

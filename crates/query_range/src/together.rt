@@ -3,9 +3,8 @@ ghost use mathlib.Core.Path.{_≡_};
 ghost use Prim.Native.Nat.{_≤_};
 ghost use lib.ListN.{length};
 ghost use Rattle.spec.specs.Bytes.{bit, shared};
-ghost use Rattle.spec.specs.Nodes.{read-leaves};
 ghost use Rattle.spec.specs.Questions.{range};
-ghost use Rattle.nav_laws.specs.Accepted.{Accepted};
+ghost use Rattle.nav_laws.specs.Accepted.{Accepted, real-leaves};
 ghost use Rattle.query_laws.specs.RangeWays.{Both-at, group-below, met-of};
 ghost use Rattle.query_range.specs.RangeContracts.{Parted};
 use bits::numbers::wide;
@@ -27,7 +26,7 @@ use query_suffix::open_between;
 // The range at a node where the bounds part: a label between their bytes decides at once; else each bound is asked alone behind its own byte.
 fn apart(image: &[u8], f: Frame, lo: &[u8], hi: &[u8], node: NodeNum, depth: usize) -> bool
     requires { ⌜ Parted (now image) f (now lo) (now hi) (node .0) depth ⌝ }
-    ensures { λ r. ⌜ r ≡ met-of (now (lo .entry)) (now (hi .entry)) depth (group-below (now (image .entry)) f (node .0) depth) ⌝ }
+    ensures { λ r. ⌜ r ≡ met-of f (now (lo .entry)) (now (hi .entry)) depth (group-below (now (image .entry)) f (node .0) depth) ⌝ }
 {
     let a = wide(lo[depth]);
     let b = wide(hi[depth]);
@@ -60,7 +59,7 @@ fn apart(image: &[u8], f: Frame, lo: &[u8], hi: &[u8], node: NodeNum, depth: usi
 // The range at the node to which all bytes that the bounds share lead. Where the lower bound ends there, the upper decides; where only the upper ends, the lower lies above it and no leaf is in the range; else the bounds part.
 fn at_node(image: &[u8], f: Frame, lo: &[u8], hi: &[u8], node: NodeNum, depth: usize) -> bool
     requires { ⌜ Both-at (now image) f (now lo) (now hi) (node .0) depth × (depth ≡ shared (now lo) (now hi)) ⌝ }
-    ensures { λ r. ⌜ r ≡ met-of (now (lo .entry)) (now (hi .entry)) depth (group-below (now (image .entry)) f (node .0) depth) ⌝ }
+    ensures { λ r. ⌜ r ≡ met-of f (now (lo .entry)) (now (hi .entry)) depth (group-below (now (image .entry)) f (node .0) depth) ⌝ }
 {
     if depth == lo.len() {
         return reached_below(image, f, hi, node, depth);
@@ -74,7 +73,7 @@ fn at_node(image: &[u8], f: Frame, lo: &[u8], hi: &[u8], node: NodeNum, depth: u
 // Whether some leaf has a possible key from lo to hi, by where the bytes that the bounds share lead from the root.
 pub fn meets(image: &[u8], f: Frame, lo: &[u8], hi: &[u8]) -> bool
     requires { ⌜ Accepted (now image) f × (length (now lo) ≤ 64) × (length (now hi) ≤ 64) ⌝ }
-    ensures { λ r. ⌜ range (read-leaves (now (image .entry))) (now (lo .entry)) (now (hi .entry)) ≡ bit r ⌝ }
+    ensures { λ r. ⌜ range (real-leaves (now (image .entry)) f) (now (lo .entry)) (now (hi .entry)) ≡ bit r ⌝ }
 {
     let n = shared(lo, hi);
     let end = follow(image, f, lo, n);

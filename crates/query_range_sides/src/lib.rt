@@ -26,7 +26,7 @@ pub struct Branch {
 // Whether a leaf at or below a node, to which the first `depth` bytes of the lower bound lead, does not end below the bound. A label above the bound's byte decides at once.
 fn left_below(image: &[u8], f: Frame, lo: &[u8], node: NodeNum, depth: usize) -> bool
     requires { ⌜ Key-at (now image) f (now lo) (node .0) depth ⌝ }
-    ensures { λ r. ⌜ r ≡ left-of (now (lo .entry)) depth (group-below (now (image .entry)) f (node .0) depth) ⌝ }
+    ensures { λ r. ⌜ r ≡ left-of f (now (lo .entry)) depth (group-below (now (image .entry)) f (node .0) depth) ⌝ }
 {
     let mut m = node;
     let mut d = depth;
@@ -62,7 +62,7 @@ pub fn left_behind(
     branch: Branch,
 ) -> bool
     requires { ⌜ Key-branch (now image) f (now lo) (node .0) depth (branch .kind) (branch .at .0) ⌝ }
-    ensures { λ r. ⌜ r ≡ left-of (now (lo .entry)) (depth + 1) (group-behind (now (image .entry)) f (now (lo .entry)) (node .0) depth) ⌝ }
+    ensures { λ r. ⌜ r ≡ left-of f (now (lo .entry)) (depth + 1) (group-behind (now (image .entry)) f (now (lo .entry)) (node .0) depth) ⌝ }
 {
     let kind = branch.kind;
     match kind {
@@ -82,7 +82,7 @@ fn reached_first(exact: bool, label: usize, y: usize) -> bool
 // Whether a leaf at or below a node, to which the first `depth` bytes of the upper bound lead, does not start above the bound. An exact leaf or a label below the bound's byte decides at once.
 pub fn reached_below(image: &[u8], f: Frame, hi: &[u8], node: NodeNum, depth: usize) -> bool
     requires { ⌜ Key-at (now image) f (now hi) (node .0) depth ⌝ }
-    ensures { λ r. ⌜ r ≡ reached-of (now (hi .entry)) depth (group-below (now (image .entry)) f (node .0) depth) ⌝ }
+    ensures { λ r. ⌜ r ≡ reached-of f (now (hi .entry)) depth (group-below (now (image .entry)) f (node .0) depth) ⌝ }
 {
     let mut m = node;
     let mut d = depth;
@@ -123,7 +123,7 @@ pub fn reached_behind(
     branch: Branch,
 ) -> bool
     requires { ⌜ Key-branch (now image) f (now hi) (node .0) depth (branch .kind) (branch .at .0) ⌝ }
-    ensures { λ r. ⌜ r ≡ reached-of (now (hi .entry)) (depth + 1) (group-behind (now (image .entry)) f (now (hi .entry)) (node .0) depth) ⌝ }
+    ensures { λ r. ⌜ r ≡ reached-of f (now (hi .entry)) (depth + 1) (group-behind (now (image .entry)) f (now (hi .entry)) (node .0) depth) ⌝ }
 {
     let kind = branch.kind;
     match kind {

@@ -1,17 +1,17 @@
 -- What a seek finds over an accepted image, from the lowest key of the first leaf that the start has not passed and the number of those that it has.
-use Prim.Native.Nat.{ℕ, _<_, _≤_}
+use Prim.Native.Nat.{ℕ, _≤_}
 use mathlib.Core.Path.{_≡_, refl, sym, ap, _∙_}
 use mathlib.Core.Bool.{Bool, true, false, cond}
 use mathlib.Core.List.{List, _++_}
 use mathlib.Core.Option.{Option, some}
 use mathlib.Core.Logic.{inr}
 use native.Mathlib.Omega.{arith}
-use lib.ListN.{length, take, drop}
+use lib.ListN.{length, take}
 use lib.Seq.{length-take-le}
 use Rattle.spec.specs.Bytes.{Bytes, equal, concat}
 use Rattle.spec.specs.Keys.{below}
 use Rattle.spec.specs.Leaves.{Leaf, highest}
-use Rattle.spec.specs.Nodes.{Node, read-leaves}
+use Rattle.spec.specs.Nodes.{read-leaves}
 use Rattle.spec.specs.Questions.{none, found, greater, seek}
 use Rattle.spec.specs.Trie.{leaf-count}
 use Rattle.image_types.specs.declared.Frame.{Frame}
@@ -21,25 +21,20 @@ use Rattle.nav_laws.specs.declared.LeafStop.the-variants.{Nowhere, Open}
 use Rattle.keys.specs.Order.{order}
 use Rattle.keys.specs.declared.compare.Order.the-variants.{Below, Equal, Above}
 use Rattle.keys.proofs.OrderLaws.{order-is-below, order-not-below}
-use Rattle.nav_laws.specs.Accepted.{Accepted, nodes}
+use Rattle.nav_laws.specs.Accepted.{Accepted, nodes, real-leaves, real-slot, real-realizable, real-sized}
 use Rattle.query_laws.specs.Bounds.{low-rest}
 use Rattle.query_laws.specs.Ordered.{passed, next-leaf, seek-is}
-use Rattle.nav_laws.specs.Slots.{slot-of}
-use Rattle.query_laws.specs.SuffixBytes.{slot-length}
 use Rattle.query_laws.specs.Seeks.{low-each, low-of, found-low, found-each}
+use Rattle.theory.specs.AskLaws.{reals-length}
 use Rattle.theory.specs.Levels.{leaf-count-root}
 use Rattle.theory.specs.LevelTrie.{trie}
 use Rattle.theory.specs.Lists.{count-bound}
 use Rattle.theory.specs.Order.{equal-true}
 use Rattle.theory.specs.TrieTests.{Empty-or-valid, empty-list, valid-trie, realizable-trie}
 
--- a slot has as many bits as the settings say
-pub slot-width : (s : Bytes) (f : Frame) → Accepted s f → (v : ℕ) → v < f .leaves → length (slot-of (f .width) (nodes s f) v) ≡ f .width
-slot-width s f a v h = slot-length (f .width) (nodes s f) (drop (f .sv) s) (a .writable .wide) (a .SV .1) v (omega (arith, a .writable .leaf-total))
-
 -- the lowest key of an open leaf, whose cut key is the first d bytes of the key
-pub low-open : (w : ℕ) (ns : List Node) (v : ValuePos) (d : ℕ) (key low : Bytes) → d ≤ length key → low ≡ take d key ++ low-rest d (slot-of w ns (v .0)) → low-of w ns (Open v) (take d key) ≡ some low
-low-open w ns v d key low h q = rw (length-take-le d key h) (ap some (sym q))
+pub low-open : (s : Bytes) (f : Frame) (v : ValuePos) (d : ℕ) (key low : Bytes) → d ≤ length key → low ≡ take d key ++ low-rest d (real-slot s f (v .0)) → low-of (f .hash) (f .width) (nodes s f) (Open v) (take d key) ≡ some low
+low-open s f v d key low h q = rw (length-take-le d key h) (ap some (sym q))
 
 -- ---- the greater of two keys, by their order
 
@@ -68,13 +63,13 @@ module _ (a b : Bytes) where
 
 module _ (s : Bytes) (f : Frame) (a : Accepted s f) (start : Bytes) where
   -- by the lowest key of the first leaf that the start has not passed
-  seek-low : seek (read-leaves s) start ≡ found-low (low-each (next-leaf (read-leaves s) start)) (passed (read-leaves s) start) start
-  seek-low = seek-is (f .width) (read-leaves s) start (a .realizable .ordered) (a .well-sized) ∙ found-each (next-leaf (read-leaves s) start) (passed (read-leaves s) start) start
+  seek-low : seek (real-leaves s f) start ≡ found-low (low-each (f .hash) (next-leaf (f .hash) (read-leaves s) start)) (passed (real-leaves s f) start) start
+  seek-low = seek-is (f .hash) (f .real) (read-leaves s) start (real-realizable s f a .ordered) (real-sized s f a) ∙ found-each (f .hash) (next-leaf (f .hash) (read-leaves s) start) (passed (real-leaves s f) start) start
 
   -- the start has passed no more leaves than there are
-  pub few-passed : passed (read-leaves s) start ≤ 65535
+  pub few-passed : passed (real-leaves s f) start ≤ 65535
   unfolding passed
-  few-passed = omega (arith, count-bound (λ l. below (highest l) start) (read-leaves s), leaves-few, a .writable .few)
+  few-passed = omega (arith, count-bound (λ l. below (highest l) start) (real-leaves s f), reals-length (f .hash) (read-leaves s), leaves-few, a .writable .few)
     where
       go : {ls : List Leaf} → Empty-or-valid ls → length ls ≤ leaf-count (concat (trie ls))
       go empty-list = omega arith
@@ -83,11 +78,11 @@ module _ (s : Bytes) (f : Frame) (a : Accepted s f) (start : Bytes) where
       leaves-few : length (read-leaves s) ≤ f .leaves
       leaves-few = omega (arith, go (realizable-trie (f .width) (read-leaves s) (a .realizable) (a .well-sized)), ap leaf-count (a .trie-is), a .writable .leaf-total)
 
-  module _ (stop : LeafStop) (cut : Bytes) (e : low-each (next-leaf (read-leaves s) start) ≡ low-of (f .width) (nodes s f) stop cut) where
+  module _ (stop : LeafStop) (cut : Bytes) (e : low-each (f .hash) (next-leaf (f .hash) (read-leaves s) start) ≡ low-of (f .hash) (f .width) (nodes s f) stop cut) where
     -- no leaf
-    pub seek-none : stop ≡ Nowhere → none ≡ seek (read-leaves s) start
-    seek-none h = sym (seek-low ∙ ap (λ (o : Option Bytes). found-low o (passed (read-leaves s) start) start) e ∙ rw h)
+    pub seek-none : stop ≡ Nowhere → none ≡ seek (real-leaves s f) start
+    seek-none h = sym (seek-low ∙ ap (λ (o : Option Bytes). found-low o (passed (real-leaves s f) start) start) e ∙ rw h)
 
     -- a leaf whose lowest key is `low`
-    pub seek-found : (number : ℕ) (low key : Bytes) → low-of (f .width) (nodes s f) stop cut ≡ some low → key ≡ greater start low → number ≡ passed (read-leaves s) start → found number key ≡ seek (read-leaves s) start
-    seek-found number low key l g n = sym (seek-low ∙ ap (λ (o : Option Bytes). found-low o (passed (read-leaves s) start) start) (e ∙ l) ∙ rw (g, n))
+    pub seek-found : (number : ℕ) (low key : Bytes) → low-of (f .hash) (f .width) (nodes s f) stop cut ≡ some low → key ≡ greater start low → number ≡ passed (real-leaves s f) start → found number key ≡ seek (real-leaves s f) start
+    seek-found number low key l g n = sym (seek-low ∙ ap (λ (o : Option Bytes). found-low o (passed (real-leaves s f) start) start) (e ∙ l) ∙ rw (g, n))

@@ -17,21 +17,21 @@ use keys::compare::compare;
 use nav_laws::LeafStop;
 use query_laws::SoughtLeaf;
 use query_levels::sum_below;
-use query_suffix::suffix_byte;
+use query_suffix::real_byte;
 
-// Behind a cut key of `depth` bytes go the bytes of an open leaf's suffix, filled up with zero bits; the length of the lowest key, which ends before trailing zero bytes and with the 64th byte.
-fn append_suffix(image: &[u8], f: Frame, slot: ValuePos, key: &mut [u8], depth: usize) -> usize
+// Behind a cut key of `depth` bytes go the bytes of an open leaf's real bits, filled up with zero bits; the length of the lowest key, which ends before trailing zero bytes and with the 64th byte.
+fn append_real(image: &[u8], f: Frame, slot: ValuePos, key: &mut [u8], depth: usize) -> usize
     requires { ⌜ Accepted (now image) f × (slot .0 < f .leaves) × (length (now key) ≡ 64) × (depth ≤ 64) ⌝ }
     ensures { λ r. ⌜ Lowest-key (now (image .entry)) f (LeafStop.Open slot) (take depth (now (key .entry))) (now (key .exit)) r ⌝ }
 {
-    let w = f.width;
+    let n = f.real;
     let mut end = depth;
     let mut i = depth;
     while i < 64 {
-        if 8 * (i - depth) >= w {
+        if 8 * (i - depth) >= n {
             return end;
         }
-        let x = suffix_byte(image, f, slot, i - depth, false);
+        let x = real_byte(image, f, slot, i - depth, false);
         key[i] = x as u8;
         i = i + 1;
         if x != 0 {
@@ -49,7 +49,7 @@ fn lowest_key(image: &[u8], f: Frame, stop: LeafStop, key: &mut [u8], depth: usi
     match stop {
         LeafStop::Nowhere => depth,
         LeafStop::Exact => depth,
-        LeafStop::Open(slot) => append_suffix(image, f, slot, key, depth),
+        LeafStop::Open(slot) => append_real(image, f, slot, key, depth),
     }
 }
 
@@ -78,7 +78,7 @@ pub struct Sought {
 // The first leaf whose highest possible key is not below the start: its number, and in the first n bytes of `key` the greater of the start and its lowest key. `starts` is the sum of slot numbers for the empty key.
 pub fn seek(image: &[u8], f: Frame, starts: usize, start: &[u8], key: &mut [u8]) -> Sought
     requires { ⌜ Accepted (now image) f × (starts ≡ level-starts (now image) f) × (length (now start) ≤ 64) × (length (now key) ≡ 64) ⌝ }
-    ensures { λ r. ⌜ Is-sought (now (image .entry)) (now (start .entry)) (r .leaf) (now (key .exit)) (r .n) × (length (now (key .exit)) ≡ 64) ⌝ }
+    ensures { λ r. ⌜ Is-sought (now (image .entry)) f (now (start .entry)) (r .leaf) (now (key .exit)) (r .n) × (length (now (key .exit)) ≡ 64) ⌝ }
 {
     let next = next_leaf(image, f, start, key);
     let end = next.end;

@@ -8,7 +8,7 @@ use Rattle.image_types.specs.declared.Frame.{Frame}
 use Rattle.image_types.specs.declared.ValuePos.{ValuePos}
 use Rattle.nav_laws.specs.Accepted.{Accepted, nodes}
 use Rattle.nav_laws.specs.Slots.{slot-of}
-use Rattle.query_laws.specs.Bounds.{high-passed}
+use Rattle.query_laws.specs.Bounds.{slot-passed}
 use Rattle.query_laws.specs.Seeking.{leaf-end}
 use Rattle.query_bounds.specs.declared.Bound.{Bound}
 use Rattle.query_levels.specs.declared.LevelSum.{LevelSum}
@@ -24,7 +24,7 @@ pub record Leaf-branch (s : Bytes) (f : Frame) (start : Bytes) (slot : ValuePos)
 
 -- whether a start whose first d bytes are the cut key of an open leaf has passed the leaf
 abbrev pub leaf-passed : Bytes → Frame → Bytes → ValuePos → ℕ → Bool
-leaf-passed s f start slot d = high-passed (length start) (slot-of (f .width) (nodes s f) (slot .0)) (drop d start)
+leaf-passed s f start slot d = slot-passed (f .hash) (length start) (slot-of (f .width) (nodes s f) (slot .0)) (drop d start)
 
 -- The bound ends at the open leaf, or at no leaf if the start has passed it.
 pub record Ends-there (s : Bytes) (f : Frame) (start : Bytes) (slot : ValuePos) (level : LevelSum) (r : Bound) : Type 0 where

@@ -2,10 +2,9 @@
 ghost use mathlib.Core.Path.{_≡_};
 ghost use Prim.Native.Nat.{_≤_};
 ghost use lib.ListN.{length};
-ghost use Rattle.spec.specs.Nodes.{read-leaves};
 ghost use Rattle.spec.specs.Questions.{begins-with};
-ghost use Rattle.nav_laws.specs.Accepted.{Accepted};
-use super::suffix::suffix_agrees;
+ghost use Rattle.nav_laws.specs.Accepted.{Accepted, real-leaves};
+use super::suffix::real_agrees;
 use image_types::Frame;
 use nav_behind::slot;
 use query_follow::follow;
@@ -14,14 +13,14 @@ use query_laws::KeyEnd;
 // 1 if some leaf has a possible key that begins with the stem, else 0: a stem that ends at a node begins all leaves below it, and no leaf need be looked at.
 pub fn begins_with(image: &[u8], f: Frame, stem: &[u8]) -> usize
     requires { ⌜ Accepted (now image) f × (length (now stem) ≤ 64) ⌝ }
-    ensures { λ r. ⌜ r ≡ begins-with (read-leaves (now (image .entry))) (now (stem .entry)) ⌝ }
+    ensures { λ r. ⌜ r ≡ begins-with (real-leaves (now (image .entry)) f) (now (stem .entry)) ⌝ }
 {
     match follow(image, f, stem, stem.len()) {
         KeyEnd::NoNodes => 0,
         KeyEnd::NoBranch => 0,
         KeyEnd::Node(_) => 1,
         KeyEnd::Leaf(node, at, depth) => {
-            suffix_agrees(image, f, slot(image, f, node, at), stem, depth)
+            real_agrees(image, f, slot(image, f, node, at), stem, depth)
         }
     }
 }

@@ -5,28 +5,28 @@ ghost use lib.ListN.{length, drop};
 ghost use Rattle.spec.specs.Bytes.{bit};
 ghost use Rattle.nav_laws.specs.Slots.{slot-of};
 ghost use Rattle.nav_laws.specs.Accepted.{Accepted, nodes};
-ghost use Rattle.query_laws.specs.StemLeaves.{agrees};
+ghost use Rattle.query_laws.specs.StemLeaves.{slot-agrees};
 use bits::numbers::wide;
 use image_types::Frame;
 use image_types::ValuePos;
-use query_suffix::suffix_byte;
+use query_suffix::real_byte;
 
-// 1 if the leaf has a possible key that begins with the stem, whose first d bytes are the cut key, else 0: the suffix and the rest of the stem agree as far as both go.
-pub fn suffix_agrees(image: &[u8], f: Frame, slot: ValuePos, stem: &[u8], d: usize) -> usize
+// 1 if the leaf has a possible key that begins with the stem, whose first d bytes are the cut key, else 0: the real bits of its suffix and the rest of the stem agree as far as both go.
+pub fn real_agrees(image: &[u8], f: Frame, slot: ValuePos, stem: &[u8], d: usize) -> usize
     requires { ⌜ Accepted (now image) f × (slot .0 < f .leaves) × (d ≤ length (now stem)) × (length (now stem) ≤ 64) ⌝ }
-    ensures { λ r. ⌜ r ≡ bit (agrees (slot-of (f .width) (nodes (now (image .entry)) f) (slot .0)) (drop d (now (stem .entry)))) ⌝ }
+    ensures { λ r. ⌜ r ≡ bit (slot-agrees (f .hash) (slot-of (f .width) (nodes (now (image .entry)) f) (slot .0)) (drop d (now (stem .entry)))) ⌝ }
 {
-    let w = f.width;
+    let n = f.real;
     let mut i = d;
     while i < stem.len() {
-        if 8 * (i - d) >= w {
+        if 8 * (i - d) >= n {
             return 1;
         }
         let y = wide(stem[i]);
-        if y < suffix_byte(image, f, slot, i - d, false) {
+        if y < real_byte(image, f, slot, i - d, false) {
             return 0;
         }
-        if suffix_byte(image, f, slot, i - d, true) < y {
+        if real_byte(image, f, slot, i - d, true) < y {
             return 0;
         }
         i = i + 1;

@@ -1,18 +1,20 @@
-// The suffix of an open leaf against a key that begins with the cut key: its bits, its bytes filled up with ones or zeros, and its highest and lowest keys.
+// The suffix of an open leaf against a key that begins with the cut key: its hash bits, its real bits, the bytes of these filled up with ones or zeros, and its highest and lowest keys.
 ghost use mathlib.Core.Path.{_≡_};
 ghost use mathlib.Core.Bool.{Bool, not};
 ghost use Prim.Native.Nat.{ℕ, _+_, _-_, _*_, _/_, _%_, _^_, _≤_, _<_};
 ghost use lib.ListN.{length, getD, drop};
-ghost use Rattle.spec.specs.Bytes.{bit, fill};
+ghost use Rattle.spec.specs.Bytes.{bit, fill, same-bits};
+ghost use Rattle.spec.specs.Leaves.{hash-bits};
 ghost use Rattle.nav_laws.specs.Slots.{slot-of};
-ghost use Rattle.query_laws.specs.Bounds.{high-passed, low-reached};
-ghost use Rattle.nav_laws.specs.Accepted.{Accepted, nodes};
+ghost use Rattle.query_laws.specs.Bounds.{slot-passed, slot-reached};
+ghost use Rattle.nav_laws.specs.Accepted.{Accepted, nodes, hash-slot, real-slot};
 ghost use Rattle.query_laws.specs.OpenBetween.{Open-between, open-between};
 ghost use Rattle.query_laws.specs.Root.{has-suffix};
 use bits::numbers::read_from;
 use bits::numbers::smaller;
 use bits::numbers::wide;
 use bits::reverse::reversed;
+use fnv::hash;
 use image_types::Frame;
 use image_types::ValuePos;
 
@@ -40,18 +42,18 @@ pub fn slot_bits(image: &[u8], f: Frame, slot: ValuePos, i: usize) -> u64
     read_from(&image[sv..], k / 8) >> (k % 8)
 }
 
-// Byte i of a slot's bits, the high bit first, filled up.
-pub fn suffix_byte(image: &[u8], f: Frame, slot: ValuePos, i: usize, ones: bool) -> usize
+// Byte i of a slot's real bits, the high bit first, filled up.
+pub fn real_byte(image: &[u8], f: Frame, slot: ValuePos, i: usize, ones: bool) -> usize
     requires { ⌜ Accepted (now image) f × (slot .0 < f .leaves) × (i < 64) ⌝ }
-    ensures { λ r. ⌜ (r ≡ fill ones 8 (drop (8 * i) (slot-of (f .width) (nodes (now (image .entry)) f) (slot .0)))) × (r < 256) ⌝ }
+    ensures { λ r. ⌜ (r ≡ fill ones 8 (drop (8 * i) (real-slot (now (image .entry)) f (slot .0)))) × (r < 256) ⌝ }
 {
-    let w = f.width;
+    let n = f.real;
     let first = 8 * i;
-    if w <= first {
+    if n <= first {
         return filled_below(0, 0, ones);
     }
-    let x = slot_bits(image, f, slot, first);
-    filled_below(reversed((x % 256) as u8), smaller(w - first, 8), ones)
+    let x = slot_bits(image, f, slot, f.hash + first);
+    filled_below(reversed((x % 256) as u8), smaller(n - first, 8), ones)
 }
 
 // Byte i of a key, zero where it has ended.
@@ -64,26 +66,41 @@ fn key_byte(key: &[u8], i: usize) -> u8
     0
 }
 
-// Whether a key has the leaf's suffix behind its first d bytes, which are the cut key: the lowest bits of two numbers, the slot's and that of the key's next two bytes, the first bit lowest.
-pub fn suffix_equals(image: &[u8], f: Frame, slot: ValuePos, key: &[u8], d: usize) -> bool
-    requires { ⌜ Accepted (now image) f × (slot .0 < f .leaves) × (0 < f .width) × (d ≤ length (now key)) ⌝ }
-    ensures { λ r. ⌜ r ≡ has-suffix (slot-of (f .width) (nodes (now (image .entry)) f) (slot .0)) (drop d (now (key .entry))) ⌝ }
+// Whether a key has the leaf's real bits behind its first d bytes, which are the cut key: the lowest bits of two numbers, the slot's and that of the key's next two bytes, the first bit lowest.
+pub fn real_equals(image: &[u8], f: Frame, slot: ValuePos, key: &[u8], d: usize) -> bool
+    requires { ⌜ Accepted (now image) f × (slot .0 < f .leaves) × (d ≤ length (now key)) ⌝ }
+    ensures { λ r. ⌜ r ≡ has-suffix (real-slot (now (image .entry)) f (slot .0)) (drop d (now (key .entry))) ⌝ }
 {
-    let x = slot_bits(image, f, slot, 0) as usize;
+    if f.real == 0 {
+        return true;
+    }
+    let x = slot_bits(image, f, slot, f.hash) as usize;
     let first = reversed(key_byte(key, d));
     let second = reversed(key_byte(key, d + 1));
-    let unit = 1usize << f.width;
+    let unit = 1usize << f.real;
     x % unit == (first + 256 * second) % unit
+}
+
+// Whether a key has the leaf's hash bits: the lowest bits of two numbers, the slot's and the hash of the whole key.
+pub fn hash_equals(image: &[u8], f: Frame, slot: ValuePos, key: &[u8]) -> bool
+    requires { ⌜ Accepted (now image) f × (slot .0 < f .leaves) ⌝ }
+    ensures { λ r. ⌜ r ≡ same-bits (hash-bits (f .hash) (now (key .entry))) (hash-slot (now (image .entry)) f (slot .0)) ⌝ }
+{
+    if f.hash == 0 {
+        return true;
+    }
+    let unit = 1u64 << f.hash;
+    slot_bits(image, f, slot, 0) % unit == hash(key) % unit
 }
 
 // Whether the leaf's highest key lies below the key, whose first d bytes are the cut key.
 pub fn high_below(image: &[u8], f: Frame, slot: ValuePos, key: &[u8], d: usize) -> bool
     requires { ⌜ Accepted (now image) f × (slot .0 < f .leaves) × (d ≤ length (now key)) × (length (now key) ≤ 64) ⌝ }
-    ensures { λ r. ⌜ r ≡ high-passed (length (now (key .entry))) (slot-of (f .width) (nodes (now (image .entry)) f) (slot .0)) (drop d (now (key .entry))) ⌝ }
+    ensures { λ r. ⌜ r ≡ slot-passed (f .hash) (length (now (key .entry))) (slot-of (f .width) (nodes (now (image .entry)) f) (slot .0)) (drop d (now (key .entry))) ⌝ }
 {
     let mut i = d;
     while i < key.len() {
-        let x = suffix_byte(image, f, slot, i - d, true);
+        let x = real_byte(image, f, slot, i - d, true);
         let y = wide(key[i]);
         if x < y {
             return true;
@@ -99,15 +116,15 @@ pub fn high_below(image: &[u8], f: Frame, slot: ValuePos, key: &[u8], d: usize) 
 // Whether the leaf's lowest key lies above the key, whose first d bytes are the cut key.
 pub fn low_above(image: &[u8], f: Frame, slot: ValuePos, key: &[u8], d: usize) -> bool
     requires { ⌜ Accepted (now image) f × (slot .0 < f .leaves) × (d ≤ length (now key)) × (length (now key) ≤ 64) ⌝ }
-    ensures { λ r. ⌜ low-reached (length (now (key .entry))) (slot-of (f .width) (nodes (now (image .entry)) f) (slot .0)) (drop d (now (key .entry))) ≡ not r ⌝ }
+    ensures { λ r. ⌜ slot-reached (f .hash) (length (now (key .entry))) (slot-of (f .width) (nodes (now (image .entry)) f) (slot .0)) (drop d (now (key .entry))) ≡ not r ⌝ }
 {
-    let w = f.width;
+    let n = f.real;
     let mut i = d;
     while i < 64 {
-        if 8 * (i - d) >= w {
+        if 8 * (i - d) >= n {
             return false;
         }
-        let x = suffix_byte(image, f, slot, i - d, false);
+        let x = real_byte(image, f, slot, i - d, false);
         let y = wide(key_byte(key, i));
         if y < x {
             return true;

@@ -1,10 +1,10 @@
 // The public calls for programs in other languages. They ask for nothing.
 ghost use mathlib.Core.Path.{_≡_};
 ghost use Rattle.spec.specs.Ask.{ask};
-ghost use Rattle.spec.specs.Build.{length-code, image-length, build};
+ghost use Rattle.spec.specs.Build.{settings-from, length-code, image-length, build};
 ghost use Rattle.spec.specs.Check.{check};
+ghost use Rattle.spec.specs.Fnv.{hash};
 ghost use Rattle.spec.specs.WalkRecords.{walk-records};
-ghost use Rattle.image_types.specs.Header.{settings};
 ghost use Rattle.build.specs.Build.{length-of};
 ghost use Rattle.range_filter_codes.specs.Codes.{Coded};
 ghost use Rattle.range_filter.specs.Filter.{Coded-length, number-of};
@@ -14,8 +14,10 @@ use build::build;
 use build::image_length;
 use check_image::Checked;
 use check_image::check;
+use fnv::hash;
 use range_filter_codes::REFUSAL_WEIGHT;
 use range_filter_codes::code;
+use range_filter_codes::settings_of;
 use walk_records::write_records;
 
 // A length as one number: the number of a refusal, 0 for a length, times 2^32, plus the bytes, 0 for a refusal.
@@ -28,27 +30,28 @@ fn code_length(length: Length) -> u64
     }
 }
 
-// Gives the exact length of the image of a key list, and writes nothing. The answer is one number: its quotient by 2^32 is the number of a refusal, 0 for a length, and its rest the bytes, 0 for a refusal.
+// Gives the exact length of the image of a key list with the settings of a number, and writes nothing. The answer is one number: its quotient by 2^32 is the number of a refusal, 0 for a length, and its rest the bytes, 0 for a refusal.
 #[no_mangle]
-pub extern "C" fn range_filter_image_length(list: &[u8], version: u64, dense: u64, n: u64) -> u64
-    ensures { λ r. ⌜ Coded-length r (image-length (now (list .entry)) (settings version dense n)) ⌝ }
+pub extern "C" fn range_filter_image_length(list: &[u8], settings: u64) -> u64
+    ensures { λ r. ⌜ Coded-length r (image-length (now (list .entry)) (settings-from settings)) ⌝ }
 {
-    code_length(image_length(list, version, dense, n))
+    code_length(image_length(list, settings_of(settings)))
 }
 
-// Builds the image of a key list, whose length is stated, into the output. The answer is one number: its quotient by 2^32 is the number of a refusal, 0 for success, and its rest the bytes written, 0 for a refusal.
+// Builds the image of a key list with the settings of a number, whose length is stated, into the output. The answer is one number: its quotient by 2^32 is the number of a refusal, 0 for success, and its rest the bytes written, 0 for a refusal.
 #[no_mangle]
-pub extern "C" fn range_filter_build(
-    list: &[u8],
-    version: u64,
-    dense: u64,
-    n: u64,
-    stated: u64,
-    out: &mut [u8],
-) -> u64
-    ensures { λ r. ⌜ Coded r (now (out .exit)) (build (now (list .entry)) (settings version dense n) stated (now (out .entry))) ⌝ }
+pub extern "C" fn range_filter_build(list: &[u8], settings: u64, stated: u64, out: &mut [u8]) -> u64
+    ensures { λ r. ⌜ Coded r (now (out .exit)) (build (now (list .entry)) (settings-from settings) stated (now (out .entry))) ⌝ }
 {
-    code(build(list, version, dense, n, stated, out))
+    code(build(list, settings_of(settings), stated, out))
+}
+
+// Gives the hash of a key, of which a slot has the low bits: the whole 64-bit FNV-1a hash, of any number of bytes.
+#[no_mangle]
+pub extern "C" fn range_filter_hash(key: &[u8]) -> u64
+    ensures { λ r. ⌜ r ≡ hash (now (key .entry)) ⌝ }
+{
+    hash(key)
 }
 
 // Judges an image. The answer is 0 for an accepted one, else the number of the refusal.

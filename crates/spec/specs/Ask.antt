@@ -3,6 +3,7 @@ use Prim.Native.Nat.{ℕ}
 use mathlib.Core.Bool.{true, false}
 use lib.Dec.{eqb}
 use Rattle.spec.specs.Bytes.{Bytes}
+use Rattle.spec.specs.Frame.{read-settings}
 use Rattle.spec.specs.Nodes.{read-leaves}
 use Rattle.spec.specs.Answer.{Outcome, refuse, write}
 use Rattle.spec.specs.Check.{verdict}
@@ -10,11 +11,11 @@ use Rattle.spec.specs.Questions.{refused, taken, parse-questions, replie
 
 -- the check's numbers; then the questions' 24, 21, 22, 23; then 25, replies longer than the reply buffer
 unfoldable pub ask : Bytes → Bytes → Bytes → Outcome
-unfolding verdict parse-questions refuse write replies read-leaves
+unfolding verdict parse-questions refuse write replies read-settings read-leaves
 ask b file out =
     let v : ℕ = verdict b in
     elim (eqb v 0) [
       | false ↦ refuse v out
       | true ↦
-          elim (parse-questions file) [ refused r ↦ refuse r out | taken qs ↦ write 25 (replies (read-leaves b) qs) out ]
+          elim (parse-questions file) [ refused r ↦ refuse r out | taken qs ↦ write 25 (replies (read-settings b .hash-width) (read-leaves b) qs) out ]
     ]

@@ -1,6 +1,6 @@
--- Document 01, "Turning a file down", as orders 5, 8 and 9 change it: building in two public calls. The first takes a key list and settings and gives the image's length;
+-- Document 01, "Turning a file down", as orders 4, 5, 8 and 9 change it: building in two public calls. The first takes a key list and settings and gives the image's length;
 -- the second takes that length and an output too, and gives the answer and the output's final bytes.
-use Prim.Native.Nat.{ℕ, _+_, _*_}
+use Prim.Native.Nat.{ℕ, _+_, _*_, _/_, _%_}
 use mathlib.Core.Bool.{Bool, true, false, _&&_}
 use mathlib.Core.List.{List, map}
 use lib.ListN.{length}
@@ -12,10 +12,14 @@ use Rattle.spec.specs.Image.{Settings, known-version, nodes, sparse-labe
 use Rattle.spec.specs.Answer.{Outcome, refusal-weight, refuse, write}
 use Rattle.spec.specs.Keys as Keys
 
--- version 1 or 2, dense levels 0 to 4, suffix width 0 to 16
+-- version 1 or 2, dense levels 0 to 4, real bits and hash bits 0 to 16
 unfoldable pub in-range : Settings → Bool
 unfolding known-version
-in-range st = known-version (st .version) && leb (st .dense-levels) 4 && leb (st .width) 16
+in-range st = known-version (st .version) && leb (st .dense-levels) 4 && leb (st .real-width) 16 && leb (st .hash-width) 16
+
+-- Settings as one number, for programs in other languages: bytes 2 to 5 of a header as a number, the low byte first. What is more than a byte counts to h, so that every number has a meaning.
+unfoldable pub settings-from : ℕ → Settings
+settings-from x = record { version = x % 256; dense-levels = x / 256 % 256; real-width = x / 65536 % 256; hash-width = x / 16777216 }
 
 -- the trie's entries: branches and exact leaves together
 unfoldable pub trie-entries : List Leaf → ℕ
@@ -34,7 +38,7 @@ judge list st =
     elim (in-range st) [
       | false ↦ turned-down 5
       | true ↦
-          elim (parse-keys list) [ Keys.refused r ↦ turned-down r | keys ks ↦ to-build (image st (leaves (st .width) ks)) ]
+          elim (parse-keys list) [ Keys.refused r ↦ turned-down r | keys ks ↦ to-build (image st (leaves (st .hash-width) (st .real-width) ks)) ]
     ]
 
 -- ---- order 5, the first call

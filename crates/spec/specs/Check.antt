@@ -1,4 +1,4 @@
--- Document 01, "Turning a file down", as order 8 changes it: the public call check. The first of 11 to 16 that applies, each judged over the whole image before the next.
+-- Document 01, "Turning a file down", as orders 4 and 8 change it: the public call check. The first of 11 to 16 that applies, each judged over the whole image before the next.
 use Prim.Native.Nat.{ℕ, zero, suc, _-_, _*_}
 use mathlib.Core.Bool.{Bool, true, false, cond, _&&_}
 use mathlib.Core.List.{List, [], _∷_, map}
@@ -6,7 +6,7 @@ use mathlib.Core.Option.{Option, none, some}
 use lib.ListN.{length, getD, take, drop}
 use lib.Dec.{leb, eqb}
 use Rattle.spec.specs.Bytes.{Bytes, Bits, all, every, equal, from32, clear, unpack}
-use Rattle.spec.specs.Image.{known-version, version-rows, sizes, Bodies, ranks, samples, level-starts}
+use Rattle.spec.specs.Image.{known-version, slot-width, version-rows, sizes, Bodies, ranks, samples, level-starts}
 use Rattle.spec.specs.Frame.{has-header, rows-of, read-bodies, named, read-settings, read-counts, Parts, parts}
 use Rattle.spec.specs.Nodes.{Node, slot, branches-of, exact-slot, levels-of, nodes-of}
 use Rattle.spec.specs.Trie.{builders-trie}
@@ -20,14 +20,14 @@ sized [] (b ∷ bs) = false
 sized (n ∷ ns) [] = false
 sized (n ∷ ns) (b ∷ bs) = eqb (length b) n && sized ns bs
 
--- 12 does not apply: version 1 or 2, settings in range, a zero byte, at most 65,535 leaves, the lengths of the twelve bodies as the counts give
-unfoldable pub header-valid : Bytes → Parts → List Bytes → Bool
+-- 12 does not apply: version 1 or 2, settings in range (order 4: "Number 5 and number 12 cover h"), at most 65,535 leaves, the lengths of the twelve bodies as the counts give
+unfoldable pub header-valid : Parts → List Bytes → Bool
 unfolding every known-version sizes sized
-header-valid s p bs = every (
+header-valid p bs = every (
     known-version (p .settings .version)
     ∷ leb (p .settings .dense-levels) 4
-    ∷ leb (p .settings .width) 16
-    ∷ eqb (getD s 5 0) 0
+    ∷ leb (p .settings .real-width) 16
+    ∷ leb (p .settings .hash-width) 16
     ∷ leb (p .counts .leaves) 65535
     ∷ sized (sizes (p .settings) (p .counts)) (take 12 bs)
     ∷ [])
@@ -46,7 +46,7 @@ spare-clear p b = every (
     no-spare (p .counts .dense-nodes) (b .DP)
     ∷ no-spare (p .counts .sparse-entries) (b .SC)
     ∷ no-spare (p .counts .sparse-entries) (b .SB)
-    ∷ no-spare (p .counts .leaves * p .settings .width) (b .SV)
+    ∷ no-spare (p .counts .leaves * slot-width (p .settings)) (b .SV)
     ∷ [])
 
 -- ---- 15
@@ -74,23 +74,23 @@ tables-valid p bs = ranks-valid p (named bs) && starts-valid p bs
 
 -- ---- 16
 
--- no suffix bit is set behind the first m bytes
+-- no bit is set behind the first m bytes
 unfoldable pub clear-behind : ℕ → Bits → Bool
 unfolding clear
 clear-behind zero s = clear s
 clear-behind (suc m) s = clear-behind m (drop 8 s)
 
 -- A node on level d has a key of d bytes, and its branches lead to keys of d + 1:
--- an exact leaf's slot is zero, and no suffix bit is set past a key's 64th byte.
-unfoldable pub slot-valid : ℕ → Node → Bool
+-- an exact leaf's slot is zero, and no real bit, which stands behind h hash bits, is set past a key's 64th byte.
+unfoldable pub slot-valid : ℕ → ℕ → Node → Bool
 unfolding clear-behind all
-slot-valid d n = clear-behind 0 (exact-slot n) && all (λ e. clear-behind (63 - d) (slot e)) (branches-of n)
+slot-valid h d n = clear-behind 0 (exact-slot n) && all (λ e. clear-behind (63 - d) (drop h (slot e))) (branches-of n)
 
 -- 16 does not apply to the levels from level d on
-unfoldable pub slots-valid : ℕ → List (List Node) → Bool
+unfoldable pub slots-valid : ℕ → ℕ → List (List Node) → Bool
 unfolding slot-valid all
-slots-valid d [] = true
-slots-valid d (ns ∷ ls) = all (slot-valid d) ns && slots-valid (suc d) ls
+slots-valid h d [] = true
+slots-valid h d (ns ∷ ls) = all (slot-valid h d) ns && slots-valid h (suc d) ls
 
 -- ---- the check
 
@@ -100,7 +100,7 @@ unfolding from32 unpack read-settings read-counts named parts header-valid spare
 judge-bodies s bs =
     let b : Bodies = named bs in
     let p : Parts = parts s b in
-    elim (header-valid s p bs) [
+    elim (header-valid p bs) [
       | false ↦ 12
       | true ↦
           elim (spare-clear p b) [
@@ -112,7 +112,7 @@ judge-bodies s bs =
                       elim (tables-valid p bs) [
                         | false ↦ 15
                         | true ↦
-                            elim (slots-valid 0 (levels-of (nodes-of p))) [ false ↦ 16 | true ↦ 0 ]
+                            elim (slots-valid (p .settings .hash-width) 0 (levels-of (nodes-of p))) [ false ↦ 16 | true ↦ 0 ]
                       ]
                 ]
           ]

@@ -6,7 +6,7 @@ use mathlib.Core.Option.{Option, none, some}
 use lib.ListN.{length, getD, take, drop}
 use lib.Dec.{leb, eqb}
 use Rattle.spec.specs.Bytes.{Bytes, Bits, every, letter, from32, unpack}
-use Rattle.spec.specs.Image.{Settings, Counts, Row, version-rows, Bodies}
+use Rattle.spec.specs.Image.{Settings, slot-width, Counts, Row, version-rows, Bodies}
 
 -- 22 bytes, and "HD"
 unfoldable pub has-header : Bytes → Bool
@@ -52,7 +52,7 @@ rows-of s = version-rows (getD s 2 0)
 
 -- the settings in a header
 unfoldable pub read-settings : Bytes → Settings
-read-settings s = record { version = getD s 2 0; dense-levels = getD s 3 0; width = getD s 4 0 }
+read-settings s = record { version = getD s 2 0; dense-levels = getD s 3 0; real-width = getD s 4 0; hash-width = getD s 5 0 }
 
 -- the counts in a header
 unfoldable pub read-counts : Bytes → Counts
@@ -84,5 +84,5 @@ parts s b =
       sl = b .SL;
       sc = take (c .sparse-entries) (unpack (b .SC));
       sb = take (c .sparse-entries) (unpack (b .SB));
-      sv = take (c .leaves * st .width) (unpack (b .SV));
+      sv = take (c .leaves * slot-width st) (unpack (b .SV));
     }

@@ -1,4 +1,4 @@
--- Document 01, "Records of an image", as order 8 changes it: the trie's nodes in level order, the bodies, the header and the image of each version.
+-- Document 01, "Records of an image", as orders 4 and 8 change it: the trie's nodes in level order, the bodies, the header and the image of each version.
 use Prim.Native.Nat.{ℕ, suc, _+_, _-_, _*_}
 use Prim.Native.Char.{Char}
 use mathlib.Core.Bool.{Bool, true, false, cond, not, _&&_, _||_}
@@ -8,11 +8,16 @@ use lib.Dec.{ltb, eqb}
 use Rattle.spec.specs.Bytes.{Bytes, Bits, any, filter, concat, iota, blocks, letter, dedup, equal, begins, ones, pack, le32}
 use Rattle.spec.specs.Leaves.{Leaf}
 
--- the version of the format, dense levels, and the suffix width n
+-- the version of the format, dense levels, how many real bits a slot has (n), and how many hash bits (h)
 pub record Settings : Type 0 where
   pub version : ℕ
   pub dense-levels : ℕ
-  pub width : ℕ
+  pub real-width : ℕ
+  pub hash-width : ℕ
+
+-- the bits of a slot
+abbrev pub slot-width : Settings → ℕ
+slot-width st = st .hash-width + st .real-width
 
 -- there are versions 1 and 2
 unfoldable pub known-version : ℕ → Bool
@@ -161,7 +166,7 @@ rows =
     ∷ row "S" "L" (λ st c. c .sparse-entries)
     ∷ row "S" "C" (λ st c. blocks 8 (c .sparse-entries))
     ∷ row "S" "B" (λ st c. blocks 8 (c .sparse-entries))
-    ∷ row "S" "V" (λ st c. blocks 8 (c .leaves * st .width))
+    ∷ row "S" "V" (λ st c. blocks 8 (c .leaves * slot-width st))
     ∷ row "R" "L" (λ st c. 4 * blocks 64 (256 * c .dense-nodes))
     ∷ row "R" "C" (λ st c. 4 * blocks 64 (256 * c .dense-nodes))
     ∷ row "R" "P" (λ st c. 4 * blocks 64 (c .dense-nodes))
@@ -262,11 +267,11 @@ counts dense ls = record {
   sparse-nodes = length (nodes ls dense 64);
 }
 
--- the header, 22 bytes: "HD", version, dense levels, n, a zero byte, then the counts of leaves, dense nodes, sparse entries and sparse nodes
+-- the header, 22 bytes: "HD", version, dense levels, n, h (order 4: "The header's zero byte becomes h"), then the counts of leaves, dense nodes, sparse entries and sparse nodes
 unfoldable pub header : Settings → Counts → Bytes
 unfolding le32
 header st c =
-    letter "H" ∷ letter "D" ∷ st .version ∷ st .dense-levels ∷ st .width ∷ 0
+    letter "H" ∷ letter "D" ∷ st .version ∷ st .dense-levels ∷ st .real-width ∷ st .hash-width
     ∷ le32 (c .leaves) ++ (le32 (c .dense-nodes) ++ (le32 (c .sparse-entries) ++ le32 (c .sparse-nodes)))
 
 -- the image of a leaf list: the header and the records of its version

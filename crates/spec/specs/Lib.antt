@@ -1,4 +1,5 @@
 pub mod Bytes
+pub mod Fnv
 pub mod Keys
 pub mod Leaves
 pub mod Image
@@ -15,4 +16,5 @@ pub mod Walk
 pub mod WalkRecords
 pub mod OneQuestion
 pub mod Print
+pub mod Struck
 pub mod Examples

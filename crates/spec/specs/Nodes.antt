@@ -7,7 +7,7 @@ use lib.ListN.{take, drop}
 use lib.Dec.{leb, eqb}
 use Rattle.spec.specs.Bytes.{Bytes, Bits, concat, from32, unpack}
 use Rattle.spec.specs.Leaves.{Leaf}
-use Rattle.spec.specs.Image.{version-rows}
+use Rattle.spec.specs.Image.{slot-width, version-rows}
 use Rattle.spec.specs.Frame.{rows-of, read-settings, read-counts, Parts, parts, named, read-bodies}
 
 -- ---- entries
@@ -157,7 +157,7 @@ sparse-nodes p = split (zip-entries (p .sl) (p .sc)) (p .sb)
 -- the nodes in level order, the dense ones first
 unfoldable pub nodes-of : Parts → List Node
 unfolding slotted dense-shapes sparse-shape sparse-nodes
-nodes-of p = slotted (p .settings .width) (dense-shapes (p .dl) (p .dc) (p .dp) ++ map sparse-shape (sparse-nodes p)) (p .sv)
+nodes-of p = slotted (slot-width (p .settings)) (dense-shapes (p .dl) (p .dc) (p .dp) ++ map sparse-shape (sparse-nodes p)) (p .sv)
 
 -- ---- levels
 

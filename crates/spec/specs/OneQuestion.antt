@@ -6,6 +6,7 @@ use lib.ListN.{length, getD, drop}
 use lib.Dec.{ltb, eqb}
 use Rattle.spec.specs.Bytes.{Bytes}
 use Rattle.spec.specs.Keys.{below}
+use Rattle.spec.specs.Frame.{read-settings}
 use Rattle.spec.specs.Nodes.{read-leaves}
 use Rattle.spec.specs.Questions.{Question, QP, QS, QB, QR, QC, Reply, reply}
 use Rattle.spec.specs.Answer.{refusal-weight}
@@ -48,10 +49,10 @@ pub data Answered : Type 0 where
 
 -- The answer to one question over an accepted image: 22, then 23, then the reply that a question file would get.
 unfoldable pub ask-one : Bytes → Question → Answered
-unfolding read-leaves reply question-refusal
+unfolding read-settings read-leaves reply question-refusal
 ask-one b q =
     let r : ℕ = question-refusal q in
-    elim (eqb r 0) [ true ↦ replied (reply (read-leaves b) q) | false ↦ refused r ]
+    elim (eqb r 0) [ true ↦ replied (reply (read-settings b .hash-width) (read-leaves b) q) | false ↦ refused r ]
 
 -- ---- what a call gives of the answer
 

@@ -29,7 +29,7 @@ unfolding hex-digit
 hex [] = []
 hex (x ∷ k) = hex-digit (x / 16) ∷ hex-digit (x % 16) ∷ hex k
 
--- the suffix bits, the first one first; "-" for an exact leaf or n 0
+-- the suffix bits, hash bits before real bits, the first one first; "-" for an exact leaf, or if there are none
 unfoldable pub suffix-text : Bool → Bits → Bytes
 suffix-text true s = letter "-" ∷ []
 suffix-text false [] = letter "-" ∷ []

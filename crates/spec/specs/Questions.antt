@@ -1,31 +1,36 @@
--- Document 01, "Questions and replies": questions, the reply to each over a leaf list, and the bytes of both; with the numbers 24, 21, 22 and 23.
+-- Document 01, "Questions and replies", as orders 2, 3 and 4 change it: questions, the reply to each over a leaf list, and the bytes of both; with the numbers 24, 21, 22 and 23.
 use Prim.Native.Nat.{ℕ, zero, suc, _+_, _-_}
-use mathlib.Core.Bool.{Bool, true, false, cond, not, _&&_}
+use mathlib.Core.Bool.{Bool, true, false, cond, not, _&&_, _||_}
 use mathlib.Core.List.{List, [], _∷_, _++_, map}
 use mathlib.Core.Option.{Option}
 use lib.ListN.{length, take, drop, getD, getElem?, replicate}
 use lib.Dec.{ltb, eqb}
 use Rattle.spec.specs.Bytes.{Bytes, any, count, concat, letter, bit, le32, from32}
 use Rattle.spec.specs.Keys.{below}
-use Rattle.spec.specs.Leaves.{Leaf, possible, lowest, highest}
-use Rattle.spec.specs.Rules.{rule, rule-number}
+use Rattle.spec.specs.Leaves.{Leaf, reals, real, possible, lowest, highest}
+use Rattle.spec.specs.Rules.{same-hash-bits, rule, rule-number}
 
 -- point, seek, begins-with; range and count, lower then upper bound
 pub data Question : Type 0 where
   QP QS QB : Bytes → Question
   QR QC : Bytes → Bytes → Question
 
--- ---- replies over the leaves
+-- ---- replies over the leaves. Order 4: "Points compare both parts", "ranges, counts and seeks use real bits only".
 
 -- the leaf has a possible key from lo to hi, both included
 unfoldable pub meets : Bytes → Bytes → Leaf → Bool
 unfolding below lowest highest
 meets lo hi l = not (below hi (lowest l)) && not (below (highest l) lo)
 
--- point: 1 if some leaf has that key among its possible keys, else 0
-unfoldable pub point : List Leaf → Bytes → ℕ
-unfolding any possible
-point ls k = bit (any (λ l. possible l k) ls)
+-- the leaf, with its h hash bits struck out, has that key among its possible keys; and an open leaf has the key's hash bits
+unfoldable pub may-hold : ℕ → Bytes → Leaf → Bool
+unfolding real possible same-hash-bits
+may-hold h k l = possible (real h l) k && (l .exact || same-hash-bits h k l)
+
+-- point: 1 if some leaf may hold that key, else 0
+unfoldable pub point : ℕ → List Leaf → Bytes → ℕ
+unfolding any may-hold
+point h ls k = bit (any (may-hold h k) ls)
 
 -- range: 1 if some leaf has a key in the range among its possible keys, else 0
 unfoldable pub range : List Leaf → Bytes → Bytes → ℕ
@@ -83,14 +88,14 @@ unfolding keyless
 sought none = keyless (letter "S") 0xFFFFFFFF
 sought (found i k) = record { letter = letter "S"; number = i; key = k }
 
--- the reply to a question, with the question's second letter; by order 3 a point's key is one byte, the number of the rule behind the reply
-unfoldable pub reply : List Leaf → Question → Reply
-unfolding keyless sought point rule seek begins-with range counted
-reply ls (QP k) = record { letter = letter "P"; number = point ls k; key = rule-number (rule ls k) ∷ [] }
-reply ls (QS start) = sought (seek ls start)
-reply ls (QB stem) = keyless (letter "B") (begins-with ls stem)
-reply ls (QR lo hi) = keyless (letter "R") (range ls lo hi)
-reply ls (QC lo hi) = keyless (letter "C") (counted ls lo hi)
+-- the reply to a question over leaves with h hash bits each, with the question's second letter; by order 3 a point's key is one byte, the number of the rule behind the reply
+unfoldable pub reply : ℕ → List Leaf → Question → Reply
+unfolding keyless sought point rule reals seek begins-with range counted
+reply h ls (QP k) = record { letter = letter "P"; number = point h ls k; key = rule-number (rule h ls k) ∷ [] }
+reply h ls (QS start) = sought (seek (reals h ls) start)
+reply h ls (QB stem) = keyless (letter "B") (begins-with (reals h ls) stem)
+reply h ls (QR lo hi) = keyless (letter "R") (range (reals h ls) lo hi)
+reply h ls (QC lo hi) = keyless (letter "C") (counted (reals h ls) lo hi)
 
 -- a reply's bytes: "AN", the letter, a 32-bit number, a length byte, a key
 unfoldable pub reply-bytes : Reply → Bytes
@@ -98,9 +103,9 @@ unfolding le32
 reply-bytes r = letter "A" ∷ letter "N" ∷ r .letter ∷ le32 (r .number) ++ (length (r .key) ∷ r .key)
 
 -- the replies in the order of the questions
-unfoldable pub replies : List Leaf → List Question → Bytes
+unfoldable pub replies : ℕ → List Leaf → List Question → Bytes
 unfolding concat reply reply-bytes
-replies ls qs = concat (map (λ q. reply-bytes (reply ls q)) qs)
+replies h ls qs = concat (map (λ q. reply-bytes (reply h ls q)) qs)
 
 -- the reply at the front of reply bytes
 unfoldable pub read-reply : Bytes → Reply

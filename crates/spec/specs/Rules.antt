@@ -2,9 +2,9 @@
 use Prim.Native.Nat.{ℕ}
 use mathlib.Core.Bool.{Bool, false, cond, not, _&&_, _||_}
 use mathlib.Core.List.{List, [], _∷_, _++_}
-use lib.ListN.{length}
+use lib.ListN.{length, take}
 use Rattle.spec.specs.Bytes.{Bytes, any, equal, begins, same-bits}
-use Rattle.spec.specs.Leaves.{Leaf, bits-behind}
+use Rattle.spec.specs.Leaves.{Leaf, hash-bits, bits-behind, real}
 
 -- ---- where bytes lead
 
@@ -34,10 +34,20 @@ unfoldable pub leads-to-open : Bytes → Leaf → Bool
 unfolding begins
 leads-to-open k l = not (l .exact) && begins (l .cut) k
 
--- the key's bits behind the leaf's cut key are the leaf's suffix
-unfoldable pub same-suffix : Bytes → Leaf → Bool
+-- the key's bits behind the leaf's cut key are the leaf's suffix, which is real bits alone
+unfoldable pub same-real-bits : Bytes → Leaf → Bool
 unfolding same-bits bits-behind
-same-suffix k l = same-bits (bits-behind (length (l .suffix)) (length (l .cut)) k) (l .suffix)
+same-real-bits k l = same-bits (bits-behind (length (l .suffix)) (length (l .cut)) k) (l .suffix)
+
+-- the key's hash bits are the h first bits of the leaf's suffix
+unfoldable pub same-hash-bits : ℕ → Bytes → Leaf → Bool
+unfolding same-bits hash-bits
+same-hash-bits h k l = same-bits (hash-bits h k) (take h (l .suffix))
+
+-- Order 4: "Points compare both parts, rule 5 if either differs".
+unfoldable pub same-suffix : ℕ → Bytes → Leaf → Bool
+unfolding real same-real-bits same-hash-bits
+same-suffix h k l = same-real-bits k (real h l) && same-hash-bits h k l
 
 -- ---- the six rules
 
@@ -55,24 +65,24 @@ rule-number suffix-other = 5
 rule-number no-nodes = 6
 
 -- Whether a rule applies to a key: "1 the branch is missing, 2 the key ended at a node that is no exact leaf, 3 exact leaf, 4 open leaf with equal suffix, 5 open leaf with another suffix, 6 no nodes."
-unfoldable pub applies : List Leaf → Bytes → Rule → Bool
+unfoldable pub applies : ℕ → List Leaf → Bytes → Rule → Bool
 unfolding any misses-branch leads-to-node leads-to-exact leads-to-open same-suffix
-applies ls k branch-missing = misses-branch ls [] k
-applies ls k key-ended = leads-to-node ls k && not (leads-to-exact ls k)
-applies ls k at-exact-leaf = leads-to-exact ls k
-applies ls k suffix-equal = any (λ l. leads-to-open k l && same-suffix k l) ls
-applies ls k suffix-other = any (λ l. leads-to-open k l && not (same-suffix k l)) ls
-applies ls k no-nodes = not (leads-to-node ls [])
+applies h ls k branch-missing = misses-branch ls [] k
+applies h ls k key-ended = leads-to-node ls k && not (leads-to-exact ls k)
+applies h ls k at-exact-leaf = leads-to-exact ls k
+applies h ls k suffix-equal = any (λ l. leads-to-open k l && same-suffix h k l) ls
+applies h ls k suffix-other = any (λ l. leads-to-open k l && not (same-suffix h k l)) ls
+applies h ls k no-nodes = not (leads-to-node ls [])
 
 -- the rule of a key: the one that applies to it
-unfoldable pub rule : List Leaf → Bytes → Rule
+unfoldable pub rule : ℕ → List Leaf → Bytes → Rule
 unfolding applies
-rule ls k =
-    cond (applies ls k no-nodes) no-nodes
-    (cond (applies ls k key-ended) key-ended
-    (cond (applies ls k at-exact-leaf) at-exact-leaf
-    (cond (applies ls k suffix-equal) suffix-equal
-    (cond (applies ls k suffix-other) suffix-other branch-missing))))
+rule h ls k =
+    cond (applies h ls k no-nodes) no-nodes
+    (cond (applies h ls k key-ended) key-ended
+    (cond (applies h ls k at-exact-leaf) at-exact-leaf
+    (cond (applies h ls k suffix-equal) suffix-equal
+    (cond (applies h ls k suffix-other) suffix-other branch-missing))))
 
 -- what a rule says of the key, the number of a point's reply: 1 with 3 and 4, else 0
 abbrev pub rule-says : Rule → ℕ

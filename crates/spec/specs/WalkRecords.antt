@@ -1,9 +1,9 @@
 -- The walk of document 01 for programs in other languages: the leaves from a place on, as records of bytes that are written into a buffer.
-use Prim.Native.Nat.{ℕ, _/_, _%_}
+use Prim.Native.Nat.{ℕ, _/_}
 use mathlib.Core.Bool.{Bool, true, false}
 use mathlib.Core.List.{List, [], _∷_, _++_, map}
 use lib.ListN.{length, take, drop, replicate}
-use Rattle.spec.specs.Bytes.{Bytes, concat, low-first}
+use Rattle.spec.specs.Bytes.{Bytes, concat, le32, low-first}
 use Rattle.spec.specs.Leaves.{Leaf}
 use Rattle.spec.specs.Nodes.{read-leaves}
 use Rattle.spec.specs.Answer.{Outcome, refuse, success}
@@ -11,9 +11,9 @@ use Rattle.spec.specs.Walk.{Stand, refused, leaf, done, open-walk}
 
 -- ---- a leaf as a record
 
--- the bytes of a record: its kind and its key's length, 64 bytes for the cut key, two for the suffix
+-- the bytes of a record: its kind and its key's length, 64 bytes for the cut key, four for the suffix
 abbrev pub record-size : ℕ
-record-size = 68
+record-size = 70
 
 -- the byte of a leaf's kind: 1 exact, 2 open
 abbrev pub kind-byte : Bool → ℕ
@@ -24,14 +24,10 @@ kind-byte false = 2
 abbrev pub cut-field : Bytes → Bytes
 cut-field k = take 64 (k ++ replicate 64 0)
 
--- a number below 2^16 as two bytes, the low one first
-abbrev pub le16 : ℕ → Bytes
-le16 x = x % 256 ∷ x / 256 ∷ []
-
--- The kind, the cut key's length, the cut key with zeros behind it, and the suffix as a number whose lowest bit is the first.
+-- The kind, the cut key's length, the cut key with zeros behind it, and the suffix, of up to 32 bits, as a number whose lowest bit is the first.
 unfoldable pub leaf-record : Leaf → Bytes
-unfolding low-first
-leaf-record l = kind-byte (l .exact) ∷ length (l .cut) ∷ (cut-field (l .cut) ++ le16 (low-first (l .suffix)))
+unfolding le32 low-first
+leaf-record l = kind-byte (l .exact) ∷ length (l .cut) ∷ (cut-field (l .cut) ++ le32 (low-first (l .suffix)))
 
 -- the records of leaves, one behind the other
 unfoldable pub leaf-records : List Leaf → Bytes

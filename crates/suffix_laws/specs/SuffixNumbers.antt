@@ -1,17 +1,19 @@
--- The bits of a key behind its cut as a number, the first bit lowest, from the two bytes there in the other order. Used where slots are written and where keys are compared with them.
+-- The suffix of a key as a number, the first bit lowest: its real bits from the two bytes behind its cut in the other order, and its hash bits from its hash. Used where slots are written and where keys are compared with them.
 use Prim.Native.Nat.{ℕ, _+_, _*_, _-_, _%_, _^_, _≤_, _<_}
 use mathlib.Core.Path.{_≡_, refl, sym, ap, _∙_}
 use mathlib.Core.List.{[], _∷_}
 use native.Mathlib.Omega.{arith}
-use native.Mathlib.Nat.{lt-of-lt-of-le}
+use native.Mathlib.Nat.{lt-of-lt-of-le, mul-comm}
 use lib.ListN.{length, getD, drop}
 use lib.Seq.{getD-drop}
 use lib.Pow.{mod-mod-pow, pow-mono}
 use Rattle.spec.specs.Bytes.{Bytes, low-first, high-first, bits-of}
-use Rattle.spec.specs.Leaves.{bits-behind}
-use Rattle.theory.specs.KeyLeaves.{length-padded}
+use Rattle.spec.specs.Fnv.{hash}
+use Rattle.spec.specs.Leaves.{bits-behind, hash-bits, suffix-bits}
+use Rattle.theory.specs.KeyLeaves.{length-padded, length-hash-bits, length-suffix}
 use Rattle.bits_laws.specs.Bits.{reversed}
 use Rattle.bits_laws.specs.NumberLaws.{low-padded, low-append, low-lt}
+use Rattle.bits_laws.specs.UnpackLaws.{low-number}
 
 bits-first : (xs : Bytes) → low-first (bits-of xs) ≡ reversed (getD xs 0 0) + 256 * low-first (bits-of (drop 1 xs))
 unfolding low-first bits-of high-first
@@ -44,3 +46,25 @@ suffix-number n c a b k h e f =
 -- it has at most 16 bits
 pub suffix-small : (n c : ℕ) (k : Bytes) → n ≤ 16 → low-first (bits-behind n c k) < 65536
 suffix-small n c k h = lt-of-lt-of-le (rw (length-behind n c k) at (low-lt (bits-behind n c k))) (pow-mono h)
+
+-- ---- with hash bits
+
+-- the number of a key's h hash bits
+pub hash-number : (h : ℕ) (k : Bytes) → low-first (hash-bits h k) ≡ hash k % 2 ^ h
+unfolding hash-bits
+hash-number h k = low-number h (hash k)
+
+-- the number of a key's whole suffix: its hash bits are the lowest
+pub whole-number : (h n c : ℕ) (k : Bytes) → low-first (suffix-bits h n c k) ≡ low-first (hash-bits h k) + low-first (bits-behind n c k) * 2 ^ h
+unfolding suffix-bits
+whole-number h n c k =
+    let r : ℕ = low-first (bits-behind n c k) in
+    low-append (hash-bits h k) (bits-behind n c k) ∙ ap (λ (i : ℕ). low-first (hash-bits h k) + 2 ^ i * r) (length-hash-bits h k) ∙ ap (λ (i : ℕ). low-first (hash-bits h k) + i) (mul-comm (2 ^ h) r)
+
+-- of at most 16 hash bits and 16 real bits it has at most 32
+pub whole-short : (h n c : ℕ) (k : Bytes) → h ≤ 16 → n ≤ 16 → length (suffix-bits h n c k) ≤ 32
+whole-short h n c k a b = omega (arith, length-suffix h n c k)
+
+-- so its number is below 2^32
+pub whole-small : (h n c : ℕ) (k : Bytes) → h ≤ 16 → n ≤ 16 → low-first (suffix-bits h n c k) < 4294967296
+whole-small h n c k a b = lt-of-lt-of-le (low-lt (suffix-bits h n c k)) (pow-mono (whole-short h n c k a b))

@@ -11,7 +11,7 @@ use lib.Dec.{eqb, leb}
 use borrow.Author.Tests.{eqb-true, leb-true}
 use Rattle.spec.specs.Bytes.{Bytes, iota, clear, unpack, pack, blocks, ones, all, concat, equal}
 use Rattle.spec.specs.Leaves.{Leaf}
-use Rattle.spec.specs.Image.{Settings, known-version, image, ranks, samples, header, rows, level-rows, version-rows, in-order, level-bodies, write-records, sizes, Counts, Bodies}
+use Rattle.spec.specs.Image.{Settings, slot-width, known-version, image, ranks, samples, header, rows, level-rows, version-rows, in-order, level-bodies, write-records, sizes, Counts, Bodies}
 use Rattle.spec.specs.Frame.{parts, has-header, rows-of, read-settings, Parts, named}
 use Rattle.spec.specs.Nodes.{levels-of, nodes-of, Node, slotted, dense-shapes, sparse-shape, sparse-nodes, extra-ends, Sparse, zip-entries, entry-label, continues, is-exact}
 use Rattle.spec.specs.Trie.{builders-trie, first-set, covered, nodes-valid, leaf-count}
@@ -72,7 +72,7 @@ record Bits-read (p : Parts) (b : Bodies) : Type 0 where
   sl-size : length (p .sl) ≡ p .counts .sparse-entries
   sc-size : length (p .sc) ≡ p .counts .sparse-entries
   sb-size : length (p .sb) ≡ p .counts .sparse-entries
-  sv-size : length (p .sv) ≡ p .counts .leaves * p .settings .width
+  sv-size : length (p .sv) ≡ p .counts .leaves * slot-width (p .settings)
   sl-bytes : Is-bytes (p .sl)
   DL-is : pack (p .dl) ≡ b .DL
   DC-is : pack (p .dc) ≡ b .DC
@@ -82,22 +82,22 @@ record Bits-read (p : Parts) (b : Bodies) : Type 0 where
   SB-is : pack (p .sb) ≡ b .SB
   SV-is : pack (p .sv) ≡ b .SV
 
-header-tests : (s : Bytes) (p : Parts) (bs : List Bytes) → header-valid s p bs ≡ true
-    → Passed (known-version (p .settings .version) ∷ leb (p .settings .dense-levels) 4 ∷ leb (p .settings .width) 16 ∷ eqb (getD s 5 0) 0 ∷ leb (p .counts .leaves) 65535 ∷ sized (sizes (p .settings) (p .counts)) (take 12 bs) ∷ [])
+header-tests : (p : Parts) (bs : List Bytes) → header-valid p bs ≡ true
+    → Passed (known-version (p .settings .version) ∷ leb (p .settings .dense-levels) 4 ∷ leb (p .settings .real-width) 16 ∷ leb (p .settings .hash-width) 16 ∷ leb (p .counts .leaves) 65535 ∷ sized (sizes (p .settings) (p .counts)) (take 12 bs) ∷ [])
 unfolding header-valid
-header-tests s p bs h = every-true (known-version (p .settings .version) ∷ leb (p .settings .dense-levels) 4 ∷ leb (p .settings .width) 16 ∷ eqb (getD s 5 0) 0 ∷ leb (p .counts .leaves) 65535 ∷ sized (sizes (p .settings) (p .counts)) (take 12 bs) ∷ []) h
+header-tests p bs h = every-true (known-version (p .settings .version) ∷ leb (p .settings .dense-levels) 4 ∷ leb (p .settings .real-width) 16 ∷ leb (p .settings .hash-width) 16 ∷ leb (p .counts .leaves) 65535 ∷ sized (sizes (p .settings) (p .counts)) (take 12 bs) ∷ []) h
 
 spare-tests : (p : Parts) (b : Bodies) → spare-clear p b ≡ true
-    → Passed (no-spare (p .counts .dense-nodes) (b .DP) ∷ no-spare (p .counts .sparse-entries) (b .SC) ∷ no-spare (p .counts .sparse-entries) (b .SB) ∷ no-spare (p .counts .leaves * p .settings .width) (b .SV) ∷ [])
+    → Passed (no-spare (p .counts .dense-nodes) (b .DP) ∷ no-spare (p .counts .sparse-entries) (b .SC) ∷ no-spare (p .counts .sparse-entries) (b .SB) ∷ no-spare (p .counts .leaves * slot-width (p .settings)) (b .SV) ∷ [])
 unfolding spare-clear
-spare-tests p b h = every-true (no-spare (p .counts .dense-nodes) (b .DP) ∷ no-spare (p .counts .sparse-entries) (b .SC) ∷ no-spare (p .counts .sparse-entries) (b .SB) ∷ no-spare (p .counts .leaves * p .settings .width) (b .SV) ∷ []) h
+spare-tests p b h = every-true (no-spare (p .counts .dense-nodes) (b .DP) ∷ no-spare (p .counts .sparse-entries) (b .SC) ∷ no-spare (p .counts .sparse-entries) (b .SB) ∷ no-spare (p .counts .leaves * slot-width (p .settings)) (b .SV) ∷ []) h
 
 dense-body : (n : ℕ) (s : Bytes) → Is-bytes s → length s ≡ 32 * n → (length (take (256 * n) (unpack s)) ≡ 256 * n) × (pack (take (256 * n) (unpack s)) ≡ s)
 dense-body n s w h = pack-unpack (256 * n) s w (omega arith) (no-spare-whole (256 * n) s (omega arith))
 
 twelve-sizes : (st : Settings) (c : Counts) (bs : List Bytes) → sized (sizes st c) bs ≡ true
     → (length (named bs .DL) ≡ 32 * c .dense-nodes) × (length (named bs .DC) ≡ 32 * c .dense-nodes) × (length (named bs .DP) ≡ blocks 8 (c .dense-nodes)) × (length (named bs .SL) ≡ c .sparse-entries)
-    × (length (named bs .SC) ≡ blocks 8 (c .sparse-entries)) × (length (named bs .SB) ≡ blocks 8 (c .sparse-entries)) × (length (named bs .SV) ≡ blocks 8 (c .leaves * st .width)) × (length bs ≡ 12)
+    × (length (named bs .SC) ≡ blocks 8 (c .sparse-entries)) × (length (named bs .SB) ≡ blocks 8 (c .sparse-entries)) × (length (named bs .SV) ≡ blocks 8 (c .leaves * slot-width st)) × (length bs ≡ 12)
 unfolding sizes rows named
 twelve-sizes st c bs h = (sized-at 0 _ bs h, sized-at 1 _ bs h, sized-at 2 _ bs h, sized-at 3 _ bs h, sized-at 4 _ bs h, sized-at 5 _ bs h, sized-at 6 _ bs h, sized-length _ bs h)
 
@@ -108,7 +108,7 @@ named-first bs h =
 
 body-sizes : (st : Settings) (c : Counts) (bs : List Bytes) → sized (sizes st c) (take 12 bs) ≡ true
     → (length (named bs .DL) ≡ 32 * c .dense-nodes) × (length (named bs .DC) ≡ 32 * c .dense-nodes) × (length (named bs .DP) ≡ blocks 8 (c .dense-nodes)) × (length (named bs .SL) ≡ c .sparse-entries)
-    × (length (named bs .SC) ≡ blocks 8 (c .sparse-entries)) × (length (named bs .SB) ≡ blocks 8 (c .sparse-entries)) × (length (named bs .SV) ≡ blocks 8 (c .leaves * st .width)) × (length (take 12 bs) ≡ 12)
+    × (length (named bs .SC) ≡ blocks 8 (c .sparse-entries)) × (length (named bs .SB) ≡ blocks 8 (c .sparse-entries)) × (length (named bs .SV) ≡ blocks 8 (c .leaves * slot-width st)) × (length (take 12 bs) ≡ 12)
 body-sizes st c bs h = let z = twelve-sizes st c (take 12 bs) h in rw (named-first bs (z .7)) z
 
 bits-read : (s : Bytes) (bs : List Bytes) → All Is-bytes bs → sized (sizes (parts s (named bs) .settings) (parts s (named bs) .counts)) (take 12 bs) ≡ true → spare-clear (parts s (named bs)) (named bs) ≡ true
@@ -124,7 +124,7 @@ bits-read s bs a h t =
     let b₂ = pack-unpack (p .counts .dense-nodes) (b .DP) (bytes-at 2 bs a) (z .2) (u .0) in
     let b₄ = pack-unpack (p .counts .sparse-entries) (b .SC) (bytes-at 4 bs a) (z .4) (u .1 .0) in
     let b₅ = pack-unpack (p .counts .sparse-entries) (b .SB) (bytes-at 5 bs a) (z .5) (u .1 .1 .0) in
-    let b₆ = pack-unpack (p .counts .leaves * p .settings .width) (b .SV) (bytes-at 6 bs a) (z .6) (u .1 .1 .1 .0) in
+    let b₆ = pack-unpack (p .counts .leaves * slot-width (p .settings)) (b .SV) (bytes-at 6 bs a) (z .6) (u .1 .1 .1 .0) in
     record {
       dl-size = b₀ .0;
       dc-size = b₁ .0;
@@ -147,28 +147,28 @@ bits-read s bs a h t =
 
 -- the dense nodes of parts
 dense-part : Parts → List Node
-dense-part p = slotted (p .settings .width) (dense-shapes (p .dl) (p .dc) (p .dp)) (p .sv)
+dense-part p = slotted (slot-width (p .settings)) (dense-shapes (p .dl) (p .dc) (p .dp)) (p .sv)
 
 -- the sparse nodes of parts
 sparse-part : Parts → List Node
-sparse-part p = slotted (p .settings .width) (map sparse-shape (sparse-nodes p)) (past-nodes (p .settings .width) (dense-shapes (p .dl) (p .dc) (p .dp)) (p .sv))
+sparse-part p = slotted (slot-width (p .settings)) (map sparse-shape (sparse-nodes p)) (past-nodes (slot-width (p .settings)) (dense-shapes (p .dl) (p .dc) (p .dp)) (p .sv))
 
 nodes-split : (p : Parts) → nodes-of p ≡ dense-part p ++ sparse-part p
 unfolding nodes-of dense-part sparse-part
-nodes-split p = slotted-append (p .settings .width) (dense-shapes (p .dl) (p .dc) (p .dp)) (map sparse-shape (sparse-nodes p)) (p .sv)
+nodes-split p = slotted-append (slot-width (p .settings)) (dense-shapes (p .dl) (p .dc) (p .dp)) (map sparse-shape (sparse-nodes p)) (p .sv)
 
 trie-tests : (p : Parts) → builders-trie p ≡ true
     → Passed (first-set (p .sb) ∷ eqb (ones (p .sb)) (p .counts .sparse-nodes) ∷ covered (p .dc) (p .dl) ∷ all extra-ends (sparse-nodes p) ∷ nodes-valid (p .settings .dense-levels) (p .counts .dense-nodes) (p .counts .leaves) (nodes-of p) ∷ [])
 unfolding builders-trie
 trie-tests p h = every-true (first-set (p .sb) ∷ eqb (ones (p .sb)) (p .counts .sparse-nodes) ∷ covered (p .dc) (p .dl) ∷ all extra-ends (sparse-nodes p) ∷ nodes-valid (p .settings .dense-levels) (p .counts .dense-nodes) (p .counts .leaves) (nodes-of p) ∷ []) h
 
-nodes-slots-width : (p : Parts) → length (p .sv) ≡ leaf-count (nodes-of p) * p .settings .width → All (Slots-width (p .settings .width)) (nodes-of p)
+nodes-slots-width : (p : Parts) → length (p .sv) ≡ leaf-count (nodes-of p) * slot-width (p .settings) → All (Slots-width (slot-width (p .settings))) (nodes-of p)
 unfolding nodes-of
-nodes-slots-width p h = slots-width (p .settings .width) (dense-shapes (p .dl) (p .dc) (p .dp) ++ map sparse-shape (sparse-nodes p)) (p .sv) h .0
+nodes-slots-width p h = slots-width (slot-width (p .settings)) (dense-shapes (p .dl) (p .dc) (p .dp) ++ map sparse-shape (sparse-nodes p)) (p .sv) h .0
 
-nodes-slots : (p : Parts) → length (p .sv) ≡ leaf-count (nodes-of p) * p .settings .width → concat (map slots (nodes-of p)) ≡ p .sv
+nodes-slots : (p : Parts) → length (p .sv) ≡ leaf-count (nodes-of p) * slot-width (p .settings) → concat (map slots (nodes-of p)) ≡ p .sv
 unfolding nodes-of
-nodes-slots p h = slot-bits (p .settings .width) (dense-shapes (p .dl) (p .dc) (p .dp) ++ map sparse-shape (sparse-nodes p)) (p .sv) h
+nodes-slots p h = slot-bits (slot-width (p .settings)) (dense-shapes (p .dl) (p .dc) (p .dp) ++ map sparse-shape (sparse-nodes p)) (p .sv) h
 
 -- the nodes have the bits, as many as the counts say, and are the trie of a leaf list
 record Nodes-read (p : Parts) : Type 0 where
@@ -178,9 +178,9 @@ record Nodes-read (p : Parts) : Type 0 where
   whole : nodes-of p ≡ D ++ S
   dense-size : length D ≡ p .counts .dense-nodes
   sparse-size : length S ≡ p .counts .sparse-nodes
-  tree : Trie-of-list (p .settings .dense-levels) (p .settings .width) (p .counts .leaves) D S
+  tree : Trie-of-list (p .settings .dense-levels) (p .settings .hash-width) (slot-width (p .settings)) (p .counts .leaves) D S
 
-nodes-read : (p : Parts) (b : Bodies) → Bits-read p b → builders-trie p ≡ true → slots-valid 0 (levels-of (nodes-of p)) ≡ true → Nodes-read p
+nodes-read : (p : Parts) (b : Bodies) → Bits-read p b → builders-trie p ≡ true → slots-valid (p .settings .hash-width) 0 (levels-of (nodes-of p)) ≡ true → Nodes-read p
 unfolding dense-part sparse-part sparse-nodes
 nodes-read p v u h c =
     let t = trie-tests p h in
@@ -188,27 +188,27 @@ nodes-read p v u h c =
     let D : List Node = dense-part p in
     let S : List Node = sparse-part p in
     let split : nodes-of p ≡ D ++ S = nodes-split p in
-    let dense = dense-bits (p .settings .width) (p .dl) (p .dc) (p .dp) (p .sv) (u .dl-size ∙ ap (λ (k : ℕ). 256 * k) (sym (u .dp-size))) (u .dc-size ∙ ap (λ (k : ℕ). 256 * k) (sym (u .dp-size))) (t .1 .1 .0) in
-    let sparse = sparse-bits (p .settings .width) cs (past-nodes (p .settings .width) (dense-shapes (p .dl) (p .dc) (p .dp)) (p .sv)) (t .1 .1 .1 .0) in
+    let dense = dense-bits (slot-width (p .settings)) (p .dl) (p .dc) (p .dp) (p .sv) (u .dl-size ∙ ap (λ (k : ℕ). 256 * k) (sym (u .dp-size))) (u .dc-size ∙ ap (λ (k : ℕ). 256 * k) (sym (u .dp-size))) (t .1 .1 .0) in
+    let sparse = sparse-bits (slot-width (p .settings)) cs (past-nodes (slot-width (p .settings)) (dense-shapes (p .dl) (p .dc) (p .dp)) (p .sv)) (t .1 .1 .1 .0) in
     let z = zip-entries-back (p .sl) (p .sc) (u .sl-size ∙ sym (u .sc-size)) in
     let k = split-back (zip-entries (p .sl) (p .sc)) (p .sb) (u .sb-size ∙ sym (u .sc-size) ∙ sym (z .2)) (t .0) in
     let labels : concat (map sparse-labels S) ≡ p .sl = sparse .labels ∙ ap (map entry-label) (k .0) ∙ z .0 in
     let children : concat (map sparse-has-child S) ≡ p .sc = sparse .children ∙ ap (map continues) (k .0) ∙ z .1 in
     let louds : concat (map louds S) ≡ p .sb = sparse .louds ∙ k .1 in
     let b : nodes-valid (p .settings .dense-levels) (p .counts .dense-nodes) (p .counts .leaves) (nodes-of p) ≡ true = t .1 .1 .1 .1 .0 in
-    let whole : length (p .sv) ≡ leaf-count (nodes-of p) * p .settings .width = u .sv-size ∙ ap (λ (k : ℕ). k * p .settings .width) (sym (nodes-valid-leaves (p .settings .dense-levels) (p .counts .dense-nodes) (p .counts .leaves) (nodes-of p) b)) in
-    let wide : All (Slots-width (p .settings .width)) (nodes-of p) = nodes-slots-width p whole in
+    let whole : length (p .sv) ≡ leaf-count (nodes-of p) * slot-width (p .settings) = u .sv-size ∙ ap (λ (k : ℕ). k * slot-width (p .settings)) (sym (nodes-valid-leaves (p .settings .dense-levels) (p .counts .dense-nodes) (p .counts .leaves) (nodes-of p) b)) in
+    let wide : All (Slots-width (slot-width (p .settings))) (nodes-of p) = nodes-slots-width p whole in
     let slot-all : concat (map slots (D ++ S)) ≡ p .sv = ap (λ (z : List Node). concat (map slots z)) (sym split) ∙ nodes-slots p whole in
     let size : length D ≡ p .counts .dense-nodes = sym (length-map D is-exact) ∙ ap length (dense .prefix-keys) ∙ u .dp-size in
-    let small : All Byte-labels (D ++ S) = all-append Byte-labels D S (dense-byte-labels (p .settings .width) (p .dl) (p .dc) (p .dp) (p .sv)) (sparse-byte-labels S (rw labels (u .sl-bytes))) in
+    let small : All Byte-labels (D ++ S) = all-append Byte-labels D S (dense-byte-labels (slot-width (p .settings)) (p .dl) (p .dc) (p .dp) (p .sv)) (sparse-byte-labels S (rw labels (u .sl-bytes))) in
     record {
       D = D;
       S = S;
       bits = bodies-bits D S ∙ rw (dense .labels, dense .children, dense .prefix-keys, labels, children, louds, slot-all);
       whole = split;
       dense-size = size;
-      sparse-size = length-slotted (p .settings .width) (map sparse-shape cs) _ ∙ length-map cs sparse-shape ∙ k .2 ∙ eqb-true (ones (p .sb)) (p .counts .sparse-nodes) (t .1 .0);
-      tree = trie-of-list (p .settings .dense-levels) (p .settings .width) (p .counts .leaves) D S (rw (size, ← split) b) (rw split at wide) small (rw split at c);
+      sparse-size = length-slotted (slot-width (p .settings)) (map sparse-shape cs) _ ∙ length-map cs sparse-shape ∙ k .2 ∙ eqb-true (ones (p .sb)) (p .counts .sparse-nodes) (t .1 .0);
+      tree = trie-of-list (p .settings .dense-levels) (p .settings .hash-width) (slot-width (p .settings)) (p .counts .leaves) D S (rw (size, ← split) b) (rw split at wide) small (rw split at c);
     }
 
 -- ---- acceptance
@@ -256,12 +256,11 @@ version-is : (s : Bytes) (b : Bodies) → getD s 2 0 ≡ parts s b .settings .ve
 unfolding parts read-settings
 version-is s b = refl
 
-header-of : (s : Bytes) (b : Bodies) (bs : List Bytes) → Is-bytes s → has-header s ≡ true → header-valid s (parts s b) bs ≡ true → take 22 s ≡ header (parts s b .settings) (parts s b .counts)
+header-of : (s : Bytes) (b : Bodies) → Is-bytes s → has-header s ≡ true → take 22 s ≡ header (parts s b .settings) (parts s b .counts)
 unfolding parts
-header-of s b bs w h t =
+header-of s b w h =
     let a = has-header-tests s h in
-    let v = header-tests s (parts s b) bs t in
-    header-from-fields s w (leb-true 22 (length s) (a .0)) (eqb-true (getD s 0 0) 72 (a .1 .0)) (eqb-true (getD s 1 0) 68 (a .1 .1 .0)) (eqb-true (getD s 5 0) 0 (v .1 .1 .1 .0))
+    header-from-fields s w (leb-true 22 (length s) (a .0)) (eqb-true (getD s 0 0) 72 (a .1 .0)) (eqb-true (getD s 1 0) 68 (a .1 .1 .0))
 
 -- the bodies of a version: the twelve, and the one behind them where it passed
 bodies-whole : (p : Parts) (bs : List Bytes) → Paired (version-rows (p .settings .version)) bs → starts-valid p bs ≡ true → bs ≡ take 12 bs ++ level-bodies (p .settings .version) (map length (levels-of (nodes-of p)))
@@ -283,6 +282,7 @@ image-parts p bs r f e z =
 
 -- A byte string that the check accepts is the image of a buildable leaf list.
 pub accepted-is-image : (b : Bytes) → Is-bytes b → verdict b ≡ 0 → Image-of-leaves b
+unfolding parts read-settings
 accepted-is-image s w h =
     let v = verdict-passes s h in
     let bs : List Bytes = v .0 in
@@ -291,7 +291,7 @@ accepted-is-image s w h =
     let p15 = v .1 .before in
     let p13 = p15 .before .before in
     let p12 = p13 .before in
-    let t = header-tests s p bs (p12 .header) in
+    let t = header-tests p bs (p12 .header) in
     let sz : sized (sizes (p .settings) (p .counts)) (take 12 bs) ≡ true = t .1 .1 .1 .1 .1 .0 in
     let few = body-sizes (p .settings) (p .counts) bs sz .7 in
     let paired : Paired (rows-of s) bs = read-paired (rows-of s) (drop 22 s) bs (p12 .before .bodies) in
@@ -305,10 +305,12 @@ accepted-is-image s w h =
     let f : Buildable (p .settings) (g .leaves) = record {
       version-known = t .0;
       dense-range = leb-true (p .settings .dense-levels) 4 (t .1 .0);
-      width-range = leb-true (p .settings .width) 16 (t .1 .1 .0);
+      real-range = leb-true (p .settings .real-width) 16 (t .1 .1 .0);
+      hash-range = leb-true (p .settings .hash-width) 16 (t .1 .1 .1 .0);
       few = let e : length (g .leaves) ≡ p .counts .leaves = g .size in omega (arith, leb-true (p .counts .leaves) 65535 (t .1 .1 .1 .1 .0));
       realizable = g .realizable;
       well-sized = g .well-sized;
+      spare = g .spare;
     } in
     let whole = bodies-whole p bs (subst (λ (v : ℕ). Paired (version-rows v) bs) (version-is s b) paired) (tables .1) in
     let laid-out : image (p .settings) (g .leaves) ≡ header (p .settings) (p .counts) ++ write-records (rows-of s) bs =
@@ -317,5 +319,5 @@ accepted-is-image s w h =
       settings = p .settings;
       leaves = g .leaves;
       fits = f;
-      image-is = sym (take-append-drop 22 s) ∙ ap₂ _++_ (header-of s b bs w (p12 .before .header) (p12 .header)) rest ∙ sym laid-out;
+      image-is = sym (take-append-drop 22 s) ∙ ap₂ _++_ (header-of s b w (p12 .before .header)) rest ∙ sym laid-out;
     }

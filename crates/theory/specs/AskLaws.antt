@@ -6,16 +6,17 @@ use mathlib.Core.Bool.{cond, Bool, true, false}
 use mathlib.Core.List.{List, [], _∷_, _++_, append-assoc}
 use mathlib.Core.Option.{some}
 use native.Mathlib.Omega.{arith}
-use lib.ListN.{length, getD, drop, getElem?}
+use lib.ListN.{length, getD, drop, getElem?, length-map}
 use lib.Seq.{take-append-seam, drop-append-seam}
 use lib.Dec.{ltb, eqb}
 use borrow.Author.Tests.{ltb-true, ltb-false, lt-ltb, le-ltb}
 use Rattle.spec.specs.Bytes.{Bytes, any, bit, concat, le32, from32, ascii}
 use Rattle.spec.specs.Keys.{below}
-use Rattle.spec.specs.Leaves.{Leaf, possible, lowest, highest}
+use Rattle.spec.specs.Leaves.{Leaf, real, reals, lowest, highest}
+use Rattle.spec.specs.Frame.{read-settings}
 use Rattle.spec.specs.Nodes.{read-leaves}
 use Rattle.spec.specs.Rules.{Rule, rule, rule-number}
-use Rattle.spec.specs.Questions.{Sought, point, range, stem-end, begins-with, counted, meets, greater, seek, seek-from, found, Question, QP, QS, QB, QR, QC, Reply, keyless, sought, reply, reply-bytes, replies, read-reply, reply-at, Parsed-questions, refused, taken, parse-questions, questions-of}
+use Rattle.spec.specs.Questions.{Sought, may-hold, point, range, stem-end, begins-with, counted, meets, greater, seek, seek-from, found, Question, QP, QS, QB, QR, QC, Reply, keyless, sought, reply, reply-bytes, replies, read-reply, reply-at, Parsed-questions, refused, taken, parse-questions, questions-of}
 use Rattle.spec.specs.Answer.{Outcome, refuse, success, write}
 use Rattle.spec.specs.Check.{verdict}
 use Rattle.spec.specs.Ask.{ask}
@@ -23,7 +24,7 @@ use Rattle.spec.specs.Walk.{Stand, done, stand-at, open-walk, next-place, next}
 use Rattle.spec.specs.Print.{longest-input, decimal, listing, print}
 use Rattle.theory.specs.Terms.{Is-bytes, Bound, Proper, All, Walk-correct, Taken}
 use Rattle.theory.specs.Lists.{count-bound, bytes-append, bytes-le32}
-use Rattle.theory.specs.LeafLists.{All-well-sized}
+use Rattle.theory.specs.LeafLists.{All-real-sized}
 use Rattle.theory.specs.Rules.{rule-number-range}
 use Rattle.theory.specs.SeekLaws.{sought-possible}
 use Rattle.theory.specs.OutcomeLaws.{success-answer, no-written, write-fits, write-short}
@@ -61,26 +62,31 @@ seek-place i (l ∷ ls) start h = go (below (highest l) start) (seek-place (suc 
     go true ih = ih
     go false ih = omega arith
 
+-- as many leaves with their hash bits struck out
+pub reals-length : (H : ℕ) (ls : List Leaf) → length (reals H ls) ≡ length ls
+unfolding reals
+reals-length H ls = length-map ls (real H)
+
 -- the number of a reply over at most 65,535 leaves
-pub number-small : (ls : List Leaf) → length ls ≤ 65535 → (q : Question) → reply ls q .number < 4294967296
+pub number-small : (H : ℕ) (ls : List Leaf) → length ls ≤ 65535 → (q : Question) → reply H ls q .number < 4294967296
 unfolding reply keyless point range begins-with counted seek
-number-small ls h (QP k) = bit-small (any (λ l. possible l k) ls)
-number-small ls h (QS start) = seek-place 0 ls start (omega arith)
-number-small ls h (QB stem) = bit-small (any (meets stem (stem-end stem)) ls)
-number-small ls h (QR lo hi) = bit-small (any (meets lo hi) ls)
-number-small ls h (QC lo hi) = omega (arith, count-bound (meets lo hi) ls)
+number-small H ls h (QP k) = bit-small (any (may-hold H k) ls)
+number-small H ls h (QS start) = seek-place 0 (reals H ls) start (omega (arith, reals-length H ls))
+number-small H ls h (QB stem) = bit-small (any (meets stem (stem-end stem)) (reals H ls))
+number-small H ls h (QR lo hi) = bit-small (any (meets lo hi) (reals H ls))
+number-small H ls h (QC lo hi) = omega (arith, count-bound (meets lo hi) (reals H ls), reals-length H ls)
 
 -- The reply that stands i-th is the i-th question's.
-pub reply-written : (ls : List Leaf) → length ls ≤ 65535 → (i : ℕ) (qs : List Question) (q : Question) (t : Bytes) → getElem? qs i ≡ some q → reply-at i (replies ls qs ++ t) ≡ reply ls q
+pub reply-written : (H : ℕ) (ls : List Leaf) → length ls ≤ 65535 → (i : ℕ) (qs : List Question) (q : Question) (t : Bytes) → getElem? qs i ≡ some q → reply-at i (replies H ls qs ++ t) ≡ reply H ls q
 unfolding reply-at replies concat
-reply-written ls h i [] q t e = let z : _≡_ {A = ℕ} 0 1 = cc in absurd (omega arith)
-reply-written ls h zero (p ∷ qs) q t e =
+reply-written H ls h i [] q t e = let z : _≡_ {A = ℕ} 0 1 = cc in absurd (omega arith)
+reply-written H ls h zero (p ∷ qs) q t e =
     let same : p ≡ q = cc in
-    ap read-reply (append-assoc (reply-bytes (reply ls p)) (replies ls qs) t) ∙ read-reply-bytes (reply ls p) (replies ls qs ++ t) (number-small ls h p) ∙ ap (reply ls) same
-reply-written ls h (suc i) (p ∷ qs) q t e =
-    ap (λ (z : Bytes). reply-at i (drop (getD z 7 0 + 8) z)) (append-assoc (reply-bytes (reply ls p)) (replies ls qs) t)
-    ∙ ap (reply-at i) (drop-reply-bytes (reply ls p) (replies ls qs ++ t))
-    ∙ reply-written ls h i qs q t e
+    ap read-reply (append-assoc (reply-bytes (reply H ls p)) (replies H ls qs) t) ∙ read-reply-bytes (reply H ls p) (replies H ls qs ++ t) (number-small H ls h p) ∙ ap (reply H ls) same
+reply-written H ls h (suc i) (p ∷ qs) q t e =
+    ap (λ (z : Bytes). reply-at i (drop (getD z 7 0 + 8) z)) (append-assoc (reply-bytes (reply H ls p)) (replies H ls qs) t)
+    ∙ ap (reply-at i) (drop-reply-bytes (reply H ls p) (replies H ls qs ++ t))
+    ∙ reply-written H ls h i qs q t e
 
 -- ---- replies are bytes
 
@@ -96,23 +102,23 @@ no-key = record { fits = omega arith; bytes = tt }
 rule-key : (r : Rule) → Bound (rule-number r ∷ [])
 rule-key r = record { fits = omega arith; bytes = (omega (arith, rule-number-range r .1), tt) }
 
-bytes-reply-to : (n : ℕ) (ls : List Leaf) → All-well-sized n ls → (q : Question) → Proper q → Is-bytes (reply-bytes (reply ls q))
+bytes-reply-to : (H n : ℕ) (ls : List Leaf) → All-real-sized n (reals H ls) → (q : Question) → Proper q → Is-bytes (reply-bytes (reply H ls q))
 unfolding reply keyless sought seek
-bytes-reply-to n ls o (QP k) p = bytes-reply (reply ls (QP k)) (omega arith) (rule-key (rule ls k))
-bytes-reply-to n ls o (QB stem) p = bytes-reply (reply ls (QB stem)) (omega arith) no-key
-bytes-reply-to n ls o (QR lo hi) p = bytes-reply (reply ls (QR lo hi)) (omega arith) no-key
-bytes-reply-to n ls o (QC lo hi) p = bytes-reply (reply ls (QC lo hi)) (omega arith) no-key
-bytes-reply-to n ls o (QS start) p = go (seek ls start) refl
+bytes-reply-to H n ls o (QP k) p = bytes-reply (reply H ls (QP k)) (omega arith) (rule-key (rule H ls k))
+bytes-reply-to H n ls o (QB stem) p = bytes-reply (reply H ls (QB stem)) (omega arith) no-key
+bytes-reply-to H n ls o (QR lo hi) p = bytes-reply (reply H ls (QR lo hi)) (omega arith) no-key
+bytes-reply-to H n ls o (QC lo hi) p = bytes-reply (reply H ls (QC lo hi)) (omega arith) no-key
+bytes-reply-to H n ls o (QS start) p = go (seek (reals H ls) start) refl
   where
-    go : (s : Sought) → seek ls start ≡ s → Is-bytes (reply-bytes (sought s))
+    go : (s : Sought) → seek (reals H ls) start ≡ s → Is-bytes (reply-bytes (sought s))
     go Questions.none e = bytes-reply (sought Questions.none) (omega arith) no-key
-    go (found j r) e = let k = sought-possible start p n 0 ls o j r e .0 in bytes-reply (sought (found j r)) (omega arith) (record { fits = k .fits; bytes = k .bytes })
+    go (found j r) e = let k = sought-possible start p n 0 (reals H ls) o j r e .0 in bytes-reply (sought (found j r)) (omega arith) (record { fits = k .fits; bytes = k .bytes })
 
 -- The replies over the leaves of an accepted image are bytes, for questions that are taken.
-pub bytes-replies : (n : ℕ) (ls : List Leaf) → All-well-sized n ls → (qs : List Question) → All Proper qs → Is-bytes (replies ls qs)
+pub bytes-replies : (H n : ℕ) (ls : List Leaf) → All-real-sized n (reals H ls) → (qs : List Question) → All Proper qs → Is-bytes (replies H ls qs)
 unfolding replies concat
-bytes-replies n ls o [] p = tt
-bytes-replies n ls o (q ∷ qs) p = bytes-append (reply-bytes (reply ls q)) (replies ls qs) (bytes-reply-to n ls o q (p .0)) (bytes-replies n ls o qs (p .1))
+bytes-replies H n ls o [] p = tt
+bytes-replies H n ls o (q ∷ qs) p = bytes-append (reply-bytes (reply H ls q)) (replies H ls qs) (bytes-reply-to H n ls o q (p .0)) (bytes-replies H n ls o qs (p .1))
 
 -- ---- ask
 
@@ -122,38 +128,38 @@ questions-of-file file qs h = ap {B = List Question} (λ (a : Parsed-questions).
 
 -- ask, by what its tests say
 pub ask-is : (b file out : Bytes) (v : ℕ) (a : Parsed-questions) → verdict b ≡ v → parse-questions file ≡ a
-    → ask b file out ≡ elim (eqb v 0) [ false ↦ refuse v out | true ↦ elim a [ refused r ↦ refuse r out | taken qs ↦ write 25 (replies (read-leaves b) qs) out ] ]
+    → ask b file out ≡ elim (eqb v 0) [ false ↦ refuse v out | true ↦ elim a [ refused r ↦ refuse r out | taken qs ↦ write 25 (replies (read-settings b .hash-width) (read-leaves b) qs) out ] ]
 unfolding ask
 ask-is b file out v a e f =
-    ap₂ {C = Outcome} (λ (v : ℕ) (a : Parsed-questions). elim (eqb v 0) [ false ↦ refuse v out | true ↦ elim a [ refused r ↦ refuse r out | taken qs ↦ write 25 (replies (read-leaves b) qs) out ] ]) e f
+    ap₂ {C = Outcome} (λ (v : ℕ) (a : Parsed-questions). elim (eqb v 0) [ false ↦ refuse v out | true ↦ elim a [ refused r ↦ refuse r out | taken qs ↦ write 25 (replies (read-settings b .hash-width) (read-leaves b) qs) out ] ]) e f
 
 -- what ask does with a file that it takes
 pub record Answered (b file out : Bytes) : Type 0 where
   pub questions-are : parse-questions file ≡ taken (questions-of file)
-  pub room : length (replies (read-leaves b) (questions-of file)) ≤ length out
-  pub writes : ask b file out ≡ success (replies (read-leaves b) (questions-of file)) out
+  pub room : length (replies (read-settings b .hash-width) (read-leaves b) (questions-of file)) ≤ length out
+  pub writes : ask b file out ≡ success (replies (read-settings b .hash-width) (read-leaves b) (questions-of file)) out
 
 module _ (b file out : Bytes) (v : verdict b ≡ 0) where
   -- a file that is taken is answered
   pub ask-answers : Taken b file out → Answered b file out
   ask-answers t = one (parse-questions file) refl
     where
-      two : (qs : List Question) → parse-questions file ≡ taken qs → (s : Bool) → ltb (length out) (length (replies (read-leaves b) qs)) ≡ s → Answered b file out
-      two qs e true f = no-written 25 (t .0) out (ask b file out) (ask-is b file out 0 (taken qs) v e ∙ write-short 25 (replies (read-leaves b) qs) out (ltb-true (length out) (length (replies (read-leaves b) qs)) f)) (t .1)
+      two : (qs : List Question) → parse-questions file ≡ taken qs → (s : Bool) → ltb (length out) (length (replies (read-settings b .hash-width) (read-leaves b) qs)) ≡ s → Answered b file out
+      two qs e true f = no-written 25 (t .0) out (ask b file out) (ask-is b file out 0 (taken qs) v e ∙ write-short 25 (replies (read-settings b .hash-width) (read-leaves b) qs) out (ltb-true (length out) (length (replies (read-settings b .hash-width) (read-leaves b) qs)) f)) (t .1)
       two qs e false f =
           let q = questions-of-file file qs e in
-          let r = ltb-false (length out) (length (replies (read-leaves b) qs)) f in
-          let w = ask-is b file out 0 (taken qs) v e ∙ write-fits 25 (replies (read-leaves b) qs) out r in
+          let r = ltb-false (length out) (length (replies (read-settings b .hash-width) (read-leaves b) qs)) f in
+          let w = ask-is b file out 0 (taken qs) v e ∙ write-fits 25 (replies (read-settings b .hash-width) (read-leaves b) qs) out r in
           record { questions-are = rw q e; room = rw q r; writes = rw q w }
 
       one : (a : Parsed-questions) → parse-questions file ≡ a → Answered b file out
       one (refused r) e = no-written r (t .0) out (ask b file out) (ask-is b file out 0 (refused r) v e) (t .1)
-      one (taken qs) e = two qs e (ltb (length out) (length (replies (read-leaves b) qs))) refl
+      one (taken qs) e = two qs e (ltb (length out) (length (replies (read-settings b .hash-width) (read-leaves b) qs))) refl
 
   -- a file is taken where none of 21 to 25 applies
-  pub ask-takes : (qs : List Question) → parse-questions file ≡ taken qs → length (replies (read-leaves b) qs) ≤ length out → Taken b file out
+  pub ask-takes : (qs : List Question) → parse-questions file ≡ taken qs → length (replies (read-settings b .hash-width) (read-leaves b) qs) ≤ length out → Taken b file out
   ask-takes qs e h =
-      let a : List ℕ = replies (read-leaves b) qs in
+      let a : List ℕ = replies (read-settings b .hash-width) (read-leaves b) qs in
       (length a, ap (λ (o : Outcome). o .answer) (ask-is b file out 0 (taken qs) v e ∙ write-fits 25 a out h) ∙ success-answer a out)
 
 -- ---- the walk

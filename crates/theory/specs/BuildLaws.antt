@@ -16,7 +16,7 @@ use Rattle.spec.specs.Image.{Settings, known-version, image}
 use Rattle.spec.specs.Answer.{Outcome, refuse, success, write, written}
 use Rattle.spec.specs.Build.{in-range, Judged, turned-down, to-build, judge, Length, bytes, image-length, write-stated, build}
 use Rattle.theory.specs.Terms.{Ascending, Is-bytes, Keys, Key-list}
-use Rattle.theory.specs.KeyLeaves.{leaves-realizable, leaves-well-sized, leaves-length}
+use Rattle.theory.specs.KeyLeaves.{leaves-realizable, leaves-well-sized, leaves-spare-clear, leaves-length}
 use Rattle.theory.specs.KeyFiles.{keys-exactly}
 use Rattle.theory.specs.OutcomeLaws.{no-written, write-fits, write-short, success-answer, success-length, success-written}
 use Rattle.theory.specs.Lists.{and-both}
@@ -31,37 +31,38 @@ keys-of-list list ks h = rw (h, keys-of)
 -- ---- what is judged
 
 -- settings in range
-pub in-range-exactly : (st : Settings) → (in-range st ≡ true) ↔ ((known-version (st .version) ≡ true) × (st .dense-levels ≤ 4) × (st .width ≤ 16))
+pub in-range-exactly : (st : Settings) → (in-range st ≡ true) ↔ ((known-version (st .version) ≡ true) × (st .dense-levels ≤ 4) × (st .real-width ≤ 16) × (st .hash-width ≤ 16))
 unfolding in-range
 in-range-exactly st = (
   λ h.
-      let p = and-both (known-version (st .version) && leb (st .dense-levels) 4) (leb (st .width) 16) h in
+      let m = and-both (known-version (st .version) && leb (st .dense-levels) 4 && leb (st .real-width) 16) (leb (st .hash-width) 16) h in
+      let p = and-both (known-version (st .version) && leb (st .dense-levels) 4) (leb (st .real-width) 16) (m .0) in
       let q = and-both (known-version (st .version)) (leb (st .dense-levels) 4) (p .0) in
-      (q .0, leb-true (st .dense-levels) 4 (q .1), leb-true (st .width) 16 (p .1)),
-  λ p. rw (p .0, le-leb (st .dense-levels) 4 (p .1), le-leb (st .width) 16 (p .2)),
+      (q .0, leb-true (st .dense-levels) 4 (q .1), leb-true (st .real-width) 16 (p .1), leb-true (st .hash-width) 16 (m .1)),
+  λ p. rw (p .0, le-leb (st .dense-levels) 4 (p .1), le-leb (st .real-width) 16 (p .2), le-leb (st .hash-width) 16 (p .3)),
 )
 
 -- what is judged, by what the tests say
 pub judge-is : (list : Bytes) (st : Settings) (t : Bool) (p : Parsed-keys) → in-range st ≡ t → parse-keys list ≡ p
-    → judge list st ≡ elim t [ false ↦ turned-down 5 | true ↦ elim p [ refused r ↦ turned-down r | keys ks ↦ to-build (image st (leaves (st .width) ks)) ] ]
+    → judge list st ≡ elim t [ false ↦ turned-down 5 | true ↦ elim p [ refused r ↦ turned-down r | keys ks ↦ to-build (image st (leaves (st .hash-width) (st .real-width) ks)) ] ]
 unfolding judge
 judge-is list st t p e f =
-    ap₂ {C = Judged} (λ (t : Bool) (p : Parsed-keys). elim t [ false ↦ turned-down 5 | true ↦ elim p [ refused r ↦ turned-down r | keys ks ↦ to-build (image st (leaves (st .width) ks)) ] ]) e f
+    ap₂ {C = Judged} (λ (t : Bool) (p : Parsed-keys). elim t [ false ↦ turned-down 5 | true ↦ elim p [ refused r ↦ turned-down r | keys ks ↦ to-build (image st (leaves (st .hash-width) (st .real-width) ks)) ] ]) e f
 
 -- the literal image of the leaves is to be built from a key list, with settings in range
-pub judge-keys : (list : Bytes) (st : Settings) (ks : List Bytes) → in-range st ≡ true → parse-keys list ≡ keys ks → judge list st ≡ to-build (image st (leaves (st .width) ks))
+pub judge-keys : (list : Bytes) (st : Settings) (ks : List Bytes) → in-range st ≡ true → parse-keys list ≡ keys ks → judge list st ≡ to-build (image st (leaves (st .hash-width) (st .real-width) ks))
 judge-keys list st ks r p = judge-is list st true (keys ks) r p
 
 -- and nothing else is
 pub judged-keys : (list : Bytes) (st : Settings) (b : Bytes) → judge list st ≡ to-build b
-    → (in-range st ≡ true) × (ks : List Bytes) × (parse-keys list ≡ keys ks) × (b ≡ image st (leaves (st .width) ks))
+    → (in-range st ≡ true) × (ks : List Bytes) × (parse-keys list ≡ keys ks) × (b ≡ image st (leaves (st .hash-width) (st .real-width) ks))
 judged-keys list st b h = one (in-range st) refl (parse-keys list) refl
   where
     none : {A : Type 0} (q : ℕ) → judge list st ≡ turned-down q → A
     none q e = let z : _≡_ {A = ℕ} 0 1 = cc in absurd (omega arith)
 
     one : (t : Bool) → in-range st ≡ t → (p : Parsed-keys) → parse-keys list ≡ p
-        → (in-range st ≡ true) × (ks : List Bytes) × (parse-keys list ≡ keys ks) × (b ≡ image st (leaves (st .width) ks))
+        → (in-range st ≡ true) × (ks : List Bytes) × (parse-keys list ≡ keys ks) × (b ≡ image st (leaves (st .hash-width) (st .real-width) ks))
     one false e p f = none 5 (judge-is list st false p e f)
     one true e (refused q) f = none q (judge-is list st true (refused q) e f)
     one true e (keys ks) f = let j = judge-keys list st ks e f in (e, ks, f, cc)
@@ -104,9 +105,9 @@ stated-right stated b out h = rw (eq-eqb stated (length b) h, write-stated)
 
 -- From a key list, with settings in range and the image's length, build writes the literal image of its leaves, or gives 7.
 pub build-writes : (list : Bytes) (st : Settings) (ks : List Bytes) (out : Bytes) → in-range st ≡ true → parse-keys list ≡ keys ks
-    → build list st (length (image st (leaves (st .width) ks))) out ≡ write 7 (image st (leaves (st .width) ks)) out
+    → build list st (length (image st (leaves (st .hash-width) (st .real-width) ks))) out ≡ write 7 (image st (leaves (st .hash-width) (st .real-width) ks)) out
 build-writes list st ks out r p =
-    let b : Bytes = image st (leaves (st .width) ks) in
+    let b : Bytes = image st (leaves (st .hash-width) (st .real-width) ks) in
     build-is list st (length b) out (to-build b) (judge-keys list st ks r p) ∙ stated-right (length b) b out refl
 
 -- what a success of build says: an image is to be built, its length is the one stated, and it is written
@@ -155,7 +156,8 @@ built-length list st stated out n h =
 pub record Built-from (st : Settings) (ks : List Bytes) : Type 0 where
   pub version-known : known-version (st .version) ≡ true
   pub dense-range : st .dense-levels ≤ 4
-  pub width-range : st .width ≤ 16
+  pub real-range : st .real-width ≤ 16
+  pub hash-range : st .hash-width ≤ 16
   pub few : length ks ≤ 65535
   pub keys : Keys ks
   pub up : Ascending ks
@@ -164,22 +166,24 @@ pub record Built-from (st : Settings) (ks : List Bytes) : Type 0 where
 pub built-from : (st : Settings) (list : Bytes) (ks : List Bytes) → in-range st ≡ true → Key-list list ks → Built-from st ks
 built-from st list ks e l =
     let r = in-range-exactly st .0 e in
-    record { version-known = r .0; dense-range = r .1; width-range = r .2; few = l .few; keys = l .each; up = l .up }
+    record { version-known = r .0; dense-range = r .1; real-range = r .2; hash-range = r .3; few = l .few; keys = l .each; up = l .up }
 
 -- The leaves of such keys fit: their image is accepted and read back.
-pub built-fits : (st : Settings) (ks : List Bytes) → Built-from st ks → Buildable st (leaves (st .width) ks)
+pub built-fits : (st : Settings) (ks : List Bytes) → Built-from st ks → Buildable st (leaves (st .hash-width) (st .real-width) ks)
 built-fits st ks b = record {
   version-known = b .version-known;
   dense-range = b .dense-range;
-  width-range = b .width-range;
-  few = omega (arith, leaves-length (st .width) ks, b .few);
-  realizable = leaves-realizable (st .width) ks (b .keys) (b .up);
-  well-sized = leaves-well-sized (st .width) ks (b .keys);
+  real-range = b .real-range;
+  hash-range = b .hash-range;
+  few = omega (arith, leaves-length (st .hash-width) (st .real-width) ks, b .few);
+  realizable = leaves-realizable (st .hash-width) (st .real-width) ks (b .keys) (b .up);
+  well-sized = leaves-well-sized (st .hash-width) (st .real-width) ks (b .keys);
+  spare = leaves-spare-clear (st .hash-width) (st .real-width) ks (b .keys);
 }
 
 -- What is to be built is the image of a key list, with settings in range.
 pub judged-image : (list : Bytes) → Is-bytes list → (st : Settings) (b : Bytes) → judge list st ≡ to-build b
-    → (in-range st ≡ true) × Key-list list (keys-of list) × (b ≡ image st (leaves (st .width) (keys-of list)))
+    → (in-range st ≡ true) × Key-list list (keys-of list) × (b ≡ image st (leaves (st .hash-width) (st .real-width) (keys-of list)))
 judged-image list w st b h =
     let j = judged-keys list st b h in
     let k = keys-exactly list (j .1) w .0 (j .2) in
@@ -188,7 +192,7 @@ judged-image list w st b h =
 
 -- So is what build writes.
 pub build-writes-image : (list : Bytes) → Is-bytes list → (st : Settings) (stated : ℕ) (out : Bytes) (n : ℕ) → build list st stated out .answer ≡ written n
-    → (in-range st ≡ true) × Key-list list (keys-of list) × (take n (build list st stated out .final) ≡ image st (leaves (st .width) (keys-of list)))
+    → (in-range st ≡ true) × Key-list list (keys-of list) × (take n (build list st stated out .final) ≡ image st (leaves (st .hash-width) (st .real-width) (keys-of list)))
 build-writes-image list w st stated out n h =
     let s = build-succeeds list st stated out n h in
     let j = judged-image list w st (s .built) (s .judged) in

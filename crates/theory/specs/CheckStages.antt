@@ -8,7 +8,7 @@ use mathlib.Core.Option.{Option, none, some}
 use native.Mathlib.Omega.{arith}
 use lib.ListN.{drop}
 use Rattle.spec.specs.Bytes.{Bytes}
-use Rattle.spec.specs.Frame.{has-header, rows-of, read-bodies, named, parts}
+use Rattle.spec.specs.Frame.{has-header, rows-of, read-bodies, named, read-settings, parts}
 use Rattle.spec.specs.Nodes.{nodes-of, levels-of}
 use Rattle.spec.specs.Trie.{builders-trie}
 use Rattle.spec.specs.Check.{header-valid, spare-clear, tables-valid, slots-valid, judge-bodies, verdict}
@@ -40,9 +40,9 @@ verdict-is b t o h f = same (has-header b) (read-bodies (rows-of b) (drop 22 b))
 module _ (b : Bytes) (bs : List Bytes) where
   -- the numbers 12 to 16 in their order
   judged-is : judge-bodies b bs
-      ≡ first-failed (header-valid b (parts b (named bs)) bs) (spare-clear (parts b (named bs)) (named bs)) (builders-trie (parts b (named bs))) (tables-valid (parts b (named bs)) bs) (slots-valid 0 (levels-of (nodes-of (parts b (named bs)))))
+      ≡ first-failed (header-valid (parts b (named bs)) bs) (spare-clear (parts b (named bs)) (named bs)) (builders-trie (parts b (named bs))) (tables-valid (parts b (named bs)) bs) (slots-valid (read-settings b .hash-width) 0 (levels-of (nodes-of (parts b (named bs)))))
   unfolding judge-bodies
-  judged-is = go (header-valid b (parts b (named bs)) bs) (spare-clear (parts b (named bs)) (named bs)) (builders-trie (parts b (named bs))) (tables-valid (parts b (named bs)) bs) (slots-valid 0 (levels-of (nodes-of (parts b (named bs)))))
+  judged-is = go (header-valid (parts b (named bs)) bs) (spare-clear (parts b (named bs)) (named bs)) (builders-trie (parts b (named bs))) (tables-valid (parts b (named bs)) bs) (slots-valid (read-settings b .hash-width) 0 (levels-of (nodes-of (parts b (named bs)))))
     where
       go : (a b c d e : Bool)
           → _≡_ {A = ℕ} (elim a [ false ↦ 12 | true ↦ elim b [ false ↦ 13 | true ↦ elim c [ false ↦ 14 | true ↦ elim d [ false ↦ 15 | true ↦ elim e [ false ↦ 16 | true ↦ 0 ] ] ] ] ]) (first-failed a b c d e)
@@ -56,7 +56,7 @@ module _ (b : Bytes) (bs : List Bytes) where
   -- the verdict where the header and the records stand
   tests : Passes-11 b bs
       → verdict b
-      ≡ first-failed (header-valid b (parts b (named bs)) bs) (spare-clear (parts b (named bs)) (named bs)) (builders-trie (parts b (named bs))) (tables-valid (parts b (named bs)) bs) (slots-valid 0 (levels-of (nodes-of (parts b (named bs)))))
+      ≡ first-failed (header-valid (parts b (named bs)) bs) (spare-clear (parts b (named bs)) (named bs)) (builders-trie (parts b (named bs))) (tables-valid (parts b (named bs)) bs) (slots-valid (read-settings b .hash-width) 0 (levels-of (nodes-of (parts b (named bs)))))
   tests p = verdict-is b true (some bs) (p .header) (p .bodies) ∙ judged-is
 
   -- An image that passes every stage has the verdict 0.
@@ -96,12 +96,12 @@ refusal-number (slot-set bs p h) = omega arith
 -- ---- every image passes, or is refused
 
 module _ {A : Type 0} (b : Bytes) (accepts : (bs : List Bytes) → Passes-16 b bs → A) (refuses : (r : ℕ) → Check-refusal b r → A) where
-  from-15 : (bs : List Bytes) → Passes-15 b bs → (t : Bool) → slots-valid 0 (levels-of (nodes-of (parts b (named bs)))) ≡ t → A
+  from-15 : (bs : List Bytes) → Passes-15 b bs → (t : Bool) → slots-valid (read-settings b .hash-width) 0 (levels-of (nodes-of (parts b (named bs)))) ≡ t → A
   from-15 bs p true e = accepts bs (record { before = p; slots = e })
   from-15 bs p false e = refuses 16 (slot-set bs p e)
 
   from-14 : (bs : List Bytes) → Passes-14 b bs → (t : Bool) → tables-valid (parts b (named bs)) bs ≡ t → A
-  from-14 bs p true e = from-15 bs (record { before = p; tables = e }) (slots-valid 0 (levels-of (nodes-of (parts b (named bs))))) refl
+  from-14 bs p true e = from-15 bs (record { before = p; tables = e }) (slots-valid (read-settings b .hash-width) 0 (levels-of (nodes-of (parts b (named bs))))) refl
   from-14 bs p false e = refuses 15 (table-wrong bs p e)
 
   from-13 : (bs : List Bytes) → Passes-13 b bs → (t : Bool) → builders-trie (parts b (named bs)) ≡ t → A
@@ -112,14 +112,14 @@ module _ {A : Type 0} (b : Bytes) (accepts : (bs : List Bytes) → Passes-16 b b
   from-12 bs p true e = from-13 bs (record { before = p; spare = e }) (builders-trie (parts b (named bs))) refl
   from-12 bs p false e = refuses 13 (spare-set bs p e)
 
-  from-11 : (bs : List Bytes) → Passes-11 b bs → (t : Bool) → header-valid b (parts b (named bs)) bs ≡ t → A
+  from-11 : (bs : List Bytes) → Passes-11 b bs → (t : Bool) → header-valid (parts b (named bs)) bs ≡ t → A
   from-11 bs p true e = from-12 bs (record { before = p; header = e }) (spare-clear (parts b (named bs)) (named bs)) refl
   from-11 bs p false e = refuses 12 (header-wrong bs p e)
 
   from-start : (t : Bool) (o : Option (List Bytes)) → has-header b ≡ t → read-bodies (rows-of b) (drop 22 b) ≡ o → A
   from-start false o h f = refuses 11 (header-missing h)
   from-start true none h f = refuses 11 (records-missing f)
-  from-start true (some bs) h f = from-11 bs (record { header = h; bodies = f }) (header-valid b (parts b (named bs)) bs) refl
+  from-start true (some bs) h f = from-11 bs (record { header = h; bodies = f }) (header-valid (parts b (named bs)) bs) refl
 
   -- An image passes every stage, or is refused at one.
   pub by-stages : A

@@ -7,18 +7,19 @@ use mathlib.Core.List.{List, [], _∷_}
 use mathlib.Core.Option.{none, some}
 use mathlib.Core.Logic.{_↔_}
 use lib.ListN.{length, getD, take, drop}
-use Rattle.spec.specs.Bytes.{Bytes, count, begins}
+use Rattle.spec.specs.Bytes.{Bytes, all, count, begins, clear}
 use Rattle.spec.specs.Keys.{below, within, keys, parse-keys, keys-of}
-use Rattle.spec.specs.Leaves.{Leaf, leaves}
+use Rattle.spec.specs.Leaves.{Leaf, leaves, reals}
 use Rattle.spec.specs.Image.{Settings, image}
 use Rattle.spec.specs.Frame.{has-header, rows-of, read-bodies, named, parts, read-settings}
-use Rattle.spec.specs.Nodes.{nodes-of, levels-of, read-leaves}
+use Rattle.spec.specs.Nodes.{exact-slot, nodes-of, levels-of, read-nodes, read-leaves}
 use Rattle.spec.specs.Trie.{builders-trie}
 use Rattle.spec.specs.Rules.{Rule, rule-number, applies, rule-says}
 use Rattle.spec.specs.Questions.{Question, QP, QS, QB, QR, QC, Reply, reply, replies, reply-at, taken, parse-questions, questions-of, question-at}
 use Rattle.spec.specs.Answer.{written, refused, refusal-weight, Outcome, success}
 use Rattle.spec.specs.Build.{in-range, trie-entries, image-length, build}
 use Rattle.spec.specs.Check.{header-valid, spare-clear, tables-valid, slots-valid, accepted, check}
+use Rattle.spec.specs.Struck.{struck}
 use Rattle.spec.specs.Ask.{ask}
 use Rattle.spec.specs.Walk.{open-walk, next}
 use Rattle.spec.specs.WalkRecords.{record-size, records-from, walk-records}
@@ -106,9 +107,9 @@ pub data Length-refusal (list : Bytes) (st : Settings) : ℕ → Type 0 where
 -- for the second: those; then 8, the stated length is not the image's; then 7, the image is longer than the output
 pub data Build-refusal (list : Bytes) (st : Settings) (stated : ℕ) (out : Bytes) : ℕ → Type 0 where
   judged-again : {r : ℕ} → Length-refusal list st r → Build-refusal list st stated out r
-  length-wrong : in-range st ≡ true → (ks : List Bytes) → parse-keys list ≡ keys ks → (stated ≡ length (image st (leaves (st .width) ks)) → ⊥) → Build-refusal list st stated out 8
-  image-too-long : in-range st ≡ true → (ks : List Bytes) → parse-keys list ≡ keys ks → stated ≡ length (image st (leaves (st .width) ks))
-      → length out < length (image st (leaves (st .width) ks)) → Build-refusal list st stated out 7
+  length-wrong : in-range st ≡ true → (ks : List Bytes) → parse-keys list ≡ keys ks → (stated ≡ length (image st (leaves (st .hash-width) (st .real-width) ks)) → ⊥) → Build-refusal list st stated out 8
+  image-too-long : in-range st ≡ true → (ks : List Bytes) → parse-keys list ≡ keys ks → stated ≡ length (image st (leaves (st .hash-width) (st .real-width) ks))
+      → length out < length (image st (leaves (st .hash-width) (st .real-width) ks)) → Build-refusal list st stated out 7
 
 -- The stages of the check: the bodies of the image's records are bs, and none of the numbers from 11 up to the stage's own applies. What a number asks is its test in crate `spec`.
 module _ (b : Bytes) (bs : List Bytes) where
@@ -118,7 +119,7 @@ module _ (b : Bytes) (bs : List Bytes) where
 
   pub record Passes-12 : Type 0 where
     pub before : Passes-11
-    pub header : header-valid b (parts b (named bs)) bs ≡ true
+    pub header : header-valid (parts b (named bs)) bs ≡ true
 
   pub record Passes-13 : Type 0 where
     pub before : Passes-12
@@ -134,7 +135,7 @@ module _ (b : Bytes) (bs : List Bytes) where
 
   pub record Passes-16 : Type 0 where
     pub before : Passes-15
-    pub slots : slots-valid 0 (levels-of (nodes-of (parts b (named bs)))) ≡ true
+    pub slots : slots-valid (read-settings b .hash-width) 0 (levels-of (nodes-of (parts b (named bs)))) ≡ true
 
 -- for check, each number over the whole image before the next
 pub data Check-refusal (b : Bytes) : ℕ → Type 0 where
@@ -142,22 +143,22 @@ pub data Check-refusal (b : Bytes) : ℕ → Type 0 where
   header-missing : has-header b ≡ false → Check-refusal b 11
   -- a mark wrong, a record running past the end, or bytes left over." Order 8: the records are those of the version byte.
   records-missing : read-bodies (rows-of b) (drop 22 b) ≡ none → Check-refusal b 11
-  -- "12, version, settings or zero byte wrong, over 65,535 leaves, or a body length not as the counts give.
-  header-wrong : (bs : List Bytes) → Passes-11 b bs → header-valid b (parts b (named bs)) bs ≡ false → Check-refusal b 12
+  -- "12, version, settings or zero byte wrong, over 65,535 leaves, or a body length not as the counts give. (Order 4: the zero byte is a setting, h.)
+  header-wrong : (bs : List Bytes) → Passes-11 b bs → header-valid (parts b (named bs)) bs ≡ false → Check-refusal b 12
   -- 13, a spare bit set, that is, one behind a body's last bit in its last byte.
   spare-set : (bs : List Bytes) → Passes-12 b bs → spare-clear (parts b (named bs)) (named bs) ≡ false → Check-refusal b 13
   -- 14, not a builder's trie.
   no-trie : (bs : List Bytes) → Passes-13 b bs → builders-trie (parts b (named bs)) ≡ false → Check-refusal b 14
   -- 15, a rank or sample wrong." Order 8: "A wrong LV, its length included, gets 15".
   table-wrong : (bs : List Bytes) → Passes-14 b bs → tables-valid (parts b (named bs)) bs ≡ false → Check-refusal b 15
-  -- "16, an exact leaf's slot not zero, or a suffix bit set past a key's 64th byte."
-  slot-set : (bs : List Bytes) → Passes-15 b bs → slots-valid 0 (levels-of (nodes-of (parts b (named bs)))) ≡ false → Check-refusal b 16
+  -- "16, an exact leaf's slot not zero, or a suffix bit set past a key's 64th byte." Order 4: of an open leaf's slot the real bits are meant.
+  slot-set : (bs : List Bytes) → Passes-15 b bs → slots-valid (read-settings b .hash-width) 0 (levels-of (nodes-of (parts b (named bs)))) ≡ false → Check-refusal b 16
 
 -- for ask: the check's 11 to 16; then the questions' 21 to 24; then 25, replies longer than the reply buffer
 pub data Ask-refusal (b file out : Bytes) : ℕ → Type 0 where
   image-refused : {r : ℕ} → check b ≡ Check.refused r → From 11 16 r → Ask-refusal b file out r
   question-refused : {r : ℕ} → check b ≡ accepted → parse-questions file ≡ Questions.refused r → From 21 24 r → Ask-refusal b file out r
-  replies-too-long : check b ≡ accepted → (qs : List Question) → parse-questions file ≡ taken qs → length out < length (replies (read-leaves b) qs) → Ask-refusal b file out 25
+  replies-too-long : check b ≡ accepted → (qs : List Question) → parse-questions file ≡ taken qs → length out < length (replies (read-settings b .hash-width) (read-leaves b) qs) → Ask-refusal b file out 25
 
 -- for the walk: the check's 11 to 16; then 17, the place handed in is neither a leaf of this image nor done
 pub data Walk-refusal (b : Bytes) (place : ℕ) : ℕ → Type 0 where
@@ -182,8 +183,8 @@ pub record Demand-1 : Type 0 where
   pub length-builds : (list : Bytes) (st : Settings) (n : ℕ) → image-length list st ≡ Build.bytes n → (out : Bytes) → n ≤ length out → build list st n out .answer ≡ written n
   -- And back: where the second succeeds, the first gives the number of bytes that it writes, and that number is the stated length.
   pub built-length : (list : Bytes) (st : Settings) (stated : ℕ) (out : Bytes) (n : ℕ) → build list st stated out .answer ≡ written n → (image-length list st ≡ Build.bytes n) × (stated ≡ n)
-  -- Order 9: "65,535 keys of up to 64 bytes give at most 4,259,775 trie entries", branches and exact leaves together. It holds of every key list that build takes, at every suffix width.
-  pub entries-bound : (list : Bytes) → Is-bytes list → (ks : List Bytes) → parse-keys list ≡ keys ks → (n : ℕ) → trie-entries (leaves n ks) ≤ most-entries
+  -- Order 9: "65,535 keys of up to 64 bytes give at most 4,259,775 trie entries", branches and exact leaves together. It holds of every key list that build takes, at every width of hash bits and real bits.
+  pub entries-bound : (list : Bytes) → Is-bytes list → (ks : List Bytes) → parse-keys list ≡ keys ks → (h n : ℕ) → trie-entries (leaves h n ks) ≤ most-entries
   -- Check: 11 to 16.
   pub check-refuses : (b : Bytes) (r : ℕ) → (check b ≡ Check.refused r) ↔ Check-refusal b r
   -- Ask: those and 21 to 25.
@@ -212,48 +213,82 @@ pub record Demand-1 : Type 0 where
 -- of an image that a list builds with settings st
 pub record Demand-2 : Type 0 where
   -- "An image built from a key list is, byte for byte, the dense and sparse layout of that list's shortest distinguishing prefixes, their kinds and suffix bits."
-  pub layout : (st : Settings) (list b : Bytes) → Builds-with st list b → b ≡ image st (leaves (st .width) (keys-of list))
+  pub layout : (st : Settings) (list b : Bytes) → Builds-with st list b → b ≡ image st (leaves (st .hash-width) (st .real-width) (keys-of list))
   -- It is written from every key list, with settings in range and its length, into every output that holds it.
   pub built : (st : Settings) (list : Bytes) (ks : List Bytes) → Is-bytes list → in-range st ≡ true → Key-list list ks
-      → (out : Bytes) → length (image st (leaves (st .width) ks)) ≤ length out → build list st (length (image st (leaves (st .width) ks))) out ≡ success (image st (leaves (st .width) ks)) out
+      → (out : Bytes) → length (image st (leaves (st .hash-width) (st .real-width) ks)) ≤ length out → build list st (length (image st (leaves (st .hash-width) (st .real-width) ks))) out ≡ success (image st (leaves (st .hash-width) (st .real-width) ks)) out
   -- "An image read back gives the same three," and the settings,
-  pub read-back : (st : Settings) (list b : Bytes) → Builds-with st list b → (read-leaves b ≡ leaves (st .width) (keys-of list)) × (read-settings b ≡ st)
+  pub read-back : (st : Settings) (list b : Bytes) → Builds-with st list b → (read-leaves b ≡ leaves (st .hash-width) (st .real-width) (keys-of list)) × (read-settings b ≡ st)
   -- "and every reply is the one worked out from them alone": all that ask writes, and what is read at the place of the i-th question;
   pub all-replies : (st : Settings) (list b : Bytes) → Builds-with st list b → (file out : Bytes) → Taken b file out
-      → ask b file out ≡ success (replies (leaves (st .width) (keys-of list)) (questions-of file)) out
+      → ask b file out ≡ success (replies (st .hash-width) (leaves (st .hash-width) (st .real-width) (keys-of list)) (questions-of file)) out
   pub each-reply : (st : Settings) (list b : Bytes) → Builds-with st list b → (file out : Bytes) → Taken b file out
-      → (i : ℕ) (q : Question) → question-at file i ≡ some q → reply-at i (ask b file out .final) ≡ reply (leaves (st .width) (keys-of list)) q
+      → (i : ℕ) (q : Question) → question-at file i ≡ some q → reply-at i (ask b file out .final) ≡ reply (st .hash-width) (leaves (st .hash-width) (st .real-width) (keys-of list)) q
   -- a walk gives them leaf by leaf, or writes the records of those from a place on, of as many as the buffer holds whole; and the leaf printer prints them.
-  pub walk : (st : Settings) (list b : Bytes) → Builds-with st list b → Walk-correct b (leaves (st .width) (keys-of list))
-  pub records : (st : Settings) (list b : Bytes) → Builds-with st list b → (place : ℕ) → place ≤ length (leaves (st .width) (keys-of list)) → (out : Bytes)
-      → walk-records b place out ≡ success (records-from (leaves (st .width) (keys-of list)) place (length out / record-size)) out
-  pub print : (st : Settings) (list b : Bytes) → Builds-with st list b → length b ≤ longest-input → print b ≡ listing (leaves (st .width) (keys-of list))
+  pub walk : (st : Settings) (list b : Bytes) → Builds-with st list b → Walk-correct b (leaves (st .hash-width) (st .real-width) (keys-of list))
+  pub records : (st : Settings) (list b : Bytes) → Builds-with st list b → (place : ℕ) → place ≤ length (leaves (st .hash-width) (st .real-width) (keys-of list)) → (out : Bytes)
+      → walk-records b place out ≡ success (records-from (leaves (st .hash-width) (st .real-width) (keys-of list)) place (length out / record-size)) out
+  pub print : (st : Settings) (list b : Bytes) → Builds-with st list b → length b ≤ longest-input → print b ≡ listing (leaves (st .hash-width) (st .real-width) (keys-of list))
 
 -- ---- demand 3
 
--- of an accepted image, a question file that is taken, and the reply buffer's final bytes
+-- Of an accepted image b, a question file that is taken, and the reply buffer's final bytes: what the rule behind a point's reply is, at every h.
+pub record Rules-correct (b file final : Bytes) : Type 0 where
+  -- Order 3: "The reply's key field, empty so far, holds one byte", the number of a rule; what the rule says is the reply's number, so that it is 1 exactly with 3 and 4;
+  pub decided : (i : ℕ) (k : Bytes) → question-at file i ≡ some (QP k) → (r : Rule) × (reply-at i final .key ≡ rule-number r ∷ []) × (reply-at i final .number ≡ rule-says r)
+  -- of the six rules, over the image's leaves, that one applies to the key, and no other.
+  pub rule : (i : ℕ) (k : Bytes) → question-at file i ≡ some (QP k) → (r : Rule) → (reply-at i final .key ≡ rule-number r ∷ []) ↔ (applies (read-settings b .hash-width) (read-leaves b) k r ≡ true)
+
+-- What ranges, stems, counts and seeks say of the lists that build the image c.
+pub record Lists-told (c file final : Bytes) : Type 0 where
+  -- "a key or range is denied exactly when none of the lists that build the image holds it or has a key in it";
+  pub range : (i : ℕ) (lo hi : Bytes) → question-at file i ≡ some (QR lo hi) → (reply-at i final .number ≡ 0) ↔ No-list-has c lo hi
+  -- Order 2: "a stem is denied exactly if no list with that image has a key beginning so";
+  pub stem : (i : ℕ) (stem : Bytes) → question-at file i ≡ some (QB stem) → (reply-at i final .number ≡ 0) ↔ No-list-begins c stem
+  -- "a count is the number of keys that some such list has in the range, and no such list has more, or over two fewer";
+  pub count : (i : ℕ) (lo hi : Bytes) → question-at file i ≡ some (QC lo hi) → Count c lo hi (reply-at i final .number)
+  -- "a seek gives none exactly when no such list holds a key at or after its start",
+  pub none : (i : ℕ) (start : Bytes) → question-at file i ≡ some (QS start) → None (reply-at i final) ↔ No-list-from c start
+  -- "else the smallest key there that any of them holds, with its place, from 0, in every such list that holds it".
+  pub next : (i : ℕ) (start : Bytes) → question-at file i ≡ some (QS start) → (None (reply-at i final) → ⊥)
+      → Next-key c start (reply-at i final .number) (reply-at i final .key)
+
+-- of an accepted image with h 0, a question file that is taken, and the reply buffer's final bytes
 pub record Replies-correct (b file final : Bytes) : Type 0 where
   -- "a key or range is denied exactly when none of the lists that build the image holds it"
   pub key : (i : ℕ) (k : Bytes) → question-at file i ≡ some (QP k) → (reply-at i final .number ≡ 0) ↔ No-list-holds b k
-  -- "or has a key in it";
-  pub range : (i : ℕ) (lo hi : Bytes) → question-at file i ≡ some (QR lo hi) → (reply-at i final .number ≡ 0) ↔ No-list-has b lo hi
-  -- Order 2: "a stem is denied exactly if no list with that image has a key beginning so";
-  pub stem : (i : ℕ) (stem : Bytes) → question-at file i ≡ some (QB stem) → (reply-at i final .number ≡ 0) ↔ No-list-begins b stem
-  -- Order 3: "The reply's key field, empty so far, holds one byte", the number of a rule; what the rule says is the reply's number, so that it is 1 exactly with 3 and 4;
-  pub decided : (i : ℕ) (k : Bytes) → question-at file i ≡ some (QP k) → (r : Rule) × (reply-at i final .key ≡ rule-number r ∷ []) × (reply-at i final .number ≡ rule-says r)
-  -- of the six rules, over the image's leaves, that one applies to the key, and no other;
-  pub rule : (i : ℕ) (k : Bytes) → question-at file i ≡ some (QP k) → (r : Rule) → (reply-at i final .key ≡ rule-number r ∷ []) ↔ (applies (read-leaves b) k r ≡ true)
-  -- "a count is the number of keys that some such list has in the range, and no such list has more, or over two fewer";
-  pub count : (i : ℕ) (lo hi : Bytes) → question-at file i ≡ some (QC lo hi) → Count b lo hi (reply-at i final .number)
-  -- "a seek gives none exactly when no such list holds a key at or after its start",
-  pub none : (i : ℕ) (start : Bytes) → question-at file i ≡ some (QS start) → None (reply-at i final) ↔ No-list-from b start
-  -- "else the smallest key there that any of them holds, with its place, from 0, in every such list that holds it".
-  pub next : (i : ℕ) (start : Bytes) → question-at file i ≡ some (QS start) → (None (reply-at i final) → ⊥)
-      → Next-key b start (reply-at i final .number) (reply-at i final .key)
+  pub rules : Rules-correct b file final
+  pub others : Lists-told b file final
+
+-- ---- order 4, with h from 1 to 16
+
+-- an image with hash bits
+abbrev pub Hashed : Bytes → Type 0
+Hashed b = From 1 16 (read-settings b .hash-width)
+
+-- "its exact leaves' slots [..] are zero"
+abbrev pub Exact-slots-zero : Bytes → Type 0
+Exact-slots-zero b = all (λ n. clear (exact-slot n)) (read-nodes b) ≡ true
+
+-- "and spare bits are zero": none is set in a body of the image
+abbrev pub Spare-bits-zero : Bytes → Type 0
+Spare-bits-zero b = (bs : List Bytes) → read-bodies (rows-of b) (drop 22 b) ≡ some bs → spare-clear (parts b (named bs)) (named bs) ≡ true
+
+-- "lists of the same cut keys and real bits": the list's leaves with h 0 agree with the image's with its hash bits struck out
+abbrev pub Same-real-leaves : Bytes → Bytes → Type 0
+Same-real-leaves list b = Is-bytes list × Key-list list (keys-of list) × Agree (leaves 0 (read-settings b .real-width) (keys-of list)) (reals (read-settings b .hash-width) (read-leaves b))
+
+-- of an accepted image with hash bits, a question file that is taken, and the reply buffer's final bytes
+pub record Hashed-replies-correct (b file final : Bytes) : Type 0 where
+  -- "With h above 0 a stored key is still never denied": the reply is 1 for every key of every list that builds the image,
+  pub stored : (i : ℕ) (k : Bytes) → question-at file i ≡ some (QP k) → (list : Bytes) → Builds list b → Holds list k → reply-at i final .number ≡ 1
+  pub rules : Rules-correct b file final
+  -- "and ranges, stems, counts and seeks read as before over lists of the same cut keys and real bits".
+  pub others : Lists-told (struck b) file final
 
 -- settings that differ at most in the version
 abbrev pub Other-settings-equal : Settings → Settings → Type 0
-Other-settings-equal st su = (st .dense-levels ≡ su .dense-levels) × (st .width ≡ su .width)
+Other-settings-equal st su = (st .dense-levels ≡ su .dense-levels) × (st .real-width ≡ su .real-width) × (st .hash-width ≡ su .hash-width)
 
 -- two images get the same from every call that reads one: replies and refusals, leaves, records, and the printed text of those that are no longer than the printer takes
 pub record Same-answers (b c : Bytes) : Type 0 where
@@ -265,19 +300,27 @@ pub record Same-answers (b c : Bytes) : Type 0 where
 
 -- of byte strings, question files and lists
 pub record Demand-3 : Type 0 where
-  -- "Of all byte strings, exactly those that some key list builds are accepted as images."
-  pub accepted-exactly : (b : Bytes) → Is-bytes b → Accepted b ↔ ((list : Bytes) × Builds list b)
+  -- "Of all byte strings, exactly those that some key list builds are accepted as images.", with h 0.
+  pub accepted-exactly : (b : Bytes) → Is-bytes b → read-settings b .hash-width ≡ 0 → Accepted b ↔ ((list : Bytes) × Builds list b)
+  -- Order 4: "With h from 1 to 16 demand 3's sentence on which byte strings are accepted gives way to this: what a key list builds is accepted,"
+  pub built-accepted : (list b : Bytes) → Builds list b → Accepted b
+  -- "and an image is accepted exactly when its exact leaves' slots and spare bits are zero and it would be accepted with h 0 and the hash bits struck out."
+  pub hashed-exactly : (b : Bytes) → Is-bytes b → Hashed b → Accepted b ↔ (Exact-slots-zero b × Spare-bits-zero b × Accepted (struck b))
+  -- The lists that build the image with its hash bits struck out are those of the same cut keys and real bits.
+  pub struck-lists : (b : Bytes) → Is-bytes b → Accepted b → (list : Bytes) → Builds list (struck b) ↔ Same-real-leaves list b
   -- "ask and walk judge it alike"
   pub alike : (b : Bytes) → Judged-alike b
   -- "A question file is taken if ask refuses nothing, as it must where none of 21 to 25 applies.": its questions are at most 1,024, "with keys and bounds of at most 64 bytes
   -- and ranges the right way round", and the replies fit the reply buffer.
   pub taken-exactly : (b : Bytes) → Accepted b → (file : Bytes) → Is-bytes file → (out : Bytes)
-      → Taken b file out ↔ ((qs : List Question) × Question-file file qs × (length (replies (read-leaves b) qs) ≤ length out))
-  -- "For every accepted image and every question of every question file that is taken"
-  pub valid : (b : Bytes) → Is-bytes b → Accepted b → (file : Bytes) → Is-bytes file → (out : Bytes) → Taken b file out → Replies-correct b file (ask b file out .final)
-  -- "Two lists with the same settings build one image exactly when their prefixes, kinds and suffix bits agree."
+      → Taken b file out ↔ ((qs : List Question) × Question-file file qs × (length (replies (read-settings b .hash-width) (read-leaves b) qs) ≤ length out))
+  -- "For every accepted image and every question of every question file that is taken", with h 0,
+  pub valid : (b : Bytes) → Is-bytes b → read-settings b .hash-width ≡ 0 → Accepted b → (file : Bytes) → Is-bytes file → (out : Bytes) → Taken b file out → Replies-correct b file (ask b file out .final)
+  -- and with h from 1 to 16.
+  pub hashed-valid : (b : Bytes) → Is-bytes b → Hashed b → Accepted b → (file : Bytes) → Is-bytes file → (out : Bytes) → Taken b file out → Hashed-replies-correct b file (ask b file out .final)
+  -- "Two lists with the same settings build one image exactly when their prefixes, kinds and suffix bits agree." Order 4: "the hash bits count among the suffix bits", so that "two lists build one image only if their hash bits agree too".
   pub one-image : (st : Settings) (list other b c : Bytes) → Builds-with st list b → Builds-with st other c
-      → (b ≡ c) ↔ Agree (leaves (st .width) (keys-of list)) (leaves (st .width) (keys-of other))
+      → (b ≡ c) ↔ Agree (leaves (st .hash-width) (st .real-width) (keys-of list)) (leaves (st .hash-width) (st .real-width) (keys-of other))
   -- Order 8: "one list's images in both versions, other settings equal, get the same replies", and walk and printer say the same of them.
   pub both-versions : (st su : Settings) (list b c : Bytes) → Other-settings-equal st su → Builds-with st list b → Builds-with su list c → Same-answers b c
 

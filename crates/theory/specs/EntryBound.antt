@@ -132,10 +132,10 @@ entry-count-literal : {n : ℕ} (ls : List Leaf) → Realizable n ls → Depth-a
 unfolding entry-count
 entry-count-literal ls g q = ap (λ (z : List Bytes). length (concat z)) (map-prefix-nodes ls (Literal.sparse-labels ls) sparse-labels (nodes ls 0 64) (concat (trie ls)) (sparse-labels-at ls) (prefix-nodes 0 ls (omega arith) g q .rest))
 
--- A key list that build takes has at most 4,259,775 trie entries, at every suffix width.
-pub entries-bound : (list : Bytes) → Is-bytes list → (ks : List Bytes) → parse-keys list ≡ keys ks → (n : ℕ) → trie-entries (leaves n ks) ≤ most-entries
+-- A key list that build takes has at most 4,259,775 trie entries, at every width of hash bits and real bits.
+pub entries-bound : (list : Bytes) → Is-bytes list → (ks : List Bytes) → parse-keys list ≡ keys ks → (h n : ℕ) → trie-entries (leaves h n ks) ≤ most-entries
 unfolding trie-entries
-entries-bound list w ks f n =
+entries-bound list w ks f h n =
     let k = keys-exactly list ks w .0 f in
-    let d = well-sized-depth n (leaves n ks) (leaves-well-sized n ks (k .each)) in
-    omega (arith, entry-count-literal (leaves n ks) (leaves-realizable n ks (k .each) (k .up)) d, entry-bound (leaves n ks) d, leaves-length n ks, k .few)
+    let d = well-sized-depth (h + n) (leaves h n ks) (leaves-well-sized h n ks (k .each)) in
+    omega (arith, entry-count-literal (leaves h n ks) (leaves-realizable h n ks (k .each) (k .up)) d, entry-bound (leaves h n ks) d, leaves-length h n ks, k .few)

@@ -254,22 +254,21 @@ le32-at : (k : ℕ) (s : Bytes) → Is-bytes s → le32 (from32 (drop k s)) ≡ 
 le32-at k s w = ap le32 (from32-at k s) ∙ le32-from32 (getD s (k + 0) 0) (getD s (k + 1) 0) (getD s (k + 2) 0) (getD s (k + 3) 0) [] (bytes-getD (k + 0) s w) (bytes-getD (k + 1) s w) (bytes-getD (k + 2) s w) (bytes-getD (k + 3) s w)
 
 header-is : (st : Settings) (c : Counts)
-    → header st c ≡ 72 ∷ 68 ∷ st .version ∷ st .dense-levels ∷ st .width ∷ 0 ∷ le32 (c .leaves) ++ (le32 (c .dense-nodes) ++ (le32 (c .sparse-entries) ++ le32 (c .sparse-nodes)))
+    → header st c ≡ 72 ∷ 68 ∷ st .version ∷ st .dense-levels ∷ st .real-width ∷ st .hash-width ∷ le32 (c .leaves) ++ (le32 (c .dense-nodes) ++ (le32 (c .sparse-entries) ++ le32 (c .sparse-nodes)))
 unfolding header
 header-is st c = refl
 
--- 22 bytes that are marked as a header, with its zero byte, are the header of the settings and counts read from them.
-pub header-from-fields : (s : Bytes) → Is-bytes s → 22 ≤ length s → getD s 0 0 ≡ 72 → getD s 1 0 ≡ 68 → getD s 5 0 ≡ 0 → take 22 s ≡ header (read-settings s) (read-counts s)
+-- 22 bytes that are marked as a header are the header of the settings and counts read from them.
+pub header-from-fields : (s : Bytes) → Is-bytes s → 22 ≤ length s → getD s 0 0 ≡ 72 → getD s 1 0 ≡ 68 → take 22 s ≡ header (read-settings s) (read-counts s)
 unfolding iota read-settings read-counts
-header-from-fields s w h a b d =
-    first-members 0 22 s h ∙ rw (header-is (read-settings s) (read-counts s), le32-at 6 s w, le32-at 10 s w, le32-at 14 s w, le32-at 18 s w, a, b, d)
+header-from-fields s w h a b =
+    first-members 0 22 s h ∙ rw (header-is (read-settings s) (read-counts s), le32-at 6 s w, le32-at 10 s w, le32-at 14 s w, le32-at 18 s w, a, b)
 
 -- the fields that are read from a byte string with a header
 pub record Header-fields (st : Settings) (c : Counts) (s : Bytes) : Type 0 where
   pub mark-one : getD s 0 0 ≡ 72
   pub mark-two : getD s 1 0 ≡ 68
   pub version : getD s 2 0 ≡ st .version
-  pub zero-byte : getD s 5 0 ≡ 0
   pub settings : read-settings s ≡ st
   pub counts : read-counts s ≡ c
 
@@ -283,9 +282,9 @@ unfolding header
 drop-header st c r = (refl, refl, refl, refl, refl, omega arith)
 
 first-fields : (st : Settings) (c : Counts) (r : Bytes)
-    → (getD (header st c ++ r) 0 0 ≡ 72) × (getD (header st c ++ r) 1 0 ≡ 68) × (getD (header st c ++ r) 2 0 ≡ st .version) × (getD (header st c ++ r) 5 0 ≡ 0) × (read-settings (header st c ++ r) ≡ st)
+    → (getD (header st c ++ r) 0 0 ≡ 72) × (getD (header st c ++ r) 1 0 ≡ 68) × (getD (header st c ++ r) 2 0 ≡ st .version) × (read-settings (header st c ++ r) ≡ st)
 unfolding header read-settings
-first-fields st c r = (refl, refl, refl, refl, refl)
+first-fields st c r = (refl, refl, refl, refl)
 
 -- each count fits 32 bits
 pub record Short-counts (c : Counts) : Type 0 where
@@ -312,7 +311,6 @@ header-back st c r k =
       mark-one = y .0;
       mark-two = y .1;
       version = y .2;
-      zero-byte = y .3;
-      settings = y .4;
+      settings = y .3;
       counts = counts-back st c r k;
     }

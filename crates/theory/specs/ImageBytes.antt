@@ -9,7 +9,7 @@ use lib.Dec.{eqb}
 use borrow.Author.Tests.{eqb-true}
 use Rattle.spec.specs.Bytes.{Bytes, Bits, concat, iota, ones, low-first, packed, pack, le32}
 use Rattle.spec.specs.Leaves.{Leaf}
-use Rattle.spec.specs.Image.{Settings, known-version, level-row, level-rows, version-rows, level-bodies, image, header, marked, ranks, samples, positions, rows, in-order, write-records, Row, Counts}
+use Rattle.spec.specs.Image.{Settings, slot-width, known-version, level-row, level-rows, version-rows, level-bodies, image, header, marked, ranks, samples, positions, rows, in-order, write-records, Row, Counts}
 use Rattle.spec.specs.Nodes.{Node, levels-of, label-of, branches-of, is-exact}
 use Rattle.theory.specs.Terms.{All, Is-bytes}
 use Rattle.theory.specs.Lists.{bytes-append, bytes-le32, all-append}
@@ -78,9 +78,9 @@ bytes-records (r ∷ rs) [] m s = tt
 bytes-records (r ∷ rs) (body ∷ bs) m s =
     bytes-append (marked (r .first) (r .second) body) (write-records rs bs) (bytes-marked (r .first) (r .second) body (m .0 .0) (m .0 .1) (s .0)) (bytes-records rs bs (m .1) (s .1))
 
-bytes-header : (st : Settings) (c : Counts) → st .version ≤ 2 → st .dense-levels ≤ 4 → st .width ≤ 16 → Is-bytes (header st c)
+bytes-header : (st : Settings) (c : Counts) → st .version ≤ 2 → st .dense-levels ≤ 4 → st .real-width ≤ 16 → st .hash-width ≤ 16 → Is-bytes (header st c)
 unfolding header
-bytes-header st c v p q = (
+bytes-header st c v p q h = (
   omega arith,
   (
     omega arith,
@@ -156,6 +156,6 @@ image-bytes st ls v =
     let ws : List ℕ = map length (levels-of (ds ++ ss)) in
     rw (h .image-is)
     (bytes-append (header st (node-counts (length ls) ds ss)) (write-records (version-rows (st .version)) (version-bodies (st .version) ds ss))
-    (bytes-header st (node-counts (length ls) ds ss) (known-few (st .version) (v .version-known)) (v .dense-range) (v .width-range))
+    (bytes-header st (node-counts (length ls) ds ss) (known-few (st .version) (v .version-known)) (v .dense-range) (v .real-range) (v .hash-range))
     (bytes-records (version-rows (st .version)) (version-bodies (st .version) ds ss) (byte-marks (st .version))
-    (all-append Is-bytes (in-order (bodies ds ss)) (level-bodies (st .version) ws) (bytes-bodies (st .width) (length ls) ds ss (h .writable)) (level-all Is-bytes (st .version) ws (level-starts-bytes ws)))))
+    (all-append Is-bytes (in-order (bodies ds ss)) (level-bodies (st .version) ws) (bytes-bodies (slot-width st) (length ls) ds ss (h .writable)) (level-all Is-bytes (st .version) ws (level-starts-bytes ws)))))

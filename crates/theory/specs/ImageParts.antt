@@ -10,7 +10,7 @@ use lib.ListN.{length, length-map, drop, length-append, take}
 use lib.Seq.{take-all, take-nil, drop-nil}
 use Rattle.spec.specs.Bytes.{concat, Bytes, Bits, blocks, pack}
 use Rattle.spec.specs.Leaves.{Leaf}
-use Rattle.spec.specs.Image.{Settings, Bodies, image, rows, level-rows, version-rows, in-order, level-starts, level-bodies, write-records, Counts}
+use Rattle.spec.specs.Image.{Settings, slot-width, Bodies, image, rows, level-rows, version-rows, in-order, level-starts, level-bodies, write-records, Counts}
 use Rattle.spec.specs.Frame.{Parts, parts, rows-of, read-bodies, named}
 use Rattle.spec.specs.Nodes.{Node, levels-of, is-exact, sparse-nodes, nodes-of, Shape, slotted, sparse-shape, total, children-of}
 use Rattle.spec.specs.Trie.{leaf-count}
@@ -51,7 +51,7 @@ pub record Writable (n count : ℕ) (ds ss : List Node) : Type 0 where
   pub sparse-bytes : All Byte-labels ss
   pub wide : All (Slots-width n) (ds ++ ss)
   pub leaf-total : leaf-count (ds ++ ss) ≡ count
-  pub width-range : n ≤ 16
+  pub width-range : n ≤ 32
   pub few : count ≤ 65535
   pub few-dense : length ds ≤ 262140
   pub few-entries : length (concat (map sparse-labels ss)) ≤ most-entries
@@ -60,14 +60,14 @@ pub record Writable (n count : ℕ) (ds ss : List Node) : Type 0 where
 -- ---- the header and the parts
 
 parts-of-bits : (s : Bytes) (st : Settings) (c : Counts) (dl dc dp : Bits) (sl : Bytes) (sc sb sv : Bits) → Header-fields st c s
-    → length dl ≡ 256 * c .dense-nodes → length dc ≡ 256 * c .dense-nodes → length dp ≡ c .dense-nodes → length sc ≡ c .sparse-entries → length sb ≡ c .sparse-entries → length sv ≡ c .leaves * st .width
+    → length dl ≡ 256 * c .dense-nodes → length dc ≡ 256 * c .dense-nodes → length dp ≡ c .dense-nodes → length sc ≡ c .sparse-entries → length sb ≡ c .sparse-entries → length sv ≡ c .leaves * slot-width st
     → parts s (named (in-order (bodies-of dl dc dp sl sc sb sv))) ≡ record { settings = st; counts = c; dl = dl; dc = dc; dp = dp; sl = sl; sc = sc; sb = sb; sv = sv }
 unfolding parts named
 parts-of-bits s st c dl dc dp sl sc sb sv h e₀ e₁ e₂ e₄ e₅ e₆ =
-    rw (h .settings, h .counts, unpack-at (256 * c .dense-nodes) dl e₀, unpack-at (256 * c .dense-nodes) dc e₁, unpack-at (c .dense-nodes) dp e₂, unpack-at (c .sparse-entries) sc e₄, unpack-at (c .sparse-entries) sb e₅, unpack-at (c .leaves * st .width) sv e₆)
+    rw (h .settings, h .counts, unpack-at (256 * c .dense-nodes) dl e₀, unpack-at (256 * c .dense-nodes) dc e₁, unpack-at (c .dense-nodes) dp e₂, unpack-at (c .sparse-entries) sc e₄, unpack-at (c .sparse-entries) sb e₅, unpack-at (c .leaves * slot-width st) sv e₆)
 
 -- The header of the image of nodes is read back.
-pub node-image-header : (st : Settings) (count : ℕ) (ds ss : List Node) → Writable (st .width) count ds ss → Header-fields st (node-counts count ds ss) (node-image st count ds ss)
+pub node-image-header : (st : Settings) (count : ℕ) (ds ss : List Node) → Writable (slot-width st) count ds ss → Header-fields st (node-counts count ds ss) (node-image st count ds ss)
 node-image-header st count ds ss w =
     header-back st (node-counts count ds ss) (write-records (version-rows (st .version)) (version-bodies (st .version) ds ss))
     (record { leaves = omega (arith, w .few); dense-nodes = omega (arith, w .few-dense); sparse-entries = omega (arith, w .few-entries); sparse-nodes = omega (arith, w .few-sparse) })
@@ -82,29 +82,29 @@ unfolding named
 named-twelve b bs = refl
 
 -- The parts of the image of nodes are read back.
-pub parts-back : (st : Settings) (count : ℕ) (ds ss : List Node) → Writable (st .width) count ds ss → parts (node-image st count ds ss) (named (version-bodies (st .version) ds ss)) ≡ parts-of-nodes st count ds ss
+pub parts-back : (st : Settings) (count : ℕ) (ds ss : List Node) → Writable (slot-width st) count ds ss → parts (node-image st count ds ss) (named (version-bodies (st .version) ds ss)) ≡ parts-of-nodes st count ds ss
 parts-back st count ds ss w =
     ap (parts (node-image st count ds ss)) (named-twelve (bodies ds ss) (level-bodies (st .version) (map length (levels-of (ds ++ ss)))))
     ∙ ap (λ (b : Bodies). parts (node-image st count ds ss) (named (in-order b))) (bodies-bits ds ss)
     ∙ parts-of-bits (node-image st count ds ss) st (node-counts count ds ss) (concat (map dense-labels ds)) (concat (map dense-has-child ds)) (map is-exact ds)
     (concat (map sparse-labels ss)) (concat (map sparse-has-child ss)) (concat (map louds ss)) (concat (map slots (ds ++ ss))) (node-image-header st count ds ss w)
-    (length-dl ds) (length-dc ds) (length-map ds is-exact) (length-sc ss (w .sparse-labelled)) (length-sb ss (w .sparse-labelled)) (sv-size (st .width) count ds ss w)
+    (length-dl ds) (length-dc ds) (length-map ds is-exact) (length-sc ss (w .sparse-labelled)) (length-sb ss (w .sparse-labelled)) (sv-size (slot-width st) count ds ss w)
 
 -- ---- the nodes
 
 -- The sparse entries of the image of nodes are read back, node by node.
-pub sparse-nodes-back : (st : Settings) (count : ℕ) (ds ss : List Node) → Writable (st .width) count ds ss → sparse-nodes (parts-of-nodes st count ds ss) ≡ map sparse-of ss
+pub sparse-nodes-back : (st : Settings) (count : ℕ) (ds ss : List Node) → Writable (slot-width st) count ds ss → sparse-nodes (parts-of-nodes st count ds ss) ≡ map sparse-of ss
 unfolding sparse-nodes
 sparse-nodes-back st count ds ss w = split-nodes ss (w .sparse-labelled)
 
 -- The nodes of their image are read back.
-pub nodes-back : (st : Settings) (count : ℕ) (ds ss : List Node) → Writable (st .width) count ds ss → nodes-of (parts-of-nodes st count ds ss) ≡ ds ++ ss
+pub nodes-back : (st : Settings) (count : ℕ) (ds ss : List Node) → Writable (slot-width st) count ds ss → nodes-of (parts-of-nodes st count ds ss) ≡ ds ++ ss
 unfolding nodes-of
 nodes-back st count ds ss w =
-    ap₂ (λ (a b : List Shape). slotted (st .width) (a ++ b) (concat (map slots (ds ++ ss)))) (dense-shapes-back ds (w .dense-labelled) (w .dense-bytes))
+    ap₂ (λ (a b : List Shape). slotted (slot-width st) (a ++ b) (concat (map slots (ds ++ ss)))) (dense-shapes-back ds (w .dense-labelled) (w .dense-bytes))
     (ap (map sparse-shape) (sparse-nodes-back st count ds ss w) ∙ sparse-shapes-back ss (w .sparse-labelled) (w .sparse-bytes) .0)
-    ∙ ap₂ (λ (a : List Shape) (b : Bits). slotted (st .width) a b) (sym (map-append shape-of ds ss)) (sym (append-nil (concat (map slots (ds ++ ss)))))
-    ∙ slotted-back (st .width) (ds ++ ss) [] (w .wide)
+    ∙ ap₂ (λ (a : List Shape) (b : Bits). slotted (slot-width st) a b) (sym (map-append shape-of ds ss)) (sym (append-nil (concat (map slots (ds ++ ss)))))
+    ∙ slotted-back (slot-width st) (ds ++ ss) [] (w .wide)
 
 -- ---- the bodies
 
@@ -114,8 +114,8 @@ blocks-short n h = omega arith
 pack-short : (bs : Bits) → length bs < 134217720 → length (pack bs) < 16777216
 pack-short bs h = rw (length-pack bs) (blocks-short (length bs) h)
 
-slots-short : (n count : ℕ) → n ≤ 16 → count ≤ 65535 → count * n < 134217720
-slots-short n count h k = let m : count * n ≤ 65535 * 16 = mul-le-mul k h in omega arith
+slots-short : (n count : ℕ) → n ≤ 32 → count ≤ 65535 → count * n < 134217720
+slots-short n count h k = let m : count * n ≤ 65535 * 32 = mul-le-mul k h in omega arith
 
 -- Each of the twelve is shorter than 2^24 bytes.
 twelve-small : (n count : ℕ) (ds ss : List Node) → Writable n count ds ss → All (λ b. length b < 16777216) (in-order (bodies ds ss))
@@ -176,18 +176,18 @@ pub version-paired : (v : ℕ) (b : Bodies) (ws : List ℕ) → Paired (version-
 version-paired v b ws = rw (version-rows-are v) (paired-append rows (level-rows v) (in-order b) (level-bodies v ws) (twelve-paired b) (level-paired v ws))
 
 -- The bodies of the image of nodes are read back.
-pub node-image-bodies : (st : Settings) (count : ℕ) (ds ss : List Node) → Writable (st .width) count ds ss → read-bodies (rows-of (node-image st count ds ss)) (drop 22 (node-image st count ds ss)) ≡ some (version-bodies (st .version) ds ss)
+pub node-image-bodies : (st : Settings) (count : ℕ) (ds ss : List Node) → Writable (slot-width st) count ds ss → read-bodies (rows-of (node-image st count ds ss)) (drop 22 (node-image st count ds ss)) ≡ some (version-bodies (st .version) ds ss)
 node-image-bodies st count ds ss w =
     ap (λ (v : ℕ). read-bodies (version-rows v) (drop 22 (node-image st count ds ss))) (node-image-header st count ds ss w .version)
     ∙ ap (read-bodies (version-rows (st .version))) (drop-header st (node-counts count ds ss) (write-records (version-rows (st .version)) (version-bodies (st .version) ds ss)) .4)
-    ∙ read-bodies-write (version-rows (st .version)) (version-bodies (st .version) ds ss) (version-paired (st .version) (bodies ds ss) (map length (levels-of (ds ++ ss)))) (bodies-short (st .version) (st .width) count ds ss w)
+    ∙ read-bodies-write (version-rows (st .version)) (version-bodies (st .version) ds ss) (version-paired (st .version) (bodies ds ss) (map length (levels-of (ds ++ ss)))) (bodies-short (st .version) (slot-width st) count ds ss w)
 
 -- ---- the nodes of a buildable leaf list
 
 module _ (st : Settings) (ls : List Leaf) (v : Buildable st ls) (t : Trie-valid ls) where
   -- The labels and slots of the trie's levels are right.
-  pub trie-levels-valid : Levels-valid (st .width) 0 (trie ls)
-  trie-levels-valid = levels-valid (st .width) 0 (trie ls) (t .linked) (rw (t .root) (realizable-leaf-valid (st .width) ls ls (v .well-sized) (v .realizable .shortest), tt))
+  pub trie-levels-valid : Levels-valid (st .hash-width) (slot-width st) 0 (trie ls)
+  trie-levels-valid = levels-valid (st .hash-width) (slot-width st) 0 (trie ls) (t .linked) (rw (t .root) (realizable-leaf-valid (st .hash-width) (slot-width st) ls ls (v .well-sized) (v .spare) (v .realizable .shortest), tt))
 
   -- The trie's nodes have as many leaves as the list.
   pub trie-leaf-count : leaf-count (concat (trie ls)) ≡ length ls
@@ -197,7 +197,7 @@ module _ (st : Settings) (ls : List Leaf) (v : Buildable st ls) (t : Trie-valid 
   all-nodes = let e = ap (λ (z : List (List Node)). length (concat z)) (take-all 64 (trie ls) (t .shallow)) in omega (arith, nodes-bound 64 65535 (trie ls) (t .linked) (omega (arith, trie-leaf-count, v .few)), e)
 
   -- The trie's nodes can be written.
-  pub trie-writable : Writable (st .width) (length ls) (trie-dense (st .dense-levels) ls) (trie-sparse (st .dense-levels) ls)
+  pub trie-writable : Writable (slot-width st) (length ls) (trie-dense (st .dense-levels) ls) (trie-sparse (st .dense-levels) ls)
   trie-writable =
       let ds : List Node = trie-dense (st .dense-levels) ls in
       let ss : List Node = trie-sparse (st .dense-levels) ls in
@@ -214,7 +214,7 @@ module _ (st : Settings) (ls : List Leaf) (v : Buildable st ls) (t : Trie-valid 
         sparse-bytes = all-split Byte-labels ds ss s .1;
         wide = rw whole (trie-levels-valid .wide);
         leaf-total = c;
-        width-range = v .width-range;
+        width-range = omega (arith, v .real-range, v .hash-range);
         few = v .few;
         few-dense = omega (arith, nodes-bound (st .dense-levels) 65535 (trie ls) (t .linked) (omega (arith, trie-leaf-count, v .few)));
         few-entries = omega (arith, sparse-labels-count ss, leaf-count-append ds ss, total-append children-of ds ss);
@@ -229,16 +229,16 @@ empty-concat : _≡_ {A = List Node} (concat []) []
 unfolding concat
 empty-concat = refl
 
-pub no-nodes-writable : (st : Settings) → st .width ≤ 16 → Writable (st .width) 0 [] []
+pub no-nodes-writable : (st : Settings) → st .real-width ≤ 16 → st .hash-width ≤ 16 → Writable (slot-width st) 0 [] []
 unfolding leaf-count concat
-no-nodes-writable st h = record {
+no-nodes-writable st r h = record {
   dense-labelled = tt;
   sparse-labelled = tt;
   dense-bytes = tt;
   sparse-bytes = tt;
   wide = tt;
   leaf-total = refl;
-  width-range = h;
+  width-range = omega arith;
   few = omega arith;
   few-dense = omega arith;
   few-entries = omega arith;
@@ -255,15 +255,15 @@ pub record Image-holds (st : Settings) (ls : List Leaf) : Type 0 where
   pub dense-nodes : List Node
   pub sparse-nodes : List Node
   pub image-is : image st ls ≡ node-image st (length ls) dense-nodes sparse-nodes
-  pub writable : Writable (st .width) (length ls) dense-nodes sparse-nodes
+  pub writable : Writable (slot-width st) (length ls) dense-nodes sparse-nodes
   pub whole : dense-nodes ++ sparse-nodes ≡ concat (trie ls)
 
 -- The image of a buildable leaf list holds its trie's nodes.
 pub image-holds : (st : Settings) (ls : List Leaf) → Buildable st ls → Image-holds st ls
-image-holds st ls v = go (realizable-trie (st .width) ls (v .realizable) (v .well-sized)) v
+image-holds st ls v = go (realizable-trie (slot-width st) ls (v .realizable) (v .well-sized)) v
   where
     go : {ls : List Leaf} → Empty-or-valid ls → Buildable st ls → Image-holds st ls
-    go empty-list v = record { dense-nodes = []; sparse-nodes = []; image-is = empty-image st v; writable = no-nodes-writable st (v .width-range); whole = sym (ap concat empty-trie ∙ empty-concat) }
+    go empty-list v = record { dense-nodes = []; sparse-nodes = []; image-is = empty-image st v; writable = no-nodes-writable st (v .real-range) (v .hash-range); whole = sym (ap concat empty-trie ∙ empty-concat) }
     go (valid-trie {ls = ls} t) v = record {
       dense-nodes = trie-dense (st .dense-levels) ls;
       sparse-nodes = trie-sparse (st .dense-levels) ls;

@@ -18,7 +18,7 @@ use Rattle.spec.specs.Leaves.{Leaf, trimmed, bits-behind, possible, lowest, hig
 use Rattle.theory.specs.Terms.{Is-bytes, Key}
 use Rattle.theory.specs.Lists.{bytes-append, bytes-take, le-or-lt, bytes-drop, and-both}
 use Rattle.theory.specs.Order.{below-irrefl, equal-order, prefix-append, below-append, below-nil, outside-prefix, equal-true}
-use Rattle.theory.specs.LeafLists.{Clear-past, Well-sized}
+use Rattle.theory.specs.LeafLists.{Clear-past, Real-sized}
 
 leb-eq : (a b c d : ℕ) → (a ≤ b → c ≤ d) → (c ≤ d → a ≤ b) → leb a b ≡ leb c d
 leb-eq a b c d f g = le-or-lt a b (λ h. le-leb a b h ∙ sym (le-leb c d (f h))) (λ h. lt-leb a b h ∙ sym (lt-leb c d (le-or-lt c d (λ k. absurd (omega (arith, g k))) (λ k. k))))
@@ -231,7 +231,7 @@ possible-interval l k o f s b h = rw (o, le-leb (length k) 64 h) (go (begins c k
         (interval m (64 - length c) (l .suffix) r (blocks-enough (l .suffix)) (omega arith) (omega (arith, f)) (bytes-drop (length c) k b) s)
 
 -- The possible keys, as tests: of byte strings of at most 64 bytes, those from the lowest to the highest.
-pub possible-between : {n : ℕ} (l : Leaf) (k : Bytes) → Well-sized n l → Is-bytes k → length k ≤ 64 → possible l k ≡ not (below k (lowest l)) && not (below (highest l) k)
+pub possible-between : {n : ℕ} (l : Leaf) (k : Bytes) → Real-sized n l → Is-bytes k → length k ≤ 64 → possible l k ≡ not (below k (lowest l)) && not (below (highest l) k)
 unfolding possible lowest highest
 possible-between l k o w h = go (l .exact) refl
   where
@@ -240,7 +240,7 @@ possible-between l k o w h = go (l .exact) refl
     go false e = possible-interval l k e (o .key .fits) (o .spare) w h
 
 -- a possible key has at most 64 bytes
-possible-length : {n : ℕ} (l : Leaf) (k : Bytes) → Well-sized n l → possible l k ≡ true → length k ≤ 64
+possible-length : {n : ℕ} (l : Leaf) (k : Bytes) → Real-sized n l → possible l k ≡ true → length k ≤ 64
 unfolding possible
 possible-length l k o h = go (l .exact) refl
   where
@@ -251,7 +251,7 @@ possible-length l k o h = go (l .exact) refl
         leb-true (length k) 64 (and-both (leb (length k) 64) (begins (l .cut) k && same-bits (bits-behind (length (l .suffix)) (length (l .cut)) k) (l .suffix)) s .0)
 
 -- The possible keys of a leaf are exactly the keys of at most 64 bytes from its lowest to its highest: of both kinds, for every suffix width n and every cut length.
-pub possible-interval-exactly : {n : ℕ} (l : Leaf) → Well-sized n l → (k : Bytes) → Is-bytes k
+pub possible-interval-exactly : {n : ℕ} (l : Leaf) → Real-sized n l → (k : Bytes) → Is-bytes k
     → (possible l k ≡ true) ↔ ((length k ≤ 64) × (below k (lowest l) ≡ false) × (below (highest l) k ≡ false))
 possible-interval-exactly l o k w = (
   λ h. let b = possible-length l k o h in
@@ -294,7 +294,7 @@ trimmed-length (x ∷ a) = go (trimmed a) (eqb x 0) (trimmed-length a)
     go (y ∷ ys) b q = omega arith
 
 -- a cut key with bytes behind it, to at most 64
-key-extended : {n : ℕ} (l : Leaf) (t : Bytes) → Well-sized n l → length t ≤ 64 - length (l .cut) → Is-bytes t → Key (l .cut ++ t)
+key-extended : {n : ℕ} (l : Leaf) (t : Bytes) → Real-sized n l → length t ≤ 64 - length (l .cut) → Is-bytes t → Key (l .cut ++ t)
 key-extended l t o h w = record {
   least = omega (arith, o .key .least, length-append (l .cut) t);
   fits = omega (arith, o .key .fits, length-append (l .cut) t);
@@ -310,7 +310,7 @@ module _ (l : Leaf) where
   high-bytes = filled true (blocks 8 (length (l .suffix))) (l .suffix) ++ replicate 64 255
 
 -- The lowest possible key is a key.
-pub lowest-key : {n : ℕ} (l : Leaf) → Well-sized n l → Key (lowest l)
+pub lowest-key : {n : ℕ} (l : Leaf) → Real-sized n l → Key (lowest l)
 unfolding lowest low-bytes
 lowest-key l o = go (l .exact)
   where
@@ -323,7 +323,7 @@ lowest-key l o = go (l .exact)
         (bytes-trimmed t (bytes-take (64 - length (l .cut)) (low-bytes l) (bytes-filled false (blocks 8 (length (l .suffix))) (l .suffix))))
 
 -- The highest possible key is a key.
-pub highest-key : {n : ℕ} (l : Leaf) → Well-sized n l → Key (highest l)
+pub highest-key : {n : ℕ} (l : Leaf) → Real-sized n l → Key (highest l)
 unfolding highest high-bytes
 highest-key l o = go (l .exact)
   where
@@ -362,9 +362,9 @@ lowest-highest l = go (l .exact)
     go false = below-append (l .cut) high low ∙ filled-order (blocks 8 (length (l .suffix))) (64 - length (l .cut)) (l .suffix) (replicate 64 255)
 
 -- The lowest is possible.
-pub lowest-possible : {n : ℕ} (l : Leaf) → Well-sized n l → possible l (lowest l) ≡ true
+pub lowest-possible : {n : ℕ} (l : Leaf) → Real-sized n l → possible l (lowest l) ≡ true
 lowest-possible l o = let k = lowest-key l o in possible-between l (lowest l) o (k .bytes) (k .fits) ∙ rw (below-irrefl (lowest l), lowest-highest l)
 
 -- So is the highest.
-pub highest-possible : {n : ℕ} (l : Leaf) → Well-sized n l → possible l (highest l) ≡ true
+pub highest-possible : {n : ℕ} (l : Leaf) → Real-sized n l → possible l (highest l) ≡ true
 highest-possible l o = let k = highest-key l o in possible-between l (highest l) o (k .bytes) (k .fits) ∙ rw (below-irrefl (highest l), lowest-highest l)

@@ -1,6 +1,6 @@
 -- Leaf lists that are realizable: in order, and each cut one byte behind what it shares with another.
 -- Any choice of one possible key for each leaf of such a list ascends strictly and has just these leaves: the lists that build an image are the choices.
-use Prim.Native.Nat.{ℕ, suc, _<_, zero, _-_}
+use Prim.Native.Nat.{ℕ, suc, _<_, zero, _+_, _-_}
 use mathlib.Core.Path.{_≡_, refl, sym, ap, ap₂, _∙_}
 use mathlib.Core.Bool.{cond, Bool, true, false, not, true≢false, or-true}
 use mathlib.Core.List.{List, [], _∷_, _++_, map, append-nil}
@@ -10,7 +10,7 @@ use lib.Seq.{take-append-seam}
 use borrow.Author.Tests.{lt-ltb}
 use Rattle.spec.specs.Bytes.{Bytes, any, filter, maximum, equal, begins, shared, Bits, clear}
 use Rattle.spec.specs.Keys.{below}
-use Rattle.spec.specs.Leaves.{Leaf, others, leaf, leaves, bits-behind}
+use Rattle.spec.specs.Leaves.{Leaf, others, leaf, leaves, suffix-bits}
 use Rattle.theory.specs.Terms.{Ascending, All, Below-all, Key}
 use Rattle.theory.specs.Lists.{eqb-self, gt-eqb, lt-eqb}
 use Rattle.theory.specs.Order.{equal-self, prefix-append}
@@ -50,29 +50,42 @@ abbrev pub Clear-past : ℕ → Bits → Type 0
 Clear-past zero s = clear s ≡ true
 Clear-past (suc R) s = Clear-past R (drop 8 s)
 
--- a leaf as an accepted image has it
+-- a leaf with a cut key of 1 to 64 bytes and a slot of n bits
 pub record Well-sized (n : ℕ) (l : Leaf) : Type 0 where
+  pub key : Key (l .cut)
+  pub slot : length (l .suffix) ≡ n
+
+-- leaves with such cut keys and slots
+abbrev pub All-well-sized : ℕ → List Leaf → Type 0
+All-well-sized n = All (Well-sized n)
+
+-- no real bit of a leaf, behind its h hash bits, is set past its key's 64th byte
+abbrev pub Spare-clear : ℕ → Leaf → Type 0
+Spare-clear h l = Clear-past (64 - length (l .cut)) (drop h (l .suffix))
+
+-- a leaf of n real bits alone, as an accepted image without hash bits has it
+pub record Real-sized (n : ℕ) (l : Leaf) : Type 0 where
   pub key : Key (l .cut)
   pub spare : Clear-past (64 - length (l .cut)) (l .suffix)
   pub slot : length (l .suffix) ≡ n
 
--- leaves as an accepted image has them
-abbrev pub All-well-sized : ℕ → List Leaf → Type 0
-All-well-sized n = All (Well-sized n)
+-- leaves of real bits alone
+abbrev pub All-real-sized : ℕ → List Leaf → Type 0
+All-real-sized n = All (Real-sized n)
 
 -- ---- one possible key for each leaf
 
--- k is a possible key of l: the cut key and a rest, which an exact leaf does not have and whose first bits are the suffix of an open one
-pub record Possible-key (n : ℕ) (l : Leaf) (k : Bytes) : Type 0 where
+-- k is a possible key of l, which has h hash bits and n real bits: the cut key and a rest, which an exact leaf does not have and behind which an open one has the key's suffix
+pub record Possible-key (h n : ℕ) (l : Leaf) (k : Bytes) : Type 0 where
   pub rest : Bytes
   pub split : k ≡ l .cut ++ rest
   pub ends : T (l .exact) → rest ≡ []
-  pub bits : l .exact ≡ false → bits-behind n (length (l .cut)) k ≡ l .suffix
+  pub bits : l .exact ≡ false → suffix-bits h n (length (l .cut)) k ≡ l .suffix
 
 -- one possible key for each leaf
-pub data Possible-keys (n : ℕ) : List Leaf → List Bytes → Type 0 where
-  done : Possible-keys n [] []
-  also : {l : Leaf} {k : Bytes} {ls : List Leaf} {ks : List Bytes} → Possible-key n l k → Possible-keys n ls ks → Possible-keys n (l ∷ ls) (k ∷ ks)
+pub data Possible-keys (h n : ℕ) : List Leaf → List Bytes → Type 0 where
+  done : Possible-keys h n [] []
+  also : {l : Leaf} {k : Bytes} {ls : List Leaf} {ks : List Bytes} → Possible-key h n l k → Possible-keys h n ls ks → Possible-keys h n (l ∷ ls) (k ∷ ks)
 
 -- the keys c s and d t of two such leaves
 module _ {e : Bool} (s t : Bytes) (q : T e → s ≡ []) where
@@ -145,7 +158,7 @@ alike-self c k = record {
   begins-same = λ h. absurd (true≢false (sym (equal-self c) ∙ h));
 }
 
-alike-before : {n : ℕ} (l m : Leaf) (k km : Bytes) → Possible-key n l k → Possible-key n m km → Before (l .exact) (l .cut) (m .cut) → Alike (l .cut) k (m .cut) km
+alike-before : {h n : ℕ} (l m : Leaf) (k km : Bytes) → Possible-key h n l k → Possible-key h n m km → Before (l .exact) (l .cut) (m .cut) → Alike (l .cut) k (m .cut) km
 alike-before l m k km p r b = rw (p .split, r .split) (record {
   equal-same = before-equal (p .rest) (r .rest) (p .ends) b ∙ sym (plain-same b);
   shared-same = λ h. before-shared (p .rest) (r .rest) (p .ends) b;
@@ -155,7 +168,7 @@ alike-before l m k km p r b = rw (p .split, r .split) (record {
     plain-same : {e : Bool} {c d : Bytes} → Before e c d → equal c d ≡ false
     plain-same b = simp append-nil at (before-equal [] [] (λ _. refl) b)
 
-alike-after : {n : ℕ} (l m : Leaf) (k km : Bytes) → Possible-key n l k → Possible-key n m km → Before (l .exact) (l .cut) (m .cut) → Alike (m .cut) km (l .cut) k
+alike-after : {h n : ℕ} (l m : Leaf) (k km : Bytes) → Possible-key h n l k → Possible-key h n m km → Before (l .exact) (l .cut) (m .cut) → Alike (m .cut) km (l .cut) k
 alike-after l m k km p r b = rw (p .split, r .split) (record {
   equal-same = after-equal (p .rest) (r .rest) (p .ends) b ∙ sym (plain-same b);
   shared-same = λ h. after-shared (p .rest) (r .rest) (p .ends) b;
@@ -165,17 +178,17 @@ alike-after l m k km p r b = rw (p .split, r .split) (record {
     plain-same : {e : Bool} {c d : Bytes} → Before e c d → equal d c ≡ false
     plain-same b = simp append-nil at (after-equal [] [] (λ _. refl) b)
 
-alike-to-all : {n : ℕ} (l : Leaf) (k : Bytes) {ms : List Leaf} {kms : List Bytes} → Possible-key n l k → Before-all l ms → Possible-keys n ms kms → Alike-to-all (l .cut) k ms kms
+alike-to-all : {h n : ℕ} (l : Leaf) (k : Bytes) {ms : List Leaf} {kms : List Bytes} → Possible-key h n l k → Before-all l ms → Possible-keys h n ms kms → Alike-to-all (l .cut) k ms kms
 alike-to-all l k p f done = end
 alike-to-all l k p f (also {l = m} {k = km} r rs) = cell (alike-before l m k km p r (f .0)) (alike-to-all l k p (f .1) rs)
 
-widen : {n : ℕ} (l : Leaf) (k : Bytes) {ls : List Leaf} {ks : List Bytes} {ms : List Leaf} {kms : List Bytes}
-    → Possible-key n l k → Before-all l ms → Possible-keys n ms kms → All-alike ls ks ms kms → All-alike (l ∷ ls) (k ∷ ks) ms kms
+widen : {h n : ℕ} (l : Leaf) (k : Bytes) {ls : List Leaf} {ks : List Bytes} {ms : List Leaf} {kms : List Bytes}
+    → Possible-key h n l k → Before-all l ms → Possible-keys h n ms kms → All-alike ls ks ms kms → All-alike (l ∷ ls) (k ∷ ks) ms kms
 widen l k p f done end = end
 widen l k p f (also {l = m} {k = km} r rs) (line q qs) = line (cell (alike-after l m k km p r (f .0)) q) (widen l k p (f .1) rs qs)
 
 -- possible keys of ordered leaves relate as the cut keys do
-pub all-alike : {n : ℕ} {ls : List Leaf} {ks : List Bytes} → Ordered ls → Possible-keys n ls ks → All-alike ls ks ls ks
+pub all-alike : {h n : ℕ} {ls : List Leaf} {ks : List Bytes} → Ordered ls → Possible-keys h n ls ks → All-alike ls ks ls ks
 all-alike o done = end
 all-alike o (also {l = l} {k = k} p ps) = line (cell (alike-self (l .cut) k) (alike-to-all l k p (o .0) ps)) (widen l k p (o .0) ps (all-alike (o .1) ps))
 
@@ -209,15 +222,15 @@ alike-any {c} {k} (cell {m} {km} {ms} {kms} q qs) = rw (q .equal-same) (go (alik
 pub leaf-equal : (l m : Leaf) → l .cut ≡ m .cut → l .exact ≡ m .exact → l .suffix ≡ m .suffix → l ≡ m
 leaf-equal l m p q r = λ i. record { cut = p i; exact = q i; suffix = r i }
 
-leaf-again : {n : ℕ} {ls : List Leaf} {ks : List Bytes} (l : Leaf) (k : Bytes) → Shortest n ls l → Possible-key n l k → Alike-to-all (l .cut) k ls ks → leaf n ks k ≡ l
+leaf-again : {h n : ℕ} {ls : List Leaf} {ks : List Bytes} (l : Leaf) (k : Bytes) → Shortest (h + n) ls l → Possible-key h n l k → Alike-to-all (l .cut) k ls ks → leaf h n ks k ≡ l
 unfolding leaf
-leaf-again {n} {ls} {ks} l k t p r = rw (alike-any r, t .kind) (go (l .exact) refl)
+leaf-again {h} {n} {ls} {ks} l k t p r = rw (alike-any r, t .kind) (go (l .exact) refl)
   where
     c : Bytes
     c = l .cut
 
     whole : T (l .exact) → k ≡ c
-    whole h = p .split ∙ rw (p .ends h) (append-nil c)
+    whole t = p .split ∙ rw (p .ends t) (append-nil c)
 
     long : l .exact ≡ false → suc (maximum (map (shared k) (others ks k))) ≡ length c
     long e = ap suc (alike-maximum r) ∙ t .size e
@@ -226,28 +239,28 @@ leaf-again {n} {ls} {ks} l k t p r = rw (alike-any r, t .kind) (go (l .exact) re
     prefix-append = rw (p .split) (take-append-seam c (p .rest))
 
     go : (b : Bool) → l .exact ≡ b → cond (l .exact)
-        (record { cut = k; exact = true; suffix = replicate n false })
-        (record { cut = take (suc (maximum (map (shared k) (others ks k)))) k; exact = false; suffix = bits-behind n (suc (maximum (map (shared k) (others ks k)))) k })
+        (record { cut = k; exact = true; suffix = replicate (h + n) false })
+        (record { cut = take (suc (maximum (map (shared k) (others ks k)))) k; exact = false; suffix = suffix-bits h n (suc (maximum (map (shared k) (others ks k)))) k })
         ≡ l
     go true e = rw e (leaf-equal _ _ (whole (rw e tt)) refl (sym (t .blank e)))
-    go false e = rw e (leaf-equal _ _ (ap (λ z. take z k) (long e) ∙ prefix-append) refl (ap (λ z. bits-behind n z k) (long e) ∙ p .bits e))
+    go false e = rw e (leaf-equal _ _ (ap (λ z. take z k) (long e) ∙ prefix-append) refl (ap (λ z. suffix-bits h n z k) (long e) ∙ p .bits e))
 
-again : {n : ℕ} {ls : List Leaf} {ks : List Bytes} {ms : List Leaf} {kms : List Bytes}
-    → All (Shortest n ls) ms → Possible-keys n ms kms → All-alike ls ks ms kms → map (leaf n ks) kms ≡ ms
+again : {h n : ℕ} {ls : List Leaf} {ks : List Bytes} {ms : List Leaf} {kms : List Bytes}
+    → All (Shortest (h + n) ls) ms → Possible-keys h n ms kms → All-alike ls ks ms kms → map (leaf h n ks) kms ≡ ms
 again t done end = refl
 again t (also {l = m} {k = km} p ps) (line r rs) = ap₂ _∷_ (leaf-again m km (t .0) p r) (again (t .1) ps rs)
 
 -- a possible key is below those of the leaves behind
-pub possible-key-below : {n : ℕ} (l : Leaf) (k : Bytes) {ms : List Leaf} {kms : List Bytes} → Possible-key n l k → Before-all l ms → Possible-keys n ms kms → Below-all k kms
+pub possible-key-below : {h n : ℕ} (l : Leaf) (k : Bytes) {ms : List Leaf} {kms : List Bytes} → Possible-key h n l k → Before-all l ms → Possible-keys h n ms kms → Below-all k kms
 possible-key-below l k p f done = tt
 possible-key-below l k p f (also {l = m} {k = km} r rs) = (rw (p .split, r .split) (before-below (p .rest) (r .rest) (p .ends) (f .0)), possible-key-below l k p (f .1) rs)
 
 -- Possible keys of ordered leaves, one for each, ascend strictly.
-pub possible-keys-ascend : {n : ℕ} {ls : List Leaf} {ks : List Bytes} → Ordered ls → Possible-keys n ls ks → Ascending ks
+pub possible-keys-ascend : {h n : ℕ} {ls : List Leaf} {ks : List Bytes} → Ordered ls → Possible-keys h n ls ks → Ascending ks
 possible-keys-ascend o done = tt
 possible-keys-ascend o (also {l = l} {k = k} p ps) = (possible-key-below l k p (o .0) ps, possible-keys-ascend (o .1) ps)
 
 -- any choice of one possible key for each leaf has just these leaves
-pub possible-keys-leaves : {n : ℕ} {ls : List Leaf} {ks : List Bytes} → Realizable n ls → Possible-keys n ls ks → leaves n ks ≡ ls
+pub possible-keys-leaves : {h n : ℕ} {ls : List Leaf} {ks : List Bytes} → Realizable (h + n) ls → Possible-keys h n ls ks → leaves h n ks ≡ ls
 unfolding leaves
 possible-keys-leaves g ps = again (g .shortest) ps (all-alike (g .ordered) ps)

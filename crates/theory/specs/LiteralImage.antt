@@ -10,9 +10,10 @@ use lib.ListN.{take, drop, length, length-map}
 use lib.Seq.{take-nil, drop-nil}
 use Rattle.spec.specs.Bytes.{concat, iota, Bytes}
 use Rattle.spec.specs.Leaves.{Leaf}
-use Rattle.spec.specs.Image.{known-version, on-level, nodes, is-leaf, Settings, header, version-rows, in-order, level-widths, level-bodies, write-records}
+use Rattle.spec.specs.Image.{known-version, on-level, nodes, is-leaf, Settings, slot-width, header, version-rows, in-order, level-widths, level-bodies, write-records}
 use Rattle.spec.specs.Nodes.{Group, Node, levels-of}
-use Rattle.theory.specs.LeafLists.{Realizable, All-well-sized}
+use Rattle.theory.specs.Terms.{All}
+use Rattle.theory.specs.LeafLists.{Realizable, All-well-sized, Spare-clear}
 use Rattle.theory.specs.Lists.{map-ext, concat-split}
 use Rattle.theory.specs.LevelTrie.{node-of, child-groups, trie-levels, trie-dense, trie-sparse, trie}
 use Rattle.theory.specs.TrieGroups.{Depth-at-most, realizable-trie-group, has-leaf, well-sized-depth}
@@ -136,19 +137,21 @@ literal-counts : (dense : ℕ) (ls : List Leaf) → Literal.counts dense ls
 unfolding Literal.counts
 literal-counts dense ls = refl
 
--- settings in range, and a realizable list of at most 65,535 leaves, each with a cut key of 1 to 64 bytes and a suffix of n bits with none set past the 64th byte
+-- settings in range, and a realizable list of at most 65,535 leaves, each with a cut key of 1 to 64 bytes and a slot of h hash bits and n real bits, none of these set past the 64th byte
 pub record Buildable (st : Settings) (ls : List Leaf) : Type 0 where
   pub version-known : known-version (st .version) ≡ true
   pub dense-range : st .dense-levels ≤ 4
-  pub width-range : st .width ≤ 16
+  pub real-range : st .real-width ≤ 16
+  pub hash-range : st .hash-width ≤ 16
   pub few : length ls ≤ 65535
-  pub realizable : Realizable (st .width) ls
-  pub well-sized : All-well-sized (st .width) ls
+  pub realizable : Realizable (slot-width st) ls
+  pub well-sized : All-well-sized (slot-width st) ls
+  pub spare : All (Spare-clear (st .hash-width)) ls
 
 -- The image of a buildable leaf list is the header and the records of its trie's nodes.
 pub image-of-trie : (st : Settings) (ls : List Leaf) → Buildable st ls → Literal.image st ls ≡ node-image st (length ls) (trie-dense (st .dense-levels) ls) (trie-sparse (st .dense-levels) ls)
 image-of-trie st ls v =
-    let N = prefix-nodes (st .dense-levels) ls (omega (arith, v .dense-range)) (v .realizable) (well-sized-depth (st .width) ls (v .well-sized)) in
+    let N = prefix-nodes (st .dense-levels) ls (omega (arith, v .dense-range)) (v .realizable) (well-sized-depth (slot-width st) ls (v .well-sized)) in
     let n : length (nodes ls 0 (st .dense-levels)) ≡ length (trie-dense (st .dense-levels) ls) = sym (length-map (nodes ls 0 (st .dense-levels)) (node-at ls)) ∙ ap length (N .first) in
     let m : length (nodes ls (st .dense-levels) 64) ≡ length (trie-sparse (st .dense-levels) ls) = sym (length-map (nodes ls (st .dense-levels) 64) (node-at ls)) ∙ ap length (N .rest) in
     let b = literal-bodies (st .dense-levels) ls ∙ same-bodies ls (nodes ls 0 (st .dense-levels)) (nodes ls (st .dense-levels) 64) (trie-dense (st .dense-levels) ls) (trie-sparse (st .dense-levels) ls) (N .first) (N .rest) in
@@ -156,5 +159,5 @@ image-of-trie st ls v =
     ap concat (map-prefix-nodes ls (Literal.sparse-labels ls) Level.sparse-labels (nodes ls (st .dense-levels) 64) (trie-sparse (st .dense-levels) ls) (sparse-labels-at ls) (N .rest)) in
     let whole : trie-dense (st .dense-levels) ls ++ trie-sparse (st .dense-levels) ls ≡ concat (trie ls) = concat-split (st .dense-levels) (trie ls) in
     let w : level-bodies (st .version) (level-widths ls) ≡ level-bodies (st .version) (map length (levels-of (trie-dense (st .dense-levels) ls ++ trie-sparse (st .dense-levels) ls))) =
-    trie-starts (st .version) ls (v .realizable) (well-sized-depth (st .width) ls (v .well-sized)) (realizable-trie (st .width) ls (v .realizable) (v .well-sized)) ∙ ap (λ (z : List Node). level-bodies (st .version) (map length (levels-of z))) (sym whole) in
+    trie-starts (st .version) ls (v .realizable) (well-sized-depth (slot-width st) ls (v .well-sized)) (realizable-trie (slot-width st) ls (v .realizable) (v .well-sized)) ∙ ap (λ (z : List Node). level-bodies (st .version) (map length (levels-of z))) (sym whole) in
     image-records st ls ∙ rw (literal-counts (st .dense-levels) ls, n, m, e, b, w)

@@ -1,6 +1,6 @@
 -- Only neighbours matter for the cut: the longest prefix that a key of an ascending list shares with any other is shared with the key before or the key behind it.
 -- The builder takes each leaf from a key and its neighbours.
-use Prim.Native.Nat.{ℕ, suc, _<_, _≤_, max}
+use Prim.Native.Nat.{ℕ, suc, _+_, _<_, _≤_, max}
 use mathlib.Core.Path.{_≡_, refl, sym, ap, ap₂, _∙_}
 use mathlib.Core.Bool.{Bool, true, false, cond, not, true≢false}
 use mathlib.Core.List.{List, [], _∷_, _++_, map}
@@ -11,7 +11,7 @@ use lib.Dec.{eqb}
 use borrow.Author.Tests.{not-true, eqb-true, eqb-false}
 use Rattle.spec.specs.Bytes.{Bytes, any, filter, maximum, equal, begins, shared}
 use Rattle.spec.specs.Keys.{below}
-use Rattle.spec.specs.Leaves.{Leaf, others, leaf, leaves, bits-behind}
+use Rattle.spec.specs.Leaves.{Leaf, others, suffix-bits, leaf, leaves}
 use Rattle.theory.specs.Terms.{All, In, here, there, Below-all, Ascending}
 use Rattle.theory.specs.Lists.{all-in, in-any, filter-in, in-filter, any-false, maximum-bound, maximum-below}
 use Rattle.theory.specs.Order.{below-cons, below-asym, below-lt-le, below-nil, below-unequal, equal-self, equal-comm, shared-comm, shared-le, shared-eq, shared-ne, above-short, begins-shared, shared-begins}
@@ -34,18 +34,18 @@ abbrev pub Nonempty : List Bytes → Type 0
 Nonempty = All (λ k. 0 < length k)
 
 -- the leaf of a key that shares p bytes with the key before and q with the next
-unfoldable pub neighbour-leaf : ℕ → ℕ → ℕ → Bytes → Leaf
-unfolding bits-behind
-neighbour-leaf n p q k =
+unfoldable pub neighbour-leaf : ℕ → ℕ → ℕ → ℕ → Bytes → Leaf
+unfolding suffix-bits
+neighbour-leaf h n p q k =
     cond (eqb q (length k))
-    (record { cut = k; exact = true; suffix = replicate n false })
-    (record { cut = take (suc (max p q)) k; exact = false; suffix = bits-behind n (suc (max p q)) k })
+    (record { cut = k; exact = true; suffix = replicate (h + n) false })
+    (record { cut = take (suc (max p q)) k; exact = false; suffix = suffix-bits h n (suc (max p q)) k })
 
 -- the leaves of keys, the first of which shares p bytes with the key before it
-unfoldable pub neighbour-leaves : ℕ → ℕ → List Bytes → List Leaf
+unfoldable pub neighbour-leaves : ℕ → ℕ → ℕ → List Bytes → List Leaf
 unfolding neighbour-leaf next-shared
-neighbour-leaves n p [] = []
-neighbour-leaves n p (k ∷ ks) = neighbour-leaf n p (next-shared k ks) k ∷ neighbour-leaves n (next-shared k ks) ks
+neighbour-leaves h n p [] = []
+neighbour-leaves h n p (k ∷ ks) = neighbour-leaf h n p (next-shared k ks) k ∷ neighbour-leaves h n (next-shared k ks) ks
 
 -- ---- three ascending keys
 
@@ -103,7 +103,7 @@ record Position (ks : List Bytes) (k : Bytes) (ms : List Bytes) (p : ℕ) : Type
   short : p < length k
   asc : Ascending (k ∷ ms)
 
-module _ (n : ℕ) (ks : List Bytes) (k : Bytes) (ms : List Bytes) (p : ℕ) (w : Position ks k ms p) where
+module _ (ks : List Bytes) (k : Bytes) (ms : List Bytes) (p : ℕ) (w : Position ks k ms p) where
   all-shared : (o : Bytes) → In o ks → not (equal k o) ≡ true → (shared k o ≤ p) ⊎ (shared k o ≤ next-shared k ms)
   all-shared o i h = ⊎-elim (λ j. other o j h) (λ s. inl (s .1)) (w .seen o i)
     where
@@ -144,9 +144,9 @@ module _ (n : ℕ) (ks : List Bytes) (k : Bytes) (ms : List Bytes) (p : ℕ) (w 
       far [] a u = omega (arith, no-share k)
       far (m ∷ ns) a u = omega (arith, one-share k m ns, maximum-bound (λ o. not (equal k o)) (shared k) (u m here) (rw (below-unequal k m (a .0 .0)) refl))
 
-  leaf-by-neighbours : leaf n ks k ≡ neighbour-leaf n p (next-shared k ms) k
+  leaf-by-neighbours : (h n : ℕ) → leaf h n ks k ≡ neighbour-leaf h n p (next-shared k ms) k
   unfolding leaf neighbour-leaf
-  leaf-by-neighbours = rw (kind, shared-most)
+  leaf-by-neighbours h n = rw (kind, shared-most)
 
 step : (ks : List Bytes) (k m : Bytes) (ms : List Bytes) (p : ℕ) → 0 < length m → Position ks k (m ∷ ms) p → Position ks m ms (shared k m)
 step ks k m ms p z w = record {
@@ -176,18 +176,18 @@ position-first k ks s a = record { some = s; into = λ o i. i; seen = λ o i. in
 pub shared-with-neighbour : (before : List Bytes) (k : Bytes) (after : List Bytes) → Nonempty (before ++ k ∷ after) → Ascending (before ++ k ∷ after)
     → maximum (map (shared k) (others (before ++ k ∷ after) k)) ≡ max (previous-shared before k) (next-shared k after)
 unfolding previous-shared
-shared-with-neighbour [] k after s a = shared-most 0 (k ∷ after) k after 0 (position-first k after (s .0) a)
+shared-with-neighbour [] k after s a = shared-most (k ∷ after) k after 0 (position-first k after (s .0) a)
 shared-with-neighbour (m ∷ before) k after s a =
     let ks : List Bytes = m ∷ before ++ k ∷ after in
-    shared-most 0 ks k after (previous-shared (m ∷ before) k) (position-behind ks before m k after 0 (s .1) (position-first m (before ++ k ∷ after) (s .0) a))
+    shared-most ks k after (previous-shared (m ∷ before) k) (position-behind ks before m k after 0 (s .1) (position-first m (before ++ k ∷ after) (s .0) a))
 
-leaves-from : (n : ℕ) (ks : List Bytes) (k : Bytes) (ms : List Bytes) (p : ℕ) → Nonempty (k ∷ ms) → Position ks k ms p → map (leaf n ks) (k ∷ ms) ≡ neighbour-leaves n p (k ∷ ms)
+leaves-from : (h n : ℕ) (ks : List Bytes) (k : Bytes) (ms : List Bytes) (p : ℕ) → Nonempty (k ∷ ms) → Position ks k ms p → map (leaf h n ks) (k ∷ ms) ≡ neighbour-leaves h n p (k ∷ ms)
 unfolding neighbour-leaves next-shared
-leaves-from n ks k [] p s w = ap (λ (l : Leaf). l ∷ []) (leaf-by-neighbours n ks k [] p w)
-leaves-from n ks k (m ∷ ms) p s w = ap₂ _∷_ (leaf-by-neighbours n ks k (m ∷ ms) p w) (leaves-from n ks m ms (shared k m) (s .1) (step ks k m ms p (s .1 .0) w))
+leaves-from h n ks k [] p s w = ap (λ (l : Leaf). l ∷ []) (leaf-by-neighbours ks k [] p w h n)
+leaves-from h n ks k (m ∷ ms) p s w = ap₂ _∷_ (leaf-by-neighbours ks k (m ∷ ms) p w h n) (leaves-from h n ks m ms (shared k m) (s .1) (step ks k m ms p (s .1 .0) w))
 
 -- the leaves of an ascending list, from each key and its neighbours
-pub leaves-by-neighbours : (n : ℕ) (ks : List Bytes) → Nonempty ks → Ascending ks → leaves n ks ≡ neighbour-leaves n 0 ks
+pub leaves-by-neighbours : (h n : ℕ) (ks : List Bytes) → Nonempty ks → Ascending ks → leaves h n ks ≡ neighbour-leaves h n 0 ks
 unfolding leaves neighbour-leaves
-leaves-by-neighbours n [] s a = refl
-leaves-by-neighbours n (k ∷ ks) s a = leaves-from n (k ∷ ks) k ks 0 s (position-first k ks (s .0) a)
+leaves-by-neighbours h n [] s a = refl
+leaves-by-neighbours h n (k ∷ ks) s a = leaves-from h n (k ∷ ks) k ks 0 s (position-first k ks (s .0) a)

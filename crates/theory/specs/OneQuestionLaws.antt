@@ -9,6 +9,7 @@ use lib.Dec.{eqb}
 use borrow.Author.Tests.{lt-ltb, le-ltb, ne-eqb}
 use Rattle.spec.specs.Bytes.{Bytes}
 use Rattle.spec.specs.Keys.{below}
+use Rattle.spec.specs.Frame.{read-settings}
 use Rattle.spec.specs.Nodes.{read-leaves}
 use Rattle.spec.specs.Questions.{Question, QP, QS, QB, QR, QC, reply, replies, taken, parse-questions}
 use Rattle.spec.specs.Answer.{write}
@@ -77,16 +78,16 @@ count-keys lo hi = refl
 -- ---- the answer
 
 -- the answer, by the number with which the question is turned down
-one-is : (b : Bytes) (q : Question) (r : ℕ) → question-refusal q ≡ r → ask-one b q ≡ elim (eqb r 0) [ true ↦ replied (reply (read-leaves b) q) | false ↦ refused r ]
+one-is : (b : Bytes) (q : Question) (r : ℕ) → question-refusal q ≡ r → ask-one b q ≡ elim (eqb r 0) [ true ↦ replied (reply (read-settings b .hash-width) (read-leaves b) q) | false ↦ refused r ]
 unfolding ask-one
-one-is b q r e = ap {B = Answered} (λ (r : ℕ). elim (eqb r 0) [ true ↦ replied (reply (read-leaves b) q) | false ↦ refused r ]) e
+one-is b q r e = ap {B = Answered} (λ (r : ℕ). elim (eqb r 0) [ true ↦ replied (reply (read-settings b .hash-width) (read-leaves b) q) | false ↦ refused r ]) e
 
 -- A question that is turned down is answered with the number.
 pub one-refused : (b : Bytes) (q : Question) (r : ℕ) → question-refusal q ≡ r → 0 < r → ask-one b q ≡ refused r
 one-refused b q r e h = one-is b q r e ∙ rw (ne-eqb r 0 (λ z. omega arith))
 
 -- One that is taken is answered with the reply over the image's leaves.
-pub one-replied : (b : Bytes) (q : Question) → question-refusal q ≡ 0 → ask-one b q ≡ replied (reply (read-leaves b) q)
+pub one-replied : (b : Bytes) (q : Question) → question-refusal q ≡ 0 → ask-one b q ≡ replied (reply (read-settings b .hash-width) (read-leaves b) q)
 one-replied b q e = one-is b q 0 e
 
 -- Bounds that are taken have at most 64 bytes each.
@@ -111,5 +112,5 @@ one-parsed q p = questions-read (length (file-bytes (q ∷ []))) 0 (q ∷ []) (p
 
 -- Over an accepted image, a question with keys of at most 64 bytes and a range the right way round is answered with the reply that ask writes for a file of this question alone.
 pub one-asked : (b : Bytes) → verdict b ≡ 0 → (q : Question) → Proper q
-    → (ask-one b q ≡ replied (reply (read-leaves b) q)) × ((out : Bytes) → ask b (file-bytes (q ∷ [])) out ≡ write 25 (replies (read-leaves b) (q ∷ [])) out)
+    → (ask-one b q ≡ replied (reply (read-settings b .hash-width) (read-leaves b) q)) × ((out : Bytes) → ask b (file-bytes (q ∷ [])) out ≡ write 25 (replies (read-settings b .hash-width) (read-leaves b) (q ∷ [])) out)
 one-asked b v q p = (one-replied b q (proper-taken q p), λ out. ask-is b (file-bytes (q ∷ [])) out 0 (taken (q ∷ [])) v (one-parsed q p))

@@ -7,7 +7,7 @@ use mathlib.Core.Option.{some, Option, none}
 use lib.ListN.{drop, length}
 use Rattle.spec.specs.Bytes.{Bytes, concat}
 use Rattle.spec.specs.Leaves.{Leaf}
-use Rattle.spec.specs.Image.{Settings, image, header}
+use Rattle.spec.specs.Image.{Settings, slot-width, image, header}
 use Rattle.spec.specs.Frame.{rows-of, read-bodies, parts, read-settings, named}
 use Rattle.spec.specs.Nodes.{read-nodes, nodes-of, Node, leaves-of, levels-of, total, groups, read-leaves}
 use Rattle.theory.specs.LevelTrie.{trie}
@@ -24,7 +24,7 @@ unfolding read-nodes
 read-nodes-bodies s bs h = ap {B = List Node} (λ (f : Option (List Bytes)). elim f [ none ↦ [] | some bs ↦ nodes-of (parts s (named bs)) ]) h
 
 -- The nodes of their image are read back.
-node-image-nodes : (st : Settings) (count : ℕ) (ds ss : List Node) → Writable (st .width) count ds ss → read-nodes (node-image st count ds ss) ≡ ds ++ ss
+node-image-nodes : (st : Settings) (count : ℕ) (ds ss : List Node) → Writable (slot-width st) count ds ss → read-nodes (node-image st count ds ss) ≡ ds ++ ss
 node-image-nodes st count ds ss w =
     read-nodes-bodies (node-image st count ds ss) (version-bodies (st .version) ds ss) (node-image-bodies st count ds ss w) ∙ ap nodes-of (parts-back st count ds ss w) ∙ nodes-back st count ds ss w
 
@@ -41,7 +41,7 @@ unfolding read-leaves
 read-back st ls v =
     let h = image-holds st ls v in
     let n : read-nodes (image st ls) ≡ concat (trie ls) = ap read-nodes (h .image-is) ∙ node-image-nodes st (length ls) (h .dense-nodes) (h .sparse-nodes) (h .writable) ∙ h .whole in
-    ap (λ (z : List Node). leaves-of (levels-of z)) n ∙ levels-of-trie (realizable-trie (st .width) ls (v .realizable) (v .well-sized)) ∙ trie-leaves ls (v .realizable) (well-sized-depth (st .width) ls (v .well-sized))
+    ap (λ (z : List Node). leaves-of (levels-of z)) n ∙ levels-of-trie (realizable-trie (slot-width st) ls (v .realizable) (v .well-sized)) ∙ trie-leaves ls (v .realizable) (well-sized-depth (slot-width st) ls (v .well-sized))
 
 -- An image's header gives back the settings.
 pub settings-back : (st : Settings) (ls : List Leaf) → read-settings (image st ls) ≡ st

@@ -13,6 +13,7 @@ use Rattle.spec.specs.Bytes.{Bytes}
 use Rattle.spec.specs.Keys.{Parsed-keys, refused, keys, parse-keys}
 use Rattle.spec.specs.Leaves.{Leaf, leaves}
 use Rattle.spec.specs.Image.{Settings, image}
+use Rattle.spec.specs.Frame.{read-settings}
 use Rattle.spec.specs.Nodes.{read-leaves}
 use Rattle.spec.specs.Questions.{Parsed-questions, taken, parse-questions, replies, questions-of}
 use Rattle.spec.specs.Answer.{written, Outcome, refuse, write}
@@ -71,28 +72,28 @@ module _ (list : Bytes) (st : Settings) (stated : ℕ) (out : Bytes) (r : ℕ) w
   build-refuses = (λ h. to h (judge list st) refl, from r)
     where
       over-image : build list st stated out .answer ≡ Answer.refused r → (ks : List Bytes) → in-range st ≡ true → parse-keys list ≡ keys ks
-          → (t : Bool) → eqb stated (length (image st (leaves (st .width) ks))) ≡ t → Build-refusal list st stated out r
+          → (t : Bool) → eqb stated (length (image st (leaves (st .hash-width) (st .real-width) ks))) ≡ t → Build-refusal list st stated out r
       over-image h ks e f false g =
-          let b : Bytes = image st (leaves (st .width) ks) in
+          let b : Bytes = image st (leaves (st .hash-width) (st .real-width) ks) in
           let w = eqb-false stated (length b) g in
           subst (Build-refusal list st stated out) (refuse-answer 8 r out _ (build-is list st stated out (to-build b) (judge-keys list st ks e f) ∙ stated-wrong stated b out w) .0 h) (length-wrong e ks f w)
       over-image h ks e f true g =
-          let b : Bytes = image st (leaves (st .width) ks) in
+          let b : Bytes = image st (leaves (st .hash-width) (st .real-width) ks) in
           let w = eqb-true stated (length b) g in
           let a = write-answer 7 r b out _ (build-is list st stated out (to-build b) (judge-keys list st ks e f) ∙ stated-right stated b out w) .0 h in
           subst (Build-refusal list st stated out) (a .0) (image-too-long e ks f w (a .1))
 
       to : build list st stated out .answer ≡ Answer.refused r → (j : Judged) → judge list st ≡ j → Build-refusal list st stated out r
       to h (turned-down q) j = subst (Build-refusal list st stated out) (refuse-answer q r out _ (build-is list st stated out (turned-down q) j) .0 h) (judged-again (turned-down-refusal list st q j))
-      to h (to-build b) j = let k = judged-keys list st b j in over-image h (k .1) (k .0) (k .2) (eqb stated (length (image st (leaves (st .width) (k .1))))) refl
+      to h (to-build b) j = let k = judged-keys list st b j in over-image h (k .1) (k .0) (k .2) (eqb stated (length (image st (leaves (st .hash-width) (st .real-width) (k .1))))) refl
 
       from : (q : ℕ) → Build-refusal list st stated out q → build list st stated out .answer ≡ Answer.refused q
       from q (judged-again l) = refuse-answer q q out _ (build-is list st stated out (turned-down q) (refusal-turned-down list st q l)) .1 refl
       from q (length-wrong e ks f w) =
-          let b : Bytes = image st (leaves (st .width) ks) in
+          let b : Bytes = image st (leaves (st .hash-width) (st .real-width) ks) in
           refuse-answer 8 8 out _ (build-is list st stated out (to-build b) (judge-keys list st ks e f) ∙ stated-wrong stated b out w) .1 refl
       from q (image-too-long e ks f w l) =
-          let b : Bytes = image st (leaves (st .width) ks) in
+          let b : Bytes = image st (leaves (st .hash-width) (st .real-width) ks) in
           write-answer 7 7 b out _ (build-is list st stated out (to-build b) (judge-keys list st ks e f) ∙ stated-right stated b out w) .1 (refl, l)
 
 -- ---- ask
@@ -102,10 +103,10 @@ ask-over-refused : (b file out : Bytes) (r : ℕ) → check b ≡ Check.refused 
 ask-over-refused b file out r h =
     let v = check-refused b r .0 h in
     ask-is b file out r (parse-questions file) (v .0) refl
-    ∙ ap {B = Outcome} (λ (t : Bool). elim t [ false ↦ refuse r out | true ↦ elim (parse-questions file) [ Questions.refused q ↦ refuse q out | taken qs ↦ write 25 (replies (read-leaves b) qs) out ] ]) (ne-eqb r 0 (λ e. omega (arith, v)))
+    ∙ ap {B = Outcome} (λ (t : Bool). elim t [ false ↦ refuse r out | true ↦ elim (parse-questions file) [ Questions.refused q ↦ refuse q out | taken qs ↦ write 25 (replies (read-settings b .hash-width) (read-leaves b) qs) out ] ]) (ne-eqb r 0 (λ e. omega (arith, v)))
 
 ask-over-accepted : (b file out : Bytes) → check b ≡ accepted → (p : Parsed-questions) → parse-questions file ≡ p
-    → ask b file out ≡ elim p [ Questions.refused q ↦ refuse q out | taken qs ↦ write 25 (replies (read-leaves b) qs) out ]
+    → ask b file out ≡ elim p [ Questions.refused q ↦ refuse q out | taken qs ↦ write 25 (replies (read-settings b .hash-width) (read-leaves b) qs) out ]
 ask-over-accepted b file out h p f = ask-is b file out 0 p (check-accepts b .0 h) f
 
 module _ (b file out : Bytes) (r : ℕ) where
@@ -120,24 +121,24 @@ module _ (b file out : Bytes) (r : ℕ) where
       over-accepted h c (Questions.refused q) f =
           subst (Ask-refusal b file out) (refuse-answer q r out _ (ask-over-accepted b file out c (Questions.refused q) f) .0 h) (question-refused c f (questions-number file q f))
       over-accepted h c (taken qs) f =
-          let a = write-answer 25 r (replies (read-leaves b) qs) out _ (ask-over-accepted b file out c (taken qs) f) .0 h in
+          let a = write-answer 25 r (replies (read-settings b .hash-width) (read-leaves b) qs) out _ (ask-over-accepted b file out c (taken qs) f) .0 h in
           subst (Ask-refusal b file out) (a .0) (replies-too-long c qs f (a .1))
 
       from : (q : ℕ) → Ask-refusal b file out q → ask b file out .answer ≡ Answer.refused q
       from q (image-refused c n) = refuse-answer q q out _ (ask-over-refused b file out q c) .1 refl
       from q (question-refused c f n) = refuse-answer q q out _ (ask-over-accepted b file out c (Questions.refused q) f) .1 refl
-      from q (replies-too-long c qs f l) = write-answer 25 25 (replies (read-leaves b) qs) out _ (ask-over-accepted b file out c (taken qs) f) .1 (refl, l)
+      from q (replies-too-long c qs f l) = write-answer 25 25 (replies (read-settings b .hash-width) (read-leaves b) qs) out _ (ask-over-accepted b file out c (taken qs) f) .1 (refl, l)
 
 -- what ask writes is the replies to the questions of the file, over an accepted image
 pub ask-writes-replies : (b file out : Bytes) (n : ℕ) → ask b file out .answer ≡ written n
-    → (check b ≡ accepted) × (parse-questions file ≡ taken (questions-of file)) × (take n (ask b file out .final) ≡ replies (read-leaves b) (questions-of file))
+    → (check b ≡ accepted) × (parse-questions file ≡ taken (questions-of file)) × (take n (ask b file out .final) ≡ replies (read-settings b .hash-width) (read-leaves b) (questions-of file))
 ask-writes-replies b file out n h = check-cases b over-accepted (λ r c. no-written r n out _ (ask-over-refused b file out r c) h)
   where
     over-accepted : check b ≡ accepted
-        → (check b ≡ accepted) × (parse-questions file ≡ taken (questions-of file)) × (take n (ask b file out .final) ≡ replies (read-leaves b) (questions-of file))
+        → (check b ≡ accepted) × (parse-questions file ≡ taken (questions-of file)) × (take n (ask b file out .final) ≡ replies (read-settings b .hash-width) (read-leaves b) (questions-of file))
     over-accepted c =
         let a = ask-answers b file out (check-accepts b .0 c) (n, h) in
-        (c, a .questions-are, success-written (replies (read-leaves b) (questions-of file)) out n _ (a .writes) h)
+        (c, a .questions-are, success-written (replies (read-settings b .hash-width) (read-leaves b) (questions-of file)) out n _ (a .writes) h)
 
 -- ---- the walk
 
@@ -241,12 +242,12 @@ pub ask-kept : (b file out : Bytes) → Kept out (ask b file out)
 ask-kept b file out = go (parse-questions file) refl (eqb (verdict b) 0) refl
   where
     by : Parsed-questions → Bool → Outcome
-    by a t = elim t [ false ↦ refuse (verdict b) out | true ↦ elim a [ Questions.refused r ↦ refuse r out | taken qs ↦ write 25 (replies (read-leaves b) qs) out ] ]
+    by a t = elim t [ false ↦ refuse (verdict b) out | true ↦ elim a [ Questions.refused r ↦ refuse r out | taken qs ↦ write 25 (replies (read-settings b .hash-width) (read-leaves b) qs) out ] ]
 
     each : (a : Parsed-questions) (t : Bool) → Kept out (by a t)
     each a false = refuse-kept (verdict b) out
     each (Questions.refused r) true = refuse-kept r out
-    each (taken qs) true = write-kept 25 (replies (read-leaves b) qs) out
+    each (taken qs) true = write-kept 25 (replies (read-settings b .hash-width) (read-leaves b) qs) out
 
     go : (a : Parsed-questions) → parse-questions file ≡ a → (t : Bool) → eqb (verdict b) 0 ≡ t → Kept out (ask b file out)
     go a e t f = subst (Kept out) (sym (ask-is b file out (verdict b) a refl e ∙ ap (by a) f)) (each a t)

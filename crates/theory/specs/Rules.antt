@@ -10,9 +10,9 @@ use lib.ListN.{length}
 use lib.Dec.{T, leb, eqb}
 use borrow.Author.Tests.{not-true, not-false, le-leb}
 use Rattle.spec.specs.Bytes.{Bytes, any, bit, equal, begins}
-use Rattle.spec.specs.Leaves.{Leaf, others, possible}
-use Rattle.spec.specs.Rules.{Rule, branch-missing, key-ended, at-exact-leaf, suffix-equal, suffix-other, no-nodes, leads-to-node, has-branch, misses-branch, leads-to-exact, leads-to-open, same-suffix, rule-number, applies, rule, rule-says}
-use Rattle.spec.specs.Questions.{point}
+use Rattle.spec.specs.Leaves.{Leaf, others, real, possible}
+use Rattle.spec.specs.Rules.{Rule, branch-missing, key-ended, at-exact-leaf, suffix-equal, suffix-other, no-nodes, leads-to-node, has-branch, misses-branch, leads-to-exact, leads-to-open, same-real-bits, same-hash-bits, same-suffix, rule-number, applies, rule, rule-says}
+use Rattle.spec.specs.Questions.{may-hold, point}
 use Rattle.theory.specs.Terms.{In, From}
 use Rattle.theory.specs.Lists.{lt-eqb, gt-eqb, none-in, in-cons, all-in, filter-in, any-in, in-any, any-none, and-both, map-in}
 use Rattle.theory.specs.Order.{equal-true, equal-self, begins-append, begins-through, begins-antisym, begins-either, begins-one-more}
@@ -218,9 +218,9 @@ unfolding equal
 longer-than-empty [] h = absurd (omega arith)
 longer-than-empty (x ∷ c) h = refl
 
-module _ {n : ℕ} (ls : List Leaf) (g : Realizable n ls) (o : All-well-sized n ls) (k : Bytes) where
+module _ (H : ℕ) {n : ℕ} (ls : List Leaf) (g : Realizable n ls) (o : All-well-sized n ls) (k : Bytes) where
   -- Where there is a leaf, there is a root, and rule 6 does not apply.
-  pub root-there : {l : Leaf} → In l ls → applies ls k no-nodes ≡ false
+  pub root-there : {l : Leaf} → In l ls → applies H ls k no-nodes ≡ false
   unfolding applies begins
   root-there {l} i = rw (node-exactly ls [] .1 (record { leaf = l; member = i; begun = refl; longer = longer-than-empty (l .cut) (all-in (Well-sized n) o i .key .least) }))
 
@@ -229,7 +229,7 @@ module _ {n : ℕ} (ls : List Leaf) (g : Realizable n ls) (o : All-well-sized n 
   exact-leads w = subst (Node-at ls) (w .whole) (exact-node ls g (w .member) (w .exact))
 
   -- the two rules of a node do not apply to a key that leads to none
-  no-node-rules : (Node-at ls k → ⊥) → (applies ls k key-ended ≡ false) × (applies ls k at-exact-leaf ≡ false)
+  no-node-rules : (Node-at ls k → ⊥) → (applies H ls k key-ended ≡ false) × (applies H ls k at-exact-leaf ≡ false)
   unfolding applies
   no-node-rules f = (
     rw (refuted (leads-to-node ls k) (λ h. f (node-exactly ls k .0 h))),
@@ -237,32 +237,32 @@ module _ {n : ℕ} (ls : List Leaf) (g : Realizable n ls) (o : All-well-sized n 
   )
 
   -- rule 4 is what it says of an open leaf
-  suffix-equal-exactly : (applies ls k suffix-equal ≡ true) ↔ ((w : Open-at ls k) × (same-suffix k (w .leaf) ≡ true))
+  suffix-equal-exactly : (applies H ls k suffix-equal ≡ true) ↔ ((w : Open-at ls k) × (same-suffix H k (w .leaf) ≡ true))
   unfolding applies
-  suffix-equal-exactly = open-exactly ls (same-suffix k) k
+  suffix-equal-exactly = open-exactly ls (same-suffix H k) k
 
   -- and so is rule 5
-  suffix-other-exactly : (applies ls k suffix-other ≡ true) ↔ ((w : Open-at ls k) × (not (same-suffix k (w .leaf)) ≡ true))
+  suffix-other-exactly : (applies H ls k suffix-other ≡ true) ↔ ((w : Open-at ls k) × (not (same-suffix H k (w .leaf)) ≡ true))
   unfolding applies
-  suffix-other-exactly = open-exactly ls (λ l. not (same-suffix k l)) k
+  suffix-other-exactly = open-exactly ls (λ l. not (same-suffix H k l)) k
 
   -- the two do not apply together, since a key leads to one open leaf only
-  one-suffix-rule : applies ls k suffix-equal ≡ true → applies ls k suffix-other ≡ true → ⊥
+  one-suffix-rule : applies H ls k suffix-equal ≡ true → applies H ls k suffix-other ≡ true → ⊥
   one-suffix-rule h i =
       let a = suffix-equal-exactly .0 h in
       let b = suffix-other-exactly .0 i in
-      true≢false (sym (a .1) ∙ ap (same-suffix k) (one-open (a .0) (b .0)) ∙ not-true _ (b .1))
+      true≢false (sym (a .1) ∙ ap (same-suffix H k) (one-open (a .0) (b .0)) ∙ not-true _ (b .1))
     where
       one-open : (a b : Open-at ls k) → a .leaf ≡ b .leaf
       one-open a b = ⊎-elim (λ h. open-alone ls (g .ordered) (a .member) (b .member) (a .open-leaf) h) (λ h. sym (open-alone ls (g .ordered) (b .member) (a .member) (b .open-leaf) h))
           (begins-either (a .leaf .cut) (b .leaf .cut) k (a .begun) (b .begun))
 
   -- to a key that leads to an open leaf no rule of a node applies, nor 6
-  open-rules : Open-at ls k → (applies ls k no-nodes ≡ false) × ((applies ls k key-ended ≡ false) × (applies ls k at-exact-leaf ≡ false))
+  open-rules : Open-at ls k → (applies H ls k no-nodes ≡ false) × ((applies H ls k key-ended ≡ false) × (applies H ls k at-exact-leaf ≡ false))
   open-rules w = (root-there (w .member), no-node-rules (λ v. node-not-open ls g v w))
 
   -- A rule that applies is the one that `rule` names.
-  pub applies-rule : (r : Rule) → applies ls k r ≡ true → rule ls k ≡ r
+  pub applies-rule : (r : Rule) → applies H ls k r ≡ true → rule H ls k ≡ r
   unfolding rule applies
   applies-rule no-nodes h = rw h
   applies-rule key-ended h =
@@ -274,7 +274,7 @@ module _ {n : ℕ} (ls : List Leaf) (g : Realizable n ls) (o : All-well-sized n 
       rw (f .0, f .1 .0, f .1 .1, h)
   applies-rule suffix-other h =
       let f = open-rules (suffix-other-exactly .0 h .0) in
-      rw (f .0, f .1 .0, f .1 .1, refuted (applies ls k suffix-equal) (λ e. one-suffix-rule e h), h)
+      rw (f .0, f .1 .0, f .1 .1, refuted (applies H ls k suffix-equal) (λ e. one-suffix-rule e h), h)
   applies-rule branch-missing h =
       let w = missed ls [] k h in
       let f = no-node-rules (missed-not-node ls g w) in
@@ -282,33 +282,33 @@ module _ {n : ℕ} (ls : List Leaf) (g : Realizable n ls) (o : All-well-sized n 
         root-there (w .node .member),
         f .0,
         f .1,
-        refuted (applies ls k suffix-equal) (λ e. missed-not-open ls g w (suffix-equal-exactly .0 e .0)),
-        refuted (applies ls k suffix-other) (λ e. missed-not-open ls g w (suffix-other-exactly .0 e .0)),
+        refuted (applies H ls k suffix-equal) (λ e. missed-not-open ls g w (suffix-equal-exactly .0 e .0)),
+        refuted (applies H ls k suffix-other) (λ e. missed-not-open ls g w (suffix-other-exactly .0 e .0)),
       )
 
   -- A key to which no other rule applies misses a branch.
-  pub else-missing : applies ls k no-nodes ≡ false → applies ls k key-ended ≡ false → applies ls k at-exact-leaf ≡ false → applies ls k suffix-equal ≡ false → applies ls k suffix-other ≡ false
-      → applies ls k branch-missing ≡ true
+  pub else-missing : applies H ls k no-nodes ≡ false → applies H ls k key-ended ≡ false → applies H ls k at-exact-leaf ≡ false → applies H ls k suffix-equal ≡ false → applies H ls k suffix-other ≡ false
+      → applies H ls k branch-missing ≡ true
   unfolding applies
   else-missing a b c d e = ⊎-elim node (λ s. ⊎-elim open-leaf (λ h. h) s) (leads-somewhere ls g [] k (node-exactly ls [] .0 (not-false _ a)))
     where
       node : Node-at ls k → misses-branch ls [] k ≡ true
       node w = absurd (true≢false (rw (node-exactly ls k .1 w, c) at b))
 
-      at-open : (w : Open-at ls k) (s : Bool) → same-suffix k (w .leaf) ≡ s → misses-branch ls [] k ≡ true
+      at-open : (w : Open-at ls k) (s : Bool) → same-suffix H k (w .leaf) ≡ s → misses-branch ls [] k ≡ true
       at-open w true f = absurd (true≢false (sym (suffix-equal-exactly .1 (w, f)) ∙ d))
       at-open w false f = absurd (true≢false (sym (suffix-other-exactly .1 (w, rw f)) ∙ e))
 
       open-leaf : Open-at ls k → misses-branch ls [] k ≡ true
-      open-leaf w = at-open w (same-suffix k (w .leaf)) refl
+      open-leaf w = at-open w (same-suffix H k (w .leaf)) refl
 
   -- The rule that `rule` names applies.
-  pub rule-applies : applies ls k (rule ls k) ≡ true
+  pub rule-applies : applies H ls k (rule H ls k) ≡ true
   unfolding rule
-  rule-applies = go (applies ls k no-nodes) refl (applies ls k key-ended) refl (applies ls k at-exact-leaf) refl (applies ls k suffix-equal) refl (applies ls k suffix-other) refl
+  rule-applies = go (applies H ls k no-nodes) refl (applies H ls k key-ended) refl (applies H ls k at-exact-leaf) refl (applies H ls k suffix-equal) refl (applies H ls k suffix-other) refl
     where
-      go : (a : Bool) → applies ls k no-nodes ≡ a → (b : Bool) → applies ls k key-ended ≡ b → (c : Bool) → applies ls k at-exact-leaf ≡ c → (d : Bool) → applies ls k suffix-equal ≡ d → (e : Bool) → applies ls k suffix-other ≡ e
-          → applies ls k (cond a no-nodes (cond b key-ended (cond c at-exact-leaf (cond d suffix-equal (cond e suffix-other branch-missing))))) ≡ true
+      go : (a : Bool) → applies H ls k no-nodes ≡ a → (b : Bool) → applies H ls k key-ended ≡ b → (c : Bool) → applies H ls k at-exact-leaf ≡ c → (d : Bool) → applies H ls k suffix-equal ≡ d → (e : Bool) → applies H ls k suffix-other ≡ e
+          → applies H ls k (cond a no-nodes (cond b key-ended (cond c at-exact-leaf (cond d suffix-equal (cond e suffix-other branch-missing))))) ≡ true
       go true p b q c r d s e t = p
       go false p true q c r d s e t = q
       go false p false q true r d s e t = r
@@ -317,44 +317,46 @@ module _ {n : ℕ} (ls : List Leaf) (g : Realizable n ls) (o : All-well-sized n 
       go false p false q false r false s false t = else-missing p q r s t
 
   -- Exactly one of the six rules applies to a key, the one that `rule` names.
-  pub one-rule : (r : Rule) → (applies ls k r ≡ true) ↔ (rule ls k ≡ r)
-  one-rule r = (applies-rule r, λ e. subst (λ (r : Rule). applies ls k r ≡ true) e rule-applies)
+  pub one-rule : (r : Rule) → (applies H ls k r ≡ true) ↔ (rule H ls k ≡ r)
+  one-rule r = (applies-rule r, λ e. subst (λ (r : Rule). applies H ls k r ≡ true) e rule-applies)
 
   -- ---- the number
 
-  -- a key that is possible for a leaf gets rule 3 or 4
-  possible-rule : (l : Leaf) → In l ls → possible l k ≡ true → (rule ls k ≡ at-exact-leaf) ⊎ (rule ls k ≡ suffix-equal)
-  unfolding possible applies same-suffix
+  -- a key that a leaf may hold gets rule 3 or 4
+  possible-rule : (l : Leaf) → In l ls → may-hold H k l ≡ true → (rule H ls k ≡ at-exact-leaf) ⊎ (rule H ls k ≡ suffix-equal)
+  unfolding may-hold possible real applies same-suffix same-real-bits
   possible-rule l i h = go (l .exact) refl h
     where
-      go : (b : Bool) → l .exact ≡ b → cond b (equal (l .cut) k) (leb (length k) 64 && (begins (l .cut) k && same-suffix k l)) ≡ true → (rule ls k ≡ at-exact-leaf) ⊎ (rule ls k ≡ suffix-equal)
-      go true e h = inl (applies-rule at-exact-leaf (exact-exactly ls k .1 (record { leaf = l; member = i; exact = e; whole = equal-true (l .cut) k h })))
+      go : (b : Bool) → l .exact ≡ b → cond b (equal (l .cut) k) (leb (length k) 64 && (begins (l .cut) k && same-real-bits k (real H l))) && (b || same-hash-bits H k l) ≡ true → (rule H ls k ≡ at-exact-leaf) ⊎ (rule H ls k ≡ suffix-equal)
+      go true e h = inl (applies-rule at-exact-leaf (exact-exactly ls k .1 (record { leaf = l; member = i; exact = e; whole = equal-true (l .cut) k (and-both (equal (l .cut) k) true h .0) })))
       go false e h =
-          let b = and-both (begins (l .cut) k) (same-suffix k l) (and-both (leb (length k) 64) (begins (l .cut) k && same-suffix k l) h .1) in
-          inr (applies-rule suffix-equal (suffix-equal-exactly .1 (record { leaf = l; member = i; open-leaf = e; begun = b .0 }, b .1)))
+          let a = and-both (leb (length k) 64 && (begins (l .cut) k && same-real-bits k (real H l))) (same-hash-bits H k l) h in
+          let b = and-both (begins (l .cut) k) (same-real-bits k (real H l)) (and-both (leb (length k) 64) (begins (l .cut) k && same-real-bits k (real H l)) (a .0) .1) in
+          inr (applies-rule suffix-equal (suffix-equal-exactly .1 (record { leaf = l; member = i; open-leaf = e; begun = b .0 }, rw (b .1, a .1))))
 
-  -- a key with rule 3 is possible for a leaf
-  exact-possible : rule ls k ≡ at-exact-leaf → any (λ l. possible l k) ls ≡ true
-  unfolding possible applies
+  -- a key with rule 3 may be held by a leaf
+  exact-possible : rule H ls k ≡ at-exact-leaf → any (may-hold H k) ls ≡ true
+  unfolding may-hold possible real applies
   exact-possible e =
       let w = exact-exactly ls k .0 (one-rule at-exact-leaf .1 e) in
-      in-any (λ l. possible l k) (w .member) (rw (w .exact, w .whole) (equal-self k))
+      in-any (may-hold H k) (w .member) (rw (w .exact, w .whole, equal-self k))
 
-  -- and so is one of at most 64 bytes with rule 4
-  open-possible : length k ≤ 64 → rule ls k ≡ suffix-equal → any (λ l. possible l k) ls ≡ true
-  unfolding possible same-suffix
+  -- and so may one of at most 64 bytes with rule 4
+  open-possible : length k ≤ 64 → rule H ls k ≡ suffix-equal → any (may-hold H k) ls ≡ true
+  unfolding may-hold possible real same-suffix same-real-bits
   open-possible s e =
       let w = suffix-equal-exactly .0 (one-rule suffix-equal .1 e) in
-      in-any (λ l. possible l k) (w .0 .member) (rw (w .0 .open-leaf, le-leb (length k) 64 s, w .0 .begun) (w .1))
+      let b = and-both (same-real-bits k (real H (w .0 .leaf))) (same-hash-bits H k (w .0 .leaf)) (w .1) in
+      in-any (may-hold H k) (w .0 .member) (rw (w .0 .open-leaf, le-leb (length k) 64 s, w .0 .begun, b .0, b .1))
 
   -- The number of a point's reply is what the key's rule says: 1 exactly with 3 and 4.
-  pub point-rule : length k ≤ 64 → point ls k ≡ rule-says (rule ls k)
+  pub point-rule : length k ≤ 64 → point H ls k ≡ rule-says (rule H ls k)
   unfolding point
-  point-rule s = go (any (λ l. possible l k) ls) refl (rule ls k) refl
+  point-rule s = go (any (may-hold H k) ls) refl (rule H ls k) refl
     where
-      go : (b : Bool) → any (λ l. possible l k) ls ≡ b → (r : Rule) → rule ls k ≡ r → bit b ≡ rule-says r
+      go : (b : Bool) → any (may-hold H k) ls ≡ b → (r : Rule) → rule H ls k ≡ r → bit b ≡ rule-says r
       go true e r q =
-          let w = any-in (λ l. possible l k) ls e in
+          let w = any-in (may-hold H k) ls e in
           ⊎-elim (λ f. ap rule-says (sym f ∙ q)) (λ f. ap rule-says (sym f ∙ q)) (possible-rule (w .0) (w .1) (w .2))
       go false e at-exact-leaf q = absurd (true≢false (sym (exact-possible q) ∙ e))
       go false e suffix-equal q = absurd (true≢false (sym (open-possible s q) ∙ e))

@@ -10,14 +10,14 @@ use lib.ListN.{length, getD}
 use Rattle.spec.specs.Bytes.{Bytes, any, bit}
 use Rattle.spec.specs.Keys.{below}
 use Rattle.spec.specs.Leaves.{Leaf, lowest, highest, possible}
-use Rattle.spec.specs.Questions.{seek-from, greater, Sought, none, found, point, meets, seek}
+use Rattle.spec.specs.Questions.{seek-from, greater, Sought, none, found, meets, seek}
 use Rattle.theory.specs.Terms.{In, here, there, Key, Keys, Bound}
 use Rattle.theory.specs.Lists.{none-in, in-cons, all-in}
 use Rattle.theory.specs.Order.{below-asym, below-irrefl, below-le-lt}
-use Rattle.theory.specs.LeafLists.{Possible-key, Possible-keys, done, also, Ordered, Well-sized, All-well-sized, Realizable, possible-key-below}
+use Rattle.theory.specs.LeafLists.{Possible-key, Possible-keys, done, also, Ordered, Real-sized, All-real-sized, Realizable, possible-key-below}
 use Rattle.theory.specs.Intervals.{lowest-possible, lowest-key, possible-interval-exactly}
 use Rattle.theory.specs.Choices.{split-possible, possible-split, has-leaves-possible, Has-leaves}
-use Rattle.theory.specs.RangeLaws.{point-key, Some-holds, chosen-in-range}
+use Rattle.theory.specs.RangeLaws.{point-possible, point-key, Some-holds, chosen-in-range}
 
 -- what a seek's result says of the keys of a list
 abbrev Seek-says : Bytes → List Bytes → Sought → Type 0
@@ -26,7 +26,7 @@ Seek-says start ks (found j r) = (below r start ≡ false) × ((k : Bytes) → I
 
 module _ (start : Bytes) where
   -- a possible key is from the lowest to the highest
-  between-ends : {n : ℕ} (l : Leaf) (k : Bytes) → Well-sized n l → Key k → Possible-key n l k → (below (highest l) k ≡ false) × (below k (lowest l) ≡ false)
+  between-ends : {n : ℕ} (l : Leaf) (k : Bytes) → Real-sized n l → Key k → Possible-key 0 n l k → (below (highest l) k ≡ false) × (below k (lowest l) ≡ false)
   between-ends l k o q p = let b = possible-interval-exactly l o k (q .bytes) .0 (split-possible l k (o .slot) (q .fits) p) in (b .2, b .1)
 
   -- the greater of the start and a key is not below the start
@@ -48,7 +48,7 @@ module _ (start : Bytes) where
       go false = b
 
   -- of every list that has the leaves
-  seek-least : {n : ℕ} (i : ℕ) {ls : List Leaf} {ks : List Bytes} → All-well-sized n ls → Keys ks → Ordered ls → Possible-keys n ls ks → Seek-says start ks (seek-from i ls start)
+  seek-least : {n : ℕ} (i : ℕ) {ls : List Leaf} {ks : List Bytes} → All-real-sized n ls → Keys ks → Ordered ls → Possible-keys 0 n ls ks → Seek-says start ks (seek-from i ls start)
   unfolding seek-from
   seek-least i o a w done = λ k q. none-in q
   seek-least {n} i o a w (also {l = l} {k = k} {ls = ls} {ks = ks} p ps) =
@@ -57,7 +57,7 @@ module _ (start : Bytes) where
       hk : (below (highest l) k ≡ false) × (below k (lowest l) ≡ false)
       hk = between-ends l k (o .0) (a .0) p
 
-      low : Possible-key n l (lowest l)
+      low : Possible-key 0 n l (lowest l)
       low = possible-split l (lowest l) (o .0 .slot) (lowest-possible l (o .0))
 
       past : (b : Sought) → below (highest l) start ≡ true → Seek-says start ks b → Seek-says start (k ∷ ks) b
@@ -89,7 +89,7 @@ none-found h = let z : _≡_ {A = ℕ} 0 1 = cc in omega arith
 
 module _ (start : Bytes) (q : Bound start) where
   -- the leaf that seek stops at has the reply's key among its possible keys
-  stopped-at : {n : ℕ} (l : Leaf) → Well-sized n l → below (highest l) start ≡ false → Key (greater start (lowest l)) × (possible l (greater start (lowest l)) ≡ true)
+  stopped-at : {n : ℕ} (l : Leaf) → Real-sized n l → below (highest l) start ≡ false → Key (greater start (lowest l)) × (possible l (greater start (lowest l)) ≡ true)
   unfolding meets
   stopped-at l o e =
       let low = between-ends start l (lowest l) o (lowest-key l o) (possible-split l (lowest l) (o .slot) (lowest-possible l o)) in
@@ -97,7 +97,7 @@ module _ (start : Bytes) (q : Bound start) where
       (c .0, c .1)
 
   -- the key that a seek finds is a key, and possible
-  pub sought-possible : (n i : ℕ) (ls : List Leaf) → All-well-sized n ls → (j : ℕ) (r : Bytes) → seek-from i ls start ≡ found j r → Key r × (any (λ l. possible l r) ls ≡ true)
+  pub sought-possible : (n i : ℕ) (ls : List Leaf) → All-real-sized n ls → (j : ℕ) (r : Bytes) → seek-from i ls start ≡ found j r → Key r × (any (λ l. possible l r) ls ≡ true)
   unfolding seek-from any
   sought-possible n i [] o j r h = absurd (none-found h)
   sought-possible n i (l ∷ ls) o j r h = go (below (highest l) start) refl h (λ e. sought-possible n (suc i) ls (o .1) j r e)
@@ -111,12 +111,12 @@ module _ (start : Bytes) (q : Bound start) where
           rw (← w) (t .0, rw (t .1))
 
   -- the same of the seek over all leaves
-  seek-says : {n : ℕ} (ls : List Leaf) (ks : List Bytes) → Realizable n ls → All-well-sized n ls → Has-leaves n ks ls → Seek-says start ks (seek ls start)
+  seek-says : {n : ℕ} (ls : List Leaf) (ks : List Bytes) → Realizable n ls → All-real-sized n ls → Has-leaves n ks ls → Seek-says start ks (seek ls start)
   unfolding seek
   seek-says ls ks g o b = seek-least start 0 o (b .keys) (g .ordered) (has-leaves-possible ks ls b)
 
   -- the reply's key, where a list holds it, stands at the reply's number
-  sought-place : {n : ℕ} (i : ℕ) {ls : List Leaf} {ks : List Bytes} → All-well-sized n ls → Keys ks → Ordered ls → Possible-keys n ls ks
+  sought-place : {n : ℕ} (i : ℕ) {ls : List Leaf} {ks : List Bytes} → All-real-sized n ls → Keys ks → Ordered ls → Possible-keys 0 n ls ks
       → (j : ℕ) (r : Bytes) → seek-from i ls start ≡ found j r → below r start ≡ false → In r ks → (p : ℕ) × (j ≡ i + p) × (p < length ks) × (getD ks p [] ≡ r)
   unfolding seek-from
   sought-place i o a w done j r h s m = none-in m
@@ -144,15 +144,15 @@ pub record Seek-correct (n : ℕ) (ls : List Leaf) (start : Bytes) (place : ℕ)
   pub placed : (ks : List Bytes) → Has-leaves n ks ls → In key ks → (place < length ks) × (getD ks place [] ≡ key)
 
 -- The reply to a seek question that is not none.
-pub seek-found : {n : ℕ} (ls : List Leaf) (start : Bytes) → Realizable n ls → All-well-sized n ls → Bound start → (j : ℕ) (r : Bytes) → seek ls start ≡ found j r → Seek-correct n ls start j r
-unfolding seek point
+pub seek-found : {n : ℕ} (ls : List Leaf) (start : Bytes) → Realizable n ls → All-real-sized n ls → Bound start → (j : ℕ) (r : Bytes) → seek ls start ≡ found j r → Seek-correct n ls start j r
+unfolding seek
 seek-found {n} ls start g o q j r h = record { after = after; held = held; smallest = λ ks b. says ks b .1; placed = placed }
   where
     t : Key r × (any (λ l. possible l r) ls ≡ true)
     t = sought-possible start q n 0 ls o j r h
 
     held : Some-holds n ls r
-    held = point-key ls r g o (t .0) .0 (ap bit (t .1))
+    held = point-key ls r g o (t .0) .0 (point-possible ls r ∙ ap bit (t .1))
 
     says : (ks : List Bytes) → Has-leaves n ks ls → Seek-says start ks (found j r)
     says ks b = rw h at (seek-says start q ls ks g o b)
@@ -167,7 +167,7 @@ seek-found {n} ls start g o q j r h = record { after = after; held = held; small
         rw e (p .2, p .3)
 
 -- A seek gives none exactly when no list that has the leaves holds a key at or after its start.
-pub seek-none : {n : ℕ} (ls : List Leaf) (start : Bytes) → Realizable n ls → All-well-sized n ls → Bound start
+pub seek-none : {n : ℕ} (ls : List Leaf) (start : Bytes) → Realizable n ls → All-real-sized n ls → Bound start
     → (seek ls start ≡ none) ↔ ((ks : List Bytes) → Has-leaves n ks ls → (k : Bytes) → In k ks → below k start ≡ true)
 seek-none {n} ls start g o q = (λ h ks b. rw h at (seek-says start q ls ks g o b), λ f. go (seek ls start) refl f)
   where

@@ -14,7 +14,7 @@ use Rattle.spec.specs.Questions.{stem-end, begins-with}
 use Rattle.theory.specs.Terms.{Is-bytes, In, Key, Bound}
 use Rattle.theory.specs.Lists.{all-in, bytes-drop}
 use Rattle.theory.specs.Order.{below-append, below-nil, prefix-append, outside-prefix}
-use Rattle.theory.specs.LeafLists.{Realizable, All-well-sized}
+use Rattle.theory.specs.LeafLists.{Realizable, All-real-sized}
 use Rattle.theory.specs.Intervals.{below-all-ff}
 use Rattle.theory.specs.Choices.{Has-leaves}
 use Rattle.theory.specs.RangeLaws.{range-denied}
@@ -49,7 +49,7 @@ stem-exactly stem k h b = go (begins stem k) refl
     go false e = rw (append-nil stem) at (outside-prefix stem k [] (replicate (64 - length stem) 255) e)
 
 -- A stem is denied exactly when none of the lists that have the leaves has a key that begins with it.
-pub begins-denied : {n : ℕ} (ls : List Leaf) (stem : Bytes) → Realizable n ls → All-well-sized n ls → Bound stem
+pub begins-denied : {n : ℕ} (ls : List Leaf) (stem : Bytes) → Realizable n ls → All-real-sized n ls → Bound stem
     → (begins-with ls stem ≡ 0) ↔ ((ks : List Bytes) → Has-leaves n ks ls → (k : Bytes) → In k ks → begins stem k ≡ false)
 unfolding begins-with
 begins-denied {n} ls stem g o q = Iff·trans (range-denied ls stem (stem-end stem) g o q (stem-order stem)) (

@@ -7,18 +7,17 @@ use mathlib.Core.Option.{Option, none, some}
 use mathlib.Core.Logic.{_↔_, Iff·trans}
 use native.Mathlib.Omega.{arith}
 use lib.ListN.{length, take, drop, replicate, getElem?, length-append, length-take, length-drop, length-replicate}
-use lib.Seq.{take-all, take-nil, drop-nil}
-use Rattle.spec.specs.Bytes.{Bytes, concat, low-first}
+use lib.Seq.{take-nil, drop-nil}
+use Rattle.spec.specs.Bytes.{Bytes, concat, le32, low-first}
 use Rattle.spec.specs.Leaves.{Leaf}
 use Rattle.spec.specs.Nodes.{read-leaves}
-use Rattle.spec.specs.Answer.{Outcome, written, refuse, success}
+use Rattle.spec.specs.Answer.{written, refuse, success}
 use Rattle.spec.specs.Check.{verdict, accepted, check}
 use Rattle.spec.specs.Walk.{Stand, stand-at, open-walk}
-use Rattle.spec.specs.WalkRecords.{record-size, kind-byte, cut-field, le16, leaf-record, leaf-records, records-from, written-by, walk-records}
-use Rattle.theory.specs.Terms.{Is-bytes, All}
-use Rattle.theory.specs.Lists.{le-or-lt, bytes-append, bytes-take, all-take, all-drop}
+use Rattle.spec.specs.WalkRecords.{record-size, kind-byte, cut-field, leaf-record, leaf-records, records-from, written-by, walk-records}
+use Rattle.theory.specs.Terms.{Is-bytes}
+use Rattle.theory.specs.Lists.{le-or-lt, bytes-append, bytes-take, bytes-le32, all-take, all-drop}
 use Rattle.theory.specs.LeafLists.{Well-sized, All-well-sized}
-use Rattle.theory.specs.ImageBytes.{low-bound}
 use Rattle.theory.specs.Demands.{Walk-refusal, place-refused, Kept}
 use Rattle.theory.specs.OutcomeLaws.{no-written, refuse-answer, success-refused, success-written, success-length, refuse-kept, success-kept}
 use Rattle.theory.specs.AskLaws.{walk-correct}
@@ -33,10 +32,15 @@ use Rattle.spec.specs.Walk as Walk
 pub field-length : (k : Bytes) → length (cut-field k) ≡ 64
 field-length k = omega (arith, length-take 64 (k ++ replicate 64 0), length-append k (replicate 64 0), length-replicate {A = ℕ} 64 0)
 
+-- a number of 32 bits has four bytes
+le32-length : (x : ℕ) → length (le32 x) ≡ 4
+unfolding le32
+le32-length x = refl
+
 -- a record has its size
 pub record-length : (l : Leaf) → length (leaf-record l) ≡ record-size
 unfolding leaf-record
-record-length l = omega (arith, field-length (l .cut), length-append (cut-field (l .cut)) (le16 (low-first (l .suffix))))
+record-length l = omega (arith, field-length (l .cut), length-append (cut-field (l .cut)) (le32 (low-first (l .suffix))), le32-length (low-first (l .suffix)))
 
 -- so have several, one behind the other
 pub records-length : (ls : List Leaf) → length (leaf-records ls) ≡ record-size * length ls
@@ -73,21 +77,20 @@ kind-small : (e : Bool) → kind-byte e < 256
 kind-small true = omega arith
 kind-small false = omega arith
 
--- a record of a leaf with a key of at most 64 bytes and at most 16 suffix bits
-bytes-record : (n : ℕ) → n ≤ 16 → (l : Leaf) → Well-sized n l → Is-bytes (leaf-record l)
+-- a record of a leaf with a key of at most 64 bytes
+bytes-record : (n : ℕ) (l : Leaf) → Well-sized n l → Is-bytes (leaf-record l)
 unfolding leaf-record
-bytes-record n h l w =
-    let x : low-first (l .suffix) < 65536 = rw (take-all 16 (l .suffix) (omega (arith, w .slot))) at (low-bound 16 (l .suffix)) in
-    (kind-small (l .exact), (omega (arith, w .key .fits), bytes-append (cut-field (l .cut)) (le16 (low-first (l .suffix))) (bytes-take 64 (l .cut ++ replicate 64 0) (bytes-append (l .cut) (replicate 64 0) (w .key .bytes) (bytes-zeros 64))) (omega arith, (omega arith, tt))))
+bytes-record n l w =
+    (kind-small (l .exact), (omega (arith, w .key .fits), bytes-append (cut-field (l .cut)) (le32 (low-first (l .suffix))) (bytes-take 64 (l .cut ++ replicate 64 0) (bytes-append (l .cut) (replicate 64 0) (w .key .bytes) (bytes-zeros 64))) (bytes-le32 (low-first (l .suffix)))))
 
-bytes-records : (n : ℕ) → n ≤ 16 → (ls : List Leaf) → All-well-sized n ls → Is-bytes (leaf-records ls)
+bytes-records : (n : ℕ) (ls : List Leaf) → All-well-sized n ls → Is-bytes (leaf-records ls)
 unfolding leaf-records concat
-bytes-records n h [] w = tt
-bytes-records n h (l ∷ ls) w = bytes-append (leaf-record l) (leaf-records ls) (bytes-record n h l (w .0)) (bytes-records n h ls (w .1))
+bytes-records n [] w = tt
+bytes-records n (l ∷ ls) w = bytes-append (leaf-record l) (leaf-records ls) (bytes-record n l (w .0)) (bytes-records n ls (w .1))
 
 -- the records of some of the leaves
-pub bytes-records-from : (n : ℕ) → n ≤ 16 → (ls : List Leaf) → All-well-sized n ls → (place k : ℕ) → Is-bytes (records-from ls place k)
-bytes-records-from n h ls w place k = bytes-records n h (take k (drop place ls)) (all-take (Well-sized n) k (drop place ls) (all-drop (Well-sized n) place ls w))
+pub bytes-records-from : (n : ℕ) (ls : List Leaf) → All-well-sized n ls → (place k : ℕ) → Is-bytes (records-from ls place k)
+bytes-records-from n ls w place k = bytes-records n (take k (drop place ls)) (all-take (Well-sized n) k (drop place ls) (all-drop (Well-sized n) place ls w))
 
 -- ---- the call
 

@@ -1,52 +1,20 @@
 -- Leaves by value as a walk gives them, with zeros behind the cut key and above the suffix bits; and as records of bytes.
-use Prim.Native.Nat.{ℕ, zero, suc, _+_, _-_, _*_, _/_, _%_, _^_, _≤_, _<_}
+use Prim.Native.Nat.{ℕ, _+_, _-_, _≤_}
 use mathlib.Core.Path.{_≡_, refl, sym, ap, _∙_}
-use mathlib.Core.Bool.{Bool, true, false}
 use mathlib.Core.List.{[], _∷_, _++_}
 use native.Mathlib.Numerals.{add-one}
 use native.Mathlib.Omega.{arith}
-use native.Mathlib.Nat.{mod-lt}
-use lib.Dec.{eqb}
-use lib.ListN.{length, take, drop, set, replicate, length-set, length-append, length-replicate, replicate-append-replicate}
-use lib.Pow.{pow-pos, pow-mono, mod-pow-add}
-use lib.Seq.{sets-eq, length-take-le, take-all, take-at, take-take, take-append-seam, drop-at, take-append-add}
-use borrow.Author.Tests.{eqb-true, eqb-false}
-use Rattle.spec.specs.Bytes.{Bytes, bit, low-first, low-bits}
+use lib.ListN.{length, take, drop, set, replicate, length-append, length-replicate, replicate-append-replicate}
+use lib.Seq.{sets-eq, length-take-le, take-at, take-take, take-append-seam, drop-at, take-append-add}
+use Rattle.spec.specs.Bytes.{Bytes, le32, low-first, low-bits}
 use Rattle.spec.specs.Leaves.{Leaf}
-use Rattle.spec.specs.WalkRecords.{record-size, kind-byte, cut-field, le16, leaf-record}
+use Rattle.spec.specs.WalkRecords.{record-size, kind-byte, cut-field, leaf-record}
 use Rattle.theory.specs.Bits.{low-bits-first}
-use Rattle.theory.specs.ImageBytes.{low-bound}
 use Rattle.bits_laws.specs.Bits.{placed}
-use Rattle.bits_laws.specs.Placing.{length-placed, placed-behind}
+use Rattle.bits_laws.specs.Placing.{placed-behind}
 use Rattle.bits_laws.specs.UnpackLaws.{length-low-bits}
 use Rattle.image_types.specs.declared.Leaf.{Leaf as Value}
 use Rattle.image_types.specs.Value.{leaf-of, Sized, value-of}
-
--- ---- the suffix as a number
-
--- the last bit
-last-bit : (x : ℕ) → bit (eqb (x % 2) 1) ≡ x % 2
-last-bit x = by-test (eqb (x % 2) 1) refl
-  where
-    by-test : (b : Bool) → eqb (x % 2) 1 ≡ b → bit b ≡ x % 2
-    by-test true e = sym (eqb-true (x % 2) 1 e)
-    by-test false e = let n = eqb-false (x % 2) 1 e in omega arith
-
--- the number of the low bits is the rest by their power
-pub low-number : (k x : ℕ) → low-first (low-bits k x) ≡ x % 2 ^ k
-unfolding low-first low-bits
-low-number zero x = omega arith
-low-number (suc k) x =
-    let m : x % 2 ^ suc k ≡ x / 2 % 2 ^ k * 2 + x % 2 = ap (λ (n : ℕ). x % 2 ^ n) (sym (add-one k)) ∙ mod-pow-add x k 1 in
-    omega (arith, last-bit x, low-number k (x / 2), m)
-
--- of at most 16 bits it is below 2^16
-pub number-small : (k x : ℕ) → k ≤ 16 → x % 2 ^ k < 65536
-number-small k x h = omega (arith, mod-lt x (pow-pos k), pow-mono h)
-
--- so is the number of at most 16 suffix bits
-pub suffix-small : (l : Leaf) → length (l .suffix) ≤ 16 → value-of l .suffix < 65536
-suffix-small l h = rw (take-all 16 (l .suffix) h) at (low-bound 16 (l .suffix))
 
 -- ---- the cut key with zeros behind it
 
@@ -93,7 +61,7 @@ leaf-of-value l h =
 
 -- a leaf by value as a record: kind, length, cut key with zeros behind it, and suffix
 abbrev pub value-record : Value → Bytes
-value-record v = kind-byte (v .exact) ∷ v .len ∷ (v .cut ++ le16 (v .suffix))
+value-record v = kind-byte (v .exact) ∷ v .len ∷ (v .cut ++ le32 (v .suffix))
 
 -- of a leaf that a walk gives it is the leaf's record
 pub value-record-is : (l : Leaf) → value-record (value-of l) ≡ leaf-record l
@@ -101,14 +69,11 @@ unfolding leaf-record
 value-record-is l = refl
 
 -- The parts of a record, placed one behind the other, are the record.
-pub record-placed : (out : Bytes) (at : ℕ) (v : Value) (keyed : Bytes) → at + record-size ≤ length out → length (v .cut) ≡ 64
-    → keyed ≡ placed (set (set out at (kind-byte (v .exact))) (at + 1) (v .len)) (at + 2) (v .cut)
-    → set (set keyed (at + 66) (v .suffix % 256)) (at + 66 + 1) (v .suffix / 256) ≡ placed out at (value-record v)
-record-placed out at v keyed room whole e =
+pub record-placed : (out : Bytes) (at : ℕ) (v : Value) (keyed after : Bytes) → at + record-size ≤ length out → length (v .cut) ≡ 64
+    → keyed ≡ placed (set (set out at (kind-byte (v .exact))) (at + 1) (v .len)) (at + 2) (v .cut) → after ≡ placed keyed (at + 66) (le32 (v .suffix)) → after ≡ placed out at (value-record v)
+unfolding le32
+record-placed out at v keyed after room whole e f =
     let front : Bytes = kind-byte (v .exact) ∷ v .len ∷ [] in
     let started : set (set out at (kind-byte (v .exact))) (at + 1) (v .len) ≡ placed out at front = rw (add-one at) (sets-eq front out at (omega arith)) in
     let named : keyed ≡ placed out at (front ++ v .cut) = placed-behind out _ keyed front (v .cut) at (at + 2) refl (omega arith) started e in
-    let size : length keyed ≡ length out = ap length named ∙ length-placed out at (front ++ v .cut) (omega (arith, length-append front (v .cut))) in
-    let next : at + 66 + 1 ≡ suc (at + 66) = omega arith in
-    let ended : set (set keyed (at + 66) (v .suffix % 256)) (at + 66 + 1) (v .suffix / 256) ≡ placed keyed (at + 66) (le16 (v .suffix)) = rw next (sets-eq (le16 (v .suffix)) keyed (at + 66) (omega arith)) in
-    placed-behind out keyed _ (front ++ v .cut) (le16 (v .suffix)) at (at + 66) (omega (arith, length-append front (v .cut))) (omega arith) named ended
+    placed-behind out keyed after (front ++ v .cut) (le32 (v .suffix)) at (at + 66) (omega (arith, length-append front (v .cut))) (omega arith) named f

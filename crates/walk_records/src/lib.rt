@@ -1,5 +1,5 @@
 // Leaves as records of bytes, for programs in other languages: the kind (1 exact, 2 open), the cut key's length, 64 bytes with the cut key and zeros behind it,
-// and the suffix as a number of two bytes, the low one first.
+// and the suffix as a number of four bytes, the low one first, whose lowest bit is the suffix's first: hash bits stand below real bits.
 ghost use mathlib.Core.Path.{_≡_};
 ghost use Rattle.spec.specs.Check.{verdict};
 ghost use Rattle.spec.specs.Nodes.{read-leaves};
@@ -12,6 +12,7 @@ ghost use Rattle.walk_states.specs.Walks.{Walks, Opens};
 ghost use Rattle.walk_states.specs.Records.{Room};
 use accepted_frame::accepted_frame;
 use bits::copy::write_bytes;
+use bits::numbers::write32;
 use image_types::Leaf;
 use image_types::Written;
 use walk_cursor::advance;
@@ -23,7 +24,7 @@ use walk_values::padded;
 use walk_walker::walker::open_from;
 
 // The bytes of a record: kind, length, cut key and suffix.
-pub const RECORD_SIZE: usize = 68;
+pub const RECORD_SIZE: usize = 70;
 
 // Where the cut key and the suffix stand in a record.
 const CUT_AT: usize = 2;
@@ -46,12 +47,10 @@ fn write_record(out: &mut [u8], at: usize, l: Leaf)
     ensures { λ _. ⌜ now (out .exit) ≡ placed (now (out .entry)) at (value-record l) ⌝ }
 {
     let cut = l.cut;
-    let suffix = l.suffix;
     out[at] = kind_byte(l.exact);
     out[at + 1] = l.len as u8;
     write_bytes(out, at + CUT_AT, &cut);
-    out[at + SUFFIX_AT] = (suffix % 256) as u8;
-    out[at + SUFFIX_AT + 1] = (suffix / 256) as u8;
+    write32(out, at + SUFFIX_AT, l.suffix);
 }
 
 // The records of the leaves from the state's place on go to the front of out, of as many as it holds whole, and all else stays; their length.

@@ -1,5 +1,5 @@
 -- What a function that writes a record asks.
-use Prim.Native.Nat.{ℕ, _+_, _≤_, _<_}
+use Prim.Native.Nat.{ℕ, _+_, _≤_}
 use lib.ListN.{length}
 use Rattle.spec.specs.Bytes.{Bytes}
 use Rattle.spec.specs.WalkRecords.{record-size}
@@ -10,5 +10,3 @@ pub record Room (out : Bytes) (at : ℕ) (l : Value) : Type 0 where
   pub within : at + record-size ≤ length out
   -- the key's length fits a byte
   pub key : l .len ≤ 64
-  -- the suffix fits two
-  pub suffix : l .suffix < 65536

@@ -27,7 +27,7 @@ use Rattle.theory.specs.WalkRecordLaws.{records-refused, records-written}
 use Rattle.image_types.specs.declared.Written.the-variants as Written
 use Rattle.image_types.specs.Outcomes.{outcome}
 use Rattle.walk_laws.specs.Filling.{Fills}
-use Rattle.walk_laws.specs.LeafValues.{suffix-small, value-record, value-record-is}
+use Rattle.walk_laws.specs.LeafValues.{value-record, value-record-is}
 use Rattle.walk_laws.specs.Opening.{check-refuses, place-refused, at-leaf, at-done, next-leaf, next-stays, next-at, next-refused}
 use Rattle.walk_cursor.specs.declared.Cursor.{Cursor}
 use Rattle.walk_cursor.specs.Stands.{At-leaf, Stands-at}
@@ -50,9 +50,7 @@ module _ (s : Bytes) (f : Frame) (a : Accepted s f) (place : ℕ) (l : Leaves.Le
 
   -- its record fits where there is room for a record
   pub record-room : (out : Bytes) (at : ℕ) → at + record-size ≤ length out → Room out at v
-  record-room out at h =
-      let small : length (l .suffix) ≤ 16 = omega (arith, leaf-sized .1, ap (λ (x : Value). x .width) is) in
-      record { within = h; key = leaf-sized .0; suffix = omega (arith, ap (λ (x : Value). x .suffix) is, suffix-small l small) }
+  record-room out at h = record { within = h; key = leaf-sized .0 }
 
   -- and is the one of document 01
   pub record-is : value-record v ≡ leaf-record l

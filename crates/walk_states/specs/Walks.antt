@@ -32,7 +32,7 @@ standing-of Walk.done = record { stand = Stand.Done; leaf = no-leaf }
 pub record Gives (said : Walk.Stand) (r : Standing) : Type 0 where
   -- all of the answer, zeros included
   pub says : r ≡ standing-of said
-  -- the leaf's key has at most 64 bytes, and its suffix at most 16 bits
+  -- the leaf's key has at most 64 bytes, and its suffix at most 32 bits
   pub sized : Sized (r .leaf)
 
 -- ---- the state of a walk

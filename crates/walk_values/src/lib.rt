@@ -8,7 +8,7 @@ use image_types::Leaf;
 
 // The number of the low width bits.
 fn suffix_number(suffix: usize, width: usize) -> usize
-    requires { ⌜ width ≤ 16 ⌝ }
+    requires { ⌜ width ≤ 32 ⌝ }
     ensures { λ r. ⌜ r ≡ low-first (low-bits width suffix) ⌝ }
 {
     suffix % (1usize << width)

@@ -1,4 +1,5 @@
-//! The examples of document 01, and those of orders 2, 3 and 8 of document 02.
+//! The examples of document 01, and those of orders 2, 3 and 8 of document 02. Those of order 4
+//! stand in `hash_bits.rs`.
 
 use crate::shared::{
     body, image, image_a_version_2, image_with, settings, versions, A, IMAGE_A, NO_KEYS, VAN,
@@ -7,10 +8,10 @@ use range_filter::{build, Filter, Rule, Settings};
 
 /// Gives an image of a list in each version and at each number of dense levels: the answers are
 /// the same.
-fn images<K: AsRef<[u8]>>(keys: &[K], suffix_bits: u8) -> Vec<Vec<u8>> {
+fn images<K: AsRef<[u8]>>(keys: &[K], real_bits: u8) -> Vec<Vec<u8>> {
     let dense_levels = 0..=4;
     dense_levels
-        .flat_map(|levels| versions(settings(levels, suffix_bits)))
+        .flat_map(|levels| versions(settings(levels, real_bits)))
         .map(|settings| image_with(keys, settings))
         .collect()
 }
@@ -55,8 +56,8 @@ fn assert_level_starts_added<K: AsRef<[u8]>>(keys: &[K], levels: u32, settings: 
 #[test]
 fn version_2_has_an_entry_more_for_each_level() {
     let longest = [b'k'; 64];
-    for (dense_levels, suffix_bits) in [(0, 0), (1, 8), (4, 16)] {
-        let settings = settings(dense_levels, suffix_bits);
+    for (dense_levels, real_bits) in [(0, 0), (1, 8), (4, 16)] {
+        let settings = settings(dense_levels, real_bits);
         assert_level_starts_added(&NO_KEYS, 0, settings);
         assert_level_starts_added(&["V"], 1, settings);
         assert_level_starts_added(&A, 3, settings);
@@ -208,7 +209,7 @@ fn van_for_v_has_the_same_image() {
 }
 
 #[test]
-fn van_with_eight_suffix_bits() {
+fn van_with_eight_real_bits() {
     assert_eq!(image(&VAN, 0, 8).len(), 114);
     assert_eq!(body(&image(&VAN, 0, 8), b"SV"), *b"\x82\0\0\0");
     for image in images(&VAN, 8) {
@@ -248,12 +249,22 @@ fn stems_of_the_highest_keys() {
 
 #[test]
 fn settings_and_length_are_read_from_the_header() {
-    for (version, dense_levels, suffix_bits) in [(1, 0, 0), (2, 1, 8), (1, 4, 16), (2, 0, 0)] {
-        let settings = settings(dense_levels, suffix_bits).with_version(version);
+    let all = [
+        settings(0, 0),
+        settings(1, 8).with_version(2),
+        settings(4, 16),
+        settings(0, 0).with_version(2),
+        settings(2, 5).with_hash_bits(3),
+        settings(4, 16).with_version(2).with_hash_bits(16),
+    ];
+    for settings in all {
         let image = image_with(&A, settings);
         let filter = Filter::open(&image).expect("the image is accepted");
         assert_eq!(filter.settings(), settings);
-        assert_eq!(filter.settings().version(), version);
+        assert_eq!(image[2], filter.settings().version());
+        assert_eq!(image[3], filter.settings().dense_levels());
+        assert_eq!(image[4], filter.settings().real_bits());
+        assert_eq!(image[5], filter.settings().hash_bits());
         assert_eq!(filter.len(), 4);
         assert_eq!(filter.image(), image);
     }

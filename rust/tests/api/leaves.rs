@@ -33,7 +33,7 @@ fn leaves_of_list_a() {
 
 #[test]
 fn leaves_with_suffixes() {
-    let van = |suffix_bits| lines(&image(&VAN, 1, suffix_bits));
+    let van = |real_bits| lines(&image(&VAN, 1, real_bits));
     assert_eq!(
         van(8),
         [
@@ -50,18 +50,18 @@ fn leaves_with_suffixes() {
 
 #[test]
 fn suffixes_as_numbers() {
-    for (suffix_bits, number) in [(0, 0), (1, 0), (2, 2), (4, 2), (8, 0x82), (16, 0x7282)] {
-        let image = image(&VAN, 0, suffix_bits);
+    for (real_bits, number) in [(0, 0), (1, 0), (2, 2), (4, 2), (8, 0x82), (16, 0x7282)] {
+        let image = image(&VAN, 0, real_bits);
         let filter = Filter::open(&image).expect("the image is accepted");
         let leaf = filter.leaf(3).expect("the place is a leaf's");
         let suffix = leaf.expect("the image has four leaves").suffix();
-        assert_eq!((suffix.width(), suffix.bits()), (suffix_bits, number));
+        assert_eq!((suffix.width(), suffix.bits()), (real_bits, number));
     }
 }
 
 /// Asserts that the leaves of so many keys are the same one by one and one at a time.
 fn assert_each_leaf(keys: usize) {
-    let image = image(&digits(keys), 2, 4);
+    let image = image_with(&digits(keys), settings(2, 4).with_hash_bits(16));
     let filter = Filter::open(&image).expect("the image is accepted");
     assert_eq!(filter.leaves().count(), keys);
     for (place, leaf) in filter.leaves().enumerate() {

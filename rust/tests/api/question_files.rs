@@ -6,13 +6,25 @@ use range_filter::{
     Settings,
 };
 
-/// Dense levels and suffix bits to try.
-const SETTINGS: [(u8, u8); 4] = [(0, 0), (1, 3), (2, 8), (4, 16)];
+/// Dense levels, real bits and hash bits to try.
+const SETTINGS: [(u8, u8, u8); 6] = [
+    (0, 0, 0),
+    (1, 3, 0),
+    (2, 8, 5),
+    (4, 16, 16),
+    (0, 0, 9),
+    (4, 16, 0),
+];
+
+/// Gives the settings of version 1 to try.
+fn first_settings() -> impl Iterator<Item = Settings> {
+    let settings = |(levels, real, hash)| settings(levels, real).with_hash_bits(hash);
+    SETTINGS.into_iter().map(settings)
+}
 
 /// Gives the settings to try, each in both versions.
 fn all_settings() -> impl Iterator<Item = Settings> {
-    let settings = SETTINGS.map(|(levels, bits)| versions(settings(levels, bits)));
-    settings.into_iter().flatten()
+    first_settings().flat_map(versions)
 }
 
 /// Reads replies that have to be whole.
@@ -115,9 +127,9 @@ fn assert_versions_agree(stem: &[u8], settings: Settings, random: &mut Random) {
 #[test]
 fn versions_get_the_same_replies() {
     let mut random = Random::new(23);
-    for (dense_levels, suffix_bits) in SETTINGS {
+    for settings in first_settings() {
         for stem in [&b""[..], &[b'k'; 54]] {
-            assert_versions_agree(stem, settings(dense_levels, suffix_bits), &mut random);
+            assert_versions_agree(stem, settings, &mut random);
         }
     }
 }
@@ -149,12 +161,14 @@ fn filters_keep_their_promises() {
 #[test]
 fn points_agree_with_their_rules() {
     let mut random = Random::new(22);
-    let image = image(&random.keys(300), 1, 5);
-    let filter = Filter::open(&image).expect("the image is accepted");
-    for _ in 0..1_000 {
-        let key = random.key(0, 10);
-        let rule = filter.rule(&key).expect("the key is taken");
-        assert_eq!(filter.may_contain(&key), Ok(rule.says()));
+    for hash_bits in [0, 2] {
+        let image = image_with(&random.keys(300), settings(1, 5).with_hash_bits(hash_bits));
+        let filter = Filter::open(&image).expect("the image is accepted");
+        for _ in 0..1_000 {
+            let key = random.key(0, 10);
+            let rule = filter.rule(&key).expect("the key is taken");
+            assert_eq!(filter.may_contain(&key), Ok(rule.says()));
+        }
     }
 }
 

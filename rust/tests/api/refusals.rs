@@ -21,6 +21,13 @@ fn assert_refused(image: &[u8], refusal: Refusal) {
     assert_eq!(ask(image, b""), Err(refusal));
 }
 
+/// Gives two keys of 64 bytes that differ in the last one, so that none is cut.
+fn longest_keys() -> [[u8; 64]; 2] {
+    let mut keys = [[b'k'; 64]; 2];
+    keys[1][63] = b'l';
+    keys
+}
+
 /// Gives an image with another byte at a place of a record's body.
 fn changed(image: &[u8], mark: &[u8; 2], place: usize, byte: u8) -> Vec<u8> {
     let mut image = image.to_vec();
@@ -80,10 +87,17 @@ fn keys_beyond_65_535_get_4() {
 
 #[test]
 fn settings_out_of_range_get_5_before_all_else() {
-    let others = [(1, 5, 0), (1, 0, 17), (2, 255, 255)];
-    let versions = [0, 3, 255].map(|version| (version, 0, 0));
-    for (version, dense_levels, suffix_bits) in others.into_iter().chain(versions) {
-        let settings = settings(dense_levels, suffix_bits).with_version(version);
+    let wrong = [
+        settings(5, 0),
+        settings(0, 17),
+        settings(0, 0).with_hash_bits(17),
+        settings(4, 16).with_hash_bits(255),
+        settings(255, 255).with_version(2),
+        settings(0, 0).with_version(0),
+        settings(0, 0).with_version(3),
+        settings(0, 0).with_version(255),
+    ];
+    for settings in wrong {
         assert_eq!(build(A, settings), Err(Refusal::SettingOutOfRange));
         assert_eq!(build([""], settings), Err(Refusal::SettingOutOfRange));
         assert_eq!(build(NO_KEYS, settings), Err(Refusal::SettingOutOfRange));
@@ -130,8 +144,19 @@ fn records_of_another_version_get_11() {
 
 #[test]
 fn wrong_headers_get_12() {
-    // The dense levels, n, the zero byte, the leaves and the sparse entries.
-    for (place, byte) in [(3, 5), (4, 17), (5, 1), (8, 1), (14, 7)] {
+    // The dense levels, the real bits, the hash bits, the leaves and the sparse entries; and a
+    // real bit and a hash bit for which there are no slots.
+    let wrong = [
+        (3, 5),
+        (4, 17),
+        (5, 17),
+        (5, 255),
+        (8, 1),
+        (14, 7),
+        (4, 1),
+        (5, 1),
+    ];
+    for (place, byte) in wrong {
         for mut image in [IMAGE_A.to_vec(), image_a_version_2()] {
             image[place] = byte;
             assert_refused(&image, Refusal::HeaderWrong);
@@ -208,13 +233,27 @@ fn level_starts_are_judged_behind_14_and_before_16() {
 }
 
 #[test]
-fn suffix_bits_that_no_key_gives_get_16() {
+fn real_bits_that_no_key_gives_get_16() {
     let exact_leaf = changed(&image(&VAN, 0, 8), b"SV", 2, 0x01);
     assert_refused(&exact_leaf, Refusal::SlotWrong);
-    let mut keys = [[b'k'; 64]; 2];
-    keys[1][63] = b'l';
-    let behind_64_bytes = changed(&image(&keys, 0, 8), b"SV", 1, 0x80);
+    let behind_64_bytes = changed(&image(&longest_keys(), 0, 8), b"SV", 1, 0x80);
     assert_refused(&behind_64_bytes, Refusal::SlotWrong);
+}
+
+#[test]
+fn hash_bits_of_exact_leaves_get_16_and_others_may_be_any() {
+    // The slots of V, D2, D1 and D12.
+    let slots = image_with(&A, settings(0, 0).with_hash_bits(8));
+    assert_refused(&changed(&slots, b"SV", 2, 0x01), Refusal::SlotWrong);
+    for place in [0, 1, 3] {
+        assert_eq!(check(&changed(&slots, b"SV", place, 0xFF)), Ok(()));
+    }
+    // Past the 64th byte: a slot is four hash bits and then four real bits.
+    let slots = image_with(&longest_keys(), settings(0, 4).with_hash_bits(4));
+    for place in [0, 1] {
+        assert_eq!(check(&changed(&slots, b"SV", place, 0x0F)), Ok(()));
+        assert_refused(&changed(&slots, b"SV", place, 0x1F), Refusal::SlotWrong);
+    }
 }
 
 #[test]

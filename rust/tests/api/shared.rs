@@ -12,7 +12,7 @@ pub const VAN: [&str; 4] = ["D1", "D12", "D2", "VAN"];
 /// A list without keys.
 pub const NO_KEYS: [&str; 0] = [];
 
-/// The image of list A with dense levels 0 and n 0.
+/// The image of list A in version 1, with no dense levels, real bits and hash bits.
 pub const IMAGE_A: &[u8; 110] = b"HD\x01\x00\x00\x00\x04\0\0\0\0\0\0\0\x06\0\0\0\x03\0\0\0\
 DL\0\0\0\0DC\0\0\0\0DP\0\0\0\0\
 SL\x06\0\0\0\x44\x56\x31\x32\xFF\x32SC\x01\0\0\0\x05SB\x01\0\0\0\x15\
@@ -22,10 +22,10 @@ RS\x04\0\0\0\0\0\0\0TS\x04\0\0\0\0\0\0\0";
 /// The record that the image of list A has more in version 2: the first nodes of three levels.
 pub const LEVEL_STARTS_A: &[u8; 18] = b"LV\x0C\0\0\0\0\0\0\0\x01\0\0\0\x02\0\0\0";
 
-/// Gives settings of version 1.
-pub fn settings(dense_levels: u8, suffix_bits: u8) -> Settings {
+/// Gives settings of version 1 without hash bits.
+pub fn settings(dense_levels: u8, real_bits: u8) -> Settings {
     let settings = Settings::default().with_dense_levels(dense_levels);
-    settings.with_suffix_bits(suffix_bits)
+    settings.with_real_bits(real_bits)
 }
 
 /// Gives settings in each version.
@@ -33,9 +33,9 @@ pub fn versions(settings: Settings) -> [Settings; 2] {
     [1, 2].map(|version| settings.with_version(version))
 }
 
-/// Builds an image of version 1 that has to be built.
-pub fn image<K: AsRef<[u8]>>(keys: &[K], dense_levels: u8, suffix_bits: u8) -> Vec<u8> {
-    image_with(keys, settings(dense_levels, suffix_bits))
+/// Builds an image of version 1 without hash bits that has to be built.
+pub fn image<K: AsRef<[u8]>>(keys: &[K], dense_levels: u8, real_bits: u8) -> Vec<u8> {
+    image_with(keys, settings(dense_levels, real_bits))
 }
 
 /// Builds an image that has to be built.
@@ -43,24 +43,32 @@ pub fn image_with<K: AsRef<[u8]>>(keys: &[K], settings: Settings) -> Vec<u8> {
     build(keys, settings).expect("the keys build an image")
 }
 
-/// Gives the image of list A with version 2, dense levels 0 and n 0.
+/// Gives the image of list A in version 2, with no dense levels, real bits and hash bits.
 pub fn image_a_version_2() -> Vec<u8> {
     let mut image = [&IMAGE_A[..], LEVEL_STARTS_A].concat();
     image[2] = 2;
     image
 }
 
-/// Gives where a record's body starts in an image that has its mark nowhere before.
+/// Gives where a record's body starts in an image that has the record.
 pub fn body_at(image: &[u8], mark: &[u8; 2]) -> usize {
-    let at = image.windows(2).position(|two| two == mark);
-    at.expect("the image has the record") + 6
+    let mut at = 22;
+    while image[at..at + 2] != *mark {
+        at += 6 + length_at(image, at + 2);
+    }
+    at + 6
 }
 
-/// Gives a record's body in an image that has its mark nowhere before.
+/// Gives a record's body in an image that has the record.
 pub fn body<'a>(image: &'a [u8], mark: &[u8; 2]) -> &'a [u8] {
     let at = body_at(image, mark);
-    let length = image[at - 4..at].try_into().expect("four bytes");
-    &image[at..at + u32::from_le_bytes(length) as usize]
+    &image[at..at + length_at(image, at - 4)]
+}
+
+/// Gives the length of a body from its four bytes at an offset of an image.
+fn length_at(image: &[u8], at: usize) -> usize {
+    let length = image[at..at + 4].try_into().expect("four bytes");
+    u32::from_le_bytes(length) as usize
 }
 
 /// A xorshift generator of numbers.

@@ -108,7 +108,8 @@ fn values_print_for_people() {
     let filter = Filter::open(IMAGE_A).expect("the image is accepted");
     assert_eq!(
         format!("{filter:?}"),
-        "Filter { settings: Settings { version: 1, dense_levels: 0, suffix_bits: 0 }, len: 4, .. }"
+        "Filter { settings: Settings { \
+         version: 1, dense_levels: 0, real_bits: 0, hash_bits: 0 }, len: 4, .. }"
     );
     assert_eq!(
         format!("{:?}", filter.leaves()),

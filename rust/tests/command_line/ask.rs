@@ -5,7 +5,7 @@ use std::sync::mpsc;
 use std::thread;
 use std::time::Duration;
 
-use crate::examples::{in_version_2, IMAGE_A, IMAGE_VAN};
+use crate::examples::{in_version_2, with_slots, IMAGE_A, IMAGE_VAN, SLOTS_A};
 use crate::program::{Folder, Outcome};
 
 /// Puts questions from arguments to an image.
@@ -75,7 +75,7 @@ fn document_01s_questions_as_lines() {
 }
 
 #[test]
-fn suffix_bits_decide() {
+fn real_bits_decide() {
     let words = ["point", "VAX", "point", "VB", "seek", "VB", "seek", "V"];
     let expected = "\
 point VAX: 1 rule 4 (open leaf with equal suffix)
@@ -84,6 +84,22 @@ seek VB: none
 seek V: 3 VA
 ";
     assert_eq!(ask("ask_suffix", IMAGE_VAN, &words).done(), expected);
+}
+
+#[test]
+fn hash_bits_decide_points_alone() {
+    let words = "point D2 point D2x range D2x D2x stem D2x count D2x D2x seek D2x";
+    let words: Vec<&str> = words.split(' ').collect();
+    let expected = "\
+point D2: 1 rule 4 (open leaf with equal suffix)
+point D2x: 0 rule 5 (open leaf with another suffix)
+range D2x D2x: 1
+stem D2x: 1
+count D2x D2x: 1
+seek D2x: 2 D2x
+";
+    let image = with_slots(0, 8, SLOTS_A);
+    assert_eq!(ask("ask_hash", &image, &words).done(), expected);
 }
 
 #[test]
@@ -99,11 +115,7 @@ fn an_empty_image_has_no_nodes() {
 #[test]
 fn keys_are_read_and_written_with_escapes() {
     let folder = Folder::new("ask_escapes");
-    folder.build(
-        "image",
-        "a b\\\\\nab\n\\xFF\\x00\n",
-        &["--suffix-bits", "16"],
-    );
+    folder.build("image", "a b\\\\\nab\n\\xFF\\x00\n", &["--real-bits", "16"]);
     let words = [
         "seek",
         "a b",

@@ -3,7 +3,8 @@
 use std::fs;
 use std::os::unix::fs::symlink;
 
-use crate::examples::{image_a_dense, in_version_2, IMAGE_A, IMAGE_VAN, LIST_A, LIST_VAN};
+use crate::examples::{image_a_dense, in_version_2, with_slots, SLOTS_A, SLOTS_VAN};
+use crate::examples::{IMAGE_A, IMAGE_VAN, LIST_A, LIST_VAN};
 use crate::program::{many_keys, Folder};
 
 /// Builds an image from a file of keys and gives its bytes.
@@ -50,13 +51,29 @@ fn settings_come_from_options() {
         image("build_dense", LIST_A, &["--dense", "1"]),
         image_a_dense()
     );
-    assert_eq!(image("build_n", LIST_VAN, &["--suffix-bits=8"]), IMAGE_VAN);
+    assert_eq!(image("build_n", LIST_VAN, &["--real-bits=8"]), IMAGE_VAN);
     let both = image(
         "build_both",
         LIST_VAN,
-        &["--dense", "4", "--suffix-bits", "16"],
+        &["--dense", "4", "--real-bits", "16"],
     );
     assert_eq!(both[3..5], [4, 16]);
+}
+
+#[test]
+fn hash_bits_come_from_an_option() {
+    let none = ["--hash-bits", "0"];
+    assert_eq!(image("build_h_0", LIST_A, &none), IMAGE_A);
+    let alone = image("build_h", LIST_A, &["--hash-bits=8"]);
+    assert_eq!(alone, with_slots(0, 8, SLOTS_A));
+    let both = ["--hash-bits", "4", "--real-bits", "8"];
+    let second = ["--image-version", "2", "--hash-bits", "4", "--real-bits=8"];
+    let expected = with_slots(8, 4, SLOTS_VAN);
+    assert_eq!(image("build_h_n", LIST_VAN, &both), expected);
+    assert_eq!(
+        image("build_h_n_version_2", LIST_VAN, &second),
+        in_version_2(&expected)
+    );
 }
 
 #[test]
@@ -71,9 +88,9 @@ fn the_version_comes_from_an_option() {
         image("build_version_2_dense", LIST_A, &dense),
         in_version_2(&image_a_dense())
     );
-    let suffixes = ["--image-version", "2", "--suffix-bits", "8"];
+    let real_bits = ["--image-version", "2", "--real-bits", "8"];
     assert_eq!(
-        image("build_version_2_n", LIST_VAN, &suffixes),
+        image("build_version_2_n", LIST_VAN, &real_bits),
         in_version_2(IMAGE_VAN)
     );
 }
@@ -229,7 +246,7 @@ fn refuses_arguments(test: &str, arguments: &[&str], sentence: &str) {
 
 #[test]
 fn wrong_arguments_are_refused() {
-    let wrong: [(&[&str], &str); 6] = [
+    let wrong: [(&[&str], &str); 7] = [
         (&["-o", "image"], "KEYS is missing"),
         (&["keys", "-o"], "-o has no value behind it"),
         (
@@ -240,6 +257,10 @@ fn wrong_arguments_are_refused() {
         (
             &["keys", "-o", "image", "--hash"],
             "there is no option --hash",
+        ),
+        (
+            &["keys", "-o", "image", "--suffix-bits=8"],
+            "there is no option --suffix-bits=8",
         ),
         (
             &["keys", "-o", "image", "--sort=yes"],
@@ -259,12 +280,15 @@ fn settings_out_of_range_are_refused() {
     let sentence = "--dense takes a whole number from 0 to 4, and not '5'";
     let arguments = ["keys", "-o", "image", "--dense", "5"];
     refuses_arguments("build_dense_5", &arguments, sentence);
-    let sentence = "--suffix-bits takes a whole number from 0 to 16, and not '-1'";
-    let arguments = ["keys", "-o", "image", "--suffix-bits", "-1"];
+    let sentence = "--real-bits takes a whole number from 0 to 16, and not '-1'";
+    let arguments = ["keys", "-o", "image", "--real-bits", "-1"];
     refuses_arguments("build_n_minus_1", &arguments, sentence);
-    let sentence = "--suffix-bits takes a whole number from 0 to 16, and not '17'";
-    let arguments = ["keys", "-o", "image", "--suffix-bits=17"];
+    let sentence = "--real-bits takes a whole number from 0 to 16, and not '17'";
+    let arguments = ["keys", "-o", "image", "--real-bits=17"];
     refuses_arguments("build_n_17", &arguments, sentence);
+    let sentence = "--hash-bits takes a whole number from 0 to 16, and not '17'";
+    let arguments = ["keys", "-o", "image", "--hash-bits", "17"];
+    refuses_arguments("build_h_17", &arguments, sentence);
     for version in ["0", "3", "258", "two", ""] {
         let sentence =
             format!("--image-version takes a whole number from 1 to 2, and not '{version}'");

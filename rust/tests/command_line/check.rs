@@ -1,6 +1,8 @@
 //! `range-filter check`.
 
-use crate::examples::{image_a_dense, in_version_2, IMAGE_A, IMAGE_VAN};
+use crate::examples::{
+    image_a_dense, in_version_2, with_slots, IMAGE_A, IMAGE_VAN, SLOTS_A, SLOTS_VAN,
+};
 use crate::program::{Folder, Outcome};
 
 /// Runs the check over some bytes.
@@ -21,20 +23,42 @@ fn damaged(offset: usize, byte: u8) -> Vec<u8> {
 fn images_are_accepted_with_leaves_and_settings() {
     assert_eq!(
         check("check_a", IMAGE_A).done(),
-        "accepted: 4 leaves, version 1, dense levels 0, suffix bits 0\n"
+        "accepted: 4 leaves, version 1, dense levels 0, real bits 0, hash bits 0\n"
     );
     assert_eq!(
         check("check_version_2", &in_version_2(IMAGE_A)).done(),
-        "accepted: 4 leaves, version 2, dense levels 0, suffix bits 0\n"
+        "accepted: 4 leaves, version 2, dense levels 0, real bits 0, hash bits 0\n"
     );
     assert_eq!(
         check("check_dense", &image_a_dense()).done(),
-        "accepted: 4 leaves, version 1, dense levels 1, suffix bits 0\n"
+        "accepted: 4 leaves, version 1, dense levels 1, real bits 0, hash bits 0\n"
     );
     assert_eq!(
         check("check_van", IMAGE_VAN).done(),
-        "accepted: 4 leaves, version 1, dense levels 0, suffix bits 8\n"
+        "accepted: 4 leaves, version 1, dense levels 0, real bits 8, hash bits 0\n"
     );
+}
+
+#[test]
+fn hash_bits_are_told() {
+    assert_eq!(
+        check("check_hash", &with_slots(0, 8, SLOTS_A)).done(),
+        "accepted: 4 leaves, version 1, dense levels 0, real bits 0, hash bits 8\n"
+    );
+    assert_eq!(
+        check("check_hash_van", &with_slots(8, 4, SLOTS_VAN)).done(),
+        "accepted: 4 leaves, version 1, dense levels 0, real bits 8, hash bits 4\n"
+    );
+    // The slots of V, D2, D1 and D12 start at 72. Hash bits may be any, but for the exact leaf.
+    let with_slot = |place: usize| {
+        let mut image = with_slots(0, 8, SLOTS_A);
+        image[72 + place] = 0xFF;
+        image
+    };
+    for place in [0, 1, 3] {
+        check("check_hash_open", &with_slot(place)).done();
+    }
+    refused("check_hash_exact", &with_slot(2), 16, "anew");
 }
 
 /// Asserts that an image is refused with a number and with what stands in brackets.
@@ -122,9 +146,14 @@ fn wrong_headers_get_12_with_the_field() {
         "check_12_n",
         &damaged(4, 17),
         12,
-        " (there are 17 suffix bits, over 16)",
+        " (there are 17 real bits, over 16)",
     );
-    refused("check_12_zero", &damaged(5, 9), 12, " (the zero byte is 9)");
+    refused(
+        "check_12_h",
+        &damaged(5, 17),
+        12,
+        " (there are 17 hash bits, over 16)",
+    );
     refused(
         "check_12_leaves",
         &damaged(8, 1),
@@ -132,11 +161,12 @@ fn wrong_headers_get_12_with_the_field() {
         " (there are 65,540 leaves, over 65,535)",
     );
     let mut two = damaged(2, 0);
-    two[5] = 1;
-    let both = " (the version is 0, and neither 1 nor 2; the zero byte is 1)";
+    two[5] = 255;
+    let both = " (the version is 0, and neither 1 nor 2; there are 255 hash bits, over 16)";
     refused("check_12_two", &two, 12, both);
-    // A body that is not as long as the counts give shows in no field alone.
+    // A body that is not as long as the counts and settings give shows in no field alone.
     refused("check_12_body", &damaged(14, 7), 12, "anew");
+    refused("check_12_slots", &damaged(5, 9), 12, "anew");
 }
 
 #[test]

@@ -6,7 +6,7 @@ pub const LIST_A: &str = "D1\nD12\nD2\nV\n";
 /// List A with VAN for V.
 pub const LIST_VAN: &str = "D1\nD12\nD2\nVAN\n";
 
-/// The image of list A with dense levels 0 and n 0.
+/// The image of list A in version 1, with no dense levels, real bits and hash bits.
 pub const IMAGE_A: &[u8] = b"HD\x01\x00\x00\x00\
 \x04\x00\x00\x00\x00\x00\x00\x00\x06\x00\x00\x00\x03\x00\x00\x00\
 DL\x00\x00\x00\x00DC\x00\x00\x00\x00DP\x00\x00\x00\x00\
@@ -18,13 +18,27 @@ RS\x04\x00\x00\x00\x00\x00\x00\x00TS\x04\x00\x00\x00\x00\x00\x00\x00";
 pub const LEVEL_STARTS_A: &[u8] = b"LV\x0C\x00\x00\x00\
 \x00\x00\x00\x00\x01\x00\x00\x00\x02\x00\x00\x00";
 
-/// The image of list A with VAN for V, with dense levels 0 and n 8.
+/// The image of list A with VAN for V in version 1, with 8 real bits.
 pub const IMAGE_VAN: &[u8] = b"HD\x01\x00\x08\x00\
 \x04\x00\x00\x00\x00\x00\x00\x00\x06\x00\x00\x00\x03\x00\x00\x00\
 DL\x00\x00\x00\x00DC\x00\x00\x00\x00DP\x00\x00\x00\x00\
 SL\x06\x00\x00\x00\x44\x56\x31\x32\xFF\x32SC\x01\x00\x00\x00\x05SB\x01\x00\x00\x00\x15\
 SV\x04\x00\x00\x00\x82\x00\x00\x00RL\x00\x00\x00\x00RC\x00\x00\x00\x00RP\x00\x00\x00\x00\
 RS\x04\x00\x00\x00\x00\x00\x00\x00TS\x04\x00\x00\x00\x00\x00\x00\x00";
+
+/// The slots of list A with 8 hash bits: V, D2, D1, which is exact, and D12.
+pub const SLOTS_A: &[u8] = b"SV\x04\x00\x00\x00\x69\x53\x00\x5C";
+
+/// The slots of list A with VAN for V, with 4 hash bits and then 8 real bits.
+pub const SLOTS_VAN: &[u8] = b"SV\x06\x00\x00\x00\x22\x38\x00\x00\xC0\x00";
+
+/// Gives list A's image in version 1 with some real bits and hash bits, and their slots.
+pub fn with_slots(real_bits: u8, hash_bits: u8, slots: &[u8]) -> Vec<u8> {
+    // The record SV, which has no body in list A's image, stands at 66.
+    let mut image = [&IMAGE_A[..66], slots, &IMAGE_A[72..]].concat();
+    image[4..6].copy_from_slice(&[real_bits, hash_bits]);
+    image
+}
 
 /// Gives an image of list A in version 2 from the one in version 1.
 pub fn in_version_2(image: &[u8]) -> Vec<u8> {
@@ -33,7 +47,7 @@ pub fn in_version_2(image: &[u8]) -> Vec<u8> {
     image
 }
 
-/// Gives the image of list A with dense levels 1 and n 0.
+/// Gives the image of list A in version 1, with 1 dense level.
 pub fn image_a_dense() -> Vec<u8> {
     let mut labels = [0; 32];
     labels[8] = 0x10;

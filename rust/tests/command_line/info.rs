@@ -1,6 +1,6 @@
 //! `range-filter info`.
 
-use crate::examples::{image_a_dense, in_version_2, IMAGE_A};
+use crate::examples::{image_a_dense, in_version_2, with_slots, IMAGE_A, SLOTS_VAN};
 use crate::program::Folder;
 
 #[test]
@@ -12,7 +12,8 @@ bytes           110
 bits a key      220.0
 version         1
 dense levels    0
-suffix bits     0
+real bits       0
+hash bits       0
 leaves          4 (1 exact, 3 open)
 levels          3
 nodes           3 (0 dense, 3 sparse)
@@ -26,7 +27,7 @@ DP      D-IsPrefixKey: which dense nodes are exact leaves                  6
 SL      S-Labels: the labels of sparse nodes, a byte each                 12
 SC      S-HasChild: which of them lead to nodes                            7
 SB      S-LOUDS: where the entries of a sparse node start                  7
-SV      suffix bits of the leaves                                          6
+SV      slots of the leaves: hash bits, then real bits                     6
 RL      ranks of DL                                                        6
 RC      ranks of DC                                                        6
 RP      ranks of DP                                                        6
@@ -46,7 +47,7 @@ fn version_2_has_its_level_starts() {
     assert_eq!(lines[0], "bytes           128");
     assert_eq!(lines[1], "bits a key      256.0");
     assert_eq!(lines[2], "version         2");
-    assert_eq!(lines[6], "levels          3");
+    assert_eq!(lines[7], "levels          3");
     let expected = [
         "TS      select samples of SB                                              10",
         "LV      level starts: the first node of each level                        18",
@@ -64,9 +65,9 @@ fn dense_nodes_are_counted() {
     assert_eq!(lines[0], "bytes           209");
     assert_eq!(lines[1], "bits a key      418.0");
     assert_eq!(lines[3], "dense levels    1");
-    assert_eq!(lines[6], "levels          3");
-    assert_eq!(lines[7], "nodes           3 (1 dense, 2 sparse)");
-    assert_eq!(lines[8], "sparse entries  4");
+    assert_eq!(lines[7], "levels          3");
+    assert_eq!(lines[8], "nodes           3 (1 dense, 2 sparse)");
+    assert_eq!(lines[9], "sparse entries  4");
     let bytes = |mark: &str| {
         let mut lines = lines.iter().filter(|line| line.starts_with(mark));
         lines
@@ -84,17 +85,31 @@ fn dense_nodes_are_counted() {
 }
 
 #[test]
+fn slots_are_hash_bits_and_real_bits() {
+    let folder = Folder::new("info_slots");
+    folder.write("image", with_slots(8, 4, SLOTS_VAN));
+    let output = folder.run(&["info", "image"]).done();
+    let lines: Vec<&str> = output.lines().collect();
+    assert_eq!(lines[0], "bytes           116");
+    assert_eq!(lines[4], "real bits       8");
+    assert_eq!(lines[5], "hash bits       4");
+    let slots = "SV      slots of the leaves: hash bits, then real bits                    12";
+    assert!(lines.contains(&slots));
+}
+
+#[test]
 fn the_empty_image_has_no_bits_a_key() {
     let folder = Folder::new("info_empty");
     folder.build("image", "", &[]);
     let output = folder.run(&["info", "image"]).done();
-    let lines: Vec<&str> = output.lines().take(9).collect();
+    let lines: Vec<&str> = output.lines().take(10).collect();
     let expected = [
         "bytes           94",
         "bits a key      -",
         "version         1",
         "dense levels    0",
-        "suffix bits     0",
+        "real bits       0",
+        "hash bits       0",
         "leaves          0 (0 exact, 0 open)",
         "levels          0",
         "nodes           0 (0 dense, 0 sparse)",

@@ -1,6 +1,6 @@
 //! `range-filter leaves`.
 
-use crate::examples::{in_version_2, IMAGE_A, IMAGE_VAN};
+use crate::examples::{in_version_2, with_slots, IMAGE_A, IMAGE_VAN, SLOTS_A, SLOTS_VAN};
 use crate::program::Folder;
 
 /// Runs the subcommand over list A's image.
@@ -21,11 +21,24 @@ fn list_a_has_document_01s_lines() {
 }
 
 #[test]
-fn suffix_bits_stand_behind_open_leaves() {
+fn real_bits_stand_behind_open_leaves() {
     let folder = Folder::new("leaves_van");
     folder.write("image", IMAGE_VAN);
     let expected =
         "leaves 4\n0 E 4431 -\n1 O 443132 00000000\n2 O 4432 00000000\n3 O 56 01000001\n";
+    assert_eq!(folder.run(&["leaves", "image"]).done(), expected);
+}
+
+#[test]
+fn hash_bits_stand_before_real_bits() {
+    let folder = Folder::new("leaves_hash");
+    folder.write("image", with_slots(0, 8, SLOTS_A));
+    let expected =
+        "leaves 4\n0 E 4431 -\n1 O 443132 00111010\n2 O 4432 11001010\n3 O 56 10010110\n";
+    assert_eq!(folder.run(&["leaves", "image"]).done(), expected);
+    folder.write("image", with_slots(8, 4, SLOTS_VAN));
+    let expected = "leaves 4\n0 E 4431 -\n1 O 443132 001100000000\n\
+                    2 O 4432 110000000000\n3 O 56 010001000001\n";
     assert_eq!(folder.run(&["leaves", "image"]).done(), expected);
 }
 

@@ -1,6 +1,6 @@
 //! `range-filter picture`.
 
-use crate::examples::{image_a_dense, in_version_2, IMAGE_A, IMAGE_VAN};
+use crate::examples::{image_a_dense, in_version_2, with_slots, IMAGE_A, IMAGE_VAN, SLOTS_VAN};
 use crate::program::{many_keys, Folder};
 
 /// Draws an image.
@@ -79,12 +79,39 @@ fn dense_levels_have_a_band_and_squares() {
 }
 
 #[test]
-fn suffix_bits_stand_at_their_leaves() {
+fn suffixes_stand_at_their_leaves() {
     let picture = picture("picture_van", IMAGE_VAN);
     let cells = texts(&picture, "cell");
     assert_eq!(cells[..3], ["exact", "D1", "-"]);
     assert_eq!(cells[9..], ["open", "V", "01000001"]);
     assert!(picture.contains("3 open V with suffix 01000001."));
+}
+
+#[test]
+fn suffixes_begin_with_hash_bits() {
+    let picture = picture("picture_hash", &with_slots(8, 4, SLOTS_VAN));
+    let cells = texts(&picture, "cell");
+    assert_eq!(cells[..3], ["exact", "D1", "-"]);
+    assert_eq!(cells[9..], ["open", "V", "010001000001"]);
+    assert!(picture.contains("3 open V with suffix 010001000001."));
+}
+
+#[test]
+fn long_suffixes_widen_the_picture() {
+    let folder = Folder::new("picture_wide");
+    let width = |bits: &str| {
+        // Levels enough that the list of leaves, and not the line of signs, gives the width.
+        let keys = "k".repeat(20) + "\n" + &"k".repeat(21) + "\n";
+        folder.build("image", &keys, &["--real-bits", bits, "--hash-bits", bits]);
+        let picture = folder.run(&["picture", "image"]).done();
+        let (_, behind) = picture.split_once("width=\"").expect("a width");
+        behind
+            .split('"')
+            .next()
+            .and_then(|width| width.parse().ok())
+    };
+    let (narrow, wide): (Option<usize>, Option<usize>) = (width("8"), width("16"));
+    assert_eq!(narrow.map(|narrow| narrow + 8 * 16), wide);
 }
 
 #[test]

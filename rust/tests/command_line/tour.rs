@@ -15,6 +15,12 @@ fn small_folder(test: &str, questions: &str) -> Folder {
     folder
 }
 
+/// Gives the folder with the sample runs of the repository.
+fn samples() -> PathBuf {
+    let root = PathBuf::from(env!("CARGO_MANIFEST_DIR")).join("..");
+    root.join("samples")
+}
+
 /// Questions to the small runs, and what the tour says.
 const QUESTIONS: &str = "\
 # Is D1 there?
@@ -30,7 +36,8 @@ count D11 Z
 stem E
 ";
 const TOUR: &str = "\
-2 runs, each with a filter (version 1, dense levels 0, suffix bits 0).
+2 runs, each with a filter of these settings:
+version 1, dense levels 0, real bits 0, hash bits 0.
 
 run                      records   run bytes   filter bytes   bits a key
 a                              4          31            110        220.0
@@ -72,17 +79,17 @@ No stored key was denied: all 5 were put to their filters.
 #[test]
 fn a_small_tour_is_told_in_full() {
     let folder = small_folder("tour_small", QUESTIONS);
-    let arguments = ["tour", "runs", "--suffix-bits", "0"];
+    let arguments = ["tour", "runs", "--real-bits", "0"];
     assert_eq!(folder.run(&arguments).done(), TOUR);
 }
 
 #[test]
 fn a_tour_in_version_2_differs_in_the_sizes_alone() {
     let folder = small_folder("tour_version_2", QUESTIONS);
-    let arguments = ["tour", "runs", "--suffix-bits", "0", "--image-version", "2"];
+    let arguments = ["tour", "runs", "--real-bits", "0", "--image-version", "2"];
     // The keys of a have three levels of nodes, that of b has one: 6 bytes, and 4 for each level.
     let expected = TOUR
-        .replace("(version 1,", "(version 2,")
+        .replace("version 1,", "version 2,")
         .replace("110        220.0", "128        256.0")
         .replace("105        840.0", "115        920.0")
         .replace("38            215", "38            243");
@@ -90,10 +97,25 @@ fn a_tour_in_version_2_differs_in_the_sizes_alone() {
 }
 
 #[test]
+fn hash_bits_save_the_read_of_a_point() {
+    let folder = small_folder("tour_hash", QUESTIONS);
+    let arguments = ["tour", "runs", "--real-bits", "0", "--hash-bits", "8"];
+    // The keys of a have four slots of a byte, that of b has one. D2x has another hash than D2.
+    let expected = TOUR
+        .replace("hash bits 0.", "hash bits 8.")
+        .replace("110        220.0", "114        228.0")
+        .replace("105        840.0", "106        848.0")
+        .replace("38            215", "38            220")
+        .replace("read in vain  a\n  passed over   b", "passed over   a, b")
+        .replace("4 of 8 reads", "5 of 8 reads")
+        .replace("4 runs read, 1 in vain", "3 runs read, 0 in vain");
+    assert_eq!(folder.run(&arguments).done(), expected);
+}
+
+#[test]
 fn the_samples_are_toured() {
-    let root = PathBuf::from(env!("CARGO_MANIFEST_DIR")).join("..");
     let folder = Folder::new("tour_samples");
-    let samples = root.join("samples");
+    let samples = samples();
     let output = folder.run(&["tour".as_ref(), samples.as_os_str()]).done();
     let (mut runs, mut records) = (0, 0);
     for entry in fs::read_dir(&samples).unwrap().flatten() {
@@ -123,6 +145,21 @@ fn the_samples_are_toured() {
     assert_eq!(saved[2], (runs * questions).to_string());
     assert!(saved[0].parse::<usize>().unwrap() * 4 > runs * questions * 3);
     assert!(output.lines().all(|line| line.len() <= 80), "80 columns");
+}
+
+#[test]
+fn hash_bits_save_reads_of_the_samples() {
+    let folder = Folder::new("tour_samples_hash");
+    let saved = |bits: &str| {
+        let mut arguments = vec!["tour".into(), samples().into_os_string()];
+        arguments.extend(["--hash-bits".into(), bits.into()]);
+        let output = folder.run(&arguments).done();
+        let line = output.lines().rev().nth(2).expect("three lines at least");
+        let number = line.split(' ').next().and_then(|word| word.parse().ok());
+        let number: usize = number.expect("the number of reads that were saved");
+        number
+    };
+    assert!(saved("8") > saved("0"));
 }
 
 #[test]

@@ -6,14 +6,13 @@ use super::level_starts::changed;
 use super::{any_settings, damaged, flip};
 use crate::random::Random;
 use crate::reference::build;
-use crate::reference::check::{accepted_leaves, levels};
+use crate::reference::check::levels;
 use crate::reference::decode::nodes;
 use crate::reference::format::{
     assemble, bits, frame, pack, Frame, Header, DC, DL, DP, LV, NODE_BITS, RECORDS, RECORD_HEAD,
     RL, SB, SC, SL, SV, VERSIONS,
 };
 use crate::reference::keys;
-use crate::reference::leaves::lowest;
 use crate::reference::tables::{level_starts, TrieBits};
 use crate::settings::{version_1, version_2, Settings};
 
@@ -59,22 +58,14 @@ pub fn built(keys: &[Vec<u8>], settings: Settings) -> Vec<u8> {
     build::image(&keys::write(keys), settings).expect("the keys make a list")
 }
 
-/// Gives the image of an accepted image's lists in the other version.
+/// Gives an accepted image in the other version.
 pub fn in_other_version(image: &[u8]) -> Vec<u8> {
-    let leaves = accepted_leaves(image).expect("the image is accepted");
-    let keys: Vec<Vec<u8>> = leaves.iter().map(lowest).collect();
-    let settings = parts(image).0.settings;
-    let version = VERSIONS
-        .into_iter()
-        .find(|&version| version != settings.version);
-    let version = version.expect("there are two versions");
-    built(
-        &keys,
-        Settings {
-            version,
-            ..settings
-        },
-    )
+    let (mut header, mut bodies) = parts(image);
+    let mut versions = VERSIONS.into_iter();
+    let other = versions.find(|&version| version != header.settings.version);
+    header.settings.version = other.expect("there are two versions");
+    follow_levels(&header, &mut bodies);
+    assemble(&header, &bodies)
 }
 
 /// Gives the image of random keys with random settings.
@@ -92,6 +83,7 @@ pub fn small_image(random: &mut Random) -> Vec<u8> {
         version: *random.pick(&VERSIONS),
         dense_levels: random.below(3) as u64,
         n: *random.pick(&[0, 1, 5, 8, 11]),
+        h: *random.pick(&[0, 0, 1, 4, 9]),
     };
     built(&keys, settings)
 }
@@ -100,10 +92,10 @@ pub fn small_image(random: &mut Random) -> Vec<u8> {
 pub fn large_images(random: &mut Random, keys: usize) -> impl Iterator<Item = Vec<u8>> + '_ {
     let kinds = [
         (version_1(0, 0), 8),
-        (version_2(2, 8), 8),
+        (version_2(2, 8).with_hash(7), 8),
         (version_1(4, 16), 13),
         (version_2(0, 9), 63),
-        (version_2(1, 16), 64),
+        (version_2(1, 16).with_hash(16), 64),
     ];
     let kinds = kinds.into_iter();
     kinds.map(move |(settings, length)| built(&many_keys(random, keys, length), settings))
@@ -176,6 +168,7 @@ pub fn small_frame(random: &mut Random) -> Vec<u8> {
         version: *random.pick(&VERSIONS),
         dense_levels: random.below(3) as u64,
         n: *random.pick(&[0, 3, 8]),
+        h: *random.pick(&[0, 0, 5]),
     };
     let mut header = Header {
         dense_nodes: random.below(3) as u32,
@@ -248,6 +241,11 @@ fn agree(header: &mut Header, bodies: &mut Bodies) {
     header.sparse_nodes = bits.sparse_nodes() as u32;
     bodies[RL..LV].clone_from_slice(&bits.tables());
     fit(header, bodies);
+    follow_levels(header, bodies);
+}
+
+/// Lets the level starts follow the trie, if the image has them.
+fn follow_levels(header: &Header, bodies: &mut Bodies) {
     if header.has_level_starts() {
         let nodes = nodes(&Frame {
             header: header.clone(),

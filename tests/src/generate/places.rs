@@ -1,7 +1,7 @@
 //! Places of walks, and lengths of buffers for their records.
 
 /// Buffer lengths around those of no, one and two records.
-pub const ROOMS: [usize; 8] = [0, 1, 67, 68, 69, 135, 136, 137];
+pub const ROOMS: [usize; 8] = [0, 1, 69, 70, 71, 139, 140, 141];
 
 /// Gives places far behind any leaf.
 pub fn far_places() -> impl Iterator<Item = u64> {

@@ -1,6 +1,7 @@
 //! Questions whose keys lie around the ends of leaves' intervals, and keys behind their cut
 //! keys.
 
+use super::hashed::held_key;
 use crate::random::Random;
 use crate::reference::check::accepted_leaves;
 use crate::reference::keys::MAX_KEY;
@@ -10,16 +11,21 @@ use crate::reference::questions::Question;
 /// Lengths over 64; of some the low byte or the two low bytes are at most 64.
 pub const LONG_LENGTHS: [usize; 8] = [65, 66, 128, 255, 256, 320, 65_536, 65_600];
 
-/// Gives a byte string at or beside an end of a leaf's interval, or a short one.
+/// How often a key with a leaf's hash bits is tried for.
+const TRIES: usize = 300;
+
+/// Gives a byte string at or beside an end of a leaf's interval, or at or beside a key that a
+/// point finds at the leaf, or a short one.
 pub fn key_near(random: &mut Random, leaves: &[Leaf]) -> Vec<u8> {
     if leaves.is_empty() || random.once_in(8) {
         return random.string(b"\x00ab\x80\xFF", 0, 4);
     }
     let leaf = random.pick(leaves);
-    let mut key = match random.below(3) {
+    let mut key = match random.below(4) {
         0 => lowest(leaf),
         1 => highest(leaf),
-        _ => leaf.cut_key.clone(),
+        2 => leaf.cut_key.clone(),
+        _ => held_key(random, leaf, TRIES).unwrap_or_else(|| lowest(leaf)),
     };
     match random.below(8) {
         0 => key.truncate(random.below(key.len())),

@@ -11,20 +11,12 @@ use crate::settings::Settings;
 
 // The exports: a slice is a pointer and a length.
 extern "C" {
-    fn range_filter_image_length(
-        list: *const u8,
-        list_len: usize,
-        version: u64,
-        dense_levels: u64,
-        n: u64,
-    ) -> u64;
+    fn range_filter_image_length(list: *const u8, list_len: usize, settings: u64) -> u64;
 
     fn range_filter_build(
         list: *const u8,
         list_len: usize,
-        version: u64,
-        dense_levels: u64,
-        n: u64,
+        settings: u64,
         stated: u64,
         out: *mut u8,
         out_len: usize,
@@ -48,34 +40,36 @@ extern "C" {
         records: *mut u8,
         records_len: usize,
     ) -> u64;
+
+    fn range_filter_hash(key: *const u8, key_len: usize) -> u64;
 }
 
 /// Gives the exact length of the image of a key list, or the number of a refusal.
 pub fn image_length(list: &[u8], settings: Settings) -> Result<usize, u32> {
+    image_length_by_number(list, settings.number())
+}
+
+/// Gives the length of an image likewise, with the settings that a number stands for.
+pub fn image_length_by_number(list: &[u8], settings: u64) -> Result<usize, u32> {
     // SAFETY: pointer and length are those of a slice that lives through the call.
-    let returned = unsafe {
-        range_filter_image_length(
-            list.as_ptr(),
-            list.len(),
-            settings.version,
-            settings.dense_levels,
-            settings.n,
-        )
-    };
+    let returned = unsafe { range_filter_image_length(list.as_ptr(), list.len(), settings) };
     decode(returned).map(|length| length as usize)
 }
 
 /// Builds the image of a key list, whose length is stated, at the start of the output.
 pub fn build(list: &[u8], settings: Settings, stated: u64, out: &mut [u8]) -> Answer {
+    build_by_number(list, settings.number(), stated, out)
+}
+
+/// Builds an image likewise, with the settings that a number stands for.
+pub fn build_by_number(list: &[u8], settings: u64, stated: u64, out: &mut [u8]) -> Answer {
     // SAFETY: pointers and lengths are those of slices that live through the call,
     // and the output is lent to it alone.
     answer(unsafe {
         range_filter_build(
             list.as_ptr(),
             list.len(),
-            settings.version,
-            settings.dense_levels,
-            settings.n,
+            settings,
             stated,
             out.as_mut_ptr(),
             out.len(),
@@ -119,6 +113,12 @@ pub fn walk(image: &[u8], place: u64, records: &mut [u8]) -> Answer {
             records.len(),
         )
     })
+}
+
+/// Gives the 64-bit hash of a key of any length.
+pub fn hash(key: &[u8]) -> u64 {
+    // SAFETY: pointer and length are those of a slice that lives through the call.
+    unsafe { range_filter_hash(key.as_ptr(), key.len()) }
 }
 
 /// Reads what a call that writes returns.

@@ -41,7 +41,7 @@ pub fn image(list: &[u8], settings: Settings) -> Result<Vec<u8>, u32> {
         return Err(5);
     }
     let keys = keys::parse(list)?;
-    let leaves = leaves(&keys, settings.n as usize);
+    let leaves = leaves(&keys, settings);
     let nodes = nodes(&leaves);
     Ok(lay_out(settings, &leaves, &nodes))
 }
@@ -64,7 +64,7 @@ fn lay_out(settings: Settings, leaves: &[Leaf], nodes: &[Node]) -> Vec<u8> {
     assemble(&header, &bodies(dense, &entries, &slots, &levels))
 }
 
-/// Gives the bodies from dense nodes, sparse entries, suffix slots and the levels of nodes.
+/// Gives the bodies from dense nodes, sparse entries, slots and the levels of nodes.
 fn bodies(
     dense: &[Node],
     entries: &[Entry],
@@ -127,13 +127,13 @@ fn sparse_entries(sparse: &[Node]) -> Vec<Entry> {
     entries
 }
 
-/// Gives the suffix slots in level order, an exact leaf before its node's branches.
+/// Gives the slots in level order, an exact leaf before its node's branches.
 fn slots(leaves: &[Leaf], nodes: &[Node]) -> Vec<bool> {
     let mut bits = Vec::new();
     for node in nodes {
         let branch_leaves = node.branches.iter().filter_map(|branch| branch.leaf);
         for leaf in node.exact.into_iter().chain(branch_leaves) {
-            bits.extend_from_slice(&leaves[leaf].suffix);
+            bits.extend(leaves[leaf].suffix());
         }
     }
     bits

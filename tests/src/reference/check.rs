@@ -34,15 +34,15 @@ pub fn accepted_leaves(image: &[u8]) -> Result<Vec<Leaf>, u32> {
         return Err(15);
     }
     let leaves = leaves(&frame, &nodes).expect("a builder's trie has all its leaves");
-    if !leaves.iter().all(suffix_is_valid) {
+    if !leaves.iter().all(slot_is_valid) {
         return Err(16);
     }
     Ok(leaves)
 }
 
-/// Judges version, settings, zero byte and leaf count.
+/// Judges version, settings and leaf count.
 pub fn header_is_valid(header: &Header) -> bool {
-    settings_are_valid(&header.settings) && header.zero == 0 && header.leaves as usize <= MAX_KEYS
+    settings_are_valid(&header.settings) && header.leaves as usize <= MAX_KEYS
 }
 
 /// Judges that each body before LV has just the bytes that its bits need.
@@ -156,10 +156,13 @@ fn level_starts_are_valid(frame: &Frame, nodes: &[Node]) -> bool {
     !frame.header.has_level_starts() || frame.bodies[LV] == level_starts(&levels(nodes))
 }
 
-/// Judges that an exact leaf's slot is zero and that no suffix bit is set past the key's
-/// 64th byte.
-fn suffix_is_valid(leaf: &Leaf) -> bool {
-    let may_be_set = |i: usize| !leaf.exact && leaf.cut_key.len() + i / 8 < MAX_KEY;
-    let mut bits = leaf.suffix.iter().enumerate();
+/// Judges that an exact leaf's slot is zero and that no real bit is set past the key's 64th
+/// byte. The hash bits of an open leaf may have any values.
+fn slot_is_valid(leaf: &Leaf) -> bool {
+    if leaf.exact {
+        return !leaf.suffix().contains(&true);
+    }
+    let may_be_set = |i: usize| leaf.cut_key.len() + i / 8 < MAX_KEY;
+    let mut bits = leaf.real.iter().enumerate();
     bits.all(|(i, &bit)| !bit || may_be_set(i))
 }

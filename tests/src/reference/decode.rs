@@ -156,13 +156,15 @@ fn descend(
     Some(())
 }
 
-/// Gives one leaf with the suffix bits in its slot.
+/// Gives one leaf with the bits in its slot, the hash bits before the real bits.
 fn leaf(frame: &Frame, cut_key: &[u8], exact: bool, slot: usize) -> Leaf {
-    let width = frame.header.settings.n as usize;
-    let suffix = (0..width).map(|i| bit(frame.bodies[SV], slot * width + i));
+    let slot_bits = frame.header.settings.slot_bits() as usize;
+    let mut bits = (0..slot_bits).map(|i| bit(frame.bodies[SV], slot * slot_bits + i));
+    let hash = bits.by_ref().take(frame.header.settings.h as usize);
     Leaf {
         cut_key: cut_key.to_vec(),
         exact,
-        suffix: suffix.collect(),
+        hash: hash.collect(),
+        real: bits.collect(),
     }
 }

@@ -58,20 +58,21 @@ pub const TABLE_BITS: u64 = 32;
 
 /// The highest settings.
 pub const MAX_DENSE_LEVELS: u64 = 4;
-pub const MAX_WIDTH: u64 = 16;
+pub const MAX_REAL_BITS: u64 = 16;
+pub const MAX_HASH_BITS: u64 = 16;
 
 /// Judges that the settings are in range.
 pub fn settings_are_valid(settings: &Settings) -> bool {
     VERSIONS.contains(&settings.version)
         && settings.dense_levels <= MAX_DENSE_LEVELS
-        && settings.n <= MAX_WIDTH
+        && settings.n <= MAX_REAL_BITS
+        && settings.h <= MAX_HASH_BITS
 }
 
 /// The header's fields behind its mark, as they stand in the file.
 #[derive(Clone, Debug, PartialEq, Eq)]
 pub struct Header {
     pub settings: Settings,
-    pub zero: u8,
     pub leaves: u32,
     pub dense_nodes: u32,
     pub sparse_entries: u32,
@@ -83,7 +84,6 @@ impl Header {
     pub fn new(settings: Settings) -> Self {
         Header {
             settings,
-            zero: 0,
             leaves: 0,
             dense_nodes: 0,
             sparse_entries: 0,
@@ -98,8 +98,8 @@ impl Header {
                 version: bytes[2].into(),
                 dense_levels: bytes[3].into(),
                 n: bytes[4].into(),
+                h: bytes[5].into(),
             },
-            zero: bytes[5],
             leaves: number(bytes, 6),
             dense_nodes: number(bytes, 10),
             sparse_entries: number(bytes, 14),
@@ -113,11 +113,11 @@ impl Header {
             version,
             dense_levels,
             n,
+            h,
         } = self.settings;
         let byte = |setting| u8::try_from(setting).expect("a setting is a byte");
         let mut bytes = HEADER_MARK.to_vec();
-        bytes.extend_from_slice(&[version, dense_levels, n].map(byte));
-        bytes.push(self.zero);
+        bytes.extend_from_slice(&[version, dense_levels, n, h].map(byte));
         for count in [
             self.leaves,
             self.dense_nodes,
@@ -150,7 +150,7 @@ impl Header {
         let dense_bits = dense_nodes * NODE_BITS as u64;
         let entries = u64::from(self.sparse_entries);
         let sparse_nodes = u64::from(self.sparse_nodes);
-        let slot_bits = u64::from(self.leaves) * self.settings.n;
+        let slot_bits = u64::from(self.leaves) * self.settings.slot_bits();
         let table = |things: u64, block: usize| things.div_ceil(block as u64) * TABLE_BITS;
         [
             dense_bits,

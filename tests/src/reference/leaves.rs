@@ -1,25 +1,36 @@
-//! Leaves: cut keys with their kind and suffix bits, and the possible keys of each.
+//! Leaves: cut keys with their kind, hash bits and real bits, and the possible keys of each.
 
+use super::hash::hash_bits;
 use super::keys::{shared_prefix, MAX_KEY};
+use crate::settings::Settings;
 
-/// A leaf; its suffix has n bits, which are all zero for an exact leaf.
+/// A leaf with its h hash bits and its n real bits, which are all zero for an exact leaf.
 #[derive(Clone, Debug, PartialEq, Eq)]
 pub struct Leaf {
     pub cut_key: Vec<u8>,
     pub exact: bool,
-    pub suffix: Vec<bool>,
+    pub hash: Vec<bool>,
+    pub real: Vec<bool>,
+}
+
+impl Leaf {
+    /// Gives the leaf's suffix, which is its whole slot: the hash bits, then the real bits.
+    pub fn suffix(&self) -> Vec<bool> {
+        [self.hash.as_slice(), &self.real].concat()
+    }
 }
 
 /// Gives the leaves of strictly ascending keys, in key order.
-pub fn leaves(keys: &[Vec<u8>], width: usize) -> Vec<Leaf> {
+pub fn leaves(keys: &[Vec<u8>], settings: Settings) -> Vec<Leaf> {
     (0..keys.len())
-        .map(|number| leaf(keys, number, width))
+        .map(|number| leaf(keys, number, settings))
         .collect()
 }
 
 /// Cuts one key. In a sorted list the longest prefix shared with another key is shared
 /// with a neighbour, and a key that begins another key begins the next one.
-fn leaf(keys: &[Vec<u8>], number: usize, width: usize) -> Leaf {
+fn leaf(keys: &[Vec<u8>], number: usize, settings: Settings) -> Leaf {
+    let [h, n] = [settings.h, settings.n].map(|bits| bits as usize);
     let key = &keys[number];
     let before = number.checked_sub(1).map(|last| &keys[last]);
     let behind = keys.get(number + 1);
@@ -27,7 +38,8 @@ fn leaf(keys: &[Vec<u8>], number: usize, width: usize) -> Leaf {
         return Leaf {
             cut_key: key.clone(),
             exact: true,
-            suffix: vec![false; width],
+            hash: vec![false; h],
+            real: vec![false; n],
         };
     }
     let neighbours = before.into_iter().chain(behind);
@@ -36,15 +48,14 @@ fn leaf(keys: &[Vec<u8>], number: usize, width: usize) -> Leaf {
     Leaf {
         cut_key: key[..cut_length].to_vec(),
         exact: false,
-        suffix: suffix(key, cut_length, width),
+        hash: hash_bits(key, h),
+        real: real_bits(key, cut_length, n),
     }
 }
 
 /// Gives the first bits of a key behind its cut, zeros where the key has ended.
-pub fn suffix(key: &[u8], cut_length: usize, width: usize) -> Vec<bool> {
-    (0..width)
-        .map(|i| key_bit(key, cut_length * 8 + i))
-        .collect()
+pub fn real_bits(key: &[u8], cut_length: usize, n: usize) -> Vec<bool> {
+    (0..n).map(|i| key_bit(key, cut_length * 8 + i)).collect()
 }
 
 /// Reads a bit of a key, the high bit of each byte first, zero behind the key.
@@ -53,17 +64,23 @@ fn key_bit(key: &[u8], position: usize) -> bool {
         .is_some_and(|byte| byte >> (7 - position % 8) & 1 == 1)
 }
 
-/// Says whether a key is among the possible keys of a leaf.
+/// Says whether a key is among the possible keys of a leaf, which hash bits do not bear on.
 pub fn is_possible(leaf: &Leaf, key: &[u8]) -> bool {
     if leaf.exact {
         return key == leaf.cut_key;
     }
     key.len() <= MAX_KEY
         && key.starts_with(&leaf.cut_key)
-        && suffix(key, leaf.cut_key.len(), leaf.suffix.len()) == leaf.suffix
+        && real_bits(key, leaf.cut_key.len(), leaf.real.len()) == leaf.real
 }
 
-/// Gives the lowest possible key of a leaf: cut key and suffix filled up with zero bits
+/// Says whether a leaf has a key by what a point compares: the key is among the possible keys
+/// of the leaf, and an open leaf has the hash bits of the key.
+pub fn is_held(leaf: &Leaf, key: &[u8]) -> bool {
+    is_possible(leaf, key) && (leaf.exact || hash_bits(key, leaf.hash.len()) == leaf.hash)
+}
+
+/// Gives the lowest possible key of a leaf: cut key and real bits filled up with zero bits
 /// to whole bytes, less trailing zero bytes behind the cut.
 pub fn lowest(leaf: &Leaf) -> Vec<u8> {
     let mut key = filled(leaf, false);
@@ -73,7 +90,7 @@ pub fn lowest(leaf: &Leaf) -> Vec<u8> {
     key
 }
 
-/// Gives the highest possible key of a leaf: cut key and suffix filled with one bits to
+/// Gives the highest possible key of a leaf: cut key and real bits filled with one bits to
 /// 64 bytes.
 pub fn highest(leaf: &Leaf) -> Vec<u8> {
     let mut key = filled(leaf, true);
@@ -83,14 +100,14 @@ pub fn highest(leaf: &Leaf) -> Vec<u8> {
     key
 }
 
-/// Gives an open leaf's cut key and suffix filled up to whole bytes, what would stand
+/// Gives an open leaf's cut key and real bits filled up to whole bytes, what would stand
 /// past the 64th byte dropped, and an exact leaf's key as it is.
 fn filled(leaf: &Leaf, fill: bool) -> Vec<u8> {
     let mut key = leaf.cut_key.clone();
     if leaf.exact {
         return key;
     }
-    for bits in leaf.suffix.chunks(8) {
+    for bits in leaf.real.chunks(8) {
         let bit = |i: usize| u8::from(*bits.get(i).unwrap_or(&fill));
         key.push((0..8).fold(0, |byte, i| byte << 1 | bit(i)));
     }

@@ -21,15 +21,19 @@ pub fn print(image: &[u8]) -> String {
     }
 }
 
-/// Gives a leaf's line: its number, kind, cut key and suffix bits.
+/// Gives a leaf's line: its number, kind, cut key and suffix, the first bit first; "-" stands
+/// for the suffix of an exact leaf and for one without bits.
 fn line(number: usize, leaf: &Leaf) -> String {
     let kind = if leaf.exact { 'E' } else { 'O' };
     let bytes = leaf.cut_key.iter();
     let cut_key: String = bytes.map(|byte| format!("{byte:02X}")).collect();
-    let bits = leaf.suffix.iter();
-    let suffix: String = match leaf.exact || leaf.suffix.is_empty() {
+    let bits = leaf.suffix();
+    let suffix: String = match leaf.exact || bits.is_empty() {
         true => "-".to_owned(),
-        false => bits.map(|&bit| if bit { '1' } else { '0' }).collect(),
+        false => bits
+            .iter()
+            .map(|&bit| if bit { '1' } else { '0' })
+            .collect(),
     };
     format!("{number} {kind} {cut_key} {suffix}\n")
 }

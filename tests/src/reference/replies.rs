@@ -3,7 +3,7 @@
 
 use super::check::accepted_leaves;
 use super::keys::{write_key, MAX_KEY};
-use super::leaves::{highest, is_possible, lowest, Leaf};
+use super::leaves::{highest, is_held, lowest, Leaf};
 use super::questions::{parse, Question};
 use super::rules::rule;
 use super::trie::{trie, Trie};
@@ -94,10 +94,10 @@ pub fn reply(filter: &Filter, question: &Question) -> Reply {
     }
 }
 
-/// Gives 1 if some leaf has the key among its possible keys, else 0, and the number of the
+/// Gives 1 if some leaf has the key by hash bits and real bits, else 0, and the number of the
 /// rule as a key of one byte. Neither is worked out from the other.
 fn point(filter: &Filter, key: &[u8]) -> (u32, Vec<u8>) {
-    let is_held = filter.leaves.iter().any(|leaf| is_possible(leaf, key));
+    let is_held = filter.leaves.iter().any(|leaf| is_held(leaf, key));
     let rule = rule(filter.leaves, &filter.trie, key);
     (u32::from(is_held), vec![rule.number()])
 }

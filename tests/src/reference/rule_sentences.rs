@@ -1,7 +1,8 @@
 //! A second way to the rule behind a point's reply: the sentence of each rule, read over all
 //! cut keys, with no trie and no descent.
 
-use super::leaves::{suffix, Leaf};
+use super::hash::hash_bits;
+use super::leaves::{real_bits, Leaf};
 use super::rules::Rule;
 
 /// Says whether a rule's sentence holds of a key over leaves.
@@ -48,7 +49,10 @@ fn open_leaves_on<'a>(leaves: &'a [Leaf], key: &'a [u8]) -> impl Iterator<Item =
     leaves.iter().filter(begins)
 }
 
-/// Says whether a key's bits behind a leaf's cut key are the leaf's suffix.
+/// Says whether a leaf's suffix is that of a key: the hash bits of the whole key, and then
+/// the key's bits behind the leaf's cut key.
 fn has_suffix(leaf: &Leaf, key: &[u8]) -> bool {
-    suffix(key, leaf.cut_key.len(), leaf.suffix.len()) == leaf.suffix
+    let hash = hash_bits(key, leaf.hash.len());
+    let real = real_bits(key, leaf.cut_key.len(), leaf.real.len());
+    [hash, real].concat() == leaf.suffix()
 }

@@ -1,7 +1,8 @@
-//! The rule behind a point's reply, order 3 of document 02: the key is followed from the
-//! root of the trie, byte by byte, to where it is decided.
+//! The rule behind a point's reply, orders 3 and 4 of document 02: the key is followed from
+//! the root of the trie, byte by byte, to where it is decided.
 
-use super::leaves::{suffix, Leaf};
+use super::hash::hash_bits;
+use super::leaves::{real_bits, Leaf};
 use super::trie::Trie;
 
 /// What decides a point, by its number.
@@ -53,10 +54,13 @@ pub fn rule(leaves: &[Leaf], trie: &Trie, key: &[u8]) -> Rule {
     }
 }
 
-/// Gives the rule of a key that begins with an open leaf's cut key.
+/// Gives the rule of a key that begins with an open leaf's cut key: the suffix is another one
+/// if either of its parts differs.
 fn at_open_leaf(leaf: &Leaf, key: &[u8]) -> Rule {
-    match suffix(key, leaf.cut_key.len(), leaf.suffix.len()) == leaf.suffix {
-        true => Rule::SuffixEqual,
-        false => Rule::SuffixOther,
+    let hash_differs = hash_bits(key, leaf.hash.len()) != leaf.hash;
+    let real_differs = real_bits(key, leaf.cut_key.len(), leaf.real.len()) != leaf.real;
+    match hash_differs || real_differs {
+        true => Rule::SuffixOther,
+        false => Rule::SuffixEqual,
     }
 }

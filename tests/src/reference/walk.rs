@@ -6,7 +6,7 @@ use super::leaves::Leaf;
 use crate::answer::Answer;
 
 /// The bytes of a leaf's record: kind, length, cut key with zeros behind it, suffix.
-pub const RECORD_BYTES: usize = 1 + 1 + MAX_KEY + 2;
+pub const RECORD_BYTES: usize = 1 + 1 + MAX_KEY + 4;
 
 /// Where a walk stands.
 #[derive(Clone, Debug, PartialEq, Eq)]
@@ -72,18 +72,18 @@ fn from(leaves: &[Leaf], place: u64) -> Result<&[Leaf], u32> {
 }
 
 /// Gives a leaf's record: its kind (1 exact, 2 open), its cut key's length, the cut key
-/// and zeros behind it, and its suffix as a number with the low byte first.
+/// and zeros behind it, and its suffix as a 32-bit number with the low byte first.
 pub fn record(leaf: &Leaf) -> [u8; RECORD_BYTES] {
     let mut record = [0; RECORD_BYTES];
     record[0] = if leaf.exact { 1 } else { 2 };
     record[1] = leaf.cut_key.len() as u8;
     record[2..2 + leaf.cut_key.len()].copy_from_slice(&leaf.cut_key);
-    record[2 + MAX_KEY..].copy_from_slice(&suffix_number(&leaf.suffix).to_le_bytes());
+    record[2 + MAX_KEY..].copy_from_slice(&suffix_number(leaf).to_le_bytes());
     record
 }
 
-/// Gives the suffix bits as a number, the first bit lowest.
-fn suffix_number(suffix: &[bool]) -> u16 {
-    let bits = suffix.iter().enumerate();
-    bits.map(|(i, &bit)| u16::from(bit) << i).sum()
+/// Gives a leaf's suffix as a number, the first bit lowest.
+fn suffix_number(leaf: &Leaf) -> u32 {
+    let bits = leaf.suffix().into_iter().enumerate();
+    bits.map(|(i, bit)| u32::from(bit) << i).sum()
 }

@@ -53,10 +53,11 @@ returns-2 c =
     let f = r .before .before .before .before in
     let a = f .before .before .before .args in
     let e = seek-keys (a .start .now) ∙ key-fits (a .start .now) (f .if1 .left) in
+    let g = r .before .before .before .accepted-frame in
     let w = r .seek-reply .ensures .1 in (
-      replied-number (a .image .now) (QS (a .start .now)) e _ (ap (λ (z : Reply). z .number) w),
+      replied-number (a .image .now) (QS (a .start .now)) e (g .result) (g .ensures) _ (ap (λ (z : Reply). z .number) w),
       c .write-bytes .ensures
-          ∙ replied-key (a .image .now) (QS (a .start .now)) e (a .found .now) (r .seek-reply .last .1 .1 .1 .1 .0) (r .seek-reply .result .n) (ap (λ (z : Reply). z .key) w) (key-length r)
+          ∙ replied-key (a .image .now) (QS (a .start .now)) e (g .result) (g .ensures) (a .found .now) (r .seek-reply .last .1 .1 .1 .1 .0) (r .seek-reply .result .n) (ap (λ (z : Reply). z .key) w) (key-length r)
           (omega (arith, c .before .before .write-bytes-arg .given .0 .1, length-set (a .found .now) 0 (r .seek-reply .result .n))),
     )
 

@@ -5,7 +5,7 @@ use borrow.Author.Needs.{needs}
 use lib.ListN.{length}
 use borrow.Author.Tests.{not-true, not-false, leb-true, leb-false}
 use Rattle.spec.specs.Questions.{questions-of}
-use Rattle.nav_laws.specs.FromCheck.{checked-accepted}
+use Rattle.nav_laws.specs.FromCheck.{hash-read, checked-accepted}
 use Rattle.query_laws.specs.Answers.{all-small}
 use Rattle.ask_laws.specs.AskJoined.{ask-joined}
 use Rattle.ask_files.proofs.JudgeLaws.{file-taken, file-refused}
@@ -35,7 +35,8 @@ returns c =
     let p = c .before .before .before .before .before .before .before .before .before .pre in
     let t = file-taken (a .questions .now) _ (sym (c .before .before .before .count .given .1) ∙ c .before .before .before .before .before .judge-file .ensures) in
     let short = leb-false _ _ (sym (c .before .replies-fit .ensures) ∙ not-true _ (c .if1 .taken)) in
-    sym (ask-joined (a .image .now) (a .questions .now) (a .replies .now) .too-long (questions-of (a .questions .now)) (p .1) (t .0) short)
+    let h = hash-read (a .image .now) (a .f) (p .0) in
+    sym (ask-joined (a .image .now) (a .questions .now) (a .replies .now) .too-long (questions-of (a .questions .now)) (p .1) (t .0) (rw h short))
 
 write-replies-requires : tie.Need-write-replies-requires
 write-replies-requires c κs =
@@ -58,9 +59,10 @@ returns-3 c =
     let a = c .before .before .before .before .before .before .before .before .before .before .before .before .before .args in
     let p = c .before .before .before .before .before .before .before .before .before .before .before .before .before .pre in
     let t = file-taken (a .questions .now) _ (sym (c .before .before .before .before .before .before .before .count .given .1) ∙ c .before .before .before .before .before .before .before .before .before .judge-file .ensures) in
-    let room = leb-true (length (file-replies (a .image .now) (a .questions .now))) (length (a .replies .now)) (sym (c .before .before .before .before .before .replies-fit .ensures) ∙ not-false _ (c .before .before .before .before .if1 .left)) in
+    let room = leb-true (length (file-replies (a .f .hash) (a .image .now) (a .questions .now))) (length (a .replies .now)) (sym (c .before .before .before .before .before .replies-fit .ensures) ∙ not-false _ (c .before .before .before .before .if1 .left)) in
     let w = c .before .before .write-replies .ensures in
-    sym (ask-joined (a .image .now) (a .questions .now) (a .replies .now) .answered (questions-of (a .questions .now)) _ _ (p .1) (t .0) (w .sized) (omega (arith, w .sized, room)) (w .bytes))
+    let h = hash-read (a .image .now) (a .f) (p .0) in
+    sym (ask-joined (a .image .now) (a .questions .now) (a .replies .now) .answered (questions-of (a .questions .now)) _ _ (p .1) (t .0) (rw h (w .sized)) (omega (arith, w .sized, room)) (rw h (w .bytes)))
 
 pub ask-accepted-spec : {M : Type 1} → statement M
 ask-accepted-spec =

@@ -4,7 +4,7 @@ use mathlib.Core.Path.{sym, subst, _∙_}
 use Rattle.spec.specs.Answer.{refuse}
 use Rattle.spec.specs.Build.{turned-down, to-build}
 use Rattle.theory.specs.BuildLaws.{build-is}
-use Rattle.image_types.specs.Header.{settings}
+use Rattle.image_types.specs.Header.{asked}
 use Rattle.build.specs.Build.{Judges}
 use Rattle.build.proofs.build.Statement.{statement}
 use Rattle.build.proofs.build.Tie as tie
@@ -22,7 +22,7 @@ build-image-requires : tie.Need-build-image-requires
 build-image-requires c κs =
     let judge = c .before .before .before .before .judge in
     let a = c .before .before .before .before .before .before .before .args in
-    let j = subst (Judges (a .list .now) (settings (a .version) (a .dense) (a .n))) (c .before .before .again2 .given .1) (judge .ensures) in
+    let j = subst (Judges (a .list .now) (asked (a .settings))) (c .before .before .again2 .given .1) (judge .ensures) in
     (j .0, j .1)
 
 returns : tie.Need-returns
@@ -30,8 +30,8 @@ unfolding refuse
 returns c =
     let judge = c .before .before .before .judge in
     let a = c .before .before .before .before .before .before .args in
-    let j = subst (Judges (a .list .now) (settings (a .version) (a .dense) (a .n))) (c .before .again .given .1) (judge .ensures) in
-    sym (build-is (a .list .now) (settings (a .version) (a .dense) (a .n)) (a .stated) (a .out .now) (turned-down _) j)
+    let j = subst (Judges (a .list .now) (asked (a .settings))) (c .before .again .given .1) (judge .ensures) in
+    sym (build-is (a .list .now) (asked (a .settings)) (a .stated) (a .out .now) (turned-down _) j)
 
 same-length : tie.Need-same-length
 same-length c = search needs
@@ -42,8 +42,8 @@ returns-2 c =
     let again2 = c .before .before .before .before .before .again2 in
     let build-image = c .before .before .build-image in
     let a = c .before .before .before .before .before .before .before .before .before .before .args in
-    let j = subst (Judges (a .list .now) (settings (a .version) (a .dense) (a .n))) (again2 .given .1) (judge .ensures) in
-    build-image .ensures ∙ sym (build-is (a .list .now) (settings (a .version) (a .dense) (a .n)) (a .stated) (a .out .now) (to-build _) (j .2))
+    let j = subst (Judges (a .list .now) (asked (a .settings))) (again2 .given .1) (judge .ensures) in
+    build-image .ensures ∙ sym (build-is (a .list .now) (asked (a .settings)) (a .stated) (a .out .now) (to-build _) (j .2))
 
 pub build-spec : {M : Type 1} → statement M
 build-spec =

@@ -3,7 +3,7 @@ use borrow.Author.Needs.{needs}
 use mathlib.Core.Path.{sym, ap, subst, _∙_}
 use Rattle.spec.specs.Build.{turned-down, to-build, bytes}
 use Rattle.theory.specs.BuildLaws.{length-is}
-use Rattle.image_types.specs.Header.{settings}
+use Rattle.image_types.specs.Header.{asked}
 use Rattle.build.specs.Build.{Judges}
 use Rattle.build.proofs.image_length.Statement.{statement}
 use Rattle.build.proofs.image_length.Tie as tie
@@ -21,22 +21,22 @@ measure-image-requires : tie.Need-measure-image-requires
 measure-image-requires c κs =
     let judge = c .before .before .before .judge in
     let a = c .before .before .before .before .before .args in
-    let j = subst (Judges (a .list .now) (settings (a .version) (a .dense) (a .n))) (c .before .judged2 .given .1) (judge .ensures) in
+    let j = subst (Judges (a .list .now) (asked (a .settings))) (c .before .judged2 .given .1) (judge .ensures) in
     (j .0, j .1)
 
 returns : tie.Need-returns
 returns c =
     let judge = c .before .before .before .judge in
     let a = c .before .before .before .before .before .args in
-    let j = subst (Judges (a .list .now) (settings (a .version) (a .dense) (a .n))) (c .before .judged .given .1) (judge .ensures) in
-    sym (length-is (a .list .now) (settings (a .version) (a .dense) (a .n)) (turned-down _) j)
+    let j = subst (Judges (a .list .now) (asked (a .settings))) (c .before .judged .given .1) (judge .ensures) in
+    sym (length-is (a .list .now) (asked (a .settings)) (turned-down _) j)
 
 returns-2 : tie.Need-returns-2
 returns-2 c =
     let judge = c .before .before .before .before .judge in
     let a = c .before .before .before .before .before .before .args in
-    let j = subst (Judges (a .list .now) (settings (a .version) (a .dense) (a .n))) (c .before .before .judged2 .given .1) (judge .ensures) in
-    ap bytes (c .measure-image .ensures) ∙ sym (length-is (a .list .now) (settings (a .version) (a .dense) (a .n)) (to-build _) (j .2))
+    let j = subst (Judges (a .list .now) (asked (a .settings))) (c .before .before .judged2 .given .1) (judge .ensures) in
+    ap bytes (c .measure-image .ensures) ∙ sym (length-is (a .list .now) (asked (a .settings)) (to-build _) (j .2))
 
 pub image-length-spec : {M : Type 1} → statement M
 image-length-spec =

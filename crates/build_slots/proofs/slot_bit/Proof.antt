@@ -11,7 +11,9 @@ mul-t3 c =
     omega (arith, mul-le-mul (pre .0) (pre .1))
 
 returns : tie.Need-returns
-returns c = refl
+returns c =
+    let pre = c .before .pre in
+    (refl, mul-le-mul (pre .0) (pre .1))
 
 pub slot-bit-spec : {M : Type 1} → statement M
 slot-bit-spec = tie.close (tie.spec mul-t3 returns)

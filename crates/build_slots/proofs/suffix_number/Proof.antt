@@ -1,62 +1,44 @@
--- The two bytes behind the cut hold all bits of the slot.
-use mathlib.Core.Path.{ap, _∙_}
+-- The hash bits are the lowest.
+use mathlib.Core.Path.{_≡_, sym, ap, ap₂, _∙_}
+use Prim.Native.Nat.{ℕ, _+_, _*_, _%_, _^_, _≤_, _<_}
 use native.Mathlib.Omega.{arith}
 use borrow.Author.Needs.{needs}
-use lib.Pow.{pow-pos}
-use Rattle.bits_laws.specs.Bits.{key, reversed}
-use Rattle.bits_laws.specs.RankLaws.{one-shl}
-use Rattle.suffix_laws.specs.SuffixNumbers.{suffix-number}
+use lib.Pow.{shl-exact}
+use Rattle.spec.specs.Bytes.{Bytes, low-first}
+use Rattle.spec.specs.Leaves.{bits-behind, hash-bits, suffix-bits}
+use Rattle.bits_laws.specs.Bits.{key}
+use Rattle.suffix_laws.specs.SuffixNumbers.{suffix-small, whole-number, whole-small}
 use Rattle.build_slots.proofs.suffix_number.Statement.{statement}
 use Rattle.build_slots.proofs.suffix_number.Tie as tie
 
-byte-or-zero-requires : tie.Need-byte-or-zero-requires
-byte-or-zero-requires c κs = search needs
+-- the number of the suffix, as computed
+suffix-is : (h n c x y : ℕ) (k : Bytes) → h ≤ 16 → n ≤ 16 → x ≡ low-first (hash-bits h k) → y ≡ low-first (bits-behind n c k) → x + y * 2 ^ h % 2 ^ 64 ≡ low-first (suffix-bits h n c k)
+suffix-is h n c x y k a b e f =
+    let small : y < 65536 = omega (arith, suffix-small n c k b) in
+    ap (λ (z : ℕ). x + z) (shl-exact 16 h 64 small (omega arith)) ∙ ap₂ (λ (u v : ℕ). u + v * 2 ^ h) e f ∙ sym (whole-number h n c k)
 
-reversed-requires : tie.Need-reversed-requires
-reversed-requires c κs = search needs
+hash-number-requires : tie.Need-hash-number-requires
+hash-number-requires c κs = search needs
 
-add-byte-or-zero : tie.Need-add-byte-or-zero
-add-byte-or-zero c = search needs
-
-byte-or-zero-requires-2 : tie.Need-byte-or-zero-requires-2
-byte-or-zero-requires-2 c κs = search needs
-
-reversed-requires-2 : tie.Need-reversed-requires-2
-reversed-requires-2 c κs = search needs
-
-mul-result : tie.Need-mul-result
-mul-result c = search needs
-
-add-result : tie.Need-add-result
-add-result c = search needs
+real-number-requires : tie.Need-real-number-requires
+real-number-requires c κs = search needs
 
 shl-result : tie.Need-shl-result
 shl-result c = search needs
 
-rem-result : tie.Need-rem-result
-rem-result c =
-    let n = c .before .before .before .before .before .args .n in
-    rw (one-shl 64 n (omega arith)) (pow-pos n)
-
 returns : tie.Need-returns
 returns c =
-    let start = c .before .before .before .before .before in
+    let start = c .before .before .before .before in
     let a = start .args in
-    rw (one-shl 64 (a .n) (omega arith))
-    (suffix-number (a .n) (a .cut) _ _ (key (a .s .now) (a .k .at) (a .k .len)) (start .pre .2)
-    (c .before .before .reversed .ensures .0 ∙ ap reversed (c .before .before .before .byte-or-zero .ensures)) (c .reversed2 .ensures .0 ∙ ap reversed (c .before .byte-or-zero2 .ensures)))
+    let k : Bytes = key (a .s .now) (a .k .at) (a .k .len) in
+    suffix-is (a .slot .hash) (a .slot .real) (a .cut) _ _ k (start .pre .2) (start .pre .3) (c .before .before .hash-number .ensures) (c .before .real-number .ensures)
+
+add-result : tie.Need-add-result
+add-result c =
+    let start = c .before .before .before .before in
+    let a = start .args in
+    omega (arith, returns c, whole-small (a .slot .hash) (a .slot .real) (a .cut) (key (a .s .now) (a .k .at) (a .k .len)) (start .pre .2) (start .pre .3))
 
 pub suffix-number-spec : {M : Type 1} → statement M
 suffix-number-spec =
-    tie.close
-    (tie.spec
-    byte-or-zero-requires
-    reversed-requires
-    add-byte-or-zero
-    byte-or-zero-requires-2
-    reversed-requires-2
-    mul-result
-    add-result
-    shl-result
-    rem-result
-    returns)
+    tie.close (tie.spec hash-number-requires real-number-requires shl-result add-result returns)

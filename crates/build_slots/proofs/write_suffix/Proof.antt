@@ -1,24 +1,25 @@
 -- Setting the number's ones sets the bits of the slot.
 use mathlib.Core.Path.{ap, _∙_}
-use Prim.Native.Nat.{ℕ}
+use Prim.Native.Nat.{ℕ, _+_, _/_, _%_}
 use native.Mathlib.Omega.{arith}
 use borrow.Author.Needs.{needs}
 use Rattle.spec.specs.Bytes.{Bits}
-use Rattle.spec.specs.Leaves.{bits-behind}
+use Rattle.spec.specs.Leaves.{suffix-bits}
 use Rattle.bits_laws.specs.Bits.{key, with-number}
-use Rattle.suffix_laws.specs.SuffixNumbers.{length-behind, suffix-small}
-use Rattle.build_laws.specs.SuffixLaws.{number-bits}
+use Rattle.suffix_laws.specs.SuffixNumbers.{whole-short, whole-small}
+use Rattle.build_laws.specs.SuffixLaws.{wide-bits}
 use Rattle.build_slots.proofs.write_suffix.Statement.{statement}
 use Rattle.build_slots.proofs.write_suffix.Tie as tie
 
 suffix-number-requires : tie.Need-suffix-number-requires
 suffix-number-requires c κs = search needs
 
-set-number-requires : tie.Need-set-number-requires
-set-number-requires c κs =
+set-wide-number-requires : tie.Need-set-wide-number-requires
+set-wide-number-requires c κs =
     let start = c .before .before .before .before in
     let a = start .args in
-    omega (arith, c .before .suffix-number .ensures, suffix-small (a .n) (a .cut) (key (a .s .now) (a .k .at) (a .k .len)) (start .pre .2))
+    let pre = start .pre in
+    (omega (arith, c .before .suffix-number .ensures, whole-small (a .slot .hash) (a .slot .real) (a .cut) (key (a .s .now) (a .k .at) (a .k .len)) (pre .2) (pre .3)), pre .4)
 
 same-length : tie.Need-same-length
 same-length c = search needs
@@ -27,10 +28,12 @@ returns : tie.Need-returns
 returns c =
     let start = c .before .before .before .before .before .before .before in
     let a = start .args in
-    let bs : Bits = bits-behind (a .n) (a .cut) (key (a .s .now) (a .k .at) (a .k .len)) in
-    c .before .before .set-number .ensures ∙ ap (λ (v : ℕ). with-number (a .out .now) (a .base .0) v) (c .before .before .before .before .suffix-number .ensures)
-    ∙ number-bits bs (a .base .0) (a .out .now) (omega (arith, length-behind (a .n) (a .cut) (key (a .s .now) (a .k .at) (a .k .len)), start .pre .2))
+    let k = key (a .s .now) (a .k .at) (a .k .len) in
+    let bs : Bits = suffix-bits (a .slot .hash) (a .slot .real) (a .cut) k in
+    let i : ℕ = a .base .0 in
+    c .before .before .set-wide-number .ensures ∙ ap (λ (v : ℕ). with-number (with-number (a .out .now) i (v % 65536)) (i + 16) (v / 65536)) (c .before .before .before .before .suffix-number .ensures)
+    ∙ wide-bits bs i (a .out .now) (whole-short (a .slot .hash) (a .slot .real) (a .cut) k (start .pre .2) (start .pre .3))
 
 pub write-suffix-spec : {M : Type 1} → statement M
 write-suffix-spec =
-    tie.close (tie.spec suffix-number-requires set-number-requires same-length returns)
+    tie.close (tie.spec suffix-number-requires set-wide-number-requires same-length returns)

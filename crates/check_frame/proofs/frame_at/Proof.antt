@@ -6,127 +6,130 @@ use borrow.Author.Needs.{needs}
 use Rattle.check_frame.proofs.frame_at.Statement.{statement}
 use Rattle.check_frame.proofs.frame_at.Tie as tie
 
+add-width : tie.Need-add-width
+add-width c = let s = c .before .pre in omega (arith, s .real, s .hash)
+
 record-starts-requires : tie.Need-record-starts-requires
 record-starts-requires c κs = search needs
 
-array-read-t9 : tie.Need-array-read-t9
-array-read-t9 c = search needs
+array-read-t10 : tie.Need-array-read-t10
+array-read-t10 c = search needs
 
-add-t10 : tie.Need-add-t10
-add-t10 c =
+add-t11 : tie.Need-add-t11
+add-t11 c =
     let r = c .before .before in
-    let b = r .before in
+    let b = r .before .before in
     rw (r .record-starts .ensures) (omega (arith, starts-small (b .args .h) (b .pre) 0))
 
-array-read-t13 : tie.Need-array-read-t13
-array-read-t13 c = search needs
+array-read-t14 : tie.Need-array-read-t14
+array-read-t14 c = search needs
 
-add-t14 : tie.Need-add-t14
-add-t14 c =
+add-t15 : tie.Need-add-t15
+add-t15 c =
     let r = c .before .before in
-    let b = r .before in
+    let b = r .before .before in
     rw (r .record-starts .ensures) (omega (arith, starts-small (b .args .h) (b .pre) 1))
 
-array-read-t17 : tie.Need-array-read-t17
-array-read-t17 c = search needs
+array-read-t18 : tie.Need-array-read-t18
+array-read-t18 c = search needs
 
-add-t18 : tie.Need-add-t18
-add-t18 c =
+add-t19 : tie.Need-add-t19
+add-t19 c =
     let r = c .before .before in
-    let b = r .before in
+    let b = r .before .before in
     rw (r .record-starts .ensures) (omega (arith, starts-small (b .args .h) (b .pre) 2))
 
-array-read-t21 : tie.Need-array-read-t21
-array-read-t21 c = search needs
+array-read-t22 : tie.Need-array-read-t22
+array-read-t22 c = search needs
 
-add-t22 : tie.Need-add-t22
-add-t22 c =
+add-t23 : tie.Need-add-t23
+add-t23 c =
     let r = c .before .before in
-    let b = r .before in
+    let b = r .before .before in
     rw (r .record-starts .ensures) (omega (arith, starts-small (b .args .h) (b .pre) 3))
 
-array-read-t25 : tie.Need-array-read-t25
-array-read-t25 c = search needs
+array-read-t26 : tie.Need-array-read-t26
+array-read-t26 c = search needs
 
-add-t26 : tie.Need-add-t26
-add-t26 c =
+add-t27 : tie.Need-add-t27
+add-t27 c =
     let r = c .before .before in
-    let b = r .before in
+    let b = r .before .before in
     rw (r .record-starts .ensures) (omega (arith, starts-small (b .args .h) (b .pre) 4))
 
-array-read-t29 : tie.Need-array-read-t29
-array-read-t29 c = search needs
+array-read-t30 : tie.Need-array-read-t30
+array-read-t30 c = search needs
 
-add-t30 : tie.Need-add-t30
-add-t30 c =
+add-t31 : tie.Need-add-t31
+add-t31 c =
     let r = c .before .before in
-    let b = r .before in
+    let b = r .before .before in
     rw (r .record-starts .ensures) (omega (arith, starts-small (b .args .h) (b .pre) 5))
 
-array-read-t33 : tie.Need-array-read-t33
-array-read-t33 c = search needs
+array-read-t34 : tie.Need-array-read-t34
+array-read-t34 c = search needs
 
-add-t34 : tie.Need-add-t34
-add-t34 c =
+add-t35 : tie.Need-add-t35
+add-t35 c =
     let r = c .before .before in
-    let b = r .before in
+    let b = r .before .before in
     rw (r .record-starts .ensures) (omega (arith, starts-small (b .args .h) (b .pre) 6))
 
-array-read-t37 : tie.Need-array-read-t37
-array-read-t37 c = search needs
+array-read-t38 : tie.Need-array-read-t38
+array-read-t38 c = search needs
 
-add-t38 : tie.Need-add-t38
-add-t38 c =
+add-t39 : tie.Need-add-t39
+add-t39 c =
     let r = c .before .before in
-    let b = r .before in
+    let b = r .before .before in
     rw (r .record-starts .ensures) (omega (arith, starts-small (b .args .h) (b .pre) 7))
 
-array-read-t41 : tie.Need-array-read-t41
-array-read-t41 c = search needs
+array-read-t42 : tie.Need-array-read-t42
+array-read-t42 c = search needs
 
-add-t42 : tie.Need-add-t42
-add-t42 c =
+add-t43 : tie.Need-add-t43
+add-t43 c =
     let r = c .before .before in
-    let b = r .before in
+    let b = r .before .before in
     rw (r .record-starts .ensures) (omega (arith, starts-small (b .args .h) (b .pre) 8))
 
-array-read-t45 : tie.Need-array-read-t45
-array-read-t45 c = search needs
+array-read-t46 : tie.Need-array-read-t46
+array-read-t46 c = search needs
 
-add-t46 : tie.Need-add-t46
-add-t46 c =
+add-t47 : tie.Need-add-t47
+add-t47 c =
     let r = c .before .before in
-    let b = r .before in
+    let b = r .before .before in
     rw (r .record-starts .ensures) (omega (arith, starts-small (b .args .h) (b .pre) 9))
 
-array-read-t49 : tie.Need-array-read-t49
-array-read-t49 c = search needs
+array-read-t50 : tie.Need-array-read-t50
+array-read-t50 c = search needs
 
-add-t50 : tie.Need-add-t50
-add-t50 c =
+add-t51 : tie.Need-add-t51
+add-t51 c =
     let r = c .before .before in
-    let b = r .before in
+    let b = r .before .before in
     rw (r .record-starts .ensures) (omega (arith, starts-small (b .args .h) (b .pre) 10))
 
-array-read-t53 : tie.Need-array-read-t53
-array-read-t53 c = search needs
+array-read-t54 : tie.Need-array-read-t54
+array-read-t54 c = search needs
 
-add-t54 : tie.Need-add-t54
-add-t54 c =
+add-t55 : tie.Need-add-t55
+add-t55 c =
     let r = c .before .before in
-    let b = r .before in
+    let b = r .before .before in
     rw (r .record-starts .ensures) (omega (arith, starts-small (b .args .h) (b .pre) 11))
 
-array-read-t57 : tie.Need-array-read-t57
-array-read-t57 c = search needs
+array-read-t58 : tie.Need-array-read-t58
+array-read-t58 c = search needs
 
 level-gap-requires : tie.Need-level-gap-requires
 level-gap-requires c κs = search needs
 
-add-t59 : tie.Need-add-t59
-add-t59 c =
+add-t60 : tie.Need-add-t60
+add-t60 c =
     let r = c .before .before .before in
-    let b = r .before in
+    let b = r .before .before in
     rw (r .record-starts .ensures) (omega (arith, starts-small (b .args .h) (b .pre) 12, gap-small (b .args .h .version), c .level-gap .ensures))
 
 returns : tie.Need-returns
@@ -136,32 +139,33 @@ pub frame-at-spec : {M : Type 1} → statement M
 frame-at-spec =
     tie.close
     (tie.spec
+    add-width
     record-starts-requires
-    array-read-t9
-    add-t10
-    array-read-t13
-    add-t14
-    array-read-t17
-    add-t18
-    array-read-t21
-    add-t22
-    array-read-t25
-    add-t26
-    array-read-t29
-    add-t30
-    array-read-t33
-    add-t34
-    array-read-t37
-    add-t38
-    array-read-t41
-    add-t42
-    array-read-t45
-    add-t46
-    array-read-t49
-    add-t50
-    array-read-t53
-    add-t54
-    array-read-t57
+    array-read-t10
+    add-t11
+    array-read-t14
+    add-t15
+    array-read-t18
+    add-t19
+    array-read-t22
+    add-t23
+    array-read-t26
+    add-t27
+    array-read-t30
+    add-t31
+    array-read-t34
+    add-t35
+    array-read-t38
+    add-t39
+    array-read-t42
+    add-t43
+    array-read-t46
+    add-t47
+    array-read-t50
+    add-t51
+    array-read-t54
+    add-t55
+    array-read-t58
     level-gap-requires
-    add-t59
+    add-t60
     returns)

@@ -11,7 +11,7 @@ use Rattle.query_range_sides.proofs.left_below.Tie as tie
 
 -- The bytes passed lead to the node, and what is left below it decides.
 abbrev Inv-loop : tie.InvT-loop
-Inv-loop image f lo depth m₀ d₀ m d = Key-at image f lo (m .0) d × (left-of lo depth (group-below image f (m₀ .0) depth) ≡ left-of lo d (group-below image f (m .0) d))
+Inv-loop image f lo depth m₀ d₀ m d = Key-at image f lo (m .0) d × (left-of f lo depth (group-below image f (m₀ .0) depth) ≡ left-of f lo d (group-below image f (m .0) d))
 
 abbrev μ-loop : tie.MeasureT-loop
 μ-loop image f lo depth m₀ d₀ m d = length lo - d
@@ -39,8 +39,8 @@ branch c h = record { from = head c .loop .inv .0; more = more c; kind-is = last
 
 -- and what stands behind it decides
 on : (c : tie.After-last-branch Inv-loop μ-loop) → c .last-branch .result .higher ≡ false
-    → left-of (entered (head c) .args .lo .now) (entered (head c) .args .depth) (group-below (entered (head c) .args .image .now) (entered (head c) .args .f) (entered (head c) .args .node .0) (entered (head c) .args .depth))
-    ≡ left-of (entered (head c) .args .lo .now) (head c .loop .d + 1) (group-behind (entered (head c) .args .image .now) (entered (head c) .args .f) (entered (head c) .args .lo .now) (head c .loop .m .0) (head c .loop .d))
+    → left-of (entered (head c) .args .f) (entered (head c) .args .lo .now) (entered (head c) .args .depth) (group-below (entered (head c) .args .image .now) (entered (head c) .args .f) (entered (head c) .args .node .0) (entered (head c) .args .depth))
+    ≡ left-of (entered (head c) .args .f) (entered (head c) .args .lo .now) (head c .loop .d + 1) (group-behind (entered (head c) .args .image .now) (entered (head c) .args .f) (entered (head c) .args .lo .now) (head c .loop .m .0) (head c .loop .d))
 on c h = head c .loop .inv .1 ∙ left-on (head c .loop .inv .0) (more c) (sym (last c .higher-is) ∙ h)
 
 loop-holds : tie.Need-loop-holds Inv-loop μ-loop

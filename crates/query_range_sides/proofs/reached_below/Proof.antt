@@ -13,7 +13,7 @@ use Rattle.query_range_sides.proofs.reached_below.Tie as tie
 
 -- The bytes passed lead to the node, and what is reached below it decides.
 abbrev Inv-loop : tie.InvT-loop
-Inv-loop image f hi depth m₀ d₀ m d = Key-at image f hi (m .0) d × (reached-of hi depth (group-below image f (m₀ .0) depth) ≡ reached-of hi d (group-below image f (m .0) d))
+Inv-loop image f hi depth m₀ d₀ m d = Key-at image f hi (m .0) d × (reached-of f hi depth (group-below image f (m₀ .0) depth) ≡ reached-of f hi d (group-below image f (m .0) d))
 
 abbrev μ-loop : tie.MeasureT-loop
 μ-loop image f hi depth m₀ d₀ m d = length hi - d
@@ -53,8 +53,8 @@ upto c = omega (arith, ltb-false (reading c .first-branch .result .branch .label
 
 -- so what stands behind the byte decides
 on : (c : tie.Else1 Inv-loop μ-loop)
-    → reached-of (entered (head (reading c)) .args .hi .now) (entered (head (reading c)) .args .depth) (group-below (entered (head (reading c)) .args .image .now) (entered (head (reading c)) .args .f) (entered (head (reading c)) .args .node .0) (entered (head (reading c)) .args .depth))
-    ≡ reached-of (entered (head (reading c)) .args .hi .now) (head (reading c) .loop .d + 1) (group-behind (entered (head (reading c)) .args .image .now) (entered (head (reading c)) .args .f) (entered (head (reading c)) .args .hi .now) (head (reading c) .loop .m .0) (head (reading c) .loop .d))
+    → reached-of (entered (head (reading c)) .args .f) (entered (head (reading c)) .args .hi .now) (entered (head (reading c)) .args .depth) (group-below (entered (head (reading c)) .args .image .now) (entered (head (reading c)) .args .f) (entered (head (reading c)) .args .node .0) (entered (head (reading c)) .args .depth))
+    ≡ reached-of (entered (head (reading c)) .args .f) (entered (head (reading c)) .args .hi .now) (head (reading c) .loop .d + 1) (group-behind (entered (head (reading c)) .args .image .now) (entered (head (reading c)) .args .f) (entered (head (reading c)) .args .hi .now) (head (reading c) .loop .m .0) (head (reading c) .loop .d))
 on c =
     let b = reading c in
     let e = b .first-branch .ensures in
@@ -99,7 +99,7 @@ returns-2 : tie.Need-returns-2 Inv-loop μ-loop
 returns-2 c =
     let k = c .before .before in
     let b = reading k in
-    sym (on k ∙ reached-empty (entered (head b) .args .hi .now) (head b .loop .d + 1) (group-behind (entered (head b) .args .image .now) (entered (head b) .args .f) (entered (head b) .args .hi .now) (head b .loop .m .0) (head b .loop .d)) (next-over (head b .loop .inv .0) (more b) (b .first-branch .ensures .branch-is) (omega arith) (there b) (omega (arith, c .if2 .taken, b .before .wide .ensures .0))))
+    sym (on k ∙ reached-empty (entered (head (reading (c .before .before))) .args .f) (entered (head b) .args .hi .now) (head b .loop .d + 1) (group-behind (entered (head b) .args .image .now) (entered (head b) .args .f) (entered (head b) .args .hi .now) (head b .loop .m .0) (head b .loop .d)) (next-over (head b .loop .inv .0) (more b) (b .first-branch .ensures .branch-is) (omega arith) (there b) (omega (arith, c .if2 .taken, b .before .wide .ensures .0))))
 
 enum-told : tie.Need-enum-told Inv-loop μ-loop
 enum-told c = search needs

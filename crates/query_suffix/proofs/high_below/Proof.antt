@@ -1,8 +1,7 @@
 use borrow.Author.Needs.{needs}
-use Rattle.nav_laws.specs.Accepted.{nodes}
+use Rattle.nav_laws.specs.Accepted.{real-slot}
 use Rattle.query_laws.specs.SuffixBytes.{high-from, high-whole, high-ended, high-byte-less, high-byte-more, high-byte-same}
 use Rattle.query_laws.specs.Bounds.{high-passed}
-use Rattle.nav_laws.specs.Slots.{slot-of}
 use lib.ListN.{length, drop}
 use Prim.Native.Nat.{_-_, _≤_}
 use native.Mathlib.Omega.{arith}
@@ -11,7 +10,7 @@ use Rattle.query_suffix.proofs.high_below.Statement.{statement}
 use Rattle.query_suffix.proofs.high_below.Tie as tie
 
 abbrev Inv-loop : tie.InvT-loop
-Inv-loop image f slot key d i₀ i = (d ≤ i) × (i ≤ length key) × (high-passed (length key) (slot-of (f .width) (nodes image f) (slot .0)) (drop d key) ≡ high-from (slot-of (f .width) (nodes image f) (slot .0)) key d i)
+Inv-loop image f slot key d i₀ i = (d ≤ i) × (i ≤ length key) × (high-passed (length key) (real-slot image f (slot .0)) (drop d key) ≡ high-from (real-slot image f (slot .0)) key d i)
 
 abbrev μ-loop : tie.MeasureT-loop
 μ-loop image f slot key d i₀ i = length key - i
@@ -19,14 +18,14 @@ abbrev μ-loop : tie.MeasureT-loop
 loop-holds : tie.Need-loop-holds Inv-loop μ-loop
 loop-holds c =
     let a = c .before .before .args in
-    (omega arith, c .before .before .pre .2, high-whole (a .key .now) (a .d) (slot-of (a .f .width) (nodes (a .image .now) (a .f)) (a .slot .0)) (c .before .before .pre .2))
+    (omega arith, c .before .before .pre .2, high-whole (a .key .now) (a .d) (real-slot (a .image .now) (a .f) (a .slot .0)) (c .before .before .pre .2))
 
-sub-suffix-byte : tie.Need-sub-suffix-byte Inv-loop μ-loop
-sub-suffix-byte c =
+sub-real-byte : tie.Need-sub-real-byte Inv-loop μ-loop
+sub-real-byte c =
     search needs
 
-suffix-byte-requires : tie.Need-suffix-byte-requires Inv-loop μ-loop
-suffix-byte-requires c κs =
+real-byte-requires : tie.Need-real-byte-requires Inv-loop μ-loop
+real-byte-requires c κs =
     (c .before .before .before .before .pre .0, c .before .before .before .before .pre .1, omega (arith, c .before .before .before .before .pre .3))
 
 shared-slice-read-wide : tie.Need-shared-slice-read-wide Inv-loop μ-loop
@@ -41,13 +40,13 @@ returns : tie.Need-returns Inv-loop μ-loop
 returns c =
     let a = c .before .before .before .before .before .before .before .before .args in
     let l = c .before .before .before .before .before .loop in
-    sym (l .inv .2 ∙ high-byte-less (slot-of (a .f .width) (nodes (a .image .now) (a .f)) (a .slot .0)) (a .key .now) (a .d) (l .i) (l .inv .0) (omega arith) (omega (arith, c .before .before .before .before .before .before .before .before .pre .3)) (omega (arith, c .before .before .before .suffix-byte .ensures .0, c .before .wide .ensures .0)))
+    sym (l .inv .2 ∙ high-byte-less (real-slot (a .image .now) (a .f) (a .slot .0)) (a .key .now) (a .d) (l .i) (l .inv .0) (omega arith) (omega (arith, c .before .before .before .before .before .before .before .before .pre .3)) (omega (arith, c .before .before .before .real-byte .ensures .0, c .before .wide .ensures .0)))
 
 returns-2 : tie.Need-returns-2 Inv-loop μ-loop
 returns-2 c =
     let a = c .before .before .before .before .before .before .before .before .before .args in
     let l = c .before .before .before .before .before .before .loop in
-    sym (l .inv .2 ∙ high-byte-more (slot-of (a .f .width) (nodes (a .image .now) (a .f)) (a .slot .0)) (a .key .now) (a .d) (l .i) (l .inv .0) (omega arith) (omega (arith, c .before .before .before .before .before .before .before .before .before .pre .3)) (omega (arith, c .before .before .before .before .suffix-byte .ensures .0, c .before .before .wide .ensures .0)))
+    sym (l .inv .2 ∙ high-byte-more (real-slot (a .image .now) (a .f) (a .slot .0)) (a .key .now) (a .d) (l .i) (l .inv .0) (omega arith) (omega (arith, c .before .before .before .before .before .before .before .before .before .pre .3)) (omega (arith, c .before .before .before .before .real-byte .ensures .0, c .before .before .wide .ensures .0)))
 
 add-i : tie.Need-add-i Inv-loop μ-loop
 add-i c =
@@ -61,13 +60,13 @@ loop-again : tie.Need-loop-again Inv-loop μ-loop
 loop-again c =
     let a = c .before .before .before .before .before .before .before .before .before .args in
     let l = c .before .before .before .before .before .before .loop in
-    (omega arith, omega arith, l .inv .2 ∙ high-byte-same (slot-of (a .f .width) (nodes (a .image .now) (a .f)) (a .slot .0)) (a .key .now) (a .d) (l .i) (l .inv .0) (omega arith) (omega (arith, c .before .before .before .before .before .before .before .before .before .pre .3)) (omega (arith, c .before .before .before .before .suffix-byte .ensures .0, c .before .before .wide .ensures .0)))
+    (omega arith, omega arith, l .inv .2 ∙ high-byte-same (real-slot (a .image .now) (a .f) (a .slot .0)) (a .key .now) (a .d) (l .i) (l .inv .0) (omega arith) (omega (arith, c .before .before .before .before .before .before .before .before .before .pre .3)) (omega (arith, c .before .before .before .before .real-byte .ensures .0, c .before .before .wide .ensures .0)))
 
 returns-3 : tie.Need-returns-3 Inv-loop μ-loop
 returns-3 c =
     let a = c .before .before .before .before .args in
     let l = c .before .loop in
-    sym (l .inv .2 ∙ high-ended (slot-of (a .f .width) (nodes (a .image .now) (a .f)) (a .slot .0)) (a .key .now) (a .d) (l .i) (l .inv .0) (omega arith))
+    sym (l .inv .2 ∙ high-ended (real-slot (a .image .now) (a .f) (a .slot .0)) (a .key .now) (a .d) (l .i) (l .inv .0) (omega arith))
 
 pub high-below-spec : {M : Type 1} → statement M
 high-below-spec =
@@ -76,8 +75,8 @@ high-below-spec =
     Inv-loop
     μ-loop
     loop-holds
-    sub-suffix-byte
-    suffix-byte-requires
+    sub-real-byte
+    real-byte-requires
     shared-slice-read-wide
     wide-requires
     returns

@@ -35,35 +35,21 @@ slice-aggregate-write-bytes c = search needs
 write-bytes-requires : tie.Need-write-bytes-requires
 write-bytes-requires c κs = simp length-set (omega (arith, cut-length (c .before .before .before .before .before .before)))
 
-cast-out-2 : tie.Need-cast-out-2
-cast-out-2 c = search needs
+add-write32 : tie.Need-add-write32
+add-write32 c = search needs
 
-add-out-2 : tie.Need-add-out-2
-add-out-2 c = search needs
-
-slice-write-out-3 : tie.Need-slice-write-out-3
-slice-write-out-3 c = omega (arith, simp length-set at (c .before .before .write-bytes .kept .0))
-
-cast-out-3 : tie.Need-cast-out-3
-cast-out-3 c = search needs
-
-add-out-3 : tie.Need-add-out-3
-add-out-3 c = search needs
-
-add-out-4 : tie.Need-add-out-4
-add-out-4 c = search needs
-
-slice-write-out-4 : tie.Need-slice-write-out-4
-slice-write-out-4 c = simp length-set (omega (arith, simp length-set at (c .before .before .write-bytes .kept .0)))
+write32-requires : tie.Need-write32-requires
+write32-requires c κs = omega (arith, simp length-set at (c .before .before .before .write-bytes .kept .0))
 
 same-length : tie.Need-same-length
-same-length c = simp length-set (simp length-set at (c .before .before .write-bytes .kept .0))
+same-length c = c .before .before .write32 .kept .0 ∙ simp length-set at (c .before .before .before .before .before .before .write-bytes .kept .0)
 
 returns : tie.Need-returns
 returns c =
-    let b = c .before .before .before .before .before .before .before .before .before in
+    let b = c .before .before .before .before .before .before .before .before .before .before .before .before .before in
     let a = b .args in
-    record-placed (a .out .now) (a .at) (a .l) (c .before .before .write-bytes .last .0) (b .pre .within) (cut-length b) (rw (← c .before .before .before .before .before .before .kind-byte .ensures) (c .before .before .write-bytes .ensures))
+    let keyed = c .before .before .before .before .before .before .write-bytes in
+    record-placed (a .out .now) (a .at) (a .l) (keyed .last .0) _ (b .pre .within) (cut-length b) (rw (← c .before .before .before .before .before .before .before .before .before .before .kind-byte .ensures) (keyed .ensures)) (c .before .before .write32 .ensures)
 
 pub write-record-spec : {M : Type 1} → statement M
 write-record-spec =
@@ -77,12 +63,7 @@ write-record-spec =
     add-write-bytes
     slice-aggregate-write-bytes
     write-bytes-requires
-    cast-out-2
-    add-out-2
-    slice-write-out-3
-    cast-out-3
-    add-out-3
-    add-out-4
-    slice-write-out-4
+    add-write32
+    write32-requires
     same-length
     returns)

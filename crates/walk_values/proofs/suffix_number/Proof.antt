@@ -4,7 +4,7 @@ use native.Mathlib.Omega.{arith}
 use lib.Pow.{pow-pos}
 use borrow.Author.Needs.{needs}
 use Rattle.bits_laws.specs.RankLaws.{one-shl}
-use Rattle.walk_laws.specs.LeafValues.{low-number}
+use Rattle.bits_laws.specs.UnpackLaws.{low-number}
 use Rattle.walk_values.proofs.suffix_number.Statement.{statement}
 use Rattle.walk_values.proofs.suffix_number.Tie as tie
 

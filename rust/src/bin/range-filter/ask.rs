@@ -42,6 +42,9 @@ behind the image's name, or, if there is none, one a line on standard input.
   seek START          the place, from 0, and the smallest key from the start
                       on that may be stored, or the word none
 
+Hash bits of an image are for points alone. A point may get 0 where the range
+from that one key to itself gets 1: the range has only the real bits to go by.
+
 A reply is the question, a colon, a blank and the words above, parted by blanks:
 
   point D1: 1 rule 3 (exact leaf)

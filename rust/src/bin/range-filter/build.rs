@@ -20,7 +20,13 @@ pub const COMMAND: Command = Command {
     summary: "build an image from a file of keys",
     help: HELP,
     shape: Shape {
-        options: &["-o", "--image-version", "--dense", "--suffix-bits"],
+        options: &[
+            "-o",
+            "--image-version",
+            "--dense",
+            "--real-bits",
+            "--hash-bits",
+        ],
         flags: &["--sort"],
         operands: &["KEYS"],
         needed: 1,
@@ -31,7 +37,7 @@ pub const COMMAND: Command = Command {
 
 const HELP: &str = "\
 usage: range-filter build KEYS -o IMAGE [--image-version V] [--dense L]
-                          [--suffix-bits N] [--sort]
+                          [--real-bits N] [--hash-bits H] [--sort]
 
 Builds the image of a file of keys and says how long it is.
 
@@ -50,7 +56,11 @@ escapes, that is the order of `LC_ALL=C sort`. There are at most 65,535 keys.
                       read version 1 alone
   --dense L           the levels of the trie that are dense, 0 to 4 (0 if it is
                       not given)
-  --suffix-bits N     the suffix bits of a key, 0 to 16 (0 if it is not given)
+  --real-bits N       the bits of a key that are kept behind its cut, 0 to 16 (0
+                      if it is not given). All questions go by them
+  --hash-bits H       the bits of a key's hash that are kept, 0 to 16 (0 if it
+                      is not given). Points alone go by them; programs from
+                      before hash bits refuse an image that has some
   --sort              sort the keys and drop doubles first
 
 Exit status: 0 built; 1 the keys are refused; 2 the arguments are not as above,
@@ -88,12 +98,15 @@ pub fn read_settings(arguments: &Arguments, others: Settings) -> Result<Settings
     let version = read("--image-version", versions, others.version())?;
     let levels = 0..=Settings::MAX_DENSE_LEVELS;
     let dense = read("--dense", levels, others.dense_levels())?;
-    let widths = 0..=Settings::MAX_SUFFIX_BITS;
-    let bits = read("--suffix-bits", widths, others.suffix_bits())?;
+    let widths = 0..=Settings::MAX_REAL_BITS;
+    let real = read("--real-bits", widths, others.real_bits())?;
+    let widths = 0..=Settings::MAX_HASH_BITS;
+    let hash = read("--hash-bits", widths, others.hash_bits())?;
     Ok(others
         .with_version(version)
         .with_dense_levels(dense)
-        .with_suffix_bits(bits))
+        .with_real_bits(real)
+        .with_hash_bits(hash))
 }
 
 /// Refuses an output that would take the place of the keys.

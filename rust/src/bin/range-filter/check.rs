@@ -25,11 +25,13 @@ usage: range-filter check IMAGE
 
 Says whether a file is an image, just as some list of keys builds it, in a line:
 
-  accepted: 4 leaves, version 1, dense levels 0, suffix bits 0
+  accepted: 4 leaves, version 1, dense levels 0, real bits 0, hash bits 0
   refused 12: what is wrong and what to do (there are 5 dense levels, over 4)
 
 The number is one of 11 to 16. What stands in brackets tells more, if the header
 and the records show it. A file of over 64 MiB is refused without being read.
+The hash bits of an open leaf may be any, so that with hash bits a file may be
+accepted which no list of keys builds.
 
 Exit status: 0 accepted; 1 refused; 2 the arguments are not as above, or the
 file can't be read.

@@ -27,7 +27,8 @@ usage: range-filter leaves IMAGE [--from PLACE] [--limit N]
 
 Writes the word leaves and the number of leaves, then a line for each leaf in
 the order of the keys: its place from 0, E (exact) or O (open), the cut key in
-hexadecimal, and the suffix bits, or - if it has none.
+hexadecimal, and the suffix, which is the hash bits and then the real bits, or -
+if it has none of both.
 
   leaves 4
   0 E 4431 -

@@ -20,7 +20,7 @@ const RECORDS: [Record; 13] = [
     ("SL", "S-Labels: the labels of sparse nodes, a byte each"),
     ("SC", "S-HasChild: which of them lead to nodes"),
     ("SB", "S-LOUDS: where the entries of a sparse node start"),
-    ("SV", "suffix bits of the leaves"),
+    ("SV", "slots of the leaves: hash bits, then real bits"),
     ("RL", "ranks of DL"),
     ("RC", "ranks of DC"),
     ("RP", "ranks of DP"),
@@ -36,8 +36,8 @@ const WITH_LEVEL_STARTS: u8 = 2;
 pub struct Header {
     version: u8,
     dense_levels: u8,
-    suffix_bits: u8,
-    zero: u8,
+    real_bits: u8,
+    hash_bits: u8,
     leaves: u32,
     /// The number of dense nodes.
     pub dense_nodes: u32,
@@ -54,8 +54,8 @@ impl Header {
         Some(Header {
             version: fields[0],
             dense_levels: fields[1],
-            suffix_bits: fields[2],
-            zero: fields[3],
+            real_bits: fields[2],
+            hash_bits: fields[3],
             leaves: read_number(fields, 4)?,
             dense_nodes: read_number(fields, 8)?,
             sparse_entries: read_number(fields, 12)?,
@@ -85,12 +85,13 @@ impl Header {
         if levels > most {
             faults.push(format!("there are {levels} dense levels, over {most}"));
         }
-        let (bits, most) = (self.suffix_bits, Settings::MAX_SUFFIX_BITS);
+        let (bits, most) = (self.real_bits, Settings::MAX_REAL_BITS);
         if bits > most {
-            faults.push(format!("there are {bits} suffix bits, over {most}"));
+            faults.push(format!("there are {bits} real bits, over {most}"));
         }
-        if self.zero != 0 {
-            faults.push(format!("the zero byte is {}", self.zero));
+        let (bits, most) = (self.hash_bits, Settings::MAX_HASH_BITS);
+        if bits > most {
+            faults.push(format!("there are {bits} hash bits, over {most}"));
         }
         let leaves = self.leaves as usize;
         if leaves > MAX_KEYS {

@@ -85,9 +85,9 @@ fn show_byte(byte: u8) -> String {
 
 /// Gives settings in words.
 pub fn show_settings(settings: Settings) -> String {
-    let version = settings.version();
-    let (dense, bits) = (settings.dense_levels(), settings.suffix_bits());
-    format!("version {version}, dense levels {dense}, suffix bits {bits}")
+    let (version, dense) = (settings.version(), settings.dense_levels());
+    let (real, hash) = (settings.real_bits(), settings.hash_bits());
+    format!("version {version}, dense levels {dense}, real bits {real}, hash bits {hash}")
 }
 
 /// Gives a number with a comma before each three digits, as 65,535.

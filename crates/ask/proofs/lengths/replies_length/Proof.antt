@@ -10,7 +10,7 @@ use Rattle.ask.proofs.lengths.replies_length.Statement.{statement}
 use Rattle.ask.proofs.lengths.replies_length.Tie as tie
 
 abbrev Inv-loop : tie.InvT-loop
-Inv-loop image f file starts at₀ total₀ at total = (at ≤ length file) × Measured (read-leaves image) file at total
+Inv-loop image f file starts at₀ total₀ at total = (at ≤ length file) × Measured (f .hash) (read-leaves image) file at total
 
 abbrev μ-loop : tie.MeasureT-loop
 μ-loop image f file starts at₀ total₀ at total = length file - at
@@ -21,7 +21,7 @@ level-starts-requires c κs = search needs
 loop-holds : tie.Need-loop-holds Inv-loop μ-loop
 loop-holds c =
     let a = c .before .before .before .args in
-    (omega arith, measured-start (read-leaves (a .image .now)) (a .file .now) _ (c .before .before .before .pre .1))
+    (omega arith, measured-start (a .f .hash) (read-leaves (a .image .now)) (a .file .now) _ (c .before .before .before .pre .1))
 
 question-at-requires : tie.Need-question-at-requires Inv-loop μ-loop
 question-at-requires c κs = (c .loop-test .taken, c .before .loop .inv .1 .taken-here)
@@ -47,13 +47,13 @@ loop-again c =
     let q = c .before .question-at in
     let w = q .ensures .followed in
     let k = c .key-length in
-    (w .inside, measured-more (read-leaves (a .image .now)) (a .file .now) (l .at) (l .total) (q .result .next) (k .result) (question-of (a .file .now) (q .result .question)) (l .inv .1) w (k .ensures .0) (k .ensures .1))
+    (w .inside, measured-more (a .f .hash) (read-leaves (a .image .now)) (a .file .now) (l .at) (l .total) (q .result .next) (k .result) (question-of (a .file .now) (q .result .question)) (l .inv .1) w (k .ensures .0) (k .ensures .1))
 
 returns : tie.Need-returns Inv-loop μ-loop
 returns c =
     let a = c .before .before .before .before .before .args in
     let l = c .before .loop in
-    measured-end (read-leaves (a .image .now)) (a .file .now) (l .at) (l .total) (l .inv .1) (c .loop-test .left)
+    measured-end (a .f .hash) (read-leaves (a .image .now)) (a .file .now) (l .at) (l .total) (l .inv .1) (c .loop-test .left)
 
 pub replies-length-spec : {M : Type 1} → statement M
 replies-length-spec =

@@ -4,7 +4,7 @@ use Rattle.spec.specs.Keys.{keys-of}
 use Rattle.build_laws.specs.Limits.{counters, counter-max}
 use Rattle.build_laws.specs.CounterRoom.{counters-room}
 use Rattle.build_laws.specs.Plan.{entry-sums, node-sums, header-short, plan-made}
-use Rattle.build_image.specs.Image.{settings-of}
+use Rattle.image_types.specs.Header.{asked}
 use native.Mathlib.Omega.{arith}
 use Rattle.build_image.proofs.image.lay_out.Statement.{statement}
 use Rattle.build_image.proofs.image.lay_out.Tie as tie
@@ -20,7 +20,7 @@ total-requires : tie.Need-total-requires
 total-requires c κs =
     let pre = c .before .before .before .before .before .before .pre in
     let a = c .before .before .before .before .before .before .args in
-    let st = settings-of (a .st) in
+    let st = asked (a .st) in
     let r = pre .0 in
     let counted = c .before .count-levels in
     (omega (arith, r .built .dense-range), node-sums (a .list .now) st r _ (counted .ensures) 0 counters (omega arith))
@@ -29,7 +29,7 @@ total-requires-2 : tie.Need-total-requires-2
 total-requires-2 c κs =
     let pre = c .before .before .before .before .before .before .before .before .pre in
     let a = c .before .before .before .before .before .before .before .before .args in
-    let st = settings-of (a .st) in
+    let st = asked (a .st) in
     let r = pre .0 in
     let counted = c .before .before .before .count-levels in
     (omega arith, node-sums (a .list .now) st r _ (counted .ensures) (a .st .levels) counters (omega arith))
@@ -38,7 +38,7 @@ total-requires-3 : tie.Need-total-requires-3
 total-requires-3 c κs =
     let pre = c .before .before .before .before .before .before .before .before .before .before .pre in
     let a = c .before .before .before .before .before .before .before .before .before .before .args in
-    let st = settings-of (a .st) in
+    let st = asked (a .st) in
     let r = pre .0 in
     let counted = c .before .before .before .before .before .count-levels in
     (omega arith, entry-sums (a .list .now) st r _ (counted .ensures) (a .st .levels) counters (omega arith))
@@ -49,7 +49,7 @@ record-starts-requires c κs =
     let total = c .before .before .before .before .total in
     let total2 = c .before .before .total2 in
     let a = c .before .before .before .before .before .before .before .before .before .before .before .args in
-    let st = settings-of (a .st) in
+    let st = asked (a .st) in
     let r = pre .0 in
     let counted = c .before .before .before .before .before .before .count-levels in
     header-short (a .list .now) st r _ (counted .ensures) (a .count) _ _ _ (pre .1) (total .ensures) (total2 .ensures) (c .total3 .ensures)
@@ -60,7 +60,7 @@ returns c =
     let total = c .before .before .before .before .before .total in
     let total2 = c .before .before .before .total2 in
     let a = c .before .before .before .before .before .before .before .before .before .before .before .before .args in
-    let st = settings-of (a .st) in
+    let st = asked (a .st) in
     let r = pre .0 in
     let counted = c .before .before .before .before .before .before .before .count-levels in
     (plan-made (a .list .now) st r _ (counted .ensures) (a .count) _ _ _ (pre .1) (total .ensures) (total2 .ensures) (c .before .total3 .ensures) _ (c .record-starts .ensures), refl, counted .ensures)

@@ -1,7 +1,7 @@
 -- The plan's end is the image's length.
 use mathlib.Core.Path.{refl}
 use Rattle.build_laws.specs.Plan.{plan-fits}
-use Rattle.build_image.specs.Image.{settings-of}
+use Rattle.image_types.specs.Header.{asked}
 use Rattle.build_image.proofs.ImageLaws.{image-end}
 use Rattle.build_image.proofs.image.measure_image.Statement.{statement}
 use Rattle.build_image.proofs.image.measure_image.Tie as tie
@@ -21,7 +21,7 @@ returns : tie.Need-returns
 returns c =
     let a = c .before .before .before .before .before .before .before .args in
     let laid = c .before .before .lay-out in
-    image-end (a .list .now) (laid .result) (laid .ensures .0) _ (laid .ensures .2) (settings-of (a .st)) (laid .ensures .1) _ (c .image-end .ensures)
+    image-end (a .list .now) (laid .result) (laid .ensures .0) _ (laid .ensures .2) (asked (a .st)) (laid .ensures .1) _ (c .image-end .ensures)
 
 pub measure-image-spec : {M : Type 1} → statement M
 measure-image-spec = tie.close (tie.spec lay-out-requires image-end-requires returns)

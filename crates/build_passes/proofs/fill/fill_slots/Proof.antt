@@ -11,51 +11,51 @@ use Rattle.build_passes.proofs.fill.fill_slots.Statement.{statement}
 use Rattle.build_passes.proofs.fill.fill_slots.Tie as tie
 
 abbrev Inv-loop : tie.InvT-loop
-Inv-loop out₀ cur₀ s n at₀ first₀ out cur at first = (length out ≡ length out₀) × Filling (slots-pass n) s (length out₀) at first (byte-state out cur) (pass-keys (slots-pass n) 0 (keys-of s) (byte-state out₀ cur₀))
+Inv-loop out₀ cur₀ s slot at₀ first₀ out cur at first = (length out ≡ length out₀) × Filling (slots-pass slot) s (length out₀) at first (byte-state out cur) (pass-keys (slots-pass slot) 0 (keys-of s) (byte-state out₀ cur₀))
 
 abbrev μ-loop : tie.MeasureT-loop
-μ-loop out₀ cur₀ s n at₀ first₀ out cur at first = length s - at
+μ-loop out₀ cur₀ s slot at₀ first₀ out cur at first = length s - at
 
 loop-holds : tie.Need-loop-holds Inv-loop μ-loop
 loop-holds c =
     let a = c .before .before .args in
     let pre = c .before .before .pre in
-    (refl, fill-start (slots-pass (a .n)) (a .s .now) (length (a .out .now)) (byte-state (a .out .now) (a .cur .now)) (pre .0 .0) (pre .0 .1) (pre .1))
+    (refl, fill-start (slots-pass (a .slot)) (a .s .now) (length (a .out .now)) (byte-state (a .out .now) (a .cur .now)) (pre .0 .0) (pre .0 .1) (pre .1))
 
 read-key-requires : tie.Need-read-key-requires Inv-loop μ-loop
 read-key-requires c κs =
     let a = c .before .before .before .before .args in
     let l = c .before .loop in
-    fill-reads (slots-pass (a .n)) (a .s .now) (length (a .out .now)) (l .at) (l .first) (byte-state (l .out) (l .cur)) _ (c .loop-test .taken) (l .inv .1)
+    fill-reads (slots-pass (a .slot)) (a .s .now) (length (a .out .now)) (l .at) (l .first) (byte-state (l .out) (l .cur)) _ (c .loop-test .taken) (l .inv .1)
 
 write-slot-requires : tie.Need-write-slot-requires Inv-loop μ-loop
 write-slot-requires c κs =
     let a = c .before .before .before .before .before .before .before .args in
     let l = c .before .before .before .before .loop in
     let k = c .before .before .read-key .result in
-    let t = fill-key (slots-pass (a .n)) (a .s .now) (length (a .out .now)) (l .at) (l .first) (byte-state (l .out) (l .cur)) _ k (c .before .before .read-key .ensures) (c .before .before .before .loop-test .taken) (l .inv .1) in
-    let room = subst (λ (i : ℕ). Key-room-of (slots-pass (a .n)) k (key-bytes (a .s .now) k) i (l .cur)) (sym (l .inv .0)) (t .room) in
-    (t .listed, c .before .before .before .before .before .before .before .pre .0 .2, room)
+    let t = fill-key (slots-pass (a .slot)) (a .s .now) (length (a .out .now)) (l .at) (l .first) (byte-state (l .out) (l .cur)) _ k (c .before .before .read-key .ensures) (c .before .before .before .loop-test .taken) (l .inv .1) in
+    let room = subst (λ (i : ℕ). Key-room-of (slots-pass (a .slot)) k (key-bytes (a .s .now) k) i (l .cur)) (sym (l .inv .0)) (t .room) in
+    (t .listed, c .before .before .before .before .before .before .before .pre .0 .2, c .before .before .before .before .before .before .before .pre .0 .3, room)
 
 add-first : tie.Need-add-first Inv-loop μ-loop
 add-first c =
     let a = c .before .before .before .before .before .before .before .before .before .before .before .args in
     let l = c .before .before .before .before .before .before .before .before .loop in
-    let t = fill-key (slots-pass (a .n)) (a .s .now) (length (a .out .now)) (l .at) (l .first) (byte-state (l .out) (l .cur)) _ (c .before .before .before .before .before .before .read-key .result) (c .before .before .before .before .before .before .read-key .ensures) (c .before .before .before .before .before .before .before .loop-test .taken) (l .inv .1) in
+    let t = fill-key (slots-pass (a .slot)) (a .s .now) (length (a .out .now)) (l .at) (l .first) (byte-state (l .out) (l .cur)) _ (c .before .before .before .before .before .before .read-key .result) (c .before .before .before .before .before .before .read-key .ensures) (c .before .before .before .before .before .before .before .loop-test .taken) (l .inv .1) in
     omega (arith, t .listed .numbers .behind, t .listed .numbers .size)
 
 add-at : tie.Need-add-at Inv-loop μ-loop
 add-at c =
     let a = c .before .before .before .before .before .before .before .before .before .before .before .before .args in
     let l = c .before .before .before .before .before .before .before .before .before .loop in
-    let t = fill-key (slots-pass (a .n)) (a .s .now) (length (a .out .now)) (l .at) (l .first) (byte-state (l .out) (l .cur)) _ (c .before .before .before .before .before .before .before .read-key .result) (c .before .before .before .before .before .before .before .read-key .ensures) (c .before .before .before .before .before .before .before .before .loop-test .taken) (l .inv .1) in
+    let t = fill-key (slots-pass (a .slot)) (a .s .now) (length (a .out .now)) (l .at) (l .first) (byte-state (l .out) (l .cur)) _ (c .before .before .before .before .before .before .before .read-key .result) (c .before .before .before .before .before .before .before .read-key .ensures) (c .before .before .before .before .before .before .before .before .loop-test .taken) (l .inv .1) in
     omega (arith, t .listed .within)
 
 loop-less : tie.Need-loop-less Inv-loop μ-loop
 loop-less c =
     let a = c .before .before .before .before .before .before .before .before .before .before .before .before .args in
     let l = c .before .before .before .before .before .before .before .before .before .loop in
-    let t = fill-key (slots-pass (a .n)) (a .s .now) (length (a .out .now)) (l .at) (l .first) (byte-state (l .out) (l .cur)) _ (c .before .before .before .before .before .before .before .read-key .result) (c .before .before .before .before .before .before .before .read-key .ensures) (c .before .before .before .before .before .before .before .before .loop-test .taken) (l .inv .1) in
+    let t = fill-key (slots-pass (a .slot)) (a .s .now) (length (a .out .now)) (l .at) (l .first) (byte-state (l .out) (l .cur)) _ (c .before .before .before .before .before .before .before .read-key .result) (c .before .before .before .before .before .before .before .read-key .ensures) (c .before .before .before .before .before .before .before .before .loop-test .taken) (l .inv .1) in
     omega (arith, t .listed .within, t .after)
 
 loop-again : tie.Need-loop-again Inv-loop μ-loop
@@ -63,8 +63,8 @@ loop-again c =
     let a = c .before .before .before .before .before .before .before .before .before .before .before .before .args in
     let l = c .before .before .before .before .before .before .before .before .before .loop in
     let k = c .before .before .before .before .before .before .before .read-key .result in
-    let t = fill-key (slots-pass (a .n)) (a .s .now) (length (a .out .now)) (l .at) (l .first) (byte-state (l .out) (l .cur)) _ k (c .before .before .before .before .before .before .before .read-key .ensures) (c .before .before .before .before .before .before .before .before .loop-test .taken) (l .inv .1) in
-    (omega (arith, c .before .before .before .before .write-slot .kept .0, l .inv .0), subst (λ (z : Byte-state). Filling (slots-pass (a .n)) (a .s .now) (length (a .out .now)) (k .at + k .len) (k .next + 1) z (pass-keys (slots-pass (a .n)) 0 (keys-of (a .s .now)) (byte-state (a .out .now) (a .cur .now)))) (sym (c .before .before .before .before .write-slot .ensures)) (t .behind))
+    let t = fill-key (slots-pass (a .slot)) (a .s .now) (length (a .out .now)) (l .at) (l .first) (byte-state (l .out) (l .cur)) _ k (c .before .before .before .before .before .before .before .read-key .ensures) (c .before .before .before .before .before .before .before .before .loop-test .taken) (l .inv .1) in
+    (omega (arith, c .before .before .before .before .write-slot .kept .0, l .inv .0), subst (λ (z : Byte-state). Filling (slots-pass (a .slot)) (a .s .now) (length (a .out .now)) (k .at + k .len) (k .next + 1) z (pass-keys (slots-pass (a .slot)) 0 (keys-of (a .s .now)) (byte-state (a .out .now) (a .cur .now)))) (sym (c .before .before .before .before .write-slot .ensures)) (t .behind))
 
 same-length : tie.Need-same-length Inv-loop μ-loop
 same-length c = c .before .loop .inv .0
@@ -73,7 +73,7 @@ returns : tie.Need-returns Inv-loop μ-loop
 returns c =
     let a = c .before .before .before .before .args in
     let l = c .before .loop in
-    fill-done (slots-pass (a .n)) (a .s .now) (length (a .out .now)) (l .at) (l .first) (byte-state (l .out) (l .cur)) _ (c .loop-test .left) (l .inv .1)
+    fill-done (slots-pass (a .slot)) (a .s .now) (length (a .out .now)) (l .at) (l .first) (byte-state (l .out) (l .cur)) _ (c .loop-test .left) (l .inv .1)
 
 pub fill-slots-spec : {M : Type 1} → statement M
 fill-slots-spec =

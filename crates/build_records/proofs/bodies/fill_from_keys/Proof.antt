@@ -45,7 +45,7 @@ write-keys-requires c κs =
     let cleared = c .before .before .before .before .before .before .before .clear in
     let starts = c .before .before .start-levels in
     let levels-of = levels-of-known in (
-      (ready-list (a .list .now) (a .plan) (pre .planned), starts .ensures .1, pre .planned .ready .built .width-range),
+      (ready-list (a .list .now) (a .plan) (pre .planned), starts .ensures .1, pre .planned .ready .built .hash-range, pre .planned .ready .built .real-range),
       pass-room (a .list .now) (a .plan) (pre .planned) (a .body) (a .cnt .now) (pre .counted) (levels-of .result) (levels-of .ensures) (starts .last .0) (starts .ensures .1) (starts .ensures .0)
           (length (cleared .last .0)) (omega (arith, pre .size, pre .room, cleared .kept .0)),
     )

@@ -15,7 +15,7 @@ use borrow.Author.Needs.{needs}
 use Rattle.check_slots.proofs.sparse.word_clear.Statement.{statement}
 use Rattle.check_slots.proofs.sparse.word_clear.Tie as tie
 
-bits-fit : {n : ℕ} → n ≤ 1048560 → Fits w64 n
+bits-fit : {n : ℕ} → n ≤ 2097120 → Fits w64 n
 bits-fit h = record { fits = omega arith }
 
 part-requires : tie.Need-part-requires

@@ -8,13 +8,13 @@ use Rattle.check_slots_laws.specs.SlotBits.{slot-fits, slot-past, slot-whole}
 use Rattle.check_slots_bits.proofs.clear.slot_clear.Statement.{statement}
 use Rattle.check_slots_bits.proofs.clear.slot_clear.Tie as tie
 
-few : {n : ℕ} (a w : ℕ) → a + w ≤ n → n ≤ 1048560 → Fits w64 a × Fits w64 (a + w)
+few : {n : ℕ} (a w : ℕ) → a + w ≤ n → n ≤ 2097120 → Fits w64 a × Fits w64 (a + w)
 few a w h l = (record { fits = omega arith }, record { fits = omega arith })
 
 room : {x n m : ℕ} → x ≤ n → n ≤ m → x ≤ m
 room h l = omega arith
 
-narrow : {w : ℕ} (a : ℕ) → w ≤ 16 → a + w ≤ a + 16
+narrow : {w : ℕ} (a : ℕ) → w ≤ 32 → a + w ≤ a + 32
 narrow a h = omega arith
 
 returns : tie.Need-returns

@@ -1,7 +1,7 @@
 -- Both levels are found, and their slots are consecutive; a trie with fewer levels has none there.
-use mathlib.Core.Path.{_≡_, sym, ap₂, _∙_}
+use mathlib.Core.Path.{_≡_, refl, sym, ap₂, _∙_}
 use mathlib.Core.Bool.{_&&_}
-use Prim.Native.Nat.{ℕ, _+_, _-_, _*_, _≤_, _<_}
+use Prim.Native.Nat.{ℕ, _+_, _-_, _≤_, _<_}
 use native.Mathlib.Omega.{arith}
 use mir.Val.{Fits}
 use mir.Syntax.{w64}
@@ -14,9 +14,8 @@ use Rattle.check_trie_laws.specs.Bodies.{sv-body}
 use Rattle.check_trie_laws.specs.Levels.{node-count, LevelOf}
 use Rattle.check_trie_laws.specs.Ranges.{all-from}
 use Rattle.check_slots_laws.specs.Passed.{Passed-to-15}
-use Rattle.check_slots_laws.specs.SlotBits.{bits-clear}
-use Rattle.check_slots_laws.specs.SlotTests.{clear-at, level-slot, slots-within, slots-sized}
-use Rattle.check_slots_laws.specs.LastLevels.{Level-at, Slot-room, slot-of, next-behind, level-first, level-below, slot-room, slot-is, last-levels-none, last-slots-within}
+use Rattle.check_slots_laws.specs.SlotTests.{clear-at, level-slot, slots-up, slots-within, slots-sized}
+use Rattle.check_slots_laws.specs.LastLevels.{Level-at, Slot-room, slot-of, next-behind, level-first, level-below, slot-room, slot-is, last-levels-none}
 use borrow.Author.Needs.{needs}
 use Rattle.check_slots_levels.proofs.levels.last_levels_clear.Statement.{statement}
 use Rattle.check_slots_levels.proofs.levels.last_levels_clear.Tie as tie
@@ -24,8 +23,11 @@ use Rattle.check_slots_levels.proofs.levels.last_levels_clear.Tie as ti
 nodes-fit : {d n : ℕ} → d < 4294967296 → n < 4294967296 → Fits w64 (d + n)
 nodes-fit h l = record { fits = omega arith }
 
-bits-fit : {x n : ℕ} → x ≤ n → n ≤ 1048560 → Fits w64 x
-bits-fit h l = record { fits = omega arith }
+bits-fit : {n : ℕ} → n ≤ 2097120 → Fits w64 n
+bits-fit h = record { fits = omega arith }
+
+same-order : {x y v w : ℕ} → x ≡ v → y ≡ w → v ≤ w → x ≤ y
+same-order a b h = omega arith
 
 -- the dense levels are above level 62
 shallow : {l : ℕ} → l ≤ 4 → (l ≤ 62) × (l ≤ 63)
@@ -87,10 +89,10 @@ first-slot-requires-2 c κs =
     let n = c .before .level-below in
     rooms (a .image .now) (a .f) (p .0) (p .1) (r .result) (r .ensures) (c .before .before .if1 .left) (n .result) (n .ensures .0) (n .ensures .1) .1
 
-mul-bits : tie.Need-mul-bits
-mul-bits c =
+mul-bytes-for : tie.Need-mul-bytes-for
+mul-bytes-for c =
     let a = c .before .before .before .before .before .before .before .before .before .args in
-    bits-fit (omega arith) (within (a .image .now) (a .f) (c .before .before .before .before .before .before .before .before .before .pre .0 .frame) .slots)
+    bits-fit (within (a .image .now) (a .f) (c .before .before .before .before .before .before .before .before .before .pre .0 .frame) .slots)
 
 bytes-for-requires : tie.Need-bytes-for-requires
 bytes-for-requires c κs = search needs
@@ -100,56 +102,53 @@ part-requires c κs =
     let a = c .before .before .before .before .before .before .before .before .before .before .args in
     rw (c .bytes-for .ensures) (within (a .image .now) (a .f) (c .before .before .before .before .before .before .before .before .before .before .pre .0 .frame) .sv)
 
-past-clear-requires : tie.Need-past-clear-requires
-past-clear-requires c κs =
-    let a = c .before .before .before .before .before .before .before .before .before .before .before .args in
-    let p = c .before .before .before .before .before .before .before .before .before .before .before .pre in
-    let s : Bytes = a .image .now in
-    let sv : c .part .result .now ≡ sv-body s (a .f) = lent-part s (a .f .sv) (c .part .ensures) (c .before .bytes-for .ensures) in
+-- where the function was entered, from where the slots are lent
+abbrev entered : tie.After-part → tie.Start
+entered c = c .before .before .before .before .before .before .before .before .before .before .before
+
+-- the image
+abbrev image : tie.After-part → Bytes
+image c = entered c .args .image .now
+
+-- its frame
+abbrev frame : tie.After-part → Frame
+frame c = entered c .args .f
+
+-- what is lent is SV
+lent : (c : tie.After-part) → c .part .result .now ≡ sv-body (image c) (frame c)
+lent c = lent-part (image c) (frame c .sv) (c .part .ensures) (c .before .bytes-for .ensures)
+
+-- the first slots of the two levels
+slots : (c : tie.After-part) → (c .before .before .before .before .first-slot .result .0 ≡ level-slot (image c) (frame c) 62) × (c .before .before .before .first-slot2 .result .0 ≡ level-slot (image c) (frame c) 63)
+slots c =
+    let p = entered c .pre in
     let r = c .before .before .before .before .before .before .before .before .before .find-level in
     let n = c .before .before .before .before .before .level-below in
-    let t = starts s (a .f) (p .0) (p .1) (r .result) (r .ensures) (c .before .before .before .before .before .before .if1 .left) (n .result) (n .ensures .0) (n .ensures .1) in
-    let e = c .before .before .before .first-slot2 .ensures ∙ t .1 in
-    rw (sv, e) (slots-sized s (a .f) (p .0 .frame), slots-within s (a .f) (p .0) (p .1))
+    let t = starts (image c) (frame c) (p .0) (p .1) (r .result) (r .ensures) (c .before .before .before .before .before .before .if1 .left) (n .result) (n .ensures .0) (n .ensures .1) in
+    (c .before .before .before .before .first-slot .ensures ∙ t .0, c .before .before .before .first-slot2 .ensures ∙ t .1)
 
-mul-t9 : tie.Need-mul-t9
-mul-t9 c =
-    let a = c .before .before .before .before .before .before .before .before .before .before .before .before .before .before .args in
-    let p = c .before .before .before .before .before .before .before .before .before .before .before .before .before .before .pre in
-    let s : Bytes = a .image .now in
-    let r = c .before .before .before .before .before .before .before .before .before .before .before .before .find-level in
-    let n = c .before .before .before .before .before .before .before .before .level-below in
-    let t = starts s (a .f) (p .0) (p .1) (r .result) (r .ensures) (c .before .before .before .before .before .before .before .before .before .if1 .left) (n .result) (n .ensures .0) (n .ensures .1) in
-    let e = c .before .before .before .before .before .before .first-slot2 .ensures ∙ t .1 in
-    rw e (bits-fit (last-slots-within s (a .f) (p .0) (p .1)) (within s (a .f) (p .0 .frame) .slots))
+add-past-clear : tie.Need-add-past-clear
+add-past-clear c = let o = entered (c .before) .pre .0 .frame in omega (arith, o .real, o .hash, o .width)
 
-bits-clear-requires : tie.Need-bits-clear-requires
-bits-clear-requires c κs =
-    let part = c .before .before .before .part in
-    let a = c .before .before .before .before .before .before .before .before .before .before .before .before .before .before .args in
-    let p = c .before .before .before .before .before .before .before .before .before .before .before .before .before .before .pre in
-    let s : Bytes = a .image .now in
-    let sv : part .result .now ≡ sv-body s (a .f) = lent-part s (a .f .sv) (part .ensures) (c .before .before .before .before .bytes-for .ensures) in
-    let r = c .before .before .before .before .before .before .before .before .before .before .before .before .find-level in
-    let n = c .before .before .before .before .before .before .before .before .level-below in
-    let t = starts s (a .f) (p .0) (p .1) (r .result) (r .ensures) (c .before .before .before .before .before .before .before .before .before .if1 .left) (n .result) (n .ensures .0) (n .ensures .1) in
-    let e = c .before .before .before .before .before .before .first-slot2 .ensures ∙ t .1 in
-    rw (sv, e) (last-slots-within s (a .f) (p .0) (p .1), slots-sized s (a .f) (p .0 .frame) .room)
+past-clear-requires : tie.Need-past-clear-requires
+past-clear-requires c κs =
+    let b = c .before in
+    let p = entered b .pre in
+    (rw (lent b) (slots-sized (image b) (frame b) (p .0 .frame)), same-order (slots b .0) (slots b .1) (slots-up (image b) (frame b) (p .0) (p .1)), same-order (slots b .1) refl (slots-within (image b) (frame b) (p .0) (p .1)))
+
+past-clear-requires-2 : tie.Need-past-clear-requires-2
+past-clear-requires-2 c κs =
+    let b = c .before .before in
+    let p = entered b .pre in
+    (rw (lent b) (slots-sized (image b) (frame b) (p .0 .frame)), same-order (slots b .1) refl (slots-within (image b) (frame b) (p .0) (p .1)), omega arith)
 
 returns-2 : tie.Need-returns-2
 returns-2 c =
-    let part = c .before .before .before .before .part in
-    let a = c .before .before .before .before .before .before .before .before .before .before .before .before .before .before .before .args in
-    let p = c .before .before .before .before .before .before .before .before .before .before .before .before .before .before .before .pre in
-    let s : Bytes = a .image .now in
-    let sv : part .result .now ≡ sv-body s (a .f) = lent-part s (a .f .sv) (part .ensures) (c .before .before .before .before .before .bytes-for .ensures) in
-    let r = c .before .before .before .before .before .before .before .before .before .before .before .before .before .find-level in
-    let n = c .before .before .before .before .before .before .before .before .before .level-below in
-    let t = starts s (a .f) (p .0) (p .1) (r .result) (r .ensures) (c .before .before .before .before .before .before .before .before .before .before .if1 .left) (n .result) (n .ensures .0) (n .ensures .1) in
-    let d = c .before .before .before .before .before .before .before .before .first-slot .ensures ∙ t .0 in
-    let e = c .before .before .before .before .before .before .before .first-slot2 .ensures ∙ t .1 in
-    ap₂ _&&_ (rw sv at (c .before .before .before .past-clear .ensures)) (rw sv at (c .bits-clear .ensures))
-    ∙ ap₂ (λ (v w : ℕ). all-from (clear-at s (a .f) 1) v (w - v) && bits-clear (sv-body s (a .f)) (w * a .f .width) (a .f .leaves * a .f .width)) d e
+    let b = c .before .before .before in
+    let s = image b in
+    let f = frame b in
+    ap₂ _&&_ (rw (lent b) at (c .before .past-clear .ensures)) (rw (lent b) at (c .past-clear2 .ensures))
+    ∙ ap₂ (λ (v w : ℕ). all-from (clear-at s f (f .hash + 8)) v (w - v) && all-from (clear-at s f (f .hash)) w (f .leaves - w)) (slots b .0) (slots b .1)
 
 pub last-levels-clear-spec : {M : Type 1} → statement M
 last-levels-clear-spec =
@@ -161,10 +160,10 @@ last-levels-clear-spec =
     level-below-requires
     first-slot-requires
     first-slot-requires-2
-    mul-bits
+    mul-bytes-for
     bytes-for-requires
     part-requires
+    add-past-clear
     past-clear-requires
-    mul-t9
-    bits-clear-requires
+    past-clear-requires-2
     returns-2)

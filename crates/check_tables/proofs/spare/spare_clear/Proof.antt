@@ -10,6 +10,12 @@ use Rattle.check_tables_laws.specs.Tables.{spare-is}
 use Rattle.check_tables.proofs.spare.spare_clear.Statement.{statement}
 use Rattle.check_tables.proofs.spare.spare_clear.Tie as tie
 
+returns : tie.Need-returns
+returns c =
+    let a = c .before .before .before .before .before .before .args in
+    ap₂ _&&_ (ap₂ _&&_ (ap₂ _&&_ (c .before .before .before .before .no-spare .ensures) (c .before .before .before .no-spare2 .ensures)) (c .before .before .no-spare3 .ensures)) (c .no-spare4 .ensures)
+    ∙ sym (spare-is (a .image .now) (a .f) (c .before .before .before .before .before .before .pre))
+
 no-spare-requires : tie.Need-no-spare-requires
 no-spare-requires c κs = let a = c .before .args in within (a .image .now) (a .f) (c .before .pre) .dp
 
@@ -25,19 +31,13 @@ mul-no-spare c =
     let h = c .before .before .before .before .before .pre in
     fits (within (a .image .now) (a .f) h .slots)
   where
-    fits : {n : _} → n ≤ 1048560 → Fits w64 n
+    fits : {n : _} → n ≤ 2097120 → Fits w64 n
     fits l = record { fits = omega arith }
 
 no-spare-requires-4 : tie.Need-no-spare-requires-4
 no-spare-requires-4 c κs =
     let a = c .before .before .before .before .before .args in
     within (a .image .now) (a .f) (c .before .before .before .before .before .pre) .sv
-
-returns : tie.Need-returns
-returns c =
-    let a = c .before .before .before .before .before .before .args in
-    ap₂ _&&_ (ap₂ _&&_ (ap₂ _&&_ (c .before .before .before .before .no-spare .ensures) (c .before .before .before .no-spare2 .ensures)) (c .before .before .no-spare3 .ensures)) (c .no-spare4 .ensures)
-    ∙ sym (spare-is (a .image .now) (a .f) (c .before .before .before .before .before .before .pre))
 
 pub spare-clear-spec : {M : Type 1} → statement M
 spare-clear-spec =

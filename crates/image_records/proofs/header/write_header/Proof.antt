@@ -23,6 +23,9 @@ cast-write-settings-2 c = search needs
 cast-write-settings-3 : tie.Need-cast-write-settings-3
 cast-write-settings-3 c = search needs
 
+cast-write-settings-4 : tie.Need-cast-write-settings-4
+cast-write-settings-4 c = search needs
+
 write-settings-requires : tie.Need-write-settings-requires
 write-settings-requires c κs = search needs
 
@@ -49,7 +52,7 @@ returns c =
     let second = third .before .before .before .before in
     let first = second .before .before .before .before in
     let settings = first .before .before .before .before in
-    let start = settings .before .before .before .before .before .before in
+    let start = settings .before .before .before .before .before .before .before in
     let a = start .args in
     let room = start .pre .1 in
     let out = a .out .now in
@@ -57,7 +60,7 @@ returns c =
     let nodes = le32 (a .h .dense .nodes) in
     let entries = le32 (a .h .sparse .entries) in
     let sparse = le32 (a .h .sparse .nodes) in
-    let f : List ℕ = first-bytes (a .h .version) (a .h .dense .levels) (a .h .width) in
+    let f : List ℕ = first-bytes (a .h .version) (a .h .dense .levels) (a .h .real) (a .h .hash) in
     let la = length-le32 (a .h .leaves) in
     let lb = length-le32 (a .h .dense .nodes) in
     let lc = length-le32 (a .h .sparse .entries) in
@@ -81,6 +84,7 @@ write-header-spec =
     cast-write-settings
     cast-write-settings-2
     cast-write-settings-3
+    cast-write-settings-4
     write-settings-requires
     write32-requires
     write32-requires-2

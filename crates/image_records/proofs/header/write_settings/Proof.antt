@@ -33,7 +33,7 @@ returns : tie.Need-returns
 returns c =
     let a = (c .before .before .before .before .before .before .args) in
     let o = c .before .before .write-mark .last .0 in
-    let rest : List ℕ = a .version ∷ a .dense ∷ a .n ∷ 0 ∷ [] in
+    let rest : List ℕ = a .version ∷ a .dense ∷ a .n ∷ a .h ∷ [] in
     let e : sets o 2 rest ≡ placed o 2 rest = sets-eq rest o 2 (omega arith) in
     e ∙ ap (λ (z : List ℕ). placed z 2 rest) (c .before .before .write-mark .ensures) ∙ placed-placed (a .out .now) (72 ∷ 68 ∷ []) rest 0 2 refl (omega arith)
 

@@ -28,8 +28,11 @@ bytes-for-requires-2 c κs = search needs
 bytes-for-requires-3 : tie.Need-bytes-for-requires-3
 bytes-for-requires-3 c κs = search needs
 
+add-bytes-for : tie.Need-add-bytes-for
+add-bytes-for c = search needs
+
 mul-bytes-for : tie.Need-mul-bytes-for
-mul-bytes-for c = omega (arith, slots-short (c .before .before .args .h) (c .before .before .pre .0))
+mul-bytes-for c = omega (arith, slots-short (c .before .before .before .args .h) (c .before .before .before .pre .0))
 
 bytes-for-requires-4 : tie.Need-bytes-for-requires-4
 bytes-for-requires-4 c κs = search needs
@@ -81,7 +84,7 @@ returns-6 c = let e : c .before .before .args .i ≡ 5 = omega arith in (rw e (c
 
 returns-7 : tie.Need-returns-7
 unfolding row-at rows
-returns-7 c = let e : c .before .before .before .args .i ≡ 6 = omega arith in (rw e (c .bytes-for4 .ensures), omega (arith, slots-short (c .before .before .before .args .h) (c .before .before .before .pre .0), c .bytes-for4 .ensures))
+returns-7 c = let e : c .before .before .before .before .args .i ≡ 6 = omega arith in (rw e (c .bytes-for4 .ensures), omega (arith, slots-short (c .before .before .before .before .args .h) (c .before .before .before .before .pre .0), c .bytes-for4 .ensures))
 
 returns-8 : tie.Need-returns-8
 unfolding row-at rows
@@ -112,6 +115,7 @@ body-size-spec =
     bytes-for-requires
     bytes-for-requires-2
     bytes-for-requires-3
+    add-bytes-for
     mul-bytes-for
     bytes-for-requires-4
     mul-table-size

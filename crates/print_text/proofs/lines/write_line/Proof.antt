@@ -17,7 +17,7 @@ room : (c : tie.Start) → c .args .at + length (decimal (c .args .i)) + length 
 room c =
     let v = c .args .l in
     let k : length (leaf-of v .cut) ≤ 64 = omega (arith, length-take (v .len) (v .cut), c .pre .0) in
-    let n : length (leaf-of v .suffix) ≤ 16 = omega (arith, length-low-bits (v .width) (v .suffix), c .pre .0) in
+    let n : length (leaf-of v .suffix) ≤ 32 = omega (arith, length-low-bits (v .width) (v .suffix), c .pre .0) in
     omega (arith, length-pieces (c .args .i) (leaf-of v), length-line (c .args .i) (leaf-of v) (c .pre .1) k n)
 
 write-decimal-requires : tie.Need-write-decimal-requires

@@ -20,8 +20,8 @@ enum-told-2 c = search needs
 enum-known-stop : tie.Need-enum-known-stop
 enum-known-stop c = search needs
 
-append-suffix-requires : tie.Need-append-suffix-requires
-append-suffix-requires c κs =
+append-real-requires : tie.Need-append-real-requires
+append-real-requires c κs =
     let stop = c .before .before .stop .given in
     let p = entered (c .before) .pre in
     (p .accepted, p .slot-in (stop .0 .0) (stop .1), p .key-size, p .depth-in)
@@ -33,7 +33,7 @@ returns-2 : tie.Need-returns-2
 returns-2 c =
     let s = c .before .before .before .before in
     let a = s .args in
-    record { low-is = ap (λ (stop : LeafStop). low-of (a .f .width) (nodes (a .image .now) (a .f)) stop (take (a .depth) (a .key .now))) (c .enum-told2 .given .1); upto = s .pre .depth-in; key-size = s .pre .key-size }
+    record { low-is = ap (λ (stop : LeafStop). low-of (a .f .hash) (a .f .width) (nodes (a .image .now) (a .f)) stop (take (a .depth) (a .key .now))) (c .enum-told2 .given .1); upto = s .pre .depth-in; key-size = s .pre .key-size }
 
 same-length : tie.Need-same-length
 same-length c = search needs
@@ -42,7 +42,7 @@ returns-3 : tie.Need-returns-3
 returns-3 c =
     let r = c .before .before in
     let k = r .before .before in
-    let e = r .append-suffix .ensures in
+    let e = r .append-real .ensures in
     record { low-is = rw (k .before .stop .given .1) (e .low-is); upto = e .upto; key-size = e .key-size }
 
 pub lowest-key-spec : {M : Type 1} → statement M
@@ -52,7 +52,7 @@ lowest-key-spec =
     enum-told
     enum-told-2
     enum-known-stop
-    append-suffix-requires
+    append-real-requires
     returns
     returns-2
     same-length

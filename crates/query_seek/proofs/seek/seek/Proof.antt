@@ -5,7 +5,7 @@ use Rattle.query_laws.specs.Summed.{Summed}
 use Rattle.nav_laws.specs.declared.LeafStop.the-variants.{Nowhere}
 use borrow.Author.Tests.{not-true, not-false}
 use Rattle.query_laws.specs.Ordered.{passed}
-use Rattle.spec.specs.Nodes.{read-leaves}
+use Rattle.nav_laws.specs.Accepted.{real-leaves}
 use Prim.Native.Nat.{_-_, _≤_}
 use native.Mathlib.Omega.{arith}
 use mathlib.Core.Path.{_≡_, sym, _∙_}
@@ -67,7 +67,7 @@ sum-below-requires c κs =
 
 -- the leaves that the start has passed, by the sum over all levels
 number : (c : tie.After-sum-below)
-    → (entered (known (there (c .before))) .args .starts ≤ c .sum-below .result) × (c .sum-below .result - entered (known (there (c .before))) .args .starts ≡ passed (read-leaves (entered (known (there (c .before))) .args .image .now)) (entered (known (there (c .before))) .args .start .now))
+    → (entered (known (there (c .before))) .args .starts ≤ c .sum-below .result) × (c .sum-below .result - entered (known (there (c .before))) .args .starts ≡ passed (real-leaves (entered (known (there (c .before))) .args .image .now) (entered (known (there (c .before))) .args .f)) (entered (known (there (c .before))) .args .start .now))
 number c =
     let e = there (c .before) in
     let s = entered (known e) in

@@ -67,8 +67,8 @@ enum-known-node c = search needs
 slot-requires : tie.Need-slot-requires
 slot-requires c κs = reached c .position
 
-suffix-agrees-requires : tie.Need-suffix-agrees-requires
-suffix-agrees-requires c κs =
+real-agrees-requires : tie.Need-real-agrees-requires
+real-agrees-requires c κs =
     let k = c .before in
     let p = entered (followed k) .pre in
     (p .0, omega (arith, c .slot .ensures, reached k .slot-inside), reached k .depth-in, p .1)
@@ -96,7 +96,7 @@ returns-4 c =
     let k = c .before .before in
     let d = followed k in
     let s = entered d in
-    c .suffix-agrees .ensures ∙ sym (stem-leaf (s .args .image .now) (s .args .f) (s .pre .0) (s .args .stem .now) (bound (s .args .stem .now) (small d) (s .pre .1)) (behind k) (c .before .slot .result .0) (c .before .slot .ensures))
+    c .real-agrees .ensures ∙ sym (stem-leaf (s .args .image .now) (s .args .f) (s .pre .0) (s .args .stem .now) (bound (s .args .stem .now) (small d) (s .pre .1)) (behind k) (c .before .slot .result .0) (c .before .slot .ensures))
 
 pub begins-with-spec : {M : Type 1} → statement M
 begins-with-spec =
@@ -108,7 +108,7 @@ begins-with-spec =
     enum-told-3
     enum-known-node
     slot-requires
-    suffix-agrees-requires
+    real-agrees-requires
     returns
     returns-2
     returns-3

@@ -27,6 +27,8 @@ const HEADS: usize = 78;
 const CHARACTER: usize = 8;
 const PLACES: usize = 40;
 const KINDS: usize = 56;
+/// The bits of a suffix for which there is room in every picture.
+const SUFFIX_ROOM: u8 = 16;
 /// The width of a sign with its explanation.
 const EXPLANATION: usize = 120;
 
@@ -69,7 +71,9 @@ impl Layout {
         let kinds = column(trie.levels() + 1) + PLACES;
         let keys = kinds + KINDS;
         let suffixes = keys + CHARACTER * (longest + 2);
-        let list_end = suffixes + CHARACTER * 16;
+        let widths = trie.leaves.iter().map(|leaf| leaf.suffix().width());
+        let widest = widths.max().unwrap_or(0).max(SUFFIX_ROOM);
+        let list_end = suffixes + CHARACTER * usize::from(widest);
         let signs_end = LEFT + 4 * EXPLANATION;
         let rows_end = row(trie.leaves.len().max(1));
         Layout {
@@ -205,12 +209,12 @@ fn diamond((x, y): (usize, usize)) -> String {
     path("open", &format!("M{} {y}l7-7 7 7-7 7z", x - 7))
 }
 
-/// Draws the list of the leaves: place, kind, cut key and suffix bits.
+/// Draws the list of the leaves: place, kind, cut key and suffix.
 fn draw_list(trie: &Trie, layout: &Layout) -> Vec<String> {
     if trie.leaves.is_empty() {
         return vec![text("cell", (EDGE, TOP), "An empty image has no nodes.")];
     }
-    let head = ["place", "kind", "cut key", "suffix bits"];
+    let head = ["place", "kind", "cut key", "suffix"];
     let mut lines = draw_line(layout, "head", HEADS, head);
     for leaf in &trie.leaves {
         let (place, cut) = (leaf.place().to_string(), show_key(leaf.cut()));

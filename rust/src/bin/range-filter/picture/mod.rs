@@ -30,7 +30,8 @@ Draws the trie of an image as an SVG: a column for each level, a row for each
 leaf, and at each branch its label, a printable character or two hexadecimal
 digits. Squares are dense nodes, circles sparse ones; a filled one is an exact
 leaf too. A diamond is an open leaf. Behind each leaf stand its place, its kind,
-its cut key and its suffix bits. The image has at most 200 leaves.
+its cut key and its suffix, which is its hash bits and then its real bits. The
+image has at most 200 leaves.
 
 Exit status: 0 drawn; 1 the image is refused or has more leaves; 2 the arguments
 are not as above, or the file can't be read.

@@ -29,7 +29,7 @@ pub const COMMAND: Command = Command {
     summary: "show filters at work on sample runs",
     help: HELP,
     shape: Shape {
-        options: &["--image-version", "--dense", "--suffix-bits"],
+        options: &["--image-version", "--dense", "--real-bits", "--hash-bits"],
         flags: &[],
         operands: &["FOLDER"],
         needed: 0,
@@ -40,7 +40,7 @@ pub const COMMAND: Command = Command {
 
 const HELP: &str = "\
 usage: range-filter tour [FOLDER] [--image-version V] [--dense L]
-                         [--suffix-bits N]
+                         [--real-bits N] [--hash-bits H]
 
 Shows filters at work on the runs of a folder (samples, if none is named). Each
 file that ends in .tsv is a run: records by ascending keys, one a line, a key, a
@@ -55,19 +55,20 @@ key to the filter of its run, which has to allow for it.
 
   --image-version V   the version of the filters, 1 or 2 (1 if it is not given)
   --dense L           their dense levels, 0 to 4 (0 if it is not given)
-  --suffix-bits N     their suffix bits, 0 to 16 (8 if it is not given)
+  --real-bits N       their real bits, 0 to 16 (8 if it is not given)
+  --hash-bits H       their hash bits, 0 to 16 (0 if it is not given)
 
 Exit status: 0 all answers are right; 1 one is not, or a file is refused; 2 the
 arguments are not as above, or a file can't be read.
 ";
 
-/// The suffix bits of the filters, if no other number is given.
-const SUFFIX_BITS: u8 = 8;
+/// The real bits of the filters, if no other number is given.
+const REAL_BITS: u8 = 8;
 
 /// Reads runs and questions, asks, and writes what came of it.
 fn run(arguments: &Arguments, output: &mut dyn Write) -> Result<Ending, Failure> {
     let folder = arguments.operand(0).unwrap_or(Path::new("samples"));
-    let settings = read_settings(arguments, Settings::default().with_suffix_bits(SUFFIX_BITS))?;
+    let settings = read_settings(arguments, Settings::default().with_real_bits(REAL_BITS))?;
     let runs = read_runs(folder, settings)?;
     let questions = read_questions(&folder.join("questions.txt"))?;
     let filters = open_filters(&runs)?;

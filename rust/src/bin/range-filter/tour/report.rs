@@ -17,7 +17,7 @@ const INDENT: usize = 16;
 /// The most records of an answer that are shown.
 const SHOWN: usize = 3;
 
-/// Writes the runs with the sizes of their filters.
+/// Writes the settings of the filters, and the runs with the sizes of their filters.
 pub fn write_runs(
     runs: &[Run],
     filters: &[Filter],
@@ -25,7 +25,11 @@ pub fn write_runs(
     output: &mut dyn Write,
 ) -> io::Result<()> {
     let (number, settings) = (runs.len(), show_settings(settings));
-    writeln!(output, "{number} runs, each with a filter ({settings}).\n")?;
+    writeln!(
+        output,
+        "{number} runs, each with a filter of these settings:"
+    )?;
+    writeln!(output, "{settings}.\n")?;
     let head = ["records", "run bytes", "filter bytes", "bits a key"];
     write_row("run", head.map(str::to_string), output)?;
     for (run, filter) in runs.iter().zip(filters) {
