@@ -74,8 +74,8 @@ pub extern "C" fn range_filter_ask(image: &[u8], questions: &[u8], replies: &mut
     code(ask(image, questions, replies))
 }
 
-// Walks an image from a place on: a leaf's number in key order, or the leaf count for done. Of as many leaves as the buffer holds whole, it writes the records, 68 bytes each, one behind the other:
-// the kind (1 exact, 2 open), the cut key's length, 64 bytes with the cut key and zeros behind it, and the suffix as a number of two bytes, the low one first.
+// Walks an image from a place on: a leaf's number in key order, or the leaf count for done. Of as many leaves as the buffer holds whole, it writes the records, 70 bytes each, one behind the other:
+// the kind (1 exact, 2 open), the cut key's length, 64 bytes with the cut key and zeros behind it, and the suffix as a number of four bytes, the low one first.
 // The answer is one number, as build's.
 #[no_mangle]
 pub extern "C" fn range_filter_walk(image: &[u8], place: u64, records: &mut [u8]) -> u64
