@@ -27,7 +27,7 @@ static void show_version_2(void) {
     show_check("A in version 2", image, length, 0);
     show_damage("version 1 with LV", image, length, 2, 1, RANGE_FILTER_FRAME_WRONG);
     show_damage("LV of 13 bytes", image, length, 112, 13, RANGE_FILTER_FRAME_WRONG);
-    show_damage("level 1 starting with node 2", image, length, 120, 2, RANGE_FILTER_RANK_WRONG);
+    show_damage("level 1 starting with node 2", image, length, 120, 2, RANGE_FILTER_TABLE_WRONG);
 }
 
 /* Checks list A's image with 8 hash bits, and damages slots: those of D2 and D1 stand at 73, 74. */
@@ -50,7 +50,7 @@ int main(void) {
     show_damage("9 dense levels", image, length, 3, 9, RANGE_FILTER_HEADER_WRONG);
     show_damage("bit 7 of SC, which has six", image, length, 58, 0x85, RANGE_FILTER_SPARE_BIT_SET);
     show_damage("root labels 60 56", image, length, 46, 0x60, RANGE_FILTER_TRIE_WRONG);
-    show_damage("RS starting with 1", image, length, 96, 1, RANGE_FILTER_RANK_WRONG);
+    show_damage("RS starting with 1", image, length, 96, 1, RANGE_FILTER_TABLE_WRONG);
 
     length = build_image(LIST_VAN, range_filter_settings(1, 0, 8, 0), image);
     show_check("VAN with 8 real bits", image, length, 0);

@@ -135,7 +135,7 @@ enum range_filter_refusal {
     RANGE_FILTER_HEADER_WRONG = 12,           /* version, settings, counts or a body's length */
     RANGE_FILTER_SPARE_BIT_SET = 13,          /* a bit set behind the last one of a body */
     RANGE_FILTER_TRIE_WRONG = 14,             /* not a trie that a builder writes */
-    RANGE_FILTER_RANK_WRONG = 15,             /* a rank, a sample or a level start */
+    RANGE_FILTER_TABLE_WRONG = 15,            /* a rank, a sample or a level start */
     RANGE_FILTER_SLOT_WRONG = 16,             /* a bit of a slot set where none can be */
     RANGE_FILTER_PLACE_OUT_OF_RANGE = 17,     /* a place above the number of leaves */
     RANGE_FILTER_QUESTION_MALFORMED = 21,     /* a question cut off, or another mark */
@@ -380,7 +380,7 @@ static inline const char *range_filter_refusal_text(uint32_t number) {
     case RANGE_FILTER_HEADER_WRONG: return "the image's header or a record's length is wrong: load or build it again";
     case RANGE_FILTER_SPARE_BIT_SET: return "a spare bit of the image is set: load or build it again";
     case RANGE_FILTER_TRIE_WRONG: return "the image's trie is not a builder's: load or build it again";
-    case RANGE_FILTER_RANK_WRONG: return "a rank, sample or level start of the image is wrong: load or build it again";
+    case RANGE_FILTER_TABLE_WRONG: return "a rank, sample or level start of the image is wrong: load or build it again";
     case RANGE_FILTER_SLOT_WRONG: return "a slot of the image has a bit that no key gives it: load or build it again";
     case RANGE_FILTER_PLACE_OUT_OF_RANGE: return "the place is past the end of the walk: take 0 up to the number of leaves";
     case RANGE_FILTER_QUESTION_MALFORMED: return "a question is malformed: write QP, QR, QB, QC or QS and its keys";

@@ -186,8 +186,8 @@ fn another_trie_gets_14() {
 
 #[test]
 fn a_wrong_rank_or_sample_gets_15() {
-    assert_refused(&changed(IMAGE_A, b"RS", 0, 1), Refusal::RankWrong);
-    assert_refused(&changed(IMAGE_A, b"TS", 0, 1), Refusal::RankWrong);
+    assert_refused(&changed(IMAGE_A, b"RS", 0, 1), Refusal::TableWrong);
+    assert_refused(&changed(IMAGE_A, b"TS", 0, 1), Refusal::TableWrong);
 }
 
 /// Gives list A's image in version 2 with some level starts in the place of its own.
@@ -204,7 +204,7 @@ fn wrong_level_starts_get_15() {
     for place in 0..starts.len() {
         let mut other = starts.to_vec();
         other[place] ^= 1;
-        assert_refused(&with_level_starts(&other), Refusal::RankWrong);
+        assert_refused(&with_level_starts(&other), Refusal::TableWrong);
     }
     // One level fewer or more, bytes that are no whole entry, no entry, and another order.
     let more = [starts, b"\x03\0\0\0"].concat();
@@ -217,7 +217,7 @@ fn wrong_level_starts_get_15() {
         b"",
         &turned,
     ] {
-        assert_refused(&with_level_starts(other), Refusal::RankWrong);
+        assert_refused(&with_level_starts(other), Refusal::TableWrong);
     }
 }
 
@@ -229,7 +229,7 @@ fn level_starts_are_judged_behind_14_and_before_16() {
     };
     assert_refused(&starts_too(b"SC", 0, 0x45), Refusal::SpareBitSet);
     assert_refused(&starts_too(b"SL", 0, 0x57), Refusal::TrieWrong);
-    assert_refused(&starts_too(b"SV", 2, 0x01), Refusal::RankWrong);
+    assert_refused(&starts_too(b"SV", 2, 0x01), Refusal::TableWrong);
 }
 
 #[test]

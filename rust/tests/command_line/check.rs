@@ -5,6 +5,14 @@ use crate::examples::{
 };
 use crate::program::{Folder, Outcome};
 
+/// How the line of a refused image starts, number by number.
+const FRAME_WRONG: &str = "refused with 11, FRAME_WRONG: ";
+const HEADER_WRONG: &str = "refused with 12, HEADER_WRONG: ";
+const SPARE_BIT_SET: &str = "refused with 13, SPARE_BIT_SET: ";
+const TRIE_WRONG: &str = "refused with 14, TRIE_WRONG: ";
+const TABLE_WRONG: &str = "refused with 15, TABLE_WRONG: ";
+const SLOT_WRONG: &str = "refused with 16, SLOT_WRONG: ";
+
 /// Runs the check over some bytes.
 fn check(test: &str, image: &[u8]) -> Outcome {
     let folder = Folder::new(test);
@@ -58,15 +66,14 @@ fn hash_bits_are_told() {
     for place in [0, 1, 3] {
         check("check_hash_open", &with_slot(place)).done();
     }
-    refused("check_hash_exact", &with_slot(2), 16, "anew");
+    refused("check_hash_exact", &with_slot(2), SLOT_WRONG, "anew");
 }
 
-/// Asserts that an image is refused with a number and with what stands in brackets.
-fn refused(test: &str, image: &[u8], number: u32, detail: &str) {
+/// Asserts that an image is refused in a line with this start, and with what stands in brackets.
+fn refused(test: &str, image: &[u8], start: &str, detail: &str) {
     let outcome = check(test, image);
     assert_eq!((outcome.status, outcome.errors.as_str()), (1, ""));
-    let start = format!("refused {number}: ");
-    assert!(outcome.output.starts_with(&start), "{}", outcome.output);
+    assert!(outcome.output.starts_with(start), "{}", outcome.output);
     assert!(
         outcome.output.ends_with(&format!("{detail}\n")),
         "{}",
@@ -80,32 +87,32 @@ fn broken_frames_get_11() {
     refused(
         "check_11_none",
         b"",
-        11,
+        FRAME_WRONG,
         " (it has 0 bytes, and a header alone 22)",
     );
     let short = " (it has 21 bytes, and a header alone 22)";
-    refused("check_11_short", &IMAGE_A[..21], 11, short);
+    refused("check_11_short", &IMAGE_A[..21], FRAME_WRONG, short);
     refused(
         "check_11_head",
         &damaged(0, b'h'),
-        11,
+        FRAME_WRONG,
         " (it does not begin with the mark HD)",
     );
     let mark = " (the record DC is not where it belongs)";
-    refused("check_11_mark", &damaged(28, b'd'), 11, mark);
+    refused("check_11_mark", &damaged(28, b'd'), FRAME_WRONG, mark);
     let end = " (the record TS runs past the end of the file)";
-    refused("check_11_end", &IMAGE_A[..109], 11, end);
+    refused("check_11_end", &IMAGE_A[..109], FRAME_WRONG, end);
     refused(
         "check_11_length",
         &damaged(45, 0xFF),
-        11,
+        FRAME_WRONG,
         " (the record SL runs past the end of the file)",
     );
     let more = [IMAGE_A, b"ab"].concat();
     refused(
         "check_11_more",
         &more,
-        11,
+        FRAME_WRONG,
         " (2 bytes stand behind the last record)",
     );
 }
@@ -113,19 +120,19 @@ fn broken_frames_get_11() {
 #[test]
 fn records_of_another_version_get_11() {
     let missing = " (the record LV is not where it belongs)";
-    refused("check_11_version_2", &damaged(2, 2), 11, missing);
+    refused("check_11_version_2", &damaged(2, 2), FRAME_WRONG, missing);
     let second = in_version_2(IMAGE_A);
     let more = " (18 bytes stand behind the last record)";
     for version in [1, 3] {
         let mut image = second.clone();
         image[2] = version;
-        refused("check_11_version", &image, 11, more);
+        refused("check_11_version", &image, FRAME_WRONG, more);
     }
     let end = " (the record LV runs past the end of the file)";
-    refused("check_11_level_starts", &second[..127], 11, end);
+    refused("check_11_level_starts", &second[..127], FRAME_WRONG, end);
     let more = [&second[..], b"ab"].concat();
     let behind = " (2 bytes stand behind the last record)";
-    refused("check_11_behind", &more, 11, behind);
+    refused("check_11_behind", &more, FRAME_WRONG, behind);
 }
 
 #[test]
@@ -133,58 +140,67 @@ fn wrong_headers_get_12_with_the_field() {
     refused(
         "check_12_version",
         &damaged(2, 3),
-        12,
+        HEADER_WRONG,
         " (the version is 3, and neither 1 nor 2)",
     );
     refused(
         "check_12_dense",
         &damaged(3, 5),
-        12,
+        HEADER_WRONG,
         " (there are 5 dense levels, over 4)",
     );
     refused(
         "check_12_n",
         &damaged(4, 17),
-        12,
+        HEADER_WRONG,
         " (there are 17 real bits, over 16)",
     );
     refused(
         "check_12_h",
         &damaged(5, 17),
-        12,
+        HEADER_WRONG,
         " (there are 17 hash bits, over 16)",
     );
     refused(
         "check_12_leaves",
         &damaged(8, 1),
-        12,
+        HEADER_WRONG,
         " (there are 65,540 leaves, over 65,535)",
     );
     let mut two = damaged(2, 0);
     two[5] = 255;
     let both = " (the version is 0, and neither 1 nor 2; there are 255 hash bits, over 16)";
-    refused("check_12_two", &two, 12, both);
+    refused("check_12_two", &two, HEADER_WRONG, both);
     // A body that is not as long as the counts and settings give shows in no field alone.
-    refused("check_12_body", &damaged(14, 7), 12, "anew");
-    refused("check_12_slots", &damaged(5, 9), 12, "anew");
+    refused("check_12_body", &damaged(14, 7), HEADER_WRONG, "anew");
+    refused("check_12_slots", &damaged(5, 9), HEADER_WRONG, "anew");
+}
+
+#[test]
+fn a_refusal_is_told_with_number_name_and_sentence() {
+    let outcome = check("check_line", &damaged(3, 5));
+    let line = "refused with 12, HEADER_WRONG: the image's header has a wrong value, \
+                or a record another length than it says: \
+                copy the image again, or build it anew (there are 5 dense levels, over 4)\n";
+    assert_eq!(outcome.output, line);
 }
 
 #[test]
 fn wrong_bodies_get_13_to_16() {
     // SL stands at 40, SC at 52, SB at 59, RS at 90: six bytes of mark and length, then the body.
-    refused("check_13", &damaged(58, 0x45), 13, "anew");
+    refused("check_13", &damaged(58, 0x45), SPARE_BIT_SET, "anew");
     let mut unsorted = damaged(46, 0x56);
     unsorted[47] = 0x44;
-    refused("check_14", &unsorted, 14, "anew");
-    refused("check_15", &damaged(96, 1), 15, "anew");
+    refused("check_14", &unsorted, TRIE_WRONG, "anew");
+    refused("check_15", &damaged(96, 1), TABLE_WRONG, "anew");
     // Level 1 starts with the node at 120, which is 1.
     let mut starts = in_version_2(IMAGE_A);
     starts[120] = 2;
-    refused("check_15_level_starts", &starts, 15, "anew");
+    refused("check_15_level_starts", &starts, TABLE_WRONG, "anew");
     // The slots of V, D2, D1 and D12 are the body of SV at 66.
     let mut image = IMAGE_VAN.to_vec();
     image[72 + 2] = 1;
-    refused("check_16", &image, 16, "anew");
+    refused("check_16", &image, SLOT_WRONG, "anew");
 }
 
 #[test]

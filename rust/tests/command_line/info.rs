@@ -119,13 +119,13 @@ fn the_empty_image_has_no_bits_a_key() {
 }
 
 #[test]
-fn a_refused_image_is_told_with_its_number() {
+fn a_refused_image_is_told_with_number_and_name() {
     let folder = Folder::new("info_refused");
     folder.write("image", &IMAGE_A[..60]);
     for subcommand in ["info", "leaves", "ask", "picture"] {
         let sentence = folder.run(&[subcommand, "image"]).failed(1);
         assert!(
-            sentence.starts_with("image is refused with 11: "),
+            sentence.starts_with("image is refused with 11, FRAME_WRONG: "),
             "{sentence}"
         );
     }

@@ -24,13 +24,14 @@ fn run_over(test: &str, bytes: u64, arguments: &[&str]) -> Outcome {
 fn fifty_million_zero_bytes_are_no_image() {
     let outcome = run_over("long_check", 50_000_000, &["check", "zeros"]);
     assert_eq!((outcome.status, outcome.errors.as_str()), (1, ""));
-    assert!(outcome.output.starts_with("refused 11: "));
+    assert!(outcome.output.starts_with("refused with 11, FRAME_WRONG: "));
     assert!(outcome
         .output
         .ends_with(" (it does not begin with the mark HD)\n"));
     for subcommand in ["info", "ask", "leaves", "picture"] {
         let outcome = run_over("long_others", 50_000_000, &[subcommand, "zeros"]);
-        assert!(outcome.failed(1).starts_with("zeros is refused with 11: "));
+        let sentence = outcome.failed(1);
+        assert!(sentence.starts_with("zeros is refused with 11, FRAME_WRONG: "));
     }
 }
 
@@ -89,5 +90,5 @@ fn noise_is_no_image() {
     let outcome = folder.run(&["check", "noise"]);
     assert!(start.elapsed() < BOUND, "{:?}", start.elapsed());
     assert_eq!((outcome.status, outcome.errors.as_str()), (1, ""));
-    assert!(outcome.output.starts_with("refused 11: "));
+    assert!(outcome.output.starts_with("refused with 11, FRAME_WRONG: "));
 }

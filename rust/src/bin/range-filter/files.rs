@@ -8,7 +8,7 @@ use std::process;
 use range_filter::{Filter, Refusal};
 
 use crate::ending::Failure;
-use crate::text::grouped;
+use crate::text::{grouped, show_refusal};
 
 /// Files with more bytes are not read as images.
 ///
@@ -43,8 +43,7 @@ pub fn read_image(path: &Path) -> Result<Vec<u8>, Failure> {
 pub fn open_filter<'a>(path: &Path, image: &'a [u8]) -> Result<Filter<'a>, Failure> {
     let refused = |refusal: Refusal| {
         let name = path.display();
-        let number = refusal.number();
-        Failure::Refused(format!("{name} is refused with {number}: {refusal}"))
+        Failure::Refused(format!("{name} is {}", show_refusal(refusal)))
     };
     Filter::open(image).map_err(refused)
 }

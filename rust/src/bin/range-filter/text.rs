@@ -1,8 +1,9 @@
-//! Keys as text, in which `\xHH` stands for a byte and `\\` for a backslash; settings and numbers.
+//! Keys as text, in which `\xHH` stands for a byte and `\\` for a backslash; settings, refusals and
+//! numbers.
 
 use std::fmt;
 
-use range_filter::{Settings, MAX_KEY_BYTES};
+use range_filter::{Refusal, Settings, MAX_KEY_BYTES};
 
 /// Why a text is not a key.
 #[derive(Clone, Copy, Debug, PartialEq, Eq)]
@@ -88,6 +89,12 @@ pub fn show_settings(settings: Settings) -> String {
     let (version, dense) = (settings.version(), settings.dense_levels());
     let (real, hash) = (settings.real_bits(), settings.hash_bits());
     format!("version {version}, dense levels {dense}, real bits {real}, hash bits {hash}")
+}
+
+/// Gives a refusal in words: its number, its name, what is wrong and what to do.
+pub fn show_refusal(refusal: Refusal) -> String {
+    let (number, name) = (refusal.number(), refusal.name());
+    format!("refused with {number}, {name}: {refusal}")
 }
 
 /// Gives a number with a comma before each three digits, as 65,535.
