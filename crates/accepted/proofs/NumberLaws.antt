@@ -16,10 +16,10 @@ use Rattle.theory.specs.Rules.{point-rule}
 use Rattle.theory.specs.Accept.{accepted-is-image}
 use Rattle.theory.specs.LengthBounds.{leaves-are}
 use Rattle.theory.specs.OneQuestionLaws.{one-refused, one-replied}
-use Rattle.image_types.specs.declared.Frame.{Frame}
-use Rattle.nav_laws.specs.Accepted.{Accepted}
-use Rattle.bits_laws.specs.Bits.{placed}
-use Rattle.ask_laws.specs.ReplyLaws.{point-reply}
+use Rattle.image.specs.declared.Frame.{Frame}
+use Rattle.nav_nodes.specs.Accepted.{Accepted}
+use Rattle.bits.specs.Bits.{placed}
+use Rattle.ask_files.specs.ReplyLaws.{point-reply}
 use Rattle.accepted.specs.declared.Number.the-variants.{Of, Refused}
 use Rattle.accepted.specs.Numbers.{numbered-of}
 

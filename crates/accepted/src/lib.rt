@@ -8,21 +8,24 @@ ghost use Rattle.spec.specs.Nodes.{read-leaves};
 ghost use Rattle.spec.specs.Rules.{rule};
 ghost use Rattle.spec.specs.Questions.{QP, QS, QB, QR, QC};
 ghost use Rattle.spec.specs.OneQuestion.{bounds-refusal, ask-one, reply-number, reply-rule, key-written};
-ghost use Rattle.query_laws.specs.Rules.{rule-of};
+ghost use Rattle.query_point.specs.Rules.{rule-of};
 ghost use Rattle.accepted.specs.Numbers.{numbered-of};
-use accepted_frame::accepted_frame;
-use ask_files::BOUNDS_REVERSED;
-use ask_files::KEY_TOO_LONG;
+use ask_files::questions::BOUNDS_REVERSED;
+use ask_files::questions::KEY_TOO_LONG;
 use ask_replies::seek_reply;
 use bits::copy::write_bytes;
+use frame::accepted_frame;
 use keys::MAX_KEY_BYTES;
 use keys::compare::Order;
 use keys::compare::compare;
-use query_laws::Rule;
-use query_levels::level_starts;
-use query_point::descend;
-use query_point::rule_number;
-use query_point::rule_says;
+use query_point::Rule;
+use query_point::point::descend;
+use query_point::point::rule_number;
+use query_point::point::rule_says;
+use query_sums::levels::level_starts;
+
+pub mod frame; // frame.rt: the frame of an accepted image, read again
+pub mod records; // records.rt: the leaves from a place on as records
 
 // The bytes of the buffer for a key that is found: a length byte and the key.
 pub const FOUND_BYTES: usize = 65;
@@ -89,7 +92,7 @@ pub fn begins_with(image: &[u8], stem: &[u8]) -> Number
     if MAX_KEY_BYTES < stem.len() {
         return Number::Refused(KEY_TOO_LONG);
     }
-    Number::Of(query_stem::begins::begins_with(image, accepted_frame(image), stem))
+    Number::Of(query_point::stem::begins_with(image, accepted_frame(image), stem))
 }
 
 // The number in the reply to a range.

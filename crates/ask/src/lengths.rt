@@ -5,20 +5,20 @@ ghost use lib.ListN.{length};
 ghost use lib.Dec.{leb};
 ghost use Rattle.spec.specs.Nodes.{read-leaves};
 ghost use Rattle.spec.specs.Questions.{reply, questions-of};
-ghost use Rattle.nav_laws.specs.Accepted.{Accepted};
-ghost use Rattle.query_laws.specs.Summed.{level-starts};
-ghost use Rattle.ask_laws.specs.FileLaws.{Taken-from};
+ghost use Rattle.nav_nodes.specs.Accepted.{Accepted};
+ghost use Rattle.query_descent.specs.Summed.{level-starts};
+ghost use Rattle.ask_files.specs.FileLaws.{Taken-from};
 ghost use Rattle.ask_files.specs.Questions.{Inside, question-of};
 ghost use Rattle.ask_replies.specs.Replies.{file-replies};
-use ask_files::QuestionAt;
-use ask_files::key_at;
-use ask_files::question_at;
+use ask_files::questions::QuestionAt;
+use ask_files::questions::key_at;
+use ask_files::questions::question_at;
+use ask_files::reply_bytes::REPLY_HEAD;
 use ask_replies::POINT_KEY;
 use ask_replies::seek_reply;
-use ask_reply_bytes::REPLY_HEAD;
-use image_types::Frame;
+use image::Frame;
 use keys::MAX_KEY_BYTES;
-use query_levels::level_starts;
+use query_sums::levels::level_starts;
 
 // The length of the key in the reply to a question. A point's has one byte and a seek's varies, so that only a seek is answered for it; other replies have none. `starts` is the sum of slot numbers for the empty key.
 fn key_length(image: &[u8], f: Frame, starts: usize, file: &[u8], question: QuestionAt) -> usize

@@ -2,15 +2,15 @@
 ghost use mathlib.Core.Path.{_≡_};
 ghost use Rattle.spec.specs.Check.{verdict};
 ghost use Rattle.spec.specs.Ask.{ask};
-ghost use Rattle.image_types.specs.FrameOf.{FrameOf};
-ghost use Rattle.image_types.specs.Outcomes.{outcome};
-use ask_files::QuestionFile;
-use ask_files::judge_file;
+ghost use Rattle.image.specs.FrameOf.{FrameOf};
+ghost use Rattle.image.specs.Outcomes.{outcome};
+use ask_files::questions::QuestionFile;
+use ask_files::questions::judge_file;
 use ask_replies::write_replies;
 use check_image::accept;
-use image_types::Frame;
-use image_types::Framed;
-use image_types::Written;
+use image::Frame;
+use image::Framed;
+use image::Written;
 use lengths::replies_fit;
 
 pub mod lengths; // lengths.rt: whether all replies fit into the buffer

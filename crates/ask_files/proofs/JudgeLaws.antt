@@ -5,10 +5,10 @@ use native.Mathlib.Omega.{arith}
 use lib.ListN.{length, drop, length-drop, drop-of-length-le}
 use Rattle.spec.specs.Bytes.{Bytes}
 use Rattle.spec.specs.Questions.{Question, Parsed-questions, refused, taken, with-question, parse-from, parse-questions, questions-of}
-use Rattle.ask_laws.specs.FileLaws.{questions-are, parse-none, parse-many, parse-bad, parse-got}
+use Rattle.ask_files.specs.FileLaws.{questions-are, parse-none, parse-many, parse-bad, parse-got}
 use Rattle.ask_files.specs.Questions.{Reads-question, counted, question-file}
-use Rattle.ask_files.specs.declared.Read.the-variants.{End, Refused as Read-refused}
-use Rattle.ask_files.specs.declared.QuestionFile.the-variants.{Questions, Refused}
+use Rattle.ask_files.specs.declared.questions.Read.the-variants.{End, Refused as Read-refused}
+use Rattle.ask_files.specs.declared.questions.QuestionFile.the-variants.{Questions, Refused}
 
 -- the whole file, before its first question
 pub judge-start : (s : Bytes) → question-file (parse-questions s) ≡ counted 0 (parse-from (length s - 0) 0 (drop 0 s))

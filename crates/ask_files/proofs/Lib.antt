@@ -1,2 +1,4 @@
+pub mod AnswerLaws
 pub mod JudgeLaws
+pub mod PlacedLaws
 pub mod ReadLaws

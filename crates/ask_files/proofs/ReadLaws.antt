@@ -6,15 +6,15 @@ use native.Mathlib.Omega.{arith}
 use lib.ListN.{length, getD, drop}
 use Rattle.spec.specs.Bytes.{Bytes}
 use Rattle.spec.specs.Questions.{got}
-use Rattle.bits_laws.specs.Bits.{key}
+use Rattle.bits.specs.Bits.{key}
 use Rattle.keys.specs.Order.{order}
 use Rattle.keys.specs.declared.compare.Order.the-variants.{Below, Equal, Above}
 use Rattle.keys.proofs.OrderLaws.{order-is-below, order-not-below}
-use Rattle.ask_laws.specs.KeyAt.{Key-at, key-whole}
-use Rattle.ask_laws.specs.QuestionAt.{One-key, Two-keys, No-keys, one-bad, one-got, two-bad, two-bad-upper, two-turned, two-got, question-marked}
+use Rattle.ask_files.specs.KeyAt.{Key-at, key-whole}
+use Rattle.ask_files.specs.QuestionAt.{One-key, Two-keys, No-keys, one-bad, one-got, two-bad, two-bad-upper, two-turned, two-got, question-marked}
 use Rattle.ask_files.specs.Questions.{part, Reads-key, Reads-upper, Reads-bounds, Reads-question}
-use Rattle.ask_files.specs.declared.Read.{Read}
-use Rattle.ask_files.specs.declared.Read.the-variants.{End, Refused as Read-refused}
+use Rattle.ask_files.specs.declared.questions.Read.{Read}
+use Rattle.ask_files.specs.declared.questions.Read.the-variants.{End, Refused as Read-refused}
 
 -- ---- what was read, matched
 

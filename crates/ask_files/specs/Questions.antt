@@ -6,18 +6,18 @@ use lib.ListN.{length, drop}
 use Rattle.spec.specs.Bytes.{Bytes}
 use Rattle.spec.specs.Keys.{below}
 use Rattle.spec.specs.Questions.{Question, QP, QS, QB, QR, QC, bad, got, read-key, two-keys, read-question, Parsed-questions, refused, taken}
-use Rattle.bits_laws.specs.Bits.{key}
-use Rattle.ask_laws.specs.QuestionAt.{One-key, Two-keys, No-keys}
-use Rattle.ask_laws.specs.AskedAt.{Key-part, Followed}
-use Rattle.ask_files.specs.declared.Read.{Read}
-use Rattle.ask_files.specs.declared.Read.the-variants.{End, Refused as Read-refused}
-use Rattle.ask_files.specs.declared.Keys.{Keys}
-use Rattle.ask_files.specs.declared.Keys.the-variants.{One, Two, Wrong}
-use Rattle.ask_files.specs.declared.QuestionFile.{QuestionFile}
-use Rattle.ask_files.specs.declared.QuestionFile.the-variants.{Questions, Refused}
-use Rattle.ask_files.specs.declared.QuestionAt.{QuestionAt}
-use Rattle.ask_files.specs.declared.QuestionAt.the-variants.{Point, Seek, Begins, Range, Count}
-use Rattle.ask_files.specs.declared.Asked.{Asked}
+use Rattle.bits.specs.Bits.{key}
+use Rattle.ask_files.specs.QuestionAt.{One-key, Two-keys, No-keys}
+use Rattle.ask_files.specs.AskedAt.{Key-part, Followed}
+use Rattle.ask_files.specs.declared.questions.Read.{Read}
+use Rattle.ask_files.specs.declared.questions.Read.the-variants.{End, Refused as Read-refused}
+use Rattle.ask_files.specs.declared.questions.Keys.{Keys}
+use Rattle.ask_files.specs.declared.questions.Keys.the-variants.{One, Two, Wrong}
+use Rattle.ask_files.specs.declared.questions.QuestionFile.{QuestionFile}
+use Rattle.ask_files.specs.declared.questions.QuestionFile.the-variants.{Questions, Refused}
+use Rattle.ask_files.specs.declared.questions.QuestionAt.{QuestionAt}
+use Rattle.ask_files.specs.declared.questions.QuestionAt.the-variants.{Point, Seek, Begins, Range, Count}
+use Rattle.ask_files.specs.declared.questions.Asked.{Asked}
 
 -- the bytes from a to e
 abbrev pub part : Bytes → ℕ → ℕ → Bytes

@@ -5,10 +5,10 @@ use mathlib.Core.List.{List, []}
 use Rattle.spec.specs.Bytes.{Bytes}
 use Rattle.spec.specs.Leaves.{Leaf, reals}
 use Rattle.spec.specs.Questions.{QS, seek, reply}
-use Rattle.ask_laws.specs.ReplyLaws.{answer, seek-reply-found, seek-reply-none}
-use Rattle.query_laws.specs.declared.SoughtLeaf.{SoughtLeaf}
-use Rattle.query_laws.specs.declared.SoughtLeaf.the-variants.{None, At}
-use Rattle.query_laws.specs.Sought.{sought-of}
+use Rattle.ask_files.specs.ReplyLaws.{answer, seek-reply-found, seek-reply-none}
+use Rattle.query_seek.specs.declared.SoughtLeaf.{SoughtLeaf}
+use Rattle.query_seek.specs.declared.SoughtLeaf.the-variants.{None, At}
+use Rattle.query_seek.specs.Sought.{sought-of}
 
 module _ (H : ℕ) (ls : List Leaf) (start : Bytes) (leaf : SoughtLeaf) (key : Bytes) (e : sought-of leaf key ≡ seek (reals H ls) start) where
   -- none: FFFFFFFF without a key

@@ -2,7 +2,7 @@
 ghost use mathlib.Core.Path.{_≡_};
 ghost use Prim.Native.Nat.{_+_, _≤_};
 ghost use lib.ListN.{length};
-ghost use Rattle.bits_laws.specs.Bits.{placed};
+ghost use Rattle.bits.specs.Bits.{placed};
 
 // The bytes of xs go to out from at, and all else stays.
 pub fn write_bytes(out: &mut [u8], at: usize, xs: &[u8])

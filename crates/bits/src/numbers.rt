@@ -3,7 +3,7 @@ ghost use mathlib.Core.Path.{_≡_};
 ghost use Prim.Native.Nat.{_+_, _*_, _^_, _≤_, _<_, min, max};
 ghost use lib.ListN.{length, drop};
 ghost use Rattle.spec.specs.Bytes.{bit, blocks, from32, le32};
-ghost use Rattle.bits_laws.specs.Bits.{word, placed};
+ghost use Rattle.bits.specs.Bits.{word, placed};
 
 // 2^32: a number of four bytes is below it, and four bytes hold a larger number modulo it.
 pub const MODULUS_32: usize = 4294967296;

@@ -2,7 +2,7 @@
 ghost use mathlib.Core.Path.{_≡_};
 ghost use Prim.Native.Nat.{_+_, _≤_};
 ghost use lib.ListN.{length};
-ghost use Rattle.bits_laws.specs.Bits.{part};
+ghost use Rattle.bits.specs.Bits.{part};
 
 // The len bytes of s from an offset.
 pub fn part(s: &[u8], at: usize, len: usize) -> &[u8]

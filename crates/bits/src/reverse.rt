@@ -1,7 +1,7 @@
 // A byte's bits in the other order.
 ghost use mathlib.Core.Path.{_≡_};
 ghost use Prim.Native.Nat.{_<_};
-ghost use Rattle.bits_laws.specs.Bits.{reversed};
+ghost use Rattle.bits.specs.Bits.{reversed};
 use super::numbers::wide;
 
 // Five copies of a byte, each one bit higher than ten bits behind the one before.

@@ -2,10 +2,10 @@
 ghost use mathlib.Core.Path.{_≡_};
 ghost use Prim.Native.Nat.{ℕ, _+_, _%_, _^_, _≤_, _<_};
 ghost use lib.Count.{ones};
-ghost use Rattle.bits_laws.specs.CountLaws.{Counts, Field-counts, paired};
-ghost use Rattle.bits_laws.specs.NarrowLaws.{Narrowed};
+ghost use Rattle.bits_select.specs.CountLaws.{Counts, Field-counts, paired};
+ghost use Rattle.bits_select.specs.NarrowLaws.{Narrowed};
+use super::byte_ones::place_in_pair;
 use bits::numbers::wide;
-use byte_places::place_in_pair;
 
 // Masks of a word, each with every other field from the first on. Every other bit.
 const BITS: u64 = 0x5555555555555555;

@@ -3,12 +3,12 @@ ghost use mathlib.Core.Path.{_≡_};
 ghost use Prim.Native.Nat.{_+_, _*_, _%_, _^_, _≤_, _<_};
 ghost use lib.ListN.{length};
 ghost use lib.Count.{ones};
-ghost use Rattle.bits_laws.specs.Bits.{rank, select};
+ghost use Rattle.bits.specs.Bits.{rank, select};
 use super::in_word::select_by_halves;
 use super::in_word::select_in_word;
 use bits::numbers::read_word;
 use bits::numbers::smaller;
-use bits_ranks::ones_word;
+use bits::ranks::ones_word;
 
 // The position of the lowest set bit of a word that is not zero.
 fn lowest_one(x: u64) -> usize

@@ -12,11 +12,11 @@ use Rattle.spec.specs.Build.{in-range, turned-down, to-build, judge}
 use Rattle.theory.specs.KeyFiles.{keys-exactly}
 use Rattle.theory.specs.Terms.{Is-bytes}
 use Rattle.theory.specs.BuildLaws.{keys-of-list, built-from, judge-is, judge-keys}
-use Rattle.build_laws.specs.KeyList.{key-list}
-use Rattle.build_laws.specs.declared.KeyList.the-variants.{Keys, Refused as List-refused}
-use Rattle.build_laws.specs.Plan.{Ready}
-use Rattle.build_laws.specs.AcceptedList.{listed, judged-keys, judged-refused}
-use Rattle.build_image.specs.Image.{image-of}
+use Rattle.build_list.specs.KeyList.{key-list}
+use Rattle.build_list.specs.declared.KeyList.the-variants.{Keys, Refused as List-refused}
+use Rattle.build_records.specs.Plan.{Ready}
+use Rattle.build.specs.AcceptedList.{listed, judged-keys, judged-refused}
+use Rattle.build.specs.Image.{image-of}
 
 -- 5: a setting out of range
 pub out-of-range : (list : Bytes) (st : Settings) → in-range st ≡ false → judge list st ≡ turned-down 5

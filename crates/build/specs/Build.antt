@@ -5,8 +5,8 @@ use Rattle.spec.specs.Bytes.{Bytes}
 use Rattle.spec.specs.Keys.{keys-of}
 use Rattle.spec.specs.Image.{Settings}
 use Rattle.spec.specs.Build.{turned-down, to-build, judge, bytes, refused}
-use Rattle.build_laws.specs.Plan.{Ready}
-use Rattle.build_image.specs.Image.{image-of}
+use Rattle.build_records.specs.Plan.{Ready}
+use Rattle.build.specs.Image.{image-of}
 use Rattle.build.specs.declared.Judged.{Judged}
 use Rattle.build.specs.declared.Judged.the-variants.{Accepted as Judged-accepted, Refused as Judged-refused}
 use Rattle.build.specs.declared.Length.{Length}

@@ -2,20 +2,22 @@
 ghost use mathlib.Core.Path.{_≡_};
 ghost use Rattle.spec.specs.Image.{known-version};
 ghost use Rattle.spec.specs.Build.{in-range, image-length, build};
-ghost use Rattle.image_types.specs.Header.{asked};
-ghost use Rattle.image_types.specs.Outcomes.{outcome};
+ghost use Rattle.image.specs.Header.{asked};
+ghost use Rattle.image.specs.Outcomes.{outcome};
 ghost use Rattle.build.specs.Build.{Judges, length-of};
-use build_image::image::build_image;
-use build_image::image::measure_image;
-use build_laws::KeyList;
+use build_list::KeyList;
 use build_list::judge::judge_list;
-use image_records::header::FIRST_VERSION;
-use image_records::header::MAX_DENSE_LEVELS;
-use image_records::header::MAX_HASH_BITS;
-use image_records::header::MAX_REAL_BITS;
-use image_types::LEVELED_VERSION;
-use image_types::Settings;
-use image_types::Written;
+use image::LEVELED_VERSION;
+use image::Settings;
+use image::Written;
+use image::header_bytes::FIRST_VERSION;
+use image::header_bytes::MAX_DENSE_LEVELS;
+use image::header_bytes::MAX_HASH_BITS;
+use image::header_bytes::MAX_REAL_BITS;
+use layout::build_image;
+use layout::measure_image;
+
+pub mod layout; // layout.rt: the plan of an image, its length, its header and its records
 
 // The number of a setting out of range.
 const SETTING_OUT_OF_RANGE: u32 = 5;

@@ -9,15 +9,15 @@ ghost use Rattle.build_laws.specs.BytePass.{byte-state};
 ghost use Rattle.build_laws.specs.Passes.{key-bytes, Listed-key, listed-entries, key-exact, Entries-room, write-entries};
 ghost use Rattle.build_laws.specs.declared.Kind.the-variants.{SL};
 ghost use Rattle.build_laws.specs.Limits.{counters};
+use super::Counters;
 use super::numbers::cut_length;
 use super::numbers::one_less;
 use super::put::put_byte;
 use bits::numbers::larger;
 use bits::numbers::smaller;
-use build_laws::Counters;
 use build_laws::Key;
 use build_laws::Levels;
-use image_types::EXTRA_LABEL;
+use image::EXTRA_LABEL;
 
 // Whether the branch on level d of a key continues. The cut key has c bytes.
 pub fn continues(k: Key, c: usize, d: usize) -> bool

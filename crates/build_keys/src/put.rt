@@ -10,14 +10,14 @@ ghost use Rattle.build_laws.specs.DenseRows.{cell-step, cell-ones};
 ghost use Rattle.build_laws.specs.BodyLaws.{bit-at};
 ghost use Rattle.build_laws.specs.Passes.{set-at-cursor};
 ghost use Rattle.build_laws.specs.Limits.{counter-max};
+use super::Counters;
 use super::numbers::one_less;
 use bits::numbers::one_if;
 use bits::numbers::wide32;
-use bits_ranks::set_bit;
+use bits::ranks::set_bit;
 use build_laws::Cell;
-use build_laws::Counters;
-use image_types::BitPos;
-use image_types::NodeNum;
+use image::BitPos;
+use image::NodeNum;
 
 // The byte x is written at the cursor of level d, which moves on by one.
 pub fn put_byte(out: &mut [u8], cur: &mut Counters, d: usize, x: u8)

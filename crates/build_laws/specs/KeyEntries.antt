@@ -15,7 +15,7 @@ use Rattle.spec.specs.Leaves.{Leaf, leaves, suffix-bits}
 use Rattle.spec.specs.Nodes.{to-node, to-leaf}
 use Rattle.theory.specs.Terms.{Ascending}
 use Rattle.theory.specs.Order.{shared-comm, above-short, shared-le}
-use Rattle.rank_tables_laws.specs.Entries.{iota-snoc}
+use Rattle.rank_tables.specs.Entries.{iota-snoc}
 use Rattle.build_laws.specs.SlotWidths.{width-of}
 use Rattle.build_laws.specs.LevelEntries.{tagged, branch-at, leaf-entries, next-new, level-entries, pred, pred-leb}
 use Rattle.build_laws.specs.declared.Entry.{Entry}

@@ -9,8 +9,8 @@ use lib.Seq.{getD-take, getD-drop, length-take-le}
 use lib.Dec.{leb, ltb, eqb}
 use borrow.Author.Tests.{lt-ltb, le-ltb, eq-eqb, ne-eqb, le-leb, lt-leb}
 use Rattle.spec.specs.Bytes.{Bytes, shared}
-use Rattle.bits_laws.specs.Bits.{key}
-use Rattle.image_types.specs.Records.{tail-part}
+use Rattle.bits.specs.Bits.{key}
+use Rattle.image.specs.Records.{tail-part}
 use Rattle.build_laws.specs.LevelEntries.{pred}
 use Rattle.build_laws.specs.NeighbourLeaves.{cut-length}
 use Rattle.build_laws.specs.KeyEntries.{continues-at}

@@ -8,7 +8,7 @@ use lib.Dec.{ltb}
 use Rattle.spec.specs.Bytes.{Bytes, shared}
 use Rattle.spec.specs.Keys.{below, keys-of}
 use Rattle.theory.specs.Terms.{Keys, Ascending}
-use Rattle.bits_laws.specs.Bits.{key}
+use Rattle.bits.specs.Bits.{key}
 use Rattle.build_laws.specs.declared.Key.{Key}
 
 -- the length byte of the record at an offset

@@ -5,7 +5,7 @@ use mathlib.Core.List.{List, [], _∷_}
 use lib.ListN.{length, getD, set}
 use lib.Dec.{leb, ltb, eqb}
 use Rattle.spec.specs.Bytes.{Bytes, Bits}
-use Rattle.bits_laws.specs.Bits.{with-bit, key}
+use Rattle.bits.specs.Bits.{with-bit, key}
 use Rattle.build_laws.specs.SlotWidths.{width-of, no-bits}
 use Rattle.build_laws.specs.LevelEntries.{pred}
 use Rattle.build_laws.specs.Emissions.{Emission, emission, key-emissions, emissions}

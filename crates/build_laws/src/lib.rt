@@ -1,24 +1,4 @@
-// The types that the laws of the builder speak of: a record of the list, the list as a whole, a key with its neighbours, an entry and its cell, the bodies that a pass fills, a range of levels, the bits of a suffix slot, a pass, a level's counters, where a record's body comes from, and the plan of an image. No function is declared here.
-use image_types::Header;
-use image_types::STARTS;
-
-// A counter for each of the 64 levels, and one for the end.
-pub const COUNTERS: usize = 65;
-
-// What is counted on each level; or where on each level the next thing goes.
-pub type Counters = [u32; COUNTERS];
-
-// A record of a key list: a key of so many bytes, or the number that turns the list down.
-pub enum Record {
-    Key(usize),
-    Refused(u32),
-}
-
-// A key list: how many keys it has, or the number that turns it down.
-pub enum KeyList {
-    Keys(usize),
-    Refused(u32),
-}
+// The types that the laws of the builder speak of. No function is declared here.
 
 // A key of the list: where its bytes start and how many there are, the first level on which it starts a node, and the length of the prefix that it shares with the key behind.
 pub struct Key {
@@ -76,17 +56,4 @@ pub struct Pass {
     pub body: Body,
     pub levels: Levels,
     pub slot: SlotBits,
-}
-
-// Where a record's body comes from: a pass over the keys; the ranks of an earlier record's body, by that record's number and the words of a block; or the samples of an earlier record's body.
-pub enum Source {
-    Keys(Body),
-    Ranks(usize, usize),
-    Samples(usize),
-}
-
-// What is known of an image before a byte is written: its header, and where each record starts and the last one ends.
-pub struct Plan {
-    pub header: Header,
-    pub starts: [usize; STARTS],
 }

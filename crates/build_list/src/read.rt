@@ -4,7 +4,7 @@ ghost use Prim.Native.Nat.{_+_, _≤_, _<_};
 ghost use lib.ListN.{length};
 ghost use Rattle.spec.specs.Keys.{keys-of};
 ghost use Rattle.build_laws.specs.KeyRecords.{record-end, Accepted-list, Whole-records, shared-behind, key-at};
-ghost use Rattle.build_laws.specs.LongKeys.{all-long};
+ghost use Rattle.build_list.specs.LongKeys.{all-long};
 use super::BEFORE_KEY;
 use bits::numbers::wide;
 use build_laws::Key;

@@ -6,18 +6,18 @@ ghost use Rattle.spec.specs.Keys.{keys-of};
 ghost use Rattle.build_laws.specs.LevelEntries.{pred};
 ghost use Rattle.build_laws.specs.PassEmissions.{Key-numbers};
 ghost use Rattle.build_laws.specs.KeyRecords.{Accepted-list};
-ghost use Rattle.build_laws.specs.CounterRoom.{Counters-room};
-ghost use Rattle.build_laws.specs.CountPass.{leaf-level-of, raised, level-counts, no-counts, list-counts};
-ghost use Rattle.build_laws.specs.LevelSums.{Balanced, Summable, Summed};
+ghost use Rattle.build_keys.specs.CounterRoom.{Counters-room};
+ghost use Rattle.build_keys.specs.CountPass.{leaf-level-of, raised, level-counts, no-counts, list-counts};
+ghost use Rattle.build_passes.specs.LevelSums.{Balanced, Summable, Summed};
 ghost use Rattle.build_laws.specs.Limits.{counters, counter-max};
 use bits::numbers::smaller;
 use bits::numbers::wide32;
+use build_keys::Counters;
 use build_keys::numbers::leaf_level;
 use build_keys::numbers::one_less;
-use build_laws::Counters;
 use build_laws::Key;
 use build_list::read::read_key;
-use image_types::MAX_LEVELS;
+use image::MAX_LEVELS;
 
 // The counter of level d is raised by one.
 fn count_one(cnt: &mut Counters, d: usize)

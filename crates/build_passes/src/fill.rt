@@ -8,21 +8,21 @@ ghost use Rattle.build_laws.specs.KeyRecords.{Accepted-list};
 ghost use Rattle.build_laws.specs.Passes.{entries-pass, slots-pass, pass-keys, Pass-room};
 ghost use Rattle.build_laws.specs.declared.Kind.the-variants.{DL, DC, DP, SL, SC, SB};
 ghost use Rattle.build_laws.specs.Limits.{counters};
-use build_cells::write_child_cells;
-use build_cells::write_exact_cells;
-use build_cells::write_label_cells;
+use build_keys::Counters;
+use build_keys::dense::write_child_cells;
+use build_keys::dense::write_exact_cells;
+use build_keys::dense::write_label_cells;
 use build_keys::entries::write_labels;
+use build_keys::slots::write_slot;
+use build_keys::sparse::write_later;
+use build_keys::sparse::write_leaf;
 use build_laws::Body;
-use build_laws::Counters;
 use build_laws::Kind;
 use build_laws::Levels;
 use build_laws::Pass;
 use build_laws::SlotBits;
 use build_list::read::all_long;
 use build_list::read::read_key;
-use build_marks::write_later;
-use build_marks::write_leaf;
-use build_slots::write_slot;
 
 // The labels of all keys' entries on the levels go to the body, from cursors at the starts of the levels.
 fn fill_labels(out: &mut [u8], cur: &mut Counters, s: &[u8], l: Levels)

@@ -3,7 +3,7 @@ ghost use mathlib.Core.Path.{_≡_};
 ghost use Prim.Native.Nat.{_*_, _≤_, _<_};
 ghost use lib.ListN.{length, getD, set};
 ghost use Rattle.spec.specs.Bytes.{blocks};
-ghost use Rattle.build_laws.specs.FlippedBits.{flip-byte, flipped};
+ghost use Rattle.build_passes.specs.FlippedBits.{flip-byte, flipped};
 
 // The low k bits of byte i are flipped, and its other bits become zero.
 fn flip_last(out: &mut [u8], i: usize, k: usize)

@@ -6,8 +6,8 @@ ghost use Rattle.build_laws.specs.Cursors.{sums};
 ghost use Rattle.build_laws.specs.Counters.{Cursors-at};
 ghost use Rattle.build_laws.specs.Limits.{counters, counter-max};
 use bits::numbers::wide32;
-use build_laws::COUNTERS;
-use build_laws::Counters;
+use build_keys::COUNTERS;
+use build_keys::Counters;
 
 // The counter of level d if d is lo or above, else 0.
 fn count_from(cnt: &Counters, lo: usize, d: usize) -> u32

@@ -2,20 +2,20 @@
 ghost use mathlib.Core.Path.{_≡_};
 ghost use Prim.Native.Nat.{_+_, _≤_};
 ghost use lib.ListN.{length};
-ghost use Rattle.bits_laws.specs.Bits.{placed};
+ghost use Rattle.bits.specs.Bits.{placed};
 ghost use Rattle.build_laws.specs.Cursors.{sums};
-ghost use Rattle.build_laws.specs.LevelRecord.{start-bytes, start-size, starts-below, level-bytes};
+ghost use Rattle.build_records.specs.LevelRecord.{start-bytes, start-size, starts-below, level-bytes};
 ghost use Rattle.build_laws.specs.Limits.{counters, counter-max};
 use bits::numbers::wide32;
 use bits::numbers::write32;
-use build_laws::Counters;
-use image_records::header::begin_record;
-use image_records::table::BEFORE_BODY;
-use image_records::table::RECORDS;
-use image_records::table::mark;
-use image_types::LEVEL_START_BYTES;
-use image_types::LEVELED_VERSION;
-use image_types::MAX_LEVELS;
+use build_keys::Counters;
+use image::LEVEL_START_BYTES;
+use image::LEVELED_VERSION;
+use image::MAX_LEVELS;
+use image::header_bytes::begin_record;
+use image::table::BEFORE_BODY;
+use image::table::RECORDS;
+use image::table::mark;
 
 // The bytes that a level of so many nodes has in LV's body: none where it has no node.
 fn start_size(count: u32) -> usize

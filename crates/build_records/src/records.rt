@@ -4,19 +4,19 @@ ghost use Prim.Native.Nat.{_≤_};
 ghost use lib.ListN.{length};
 ghost use Rattle.spec.specs.Keys.{keys-of};
 ghost use Rattle.spec.specs.Image.{rows, write-records};
-ghost use Rattle.bits_laws.specs.Bits.{placed};
-ghost use Rattle.build_laws.specs.CountPass.{level-counts, list-counts};
-ghost use Rattle.build_laws.specs.RecordsWritten.{record-bytes};
-ghost use Rattle.build_laws.specs.Plan.{Planned, plan-bodies, counters-at, body-at, start-at, Writing};
+ghost use Rattle.bits.specs.Bits.{placed};
+ghost use Rattle.build_keys.specs.CountPass.{level-counts, list-counts};
+ghost use Rattle.build_records.specs.RecordsWritten.{record-bytes};
+ghost use Rattle.build_records.specs.Plan.{Planned, plan-bodies, counters-at, body-at, start-at, Writing};
+use super::Plan;
 use super::bodies::counters_of;
 use super::bodies::fill_body;
 use super::bodies::source_of;
-use build_laws::Counters;
-use build_laws::Plan;
-use image_records::header::begin_record;
-use image_records::table::RECORDS;
-use image_records::table::body_size;
-use image_records::table::mark;
+use build_keys::Counters;
+use image::header_bytes::begin_record;
+use image::table::RECORDS;
+use image::table::body_size;
+use image::table::mark;
 
 // Record i goes to its place in out: its mark, the length of its body, and its body.
 fn write_record(out: &mut [u8], list: &[u8], plan: Plan, cnt: &Counters, i: usize)

@@ -9,10 +9,10 @@ use Rattle.spec.specs.Image.{rows}
 use Rattle.spec.specs.Frame.{rows-of}
 use Rattle.theory.specs.Terms.{From}
 use Rattle.theory.specs.Demands.{Check-refusal}
-use Rattle.image_types.specs.Records.{row-at, stands, record-end, records-end}
-use Rattle.image_types.specs.FrameOf.{FrameOf}
-use Rattle.check_frame_laws.specs.FrameLaws.{end-level}
-use Rattle.check_tables_laws.specs.Tables.{dense-agrees}
+use Rattle.image.specs.Records.{row-at, stands, record-end, records-end}
+use Rattle.image.specs.FrameOf.{FrameOf}
+use Rattle.check_frame.specs.FrameLaws.{end-level}
+use Rattle.check_tables.specs.Tables.{dense-agrees}
 use Rattle.check_frame.specs.declared.RankedFrame.{RankedFrame}
 use Rattle.check_frame.specs.declared.FrameRead.{FrameRead}
 use Rattle.check_frame.specs.declared.FrameRead.the-variants as read

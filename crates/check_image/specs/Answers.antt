@@ -6,11 +6,11 @@ use Rattle.spec.specs.Bytes.{Bytes}
 use Rattle.spec.specs.Check.{verdict, Checked, accepted, refused}
 use Rattle.theory.specs.Demands.{Check-refusal}
 use Rattle.theory.specs.CheckStages.{refusal-verdict, refusal-number}
-use Rattle.image_types.specs.FrameOf.{FrameOf}
+use Rattle.image.specs.FrameOf.{FrameOf}
 use Rattle.check_image.specs.declared.Checked.{Checked as Answer}
 use Rattle.check_image.specs.declared.Checked.the-variants.{Accepted, Refused}
-use Rattle.image_types.specs.declared.Framed.{Framed}
-use Rattle.image_types.specs.declared.Framed.the-variants as framed
+use Rattle.image.specs.declared.Framed.{Framed}
+use Rattle.image.specs.declared.Framed.the-variants as framed
 
 -- the document's answer for each case
 abbrev pub answer : Answer → Checked

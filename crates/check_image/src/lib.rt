@@ -7,11 +7,11 @@ use check_frame::FrameRead;
 use check_frame::RankedFrame;
 use check_frame::read_frame;
 use check_slots::judge::slots_valid;
-use check_starts::starts_valid;
+use check_slots::level_table::starts_valid;
 use check_tables::judge::count_sparse;
 use check_tables::spare::spare_clear;
 use check_trie::trie::trie_valid;
-use image_types::Framed;
+use image::Framed;
 
 // The numbers of the stages behind the frame: a spare bit is set; the bits are not a builder's trie; a rank, a sample or LV is wrong; a slot has a bit that must be clear.
 const SPARE_SET: u32 = 13;

@@ -5,15 +5,15 @@ use mathlib.Core.Bool.{true}
 use native.Mathlib.Omega.{arith}
 use Rattle.spec.specs.Bytes.{Bytes, blocks}
 use Rattle.theory.specs.Lists.{and-both}
-use Rattle.bits_laws.specs.Bits.{rank, select, part}
-use Rattle.bits_laws.specs.SelectLaws.{rank-select}
-use Rattle.bits_laws.specs.ValueLaws.{Small}
-use Rattle.image_types.specs.FrameOf.{within}
-use Rattle.image_types.specs.declared.Frame.{Frame}
-use Rattle.rank_tables_laws.specs.Entries.{entry}
-use Rattle.check_tables_laws.specs.Tables.{sparse-agrees, holds-ranks, holds-samples, stored-rank, stored-sample}
-use Rattle.check_trie_laws.specs.Bodies.{sc-body, sb-body}
-use Rattle.check_trie_laws.specs.Levels.{Louds-valid}
+use Rattle.bits.specs.Bits.{rank, select, part}
+use Rattle.bits_select.specs.SelectLaws.{rank-select}
+use Rattle.bits.specs.ValueLaws.{Small}
+use Rattle.image.specs.FrameOf.{within}
+use Rattle.image.specs.declared.Frame.{Frame}
+use Rattle.rank_tables.specs.Entries.{entry}
+use Rattle.check_tables.specs.Tables.{sparse-agrees, holds-ranks, holds-samples, stored-rank, stored-sample}
+use Rattle.check_levels.specs.Bodies.{sc-body, sb-body}
+use Rattle.check_levels.specs.Levels.{Louds-valid}
 
 -- S-LOUDS has passed, and the tables of the sparse bodies are right
 pub record Indexed (s : Bytes) (f : Frame) : Type 0 where

@@ -1,1 +1,17 @@
+pub mod BitTests
+pub mod Bodies
+pub mod BodyTests
+pub mod DenseNodes
+pub mod EntryPositions
 pub mod Indexed
+pub mod LevelEnds
+pub mod LevelTests
+pub mod Levels
+pub mod ListParts
+pub mod MaskLaws
+pub mod NodeBranches
+pub mod Positions
+pub mod Ranges
+pub mod Shapes
+pub mod SparseNodes
+pub mod Tests

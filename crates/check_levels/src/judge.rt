@@ -2,15 +2,15 @@
 ghost use mathlib.Core.Path.{_≡_};
 ghost use mathlib.Core.Bool.{cond};
 ghost use Prim.Native.Nat.{_≤_, _<_};
-ghost use Rattle.check_tables_laws.specs.Tables.{sparse-agrees};
-ghost use Rattle.check_trie_laws.specs.Levels.{Louds-valid, LevelOf, node-count, levels-valid};
+ghost use Rattle.check_tables.specs.Tables.{sparse-agrees};
+ghost use Rattle.check_levels.specs.Levels.{Louds-valid, LevelOf, node-count, levels-valid};
+use super::Level;
 use super::step::level_at;
 use super::tables::level_by_tables;
-use check_trie_laws::Level;
-use image_types::BitPos;
-use image_types::Frame;
-use image_types::MAX_LEVELS;
-use image_types::NodeNum;
+use image::BitPos;
+use image::Frame;
+use image::MAX_LEVELS;
+use image::NodeNum;
 
 // The first of two numbers, or the second.
 fn pick(first: bool, x: usize, y: usize) -> usize

@@ -1,17 +1,17 @@
 // A level from one before it, by select on S-LOUDS and rank on S-HasChild, or by rank on D-HasChild.
 ghost use mathlib.Core.Path.{_≡_};
 ghost use Prim.Native.Nat.{_-_, _≤_, _<_};
-ghost use Rattle.check_trie_laws.specs.Levels.{Louds-valid, LevelOf, Behind};
+ghost use Rattle.check_levels.specs.Levels.{Louds-valid, LevelOf, Behind};
+use super::Level;
 use bits::numbers::bytes_for;
 use bits::parts::part;
-use bits_ranks::rank_on;
+use bits::ranks::rank_on;
 use bits_select::select::select_from;
-use check_trie_laws::Level;
-use image_types::BitPos;
-use image_types::Frame;
-use image_types::NodeNum;
-use image_types::ROW_BITS;
-use image_types::ROW_BYTES;
+use image::BitPos;
+use image::Frame;
+use image::NodeNum;
+use image::ROW_BITS;
+use image::ROW_BYTES;
 
 // How much a number is above another, 0 where it is not.
 fn excess(x: usize, y: usize) -> usize

@@ -1,23 +1,23 @@
 // Ranks and levels of sparse nodes by the tables, where these are known to be right.
 ghost use mathlib.Core.Path.{_≡_};
 ghost use Prim.Native.Nat.{_≤_, _<_};
-ghost use Rattle.bits_laws.specs.Bits.{rank, select};
-ghost use Rattle.check_trie_laws.specs.Bodies.{sc-body, sb-body};
-ghost use Rattle.check_trie_laws.specs.Levels.{LevelOf, node-count};
+ghost use Rattle.bits.specs.Bits.{rank, select};
+ghost use Rattle.check_levels.specs.Bodies.{sc-body, sb-body};
+ghost use Rattle.check_levels.specs.Levels.{LevelOf, node-count};
 ghost use Rattle.check_levels.specs.Indexed.{Indexed};
+use super::Level;
 use bits::numbers::blocks_for;
 use bits::numbers::bytes_for;
 use bits::numbers::read32;
 use bits::parts::part;
-use bits_ranks::rank_from;
+use bits::ranks::rank_from;
 use bits_select::select::select_from;
-use check_trie_laws::Level;
-use image_types::BitPos;
-use image_types::Frame;
-use image_types::NodeNum;
-use image_types::SAMPLE_RATE;
-use image_types::SPARSE_BLOCK_BITS;
-use image_types::SPARSE_BLOCK_WORDS;
+use image::BitPos;
+use image::Frame;
+use image::NodeNum;
+use image::SAMPLE_RATE;
+use image::SPARSE_BLOCK_BITS;
+use image::SPARSE_BLOCK_WORDS;
 
 // Where sparse node m, counted from 0 among the sparse ones, begins: the search starts at the sample before it.
 fn first_entry(image: &[u8], f: Frame, m: usize) -> BitPos

@@ -5,11 +5,11 @@ use mathlib.Core.Bool.{Bool, _||_, not}
 use lib.ListN.{length, getD}
 use lib.Dec.{eqb}
 use Rattle.spec.specs.Bytes.{Bytes}
-use Rattle.bits_laws.specs.Bits.{rank}
-use Rattle.check_trie_laws.specs.Positions.{bits}
-use Rattle.check_slots_laws.specs.NodeSlots.{slot-clear}
-use Rattle.check_slots_laws.specs.SlotBits.{Slots-sized}
-use Rattle.check_slots_laws.specs.SparseExact.{sparse-slot, sparse-exact}
+use Rattle.bits.specs.Bits.{rank}
+use Rattle.check_levels.specs.Positions.{bits}
+use Rattle.check_slots.specs.NodeSlots.{slot-clear}
+use Rattle.check_slots.specs.SlotBits.{Slots-sized}
+use Rattle.check_slots.specs.SparseExact.{sparse-slot, sparse-exact}
 use Rattle.check_slots.specs.declared.sparse.SparseSlots.{SparseSlots}
 use Rattle.check_slots.specs.declared.sparse.EntryWord.{EntryWord}
 

@@ -1,19 +1,19 @@
 // The exact leaves among the dense nodes: the set bits of D-IsPrefixKey, their slots by the rank tables.
 ghost use mathlib.Core.Path.{_≡_};
 ghost use Prim.Native.Nat.{_≤_, _<_};
-ghost use Rattle.check_trie_laws.specs.Bodies.{dp-body};
-ghost use Rattle.check_slots_laws.specs.Passed.{Passed-to-15};
-ghost use Rattle.check_slots_laws.specs.DenseSlots.{Dense-node, Exact-from, exact-slot-of};
-ghost use Rattle.check_slots_laws.specs.SlotTests.{clear-at, dense-clear};
+ghost use Rattle.check_levels.specs.Bodies.{dp-body};
+ghost use Rattle.check_slots.specs.Passed.{Passed-to-15};
+ghost use Rattle.check_slots.specs.DenseSlots.{Dense-node, Exact-from, exact-slot-of};
+ghost use Rattle.check_slots.specs.SlotTests.{clear-at, dense-clear};
+use super::clear::slot_clear;
 use bits::numbers::MODULUS_32;
 use bits::numbers::bytes_for;
 use bits::numbers::read32;
 use bits::parts::part;
 use bits_select::select::next_one;
-use check_slots_bits::clear::slot_clear;
-use image_types::Frame;
-use image_types::NodeNum;
-use image_types::ValuePos;
+use image::Frame;
+use image::NodeNum;
+use image::ValuePos;
 
 // The bytes of a dense node's entries in RL or RC: four bytes for each word of its row.
 const NODE_RANK_BYTES: usize = 16;

@@ -1,10 +1,10 @@
 // Number 16 over an image that passed the numbers 11 to 15, and its frame.
 ghost use mathlib.Core.Path.{_≡_};
-ghost use Rattle.check_slots_laws.specs.Passed.{Passed-to-15, slots-pass};
+ghost use Rattle.check_slots.specs.Passed.{Passed-to-15, slots-pass};
 use super::dense::dense_clear;
+use super::last_levels::last_levels_clear;
 use super::sparse::sparse_clear;
-use check_slots_levels::levels::last_levels_clear;
-use image_types::Frame;
+use image::Frame;
 
 // Whether number 16 does not apply: an exact leaf's slot is zero, and no real bit is set past a key's 64th byte.
 pub fn slots_valid(image: &[u8], f: Frame) -> bool

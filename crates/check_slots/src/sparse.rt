@@ -2,22 +2,22 @@
 ghost use mathlib.Core.Path.{_≡_};
 ghost use Prim.Native.Nat.{_+_, _*_, _<_};
 ghost use Rattle.spec.specs.Bytes.{Bytes};
-ghost use Rattle.check_trie_laws.specs.Bodies.{sl-body, sb-body};
-ghost use Rattle.check_slots_laws.specs.Passed.{Passed-to-15};
-ghost use Rattle.check_slots_laws.specs.SparseWords.{Candidates, Range-judged};
-ghost use Rattle.check_slots_laws.specs.SlotTests.{sparse-test, sparse-clear};
+ghost use Rattle.check_levels.specs.Bodies.{sl-body, sb-body};
+ghost use Rattle.check_slots.specs.Passed.{Passed-to-15};
+ghost use Rattle.check_slots.specs.SparseWords.{Candidates, Range-judged};
+ghost use Rattle.check_slots.specs.SlotTests.{sparse-test, sparse-clear};
 ghost use Rattle.check_slots.specs.Entries.{Sized, Word-of, Entry-of, entry-clear, exact-test};
+use super::clear::slot_clear;
+use super::node_starts::candidates;
+use super::node_starts::last_several;
 use bits::numbers::bytes_for;
 use bits::parts::part;
-use bits_ranks::ones_before;
+use bits::ranks::ones_before;
 use check_levels::tables::children_before;
-use check_slots_bits::clear::slot_clear;
-use check_slots_bits::starts::candidates;
-use check_slots_bits::starts::last_several;
-use image_types::BitPos;
-use image_types::EXTRA_LABEL;
-use image_types::Frame;
-use image_types::ValuePos;
+use image::BitPos;
+use image::EXTRA_LABEL;
+use image::Frame;
+use image::ValuePos;
 
 // By what the slot of a sparse entry is found and read: the counts of leaves and of sparse entries, the width of a slot, and the slot of the first sparse leaf.
 pub struct SparseSlots {

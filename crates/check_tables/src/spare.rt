@@ -5,10 +5,10 @@ ghost use lib.ListN.{length};
 ghost use Rattle.spec.specs.Bytes.{blocks};
 ghost use Rattle.spec.specs.Frame.{parts};
 ghost use Rattle.spec.specs.Check.{no-spare, spare-clear};
-ghost use Rattle.bits_laws.specs.Bits.{part};
-ghost use Rattle.image_types.specs.FrameOf.{FrameOf, frame-named};
+ghost use Rattle.bits.specs.Bits.{part};
+ghost use Rattle.image.specs.FrameOf.{FrameOf, frame-named};
 use bits::numbers::wide;
-use image_types::Frame;
+use image::Frame;
 
 // Whether no bit is set behind the first n of the body at an offset: only its last byte has such bits.
 fn no_spare(image: &[u8], at: usize, n: usize) -> bool

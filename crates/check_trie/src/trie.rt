@@ -5,23 +5,23 @@ ghost use Prim.Native.Nat.{_*_, _≤_};
 ghost use lib.ListN.{length};
 ghost use lib.Dec.{eqb};
 ghost use Rattle.spec.specs.Trie.{builders-trie};
-ghost use Rattle.image_types.specs.FrameOf.{FrameOf, frame-parts};
-ghost use Rattle.bits_laws.specs.Bits.{rank};
-ghost use Rattle.check_tables_laws.specs.Tables.{Sparse-counted};
-ghost use Rattle.check_trie_laws.specs.Positions.{is-set};
-ghost use Rattle.check_trie_laws.specs.Bodies.{sb-body};
-ghost use Rattle.check_trie_laws.specs.BitTests.{counts-valid};
-ghost use Rattle.check_trie_laws.specs.Levels.{Louds-valid};
-ghost use Rattle.check_trie_laws.specs.BodyTests.{louds-test, dense-test, sparse-test, sums-test, Counts-few};
+ghost use Rattle.image.specs.FrameOf.{FrameOf, frame-parts};
+ghost use Rattle.bits.specs.Bits.{rank};
+ghost use Rattle.check_tables.specs.Tables.{Sparse-counted};
+ghost use Rattle.check_levels.specs.Positions.{is-set};
+ghost use Rattle.check_levels.specs.Bodies.{sb-body};
+ghost use Rattle.check_levels.specs.BitTests.{counts-valid};
+ghost use Rattle.check_levels.specs.Levels.{Louds-valid};
+ghost use Rattle.check_levels.specs.BodyTests.{louds-test, dense-test, sparse-test, sums-test, Counts-few};
+use super::dense::dense_valid;
+use super::sparse::sparse_valid;
 use bits::numbers::bytes_for;
 use bits::parts::part;
-use bits_ranks::bit_at;
+use bits::ranks::bit_at;
 use check_levels::judge::levels_valid;
-use check_tables_laws::SparseCounts;
-use check_trie_dense::dense::dense_valid;
-use check_trie_sparse::sparse::sparse_valid;
-use image_types::Frame;
-use image_types::ROW_BYTES;
+use check_tables::SparseCounts;
+use image::Frame;
+use image::ROW_BYTES;
 
 // Whether the first of n bits is set, or there is none.
 fn first_set(s: &[u8], n: usize) -> bool

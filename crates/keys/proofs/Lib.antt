@@ -1,2 +1,2 @@
-pub mod PrefixLaws
 pub mod OrderLaws
+pub mod PrefixLaws

@@ -13,8 +13,8 @@ use lib.Pow.{pow-pos, high, low, field, mod-mod-pow, mod-pow-add}
 use lib.Bits.{bitXor, xor-mod, xor-self, xor-add-and, and-le-l, and-le-r}
 use lib.Count.{trailingZeros, under}
 use Rattle.spec.specs.Bytes.{Bytes, shared}
-use Rattle.bits_laws.specs.Bits.{value, word}
-use Rattle.bits_laws.specs.ValueLaws.{Small, small-drop, value-drop, value-byte}
+use Rattle.bits.specs.Bits.{value, word}
+use Rattle.bits.specs.ValueLaws.{Small, small-drop, value-drop, value-byte}
 
 -- ---- bytes
 

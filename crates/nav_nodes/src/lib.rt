@@ -1,132 +1,33 @@
-// Nodes of an accepted image: what stands before one in level order, the entries of a sparse one, and whether it is an exact leaf. The search for branches, the questions and the walk rest on these.
-ghost use mathlib.Core.Path.{_≡_};
-ghost use Prim.Native.Nat.{_+_, _≤_};
-ghost use Rattle.spec.specs.Nodes.{is-exact};
-ghost use Rattle.nav_laws.specs.Slots.{node-at, leaves-before};
-ghost use Rattle.nav_laws.specs.Descent.{children-before};
-ghost use Rattle.nav_laws.specs.Accepted.{Accepted, nodes};
-ghost use Rattle.nav_laws.specs.FoundBranch.{node-count, Is-node, Is-sparse, Counts-before, Entries-at};
-use bits_ranks::bit_at;
-use image_types::BitPos;
-use image_types::EXTRA_LABEL;
-use image_types::Frame;
-use image_types::NodeNum;
-use image_types::ROW_BITS;
-use nav_ranks::child_rank;
-use nav_ranks::entry_rank;
-use nav_ranks::exact_rank;
-use nav_ranks::label_rank;
-use nav_ranks::next_start;
-use nav_ranks::node_start;
-use nav_ranks::select_at;
+// Nodes of an accepted image: ranks by its tables, what stands before a node and what lies behind one of its branches. The questions and the walk rest on these.
+use image::BitPos;
 
-// The continuing branches and the leaves of the nodes before a node.
-pub struct CountsBefore {
-    pub children: usize,
-    pub leaves: usize,
+pub mod ranks; // ranks.rt: ranks by the image's tables, and where a sparse node starts
+pub mod nodes; // nodes.rt: what stands before a node, the entries of a sparse one, and whether a node is an exact leaf
+pub mod behind; // behind.rt: the child and the slot behind a branch
+
+// The kind of a branch: there is none, it ends at an open leaf, or it continues to a child.
+pub enum BranchKind {
+    Absent,
+    Leaf,
+    Child,
 }
 
-// What stands before a dense node, or before the first sparse one.
-fn dense_before(image: &[u8], f: Frame, m: NodeNum) -> CountsBefore
-    requires { ⌜ Accepted (now image) f × (m .0 ≤ f .dense .nodes) ⌝ }
-    ensures { λ r. ⌜ Counts-before (now (image .entry)) f (m .0) (r .children) (r .leaves) ⌝ }
-{
-    let at = BitPos(ROW_BITS * m.0);
-    let labels = label_rank(image, f, at);
-    let children = child_rank(image, f, at);
-    let exacts = exact_rank(image, f, m);
-    CountsBefore {
-        children: children,
-        leaves: labels - children + exacts,
-    }
-}
-
-// What stands before a sparse node, or behind the last one: the totals of the dense nodes, and the entries before its start.
-fn sparse_before(image: &[u8], f: Frame, m: NodeNum) -> CountsBefore
-    requires { ⌜ Accepted (now image) f × (f .dense .nodes ≤ m .0) × (m .0 ≤ node-count f) ⌝ }
-    ensures { λ r. ⌜ Counts-before (now (image .entry)) f (m .0) (r .children) (r .leaves) ⌝ }
-{
-    let first = m.0 - f.dense.nodes;
-    let start = select_at(image, f.sb, f.ts, f.sparse.entries, f.sparse.nodes, first);
-    let children = entry_rank(image, f, BitPos(start));
-    CountsBefore {
-        children: f.totals.children + children,
-        leaves: f.totals.entries - f.totals.children + (start - children),
-    }
-}
-
-// What stands before a node, or behind the last one.
-pub fn counts_before(image: &[u8], f: Frame, m: NodeNum) -> CountsBefore
-    requires { ⌜ Accepted (now image) f × (m .0 ≤ node-count f) ⌝ }
-    ensures { λ r. ⌜ Counts-before (now (image .entry)) f (m .0) (r .children) (r .leaves) ⌝ }
-{
-    if m.0 <= f.dense.nodes {
-        return dense_before(image, f, m);
-    }
-    sparse_before(image, f, m)
-}
-
-// The entries of the nodes before a node, or of all nodes: branches and exact leaves together. Where it is known how many of them continue, the leaves follow without a rank of those.
-pub fn entries_before(image: &[u8], f: Frame, m: NodeNum) -> usize
-    requires { ⌜ Accepted (now image) f × (m .0 ≤ node-count f) ⌝ }
-    ensures { λ r. ⌜ r ≡ leaves-before (nodes (now (image .entry)) f) (m .0) + children-before (nodes (now (image .entry)) f) (m .0) ⌝ }
-{
-    if m.0 < f.dense.nodes {
-        let labels = label_rank(image, f, BitPos(ROW_BITS * m.0));
-        let exacts = exact_rank(image, f, m);
-        return labels + exacts;
-    }
-    let start = node_start(image, f, m);
-    f.totals.entries + start.0
-}
-
-// The entries of a sparse node: whether the first is the extra one of an exact leaf, the first entry of its branches, and the entry behind the last.
-pub struct Entries {
-    pub exact: bool,
-    pub first: BitPos,
+// What a node has at a label: the kind of the branch, its position or that of the next branch, and the position behind the node's last branch.
+pub struct Found {
+    pub kind: BranchKind,
+    pub at: BitPos,
     pub end: BitPos,
 }
 
-// The entries of a sparse node. A first FF that is not alone marks an exact leaf; a sole FF is a label.
-pub fn entries_of(image: &[u8], f: Frame, m: NodeNum) -> Entries
-    requires { ⌜ Is-sparse (now image) f (m .0) ⌝ }
-    ensures { λ r. ⌜ Entries-at (now (image .entry)) f (m .0) (r .exact) (r .first .0) (r .end .0) ⌝ }
-{
-    let start = node_start(image, f, m);
-    let end = next_start(image, f, start);
-    let a = start.0;
-    let e = end.0;
-    let i = f.sl + a;
-    if e < a + 2 {
-        return Entries {
-            exact: false,
-            first: BitPos(a),
-            end: BitPos(e),
-        };
-    }
-    if image[i] != EXTRA_LABEL {
-        return Entries {
-            exact: false,
-            first: BitPos(a),
-            end: BitPos(e),
-        };
-    }
-    Entries {
-        exact: true,
-        first: BitPos(a + 1),
-        end: BitPos(e),
-    }
+// The first branch of a node from a label on: its kind, its label and its position.
+pub struct NextBranch {
+    pub kind: BranchKind,
+    pub label: usize,
+    pub at: BitPos,
 }
 
-// Whether a node is an exact leaf.
-pub fn is_exact(image: &[u8], f: Frame, m: NodeNum) -> bool
-    requires { ⌜ Is-node (now image) f (m .0) ⌝ }
-    ensures { λ r. ⌜ r ≡ is-exact (node-at (nodes (now (image .entry)) f) (m .0)) ⌝ }
-{
-    if m.0 < f.dense.nodes {
-        let dp = f.dp;
-        return bit_at(&image[dp..], m.0) == 1;
-    }
-    let e = entries_of(image, f, m);
-    e.exact
+// Whether a node is an exact leaf, and its first branch.
+pub struct FirstBranch {
+    pub exact: bool,
+    pub branch: NextBranch,
 }

@@ -10,7 +10,7 @@ fn print_file(path: &[u8]) {
     }
     io::write_all(STDOUT_FILENO, path);
     io::write_all(STDOUT_FILENO, b"\n");
-    print_output::print(fd);
+    print_pages::output::print(fd);
     libc::close(fd);
 }
 

@@ -2,5 +2,5 @@
 use libc::STDIN_FILENO;
 
 fn main() {
-    print_output::print(STDIN_FILENO);
+    print_pages::output::print(STDIN_FILENO);
 }

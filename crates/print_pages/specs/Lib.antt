@@ -1,2 +1,4 @@
-pub mod Printing
+pub mod Handing
+pub mod Parts
 pub mod PrintLaws
+pub mod Printing

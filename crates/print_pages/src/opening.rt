@@ -1,14 +1,14 @@
 // How the text of an input opens: the first line of a listing, or the whole text where no listing follows.
 ghost use Prim.Native.Nat.{_≤_};
 ghost use lib.ListN.{length};
-ghost use Rattle.print_laws.specs.Texts.{longest-line};
+ghost use Rattle.print_text.specs.Texts.{longest-line};
 ghost use Rattle.print_pages.specs.Printing.{Opened};
 use print_text::lines::write_head;
 use print_text::lines::write_refused;
 use print_text::lines::write_too_long;
-use walk_states::State;
-use walk_states::Status;
-use walk_walker::walker::open_from;
+use walk::states::State;
+use walk::states::Status;
+use walk::walker::open_from;
 
 // The bytes of the longest input that is taken for an image.
 const LONGEST_INPUT: usize = 65536;

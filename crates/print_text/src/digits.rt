@@ -5,7 +5,7 @@ ghost use Prim.Native.Nat.{_+_, _*_, _≤_, _<_};
 ghost use lib.ListN.{length};
 ghost use Rattle.spec.specs.Bytes.{letter};
 ghost use Rattle.spec.specs.Print.{decimal, hex-digit, hex};
-ghost use Rattle.print_laws.specs.Writing.{Written};
+ghost use Rattle.print_text.specs.Writing.{Written};
 use bits::copy::write_bytes;
 
 // The byte x goes to out at `at`.

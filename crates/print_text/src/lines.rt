@@ -4,15 +4,15 @@ ghost use Prim.Native.Nat.{_+_, _^_, _≤_, _<_};
 ghost use lib.ListN.{length};
 ghost use Rattle.spec.specs.Bytes.{letter, low-bits};
 ghost use Rattle.spec.specs.Print.{decimal, suffix-text, line};
-ghost use Rattle.image_types.specs.Value.{leaf-of, Sized};
-ghost use Rattle.print_laws.specs.Writing.{Written};
-ghost use Rattle.print_laws.specs.Texts.{bit-digit, kind-letter, cut-text, slot-text, longest-line, head-text, refused-text, too-long-text};
+ghost use Rattle.image.specs.Value.{leaf-of, Sized};
+ghost use Rattle.print_text.specs.Writing.{Written};
+ghost use Rattle.print_text.specs.Texts.{bit-digit, kind-letter, cut-text, slot-text, longest-line, head-text, refused-text, too-long-text};
 use super::digits::digit;
 use super::digits::write_byte;
 use super::digits::write_decimal;
 use super::digits::write_hex;
 use super::digits::write_text;
-use image_types::Leaf;
+use image::Leaf;
 
 // Bits as digits: the low width bits of suffix, the lowest first.
 fn write_bits(out: &mut [u8], at: usize, suffix: usize, width: usize) -> usize

@@ -1,15 +1,15 @@
 // Prints what a walk over the image on standard input says at each place from 0 to 5, and behind each what it says after its next move. Done stays done, and a place behind it is refused.
 ghost use Prim.Native.Nat.{_^_, _<_};
-ghost use Rattle.image_types.specs.Value.{Sized};
+ghost use Rattle.image.specs.Value.{Sized};
 use libc::STDIN_FILENO;
 use libc::STDOUT_FILENO;
 use print_text::lines::LONGEST_LINE;
 use print_text::lines::write_line;
 use print_text::lines::write_refused;
 use walk::next;
+use walk::states::Stand;
+use walk::states::Standing;
 use walk::walk;
-use walk_states::Stand;
-use walk_states::Standing;
 
 // The places that are asked: the four leaves of list A, done, and one behind it.
 const PLACES: usize = 6;

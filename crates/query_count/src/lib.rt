@@ -3,20 +3,20 @@ ghost use mathlib.Core.Path.{_≡_};
 ghost use Prim.Native.Nat.{_-_, _≤_};
 ghost use lib.ListN.{length};
 ghost use Rattle.spec.specs.Questions.{counted};
-ghost use Rattle.nav_laws.specs.Accepted.{Accepted, real-leaves};
-ghost use Rattle.query_bounds.specs.Bounds.{Parted};
+ghost use Rattle.nav_nodes.specs.Accepted.{Accepted, real-leaves};
+ghost use Rattle.query_sums.specs.Bounds.{Parted};
 use bits::numbers::one_if;
-use image_types::Frame;
+use image::Frame;
 use keys::compare::shared;
-use nav_behind::slot;
-use query_bounds::bound_from;
-use query_bounds::passed_at;
-use query_bounds::reached_at;
-use query_follow::follow;
-use query_laws::KeyEnd;
-use query_levels::LevelSum;
-use query_levels::sums_apart;
-use query_suffix::open_between;
+use nav_nodes::behind::slot;
+use query_descent::KeyEnd;
+use query_descent::follow::follow;
+use query_descent::suffix::open_between;
+use query_sums::bounds::bound_from;
+use query_sums::bounds::passed_at;
+use query_sums::bounds::reached_at;
+use query_sums::levels::LevelSum;
+use query_sums::levels::sums_apart;
 
 // How much the leaves that the upper bound has reached are more than those that the lower one has passed.
 fn difference(upto: usize, below: usize) -> usize

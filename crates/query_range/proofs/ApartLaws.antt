@@ -5,10 +5,10 @@ use mathlib.Core.Bool.{Bool, true, false, not, _||_}
 use mathlib.Core.List.{[]}
 use lib.ListN.{length, getD}
 use Rattle.spec.specs.Bytes.{Bytes}
-use Rattle.image_types.specs.declared.Frame.{Frame}
-use Rattle.nav_laws.specs.Accepted.{nodes}
-use Rattle.query_laws.specs.AtLabel.{size-from}
-use Rattle.query_laws.specs.RangeWays.{Key-at, group-below, group-behind, left-of, reached-of, met-of, reached-empty, met-apart}
+use Rattle.image.specs.declared.Frame.{Frame}
+use Rattle.nav_nodes.specs.Accepted.{nodes}
+use Rattle.query_range.specs.AtLabel.{size-from}
+use Rattle.query_range.specs.RangeWays.{Key-at, group-below, group-behind, left-of, reached-of, met-of, reached-empty, met-apart}
 
 -- a truth value from its opposite
 pub from-not : (b : Bool) → not b ≡ true → b ≡ false

@@ -1,1 +1,4 @@
+pub mod AtLabel
+pub mod Parting
 pub mod RangeContracts
+pub mod RangeWays

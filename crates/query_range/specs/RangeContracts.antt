@@ -3,8 +3,8 @@ use Prim.Native.Nat.{ℕ, _<_}
 use mathlib.Core.Path.{_≡_}
 use lib.ListN.{length, getD}
 use Rattle.spec.specs.Bytes.{Bytes}
-use Rattle.image_types.specs.declared.Frame.{Frame}
-use Rattle.query_laws.specs.RangeWays.{Key-at}
+use Rattle.image.specs.declared.Frame.{Frame}
+use Rattle.query_range.specs.RangeWays.{Key-at}
 
 -- Both bounds lead to node m with their first d bytes, and go on with different ones.
 pub record Parted (s : Bytes) (f : Frame) (lo hi : Bytes) (m d : ℕ) : Type 0 where

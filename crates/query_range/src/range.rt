@@ -3,10 +3,10 @@ ghost use mathlib.Core.Path.{_≡_};
 ghost use Prim.Native.Nat.{_≤_};
 ghost use lib.ListN.{length};
 ghost use Rattle.spec.specs.Questions.{range};
-ghost use Rattle.nav_laws.specs.Accepted.{Accepted, real-leaves};
+ghost use Rattle.nav_nodes.specs.Accepted.{Accepted, real-leaves};
 use super::together::meets;
 use bits::numbers::one_if;
-use image_types::Frame;
+use image::Frame;
 
 // 1 if some leaf has a possible key from lo to hi, both included, else 0.
 pub fn range(image: &[u8], f: Frame, lo: &[u8], hi: &[u8]) -> usize

@@ -5,9 +5,9 @@ use mathlib.Core.Bool.{true, false, true≢false}
 use lib.ListN.{length, take, drop}
 use lib.Seq.{take-append-seam}
 use Rattle.spec.specs.Bytes.{Bytes}
-use Rattle.bits_laws.specs.Bits.{placed}
-use Rattle.nav_laws.specs.declared.LeafStop.{LeafStop}
-use Rattle.nav_laws.specs.declared.LeafStop.the-variants.{Nowhere, Exact, Open}
+use Rattle.bits.specs.Bits.{placed}
+use Rattle.nav_branches.specs.declared.LeafStop.{LeafStop}
+use Rattle.nav_branches.specs.declared.LeafStop.the-variants.{Nowhere, Exact, Open}
 use Rattle.query_seek.specs.SeekContracts.{leaf-there}
 
 -- a stop with a leaf, and one without

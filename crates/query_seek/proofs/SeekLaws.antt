@@ -14,17 +14,17 @@ use Rattle.spec.specs.Leaves.{Leaf, highest}
 use Rattle.spec.specs.Nodes.{read-leaves}
 use Rattle.spec.specs.Questions.{none, found, greater, seek}
 use Rattle.spec.specs.Trie.{leaf-count}
-use Rattle.image_types.specs.declared.Frame.{Frame}
-use Rattle.image_types.specs.declared.ValuePos.{ValuePos}
-use Rattle.nav_laws.specs.declared.LeafStop.{LeafStop}
-use Rattle.nav_laws.specs.declared.LeafStop.the-variants.{Nowhere, Open}
+use Rattle.image.specs.declared.Frame.{Frame}
+use Rattle.image.specs.declared.ValuePos.{ValuePos}
+use Rattle.nav_branches.specs.declared.LeafStop.{LeafStop}
+use Rattle.nav_branches.specs.declared.LeafStop.the-variants.{Nowhere, Open}
 use Rattle.keys.specs.Order.{order}
 use Rattle.keys.specs.declared.compare.Order.the-variants.{Below, Equal, Above}
 use Rattle.keys.proofs.OrderLaws.{order-is-below, order-not-below}
-use Rattle.nav_laws.specs.Accepted.{Accepted, nodes, real-leaves, real-slot, real-realizable, real-sized}
-use Rattle.query_laws.specs.Bounds.{low-rest}
-use Rattle.query_laws.specs.Ordered.{passed, next-leaf, seek-is}
-use Rattle.query_laws.specs.Seeks.{low-each, low-of, found-low, found-each}
+use Rattle.nav_nodes.specs.Accepted.{Accepted, nodes, real-leaves, real-slot, real-realizable, real-sized}
+use Rattle.query_descent.specs.Bounds.{low-rest}
+use Rattle.query_descent.specs.Ordered.{passed, next-leaf, seek-is}
+use Rattle.query_descent.specs.Seeks.{low-each, low-of, found-low, found-each}
 use Rattle.theory.specs.AskLaws.{reals-length}
 use Rattle.theory.specs.Levels.{leaf-count-root}
 use Rattle.theory.specs.LevelTrie.{trie}

@@ -1,1 +1,4 @@
+pub mod LeafKeys
 pub mod SeekContracts
+pub mod Sought
+pub mod WayContracts

@@ -5,16 +5,16 @@ use mathlib.Core.Bool.{Bool, true, false}
 use lib.ListN.{length}
 use Rattle.spec.specs.Bytes.{Bytes}
 use Rattle.spec.specs.Nodes.{read-leaves}
-use Rattle.image_types.specs.declared.Frame.{Frame}
-use Rattle.nav_laws.specs.declared.LeafStop.{LeafStop}
-use Rattle.nav_laws.specs.declared.LeafStop.the-variants.{Nowhere, Exact, Open}
-use Rattle.nav_laws.specs.Accepted.{Accepted}
-use Rattle.query_laws.specs.declared.LastHigher.{LastHigher}
-use Rattle.query_laws.specs.LeafKeys.{Begins-with, Reached}
-use Rattle.query_laws.specs.Ordered.{next-leaf}
-use Rattle.query_laws.specs.Seeking.{Higher-in, Key-followed}
-use Rattle.query_laws.specs.Summed.{Summed}
-use Rattle.query_seek_ways.specs.declared.way.Way.{Way}
+use Rattle.image.specs.declared.Frame.{Frame}
+use Rattle.nav_branches.specs.declared.LeafStop.{LeafStop}
+use Rattle.nav_branches.specs.declared.LeafStop.the-variants.{Nowhere, Exact, Open}
+use Rattle.nav_nodes.specs.Accepted.{Accepted}
+use Rattle.query_descent.specs.declared.LastHigher.{LastHigher}
+use Rattle.query_seek.specs.LeafKeys.{Begins-with, Reached}
+use Rattle.query_descent.specs.Ordered.{next-leaf}
+use Rattle.query_descent.specs.Seeking.{Higher-in, Key-followed}
+use Rattle.query_descent.specs.Summed.{Summed}
+use Rattle.query_seek.specs.declared.way.Way.{Way}
 use Rattle.query_seek.specs.declared.next.NextLeaf.{NextLeaf}
 
 -- whether there is a leaf at a stop

@@ -3,21 +3,21 @@ ghost use mathlib.Core.Path.{_≡_};
 ghost use Prim.Native.Nat.{_≤_, _<_};
 ghost use lib.ListN.{length, take};
 ghost use Rattle.spec.specs.Questions.{greater};
-ghost use Rattle.nav_laws.specs.Accepted.{Accepted};
-ghost use Rattle.query_laws.specs.LeafKeys.{Leaf-at, Lowest-key};
-ghost use Rattle.query_laws.specs.Sought.{Is-sought};
-ghost use Rattle.query_laws.specs.Summed.{level-starts};
+ghost use Rattle.nav_nodes.specs.Accepted.{Accepted};
+ghost use Rattle.query_seek.specs.LeafKeys.{Leaf-at, Lowest-key};
+ghost use Rattle.query_seek.specs.Sought.{Is-sought};
+ghost use Rattle.query_descent.specs.Summed.{level-starts};
+use super::SoughtLeaf;
 use super::next::is_leaf;
 use super::next::next_leaf;
 use bits::copy::write_bytes;
-use image_types::Frame;
-use image_types::ValuePos;
+use image::Frame;
+use image::ValuePos;
 use keys::compare::Order;
 use keys::compare::compare;
-use nav_laws::LeafStop;
-use query_laws::SoughtLeaf;
-use query_levels::sum_below;
-use query_suffix::real_byte;
+use nav_branches::LeafStop;
+use query_descent::suffix::real_byte;
+use query_sums::levels::sum_below;
 
 // Behind a cut key of `depth` bytes go the bytes of an open leaf's real bits, filled up with zero bits; the length of the lowest key, which ends before trailing zero bytes and with the 64th byte.
 fn append_real(image: &[u8], f: Frame, slot: ValuePos, key: &mut [u8], depth: usize) -> usize

@@ -6,7 +6,7 @@ ghost use Rattle.spec.specs.Check.{check};
 ghost use Rattle.spec.specs.Fnv.{hash};
 ghost use Rattle.spec.specs.WalkRecords.{walk-records};
 ghost use Rattle.build.specs.Build.{length-of};
-ghost use Rattle.range_filter_codes.specs.Codes.{Coded};
+ghost use Rattle.image.specs.Codes.{Coded};
 ghost use Rattle.range_filter.specs.Filter.{Coded-length, number-of};
 use ask::ask;
 use build::Length;
@@ -15,9 +15,9 @@ use build::image_length;
 use check_image::Checked;
 use check_image::check;
 use fnv::hash;
-use range_filter_codes::REFUSAL_WEIGHT;
-use range_filter_codes::code;
-use range_filter_codes::settings_of;
+use image::codes::REFUSAL_WEIGHT;
+use image::codes::code;
+use image::codes::settings_of;
 use walk_records::write_records;
 
 // A length as one number: the number of a refusal, 0 for a length, times 2^32, plus the bytes, 0 for a refusal.

@@ -17,7 +17,7 @@ use Rattle.theory.specs.Accept.{accepted-is-image}
 use Rattle.theory.specs.AskLaws.{number-small}
 use Rattle.theory.specs.LengthBounds.{leaves-are}
 use Rattle.theory.specs.OneQuestionLaws.{one-refused, one-replied}
-use Rattle.ask_laws.specs.ReplyLaws.{point-reply}
+use Rattle.ask_files.specs.ReplyLaws.{point-reply}
 use Rattle.accepted.specs.declared.Number.{Number}
 use Rattle.accepted.specs.Numbers.{numbered-of}
 use Rattle.range_filter_accepted.specs.CodedNumber.{Coded-number}

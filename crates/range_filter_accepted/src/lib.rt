@@ -6,13 +6,13 @@ ghost use Rattle.spec.specs.Questions.{QP, QS, QB, QR, QC};
 ghost use Rattle.spec.specs.WalkRecords.{walk-records};
 ghost use Rattle.spec.specs.OneQuestion.{ask-one, reply-number, reply-rule, key-written, numbered-code};
 ghost use Rattle.accepted.specs.Numbers.{numbered-of};
-ghost use Rattle.range_filter_codes.specs.Codes.{Coded};
+ghost use Rattle.image.specs.Codes.{Coded};
 ghost use Rattle.range_filter_accepted.specs.CodedNumber.{Coded-number};
 use accepted::FOUND_BYTES;
 use accepted::Number;
-use range_filter_codes::REFUSAL_WEIGHT;
-use range_filter_codes::code;
-use walk_records::write_accepted;
+use accepted::records::write_accepted;
+use image::codes::REFUSAL_WEIGHT;
+use image::codes::code;
 
 // A number of a reply as one number: the number of a refusal, 0 for a number of a reply, times 2^32, plus the number of a reply, 0 for a refusal.
 fn code_number(answer: Number) -> u64

@@ -2,9 +2,9 @@
 ghost use mathlib.Core.Path.{_≡_};
 ghost use Prim.Native.Nat.{_*_};
 ghost use Rattle.spec.specs.Bytes.{equal, blocks};
-ghost use Rattle.bits_laws.specs.Bits.{rank};
-ghost use Rattle.rank_tables_laws.specs.Entries.{rank-entries};
-ghost use Rattle.rank_tables_laws.specs.Tables.{Ranked};
+ghost use Rattle.bits.specs.Bits.{rank};
+ghost use Rattle.rank_tables.specs.Entries.{rank-entries};
+ghost use Rattle.rank_tables.specs.Tables.{Ranked};
 use super::words::Counted;
 use super::words::ones_among;
 use bits::numbers::MODULUS_32;

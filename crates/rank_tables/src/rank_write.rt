@@ -1,12 +1,12 @@
 // Ranks of a finished body, counted by words.
 ghost use mathlib.Core.Path.{_≡_};
 ghost use Prim.Native.Nat.{_*_};
-ghost use Rattle.bits_laws.specs.Bits.{placed};
-ghost use Rattle.rank_tables_laws.specs.Entries.{rank-entries};
-ghost use Rattle.rank_tables_laws.specs.Tables.{spanned, Ranks-room};
+ghost use Rattle.bits.specs.Bits.{placed};
+ghost use Rattle.rank_tables.specs.Entries.{rank-entries};
+ghost use Rattle.rank_tables.specs.Tables.{spanned, Ranks-room};
+use super::Span;
 use bits::numbers::write32;
-use bits_ranks::rank_from;
-use rank_tables_laws::Span;
+use bits::ranks::rank_from;
 
 // The table of n ranks goes to out from `table`: entry b is the number of ones before block b of the finished body. A block has so many words.
 // The ones are counted in a shared part, the body; then the part from the table's start is lent to write the entry.

@@ -3,16 +3,16 @@ ghost use mathlib.Core.Path.{_≡_};
 ghost use Prim.Native.Nat.{_*_, _≤_, _<_};
 ghost use lib.ListN.{length};
 ghost use Rattle.spec.specs.Bytes.{equal, blocks};
-ghost use Rattle.bits_laws.specs.Bits.{rank};
-ghost use Rattle.rank_tables_laws.specs.Entries.{sample-entries};
-ghost use Rattle.rank_tables_laws.specs.Samples.{sampled};
-ghost use Rattle.rank_tables_laws.specs.Tables.{Held};
+ghost use Rattle.bits.specs.Bits.{rank};
+ghost use Rattle.rank_tables.specs.Entries.{sample-entries};
+ghost use Rattle.rank_tables.specs.Samples.{sampled};
+ghost use Rattle.rank_tables.specs.Tables.{Held};
 use super::words::Counted;
 use super::words::ones_among;
 use bits::numbers::read32;
-use bits_ranks::bit_at;
-use bits_ranks::ones_before;
-use image_types::SAMPLE_RATE;
+use bits::ranks::bit_at;
+use bits::ranks::ones_before;
+use image::SAMPLE_RATE;
 
 // Whether entry t is there and is the position of the set bit number 64 t, counted from 0, which word q holds among the first n bits. So many set bits stand before the word.
 // The position is tested itself: it lies in the word, its bit is set, and just 64 t set bits stand before it.

@@ -1,15 +1,15 @@
 // Samples of a finished S-LOUDS body, counted by words.
 ghost use mathlib.Core.Path.{_≡_};
 ghost use Rattle.spec.specs.Bytes.{blocks};
-ghost use Rattle.bits_laws.specs.Bits.{placed, rank};
-ghost use Rattle.rank_tables_laws.specs.Entries.{sample-entries};
-ghost use Rattle.rank_tables_laws.specs.Tables.{spanned, Samples-room};
+ghost use Rattle.bits.specs.Bits.{placed, rank};
+ghost use Rattle.rank_tables.specs.Entries.{sample-entries};
+ghost use Rattle.rank_tables.specs.Tables.{spanned, Samples-room};
+use super::Span;
 use bits::numbers::smaller;
 use bits::numbers::write32;
-use bits_ranks::rank_from;
+use bits::ranks::rank_from;
 use bits_select::select::select_in;
-use image_types::SAMPLE_RATE;
-use rank_tables_laws::Span;
+use image::SAMPLE_RATE;
 
 // The table of samples goes to out from `table`: entry t is the position of the set bit number 64 t, counted from 0, among the first bits of the finished body.
 // The ones are counted in a shared part, the body; then the part from the table's start is lent to write the entry.

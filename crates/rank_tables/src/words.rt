@@ -2,9 +2,9 @@
 ghost use mathlib.Core.Path.{_≡_};
 ghost use Prim.Native.Nat.{_+_, _*_, _≤_, _<_, min};
 ghost use lib.ListN.{length};
-ghost use Rattle.bits_laws.specs.Bits.{rank};
-use bits_ranks::ones_before;
-use bits_ranks::ones_word;
+ghost use Rattle.bits.specs.Bits.{rank};
+use bits::ranks::ones_before;
+use bits::ranks::ones_word;
 
 // What a pass over a body finds: its ones, and whether its table is right.
 pub struct Counted {

@@ -6,10 +6,10 @@ use mathlib.Core.Logic.{⊎-elim}
 use native.Mathlib.Omega.{arith}
 use types.Run.{OneOf}
 use denote.Enum.Declared.{tagOf, declared}
-use Rattle.image_types.specs.declared.ValuePos.{ValuePos}
-use Rattle.nav_laws.proofs.LeafStop as stops
-use Rattle.nav_laws.specs.declared.LeafStop.{LeafStop}
-use Rattle.nav_laws.specs.declared.LeafStop.the-variants.{Nowhere, Exact, Open}
+use Rattle.image.specs.declared.ValuePos.{ValuePos}
+use Rattle.nav_branches.proofs.LeafStop as stops
+use Rattle.nav_branches.specs.declared.LeafStop.{LeafStop}
+use Rattle.nav_branches.specs.declared.LeafStop.the-variants.{Nowhere, Exact, Open}
 
 -- no open leaf
 pub not-open : (stop : LeafStop) → OneOf (0 ∷ 1 ∷ []) (tagOf (declared stops.enum) stop) → (v : ValuePos) → stop ≡ Open v → ⊥

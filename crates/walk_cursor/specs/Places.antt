@@ -10,26 +10,26 @@ use lib.ListN.{length, getD, getElem?, take, drop, length-drop, drop-of-length-l
 use Rattle.spec.specs.Bytes.{Bytes, low-bits}
 use Rattle.spec.specs.Leaves.{Leaf}
 use Rattle.spec.specs.Nodes.{read-leaves, exact-slot}
-use Rattle.image_types.specs.declared.Frame.{Frame}
-use Rattle.image_types.specs.declared.Leaf.{Leaf as Value}
-use Rattle.image_types.specs.declared.ValuePos.{ValuePos}
-use Rattle.image_types.specs.Value.{leaf-of}
-use Rattle.nav_laws.specs.declared.BranchKind.the-variants.{Absent}
-use Rattle.nav_laws.specs.declared.LeafStop.{LeafStop}
-use Rattle.nav_laws.specs.declared.LeafStop.the-variants.{Nowhere, Exact, Open}
-use Rattle.nav_laws.specs.NumberBounds as root
-use Rattle.nav_laws.specs.Slots.{node-at, slot-of}
-use Rattle.nav_laws.specs.Accepted.{Accepted, nodes}
-use Rattle.nav_laws.specs.Below.{drop-next}
-use Rattle.nav_laws.specs.Paths.{node-on, onward, standing, standing-none, standing-exact, standing-open}
-use Rattle.nav_laws.specs.PathSteps.{ends-none}
-use Rattle.nav_paths.specs.declared.higher.Higher.{Higher}
-use Rattle.nav_paths.specs.PathContracts.{Searchable, Next-higher}
-use Rattle.walk_laws.specs.SuffixNumber.{number-zero}
+use Rattle.image.specs.declared.Frame.{Frame}
+use Rattle.image.specs.declared.Leaf.{Leaf as Value}
+use Rattle.image.specs.declared.ValuePos.{ValuePos}
+use Rattle.image.specs.Value.{leaf-of}
+use Rattle.nav_nodes.specs.declared.BranchKind.the-variants.{Absent}
+use Rattle.nav_branches.specs.declared.LeafStop.{LeafStop}
+use Rattle.nav_branches.specs.declared.LeafStop.the-variants.{Nowhere, Exact, Open}
+use Rattle.nav_nodes.specs.NumberBounds as root
+use Rattle.nav_nodes.specs.Slots.{node-at, slot-of}
+use Rattle.nav_nodes.specs.Accepted.{Accepted, nodes}
+use Rattle.nav_branches.specs.Below.{drop-next}
+use Rattle.nav_branches.specs.Paths.{node-on, onward, standing, standing-none, standing-exact, standing-open}
+use Rattle.nav_branches.specs.PathSteps.{ends-none}
+use Rattle.nav_branches.specs.declared.path_higher.Higher.{Higher}
+use Rattle.nav_branches.specs.PathContracts.{Searchable, Next-higher}
+use Rattle.walk_cursor.specs.SuffixNumber.{number-zero}
 use Rattle.walk_cursor.specs.declared.Cursor.{Cursor}
-use Rattle.nav_laws.specs.declared.LeafEnd.{LeafEnd}
-use Rattle.walk_levels.specs.declared.moves.Resume.{Resume}
-use Rattle.walk_levels.specs.Levels.{numbered, path-of, Levels, Descended}
+use Rattle.nav_branches.specs.declared.LeafEnd.{LeafEnd}
+use Rattle.walk_path.specs.declared.moves.Resume.{Resume}
+use Rattle.walk_path.specs.Levels.{numbered, path-of, Levels, Descended}
 use Rattle.walk_cursor.specs.Stands.{Stands, At-leaf, Stands-at, No-leaf, cursor-of, Resumes-from, Reads-leaf, Is-leaf}
 use Rattle.theory.specs.Lists.{all-at}
 use Rattle.theory.specs.LeafLists.{Shortest}

@@ -7,18 +7,18 @@ use mathlib.Core.Option.{some}
 use lib.ListN.{getD, getElem?, drop}
 use Rattle.spec.specs.Bytes.{Bytes, low-bits}
 use Rattle.spec.specs.Nodes.{read-leaves}
-use Rattle.image_types.specs.declared.Frame.{Frame}
-use Rattle.image_types.specs.declared.Leaf.{Leaf as Value}
-use Rattle.image_types.specs.declared.ValuePos.{ValuePos}
-use Rattle.image_types.specs.Value.{leaf-of, Sized}
-use Rattle.nav_laws.specs.declared.LeafStop.the-variants as Stop
-use Rattle.nav_laws.specs.Accepted.{Accepted, nodes}
-use Rattle.nav_laws.specs.Paths.{standing}
-use Rattle.nav_laws.specs.PathSteps.{Ends}
-use Rattle.nav_laws.specs.Slots.{slot-of}
-use Rattle.nav_laws.specs.declared.LeafEnd.{LeafEnd}
-use Rattle.walk_levels.specs.declared.moves.Resume.{Resume}
-use Rattle.walk_levels.specs.Levels.{numbered, Kept, Room}
+use Rattle.image.specs.declared.Frame.{Frame}
+use Rattle.image.specs.declared.Leaf.{Leaf as Value}
+use Rattle.image.specs.declared.ValuePos.{ValuePos}
+use Rattle.image.specs.Value.{leaf-of, Sized}
+use Rattle.nav_branches.specs.declared.LeafStop.the-variants as Stop
+use Rattle.nav_nodes.specs.Accepted.{Accepted, nodes}
+use Rattle.nav_branches.specs.Paths.{standing}
+use Rattle.nav_branches.specs.PathSteps.{Ends}
+use Rattle.nav_nodes.specs.Slots.{slot-of}
+use Rattle.nav_branches.specs.declared.LeafEnd.{LeafEnd}
+use Rattle.walk_path.specs.declared.moves.Resume.{Resume}
+use Rattle.walk_path.specs.Levels.{numbered, Kept, Room}
 use Rattle.walk_cursor.specs.declared.Cursor.{Cursor}
 
 -- The cursor's leaf and those behind its path are the leaves of the image from its place on.

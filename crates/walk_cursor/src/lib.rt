@@ -2,20 +2,25 @@
 ghost use mathlib.Core.Path.{_≡_};
 ghost use Prim.Native.Nat.{_+_, _<_};
 ghost use Rattle.spec.specs.Bytes.{low-bits};
-ghost use Rattle.nav_laws.specs.Slots.{slot-of};
-ghost use Rattle.nav_laws.specs.Accepted.{Accepted, nodes};
+ghost use Rattle.nav_nodes.specs.Slots.{slot-of};
+ghost use Rattle.nav_nodes.specs.Accepted.{Accepted, nodes};
 ghost use Rattle.walk_cursor.specs.Stands.{At-leaf, Stands-at, No-leaf, Can-advance, Advances, Has-end, Slot-inside, Resumes-from, Reads-leaf, Is-leaf};
 use bits::numbers::wide;
-use image_types::Frame;
-use image_types::Leaf;
-use image_types::ValuePos;
-use nav::branches::is_there;
-use nav_laws::LeafEnd;
-use nav_laws::LeafStop;
-use query_suffix::slot_bits;
-use walk_levels::moves::Resume;
-use walk_levels::moves::climb;
-use walk_levels::moves::first_behind;
+use image::Frame;
+use image::Leaf;
+use image::ValuePos;
+use nav_branches::LeafEnd;
+use nav_branches::LeafStop;
+use nav_branches::branches::is_there;
+use query_descent::suffix::slot_bits;
+use walk_path::moves::Resume;
+use walk_path::moves::climb;
+use walk_path::moves::first_behind;
+
+pub mod branch; // branch.rt: the branch of a node before which so many of its leaves stand
+pub mod descent; // descent.rt: the path from the root to the leaf at a place
+pub mod locate; // locate.rt: the cursor at a place, straight from the root
+pub mod values; // values.rt: a leaf by value, with zeros in the place of what it does not settle
 
 // A place of a walk: the path to the leaf, whose labels are the cut key, what is kept of its levels, and the leaf's number in key order. Behind the last leaf the path ends nowhere.
 pub struct Cursor {

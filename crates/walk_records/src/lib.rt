@@ -1,27 +1,24 @@
 // Leaves as records of bytes, for programs in other languages: the kind (1 exact, 2 open), the cut key's length, 64 bytes with the cut key and zeros behind it,
 // and the suffix as a number of four bytes, the low one first, whose lowest bit is the suffix's first: hash bits stand below real bits.
 ghost use mathlib.Core.Path.{_≡_};
-ghost use Rattle.spec.specs.Check.{verdict};
 ghost use Rattle.spec.specs.Nodes.{read-leaves};
 ghost use Rattle.spec.specs.WalkRecords.{kind-byte, walk-records};
-ghost use Rattle.bits_laws.specs.Bits.{placed};
-ghost use Rattle.image_types.specs.Outcomes.{outcome};
-ghost use Rattle.walk_laws.specs.LeafValues.{value-record};
-ghost use Rattle.walk_laws.specs.Filling.{Fills};
-ghost use Rattle.walk_states.specs.Walks.{Walks, Opens};
-ghost use Rattle.walk_states.specs.Records.{Room};
-use accepted_frame::accepted_frame;
+ghost use Rattle.bits.specs.Bits.{placed};
+ghost use Rattle.image.specs.Outcomes.{outcome};
+ghost use Rattle.walk_cursor.specs.LeafValues.{value-record};
+ghost use Rattle.walk.specs.Filling.{Fills};
+ghost use Rattle.walk.specs.Walks.{Walks, Opens};
+ghost use Rattle.walk.specs.Records.{Room};
 use bits::copy::write_bytes;
 use bits::numbers::write32;
-use image_types::Leaf;
-use image_types::Written;
+use image::Leaf;
+use image::Written;
+use walk::states::State;
+use walk::states::Status;
+use walk::walker::open_from;
 use walk_cursor::advance;
 use walk_cursor::leaf_of;
-use walk_states::State;
-use walk_states::Status;
-use walk_states::open_accepted;
-use walk_values::padded;
-use walk_walker::walker::open_from;
+use walk_cursor::values::padded;
 
 // The bytes of a record: kind, length, cut key and suffix.
 pub const RECORD_SIZE: usize = 70;
@@ -80,7 +77,7 @@ fn write_leaves(image: &[u8], from: State, out: &mut [u8]) -> usize
 }
 
 // Writes the records of the leaves from where a walk was opened to the front of out, of as many as it holds whole.
-fn write_opened(image: &[u8], at: State, out: &mut [u8]) -> Written
+pub fn write_opened(image: &[u8], at: State, out: &mut [u8]) -> Written
     requires { ⌜ Opens (now image) (at .place) at ⌝ }
     ensures { λ r. ⌜ outcome r (now (out .exit)) ≡ walk-records (now (image .entry)) (at .place) (now (out .entry)) ⌝ }
 {
@@ -96,13 +93,4 @@ pub fn write_records(image: &[u8], place: usize, out: &mut [u8]) -> Written
     ensures { λ r. ⌜ outcome r (now (out .exit)) ≡ walk-records (now (image .entry)) place (now (out .entry)) ⌝ }
 {
     write_opened(image, open_from(image, place), out)
-}
-
-// The same over an image that the check has accepted, which is not checked again.
-pub fn write_accepted(image: &[u8], place: usize, out: &mut [u8]) -> Written
-    requires { ⌜ verdict (now image) ≡ 0 ⌝ }
-    ensures { λ r. ⌜ outcome r (now (out .exit)) ≡ walk-records (now (image .entry)) place (now (out .entry)) ⌝ }
-{
-    let f = accepted_frame(image);
-    write_opened(image, open_accepted(image, f, place), out)
 }

@@ -4,7 +4,7 @@ use native.Mathlib.Omega.{arith}
 use Rattle.spec.specs.Nodes.{read-leaves}
 use Rattle.spec.specs.Questions.{QB, Reply}
 use Rattle.theory.specs.OneQuestionLaws.{key-long, key-fits, stem-keys}
-use Rattle.ask_laws.specs.ReplyLaws.{begins-reply}
+use Rattle.ask_files.specs.ReplyLaws.{begins-reply}
 use Rattle.accepted.proofs.NumberLaws.{refused-number, replied-number}
 use borrow.Author.Needs.{needs}
 use Rattle.accepted.proofs.begins_with.Statement.{statement}

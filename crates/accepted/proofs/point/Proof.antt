@@ -4,7 +4,7 @@ use native.Mathlib.Omega.{arith}
 use Rattle.spec.specs.Rules.{rule-says}
 use Rattle.spec.specs.Questions.{QP}
 use Rattle.theory.specs.OneQuestionLaws.{key-long, key-fits, point-keys}
-use Rattle.query_laws.specs.Answers.{all-small}
+use Rattle.query_descent.specs.Answers.{all-small}
 use Rattle.accepted.proofs.NumberLaws.{refused-number, point-number}
 use borrow.Author.Needs.{needs}
 use Rattle.accepted.proofs.point.Statement.{statement}

@@ -4,7 +4,7 @@ use native.Mathlib.Omega.{arith}
 use Rattle.spec.specs.Nodes.{read-leaves}
 use Rattle.spec.specs.Questions.{QR, Reply}
 use Rattle.theory.specs.OneQuestionLaws.{range-keys, bounds-short}
-use Rattle.ask_laws.specs.ReplyLaws.{range-reply}
+use Rattle.ask_files.specs.ReplyLaws.{range-reply}
 use Rattle.accepted.proofs.NumberLaws.{refused-number, replied-number}
 use borrow.Author.Needs.{needs}
 use Rattle.accepted.proofs.range.Statement.{statement}

@@ -5,9 +5,9 @@ use borrow.Author.Needs.{needs}
 use lib.ListN.{length}
 use borrow.Author.Tests.{not-true, not-false, leb-true, leb-false}
 use Rattle.spec.specs.Questions.{questions-of}
-use Rattle.nav_laws.specs.FromCheck.{hash-read, checked-accepted}
-use Rattle.query_laws.specs.Answers.{all-small}
-use Rattle.ask_laws.specs.AskJoined.{ask-joined}
+use Rattle.nav_nodes.specs.FromCheck.{hash-read, checked-accepted}
+use Rattle.query_descent.specs.Answers.{all-small}
+use Rattle.ask.specs.AskJoined.{ask-joined}
 use Rattle.ask_files.proofs.JudgeLaws.{file-taken, file-refused}
 use Rattle.ask_replies.specs.Replies.{file-replies}
 use Rattle.ask.proofs.ask_accepted.Statement.{statement}

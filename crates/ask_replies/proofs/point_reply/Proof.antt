@@ -8,7 +8,7 @@ use borrow.Author.Needs.{needs}
 use Rattle.spec.specs.Bytes.{Bytes}
 use Rattle.spec.specs.Nodes.{read-leaves}
 use Rattle.spec.specs.Rules.{rule-number, rule-says}
-use Rattle.ask_reply_bytes.proofs.AnswerLaws.{point-answered}
+use Rattle.ask_files.proofs.AnswerLaws.{point-answered}
 use Rattle.ask_replies.proofs.point_reply.Statement.{statement}
 use Rattle.ask_replies.proofs.point_reply.Tie as tie
 

@@ -2,7 +2,7 @@
 use mathlib.Core.Path.{_∙_}
 use borrow.Author.Needs.{needs}
 use Rattle.spec.specs.Nodes.{read-leaves}
-use Rattle.ask_reply_bytes.proofs.AnswerLaws.{inside-matched, keyless-sized, keyless-of, reply-matched, point-matched, seek-matched, begins-keyless, range-keyless, count-keyless}
+use Rattle.ask_files.proofs.AnswerLaws.{inside-matched, keyless-sized, keyless-of, reply-matched, point-matched, seek-matched, begins-keyless, range-keyless, count-keyless}
 use Rattle.ask_replies.proofs.reply_to.Statement.{statement}
 use Rattle.ask_replies.proofs.reply_to.Tie as tie
 

@@ -3,7 +3,7 @@ use Prim.Native.Nat.{ℕ}
 use mathlib.Core.Path.{_∙_}
 use borrow.Author.Needs.{needs}
 use Rattle.spec.specs.Nodes.{read-leaves}
-use Rattle.ask_reply_bytes.proofs.AnswerLaws.{keyless-sized, keyless-of}
+use Rattle.ask_files.proofs.AnswerLaws.{keyless-sized, keyless-of}
 use Rattle.ask_replies.proofs.SoughtLaws.{none-sought, some-sought}
 use Rattle.ask_replies.proofs.seek_reply.Statement.{statement}
 use Rattle.ask_replies.proofs.seek_reply.Tie as tie

@@ -6,9 +6,9 @@ use native.Mathlib.Omega.{arith}
 use borrow.Author.Needs.{needs}
 use lib.ListN.{length, drop}
 use Rattle.spec.specs.Nodes.{read-leaves}
-use Rattle.ask_laws.specs.ReplyLaws.{Replied, replied-start, replied-length, replied-size, replied-end}
+use Rattle.ask_files.specs.ReplyLaws.{Replied, replied-start, replied-length, replied-size, replied-end}
 use Rattle.ask_replies.specs.Replies.{file-replies}
-use Rattle.ask_reply_bytes.proofs.AnswerLaws.{answered-room, answered-more}
+use Rattle.ask_files.proofs.AnswerLaws.{answered-room, answered-more}
 use Rattle.ask_replies.proofs.write_replies.Statement.{statement}
 use Rattle.ask_replies.proofs.write_replies.Tie as tie
 

@@ -4,7 +4,7 @@ use mathlib.Core.Path.{sym, subst, _∙_}
 use Rattle.spec.specs.Answer.{refuse}
 use Rattle.spec.specs.Build.{turned-down, to-build}
 use Rattle.theory.specs.BuildLaws.{build-is}
-use Rattle.image_types.specs.Header.{asked}
+use Rattle.image.specs.Header.{asked}
 use Rattle.build.specs.Build.{Judges}
 use Rattle.build.proofs.build.Statement.{statement}
 use Rattle.build.proofs.build.Tie as tie

@@ -3,7 +3,7 @@ use borrow.Author.Needs.{needs}
 use mathlib.Core.Path.{sym, ap, subst, _∙_}
 use Rattle.spec.specs.Build.{turned-down, to-build, bytes}
 use Rattle.theory.specs.BuildLaws.{length-is}
-use Rattle.image_types.specs.Header.{asked}
+use Rattle.image.specs.Header.{asked}
 use Rattle.build.specs.Build.{Judges}
 use Rattle.build.proofs.image_length.Statement.{statement}
 use Rattle.build.proofs.image_length.Tie as tie

@@ -3,7 +3,7 @@ use borrow.Author.Needs.{needs}
 use borrow.Author.Tests.{not-true, not-false}
 use mathlib.Core.Path.{sym, _∙_}
 use Rattle.build_laws.specs.PackedBody.{small-of}
-use Rattle.image_types.specs.Header.{asked}
+use Rattle.image.specs.Header.{asked}
 use Rattle.build.proofs.JudgeLaws.{out-of-range, list-refused, list-accepted}
 use Rattle.build.proofs.judge.Statement.{statement}
 use Rattle.build.proofs.judge.Tie as tie

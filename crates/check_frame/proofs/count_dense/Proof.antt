@@ -3,9 +3,9 @@ use Prim.Native.Nat.{_+_, _*_}
 use mathlib.Core.Path.{ap₂, _∙_}
 use mathlib.Core.Bool.{_&&_}
 use native.Mathlib.Omega.{arith}
-use Rattle.bits_laws.specs.Bits.{part}
-use Rattle.bits_laws.specs.RankLaws.{rank-le}
-use Rattle.bits_laws.specs.PartLaws.{rank-part}
+use Rattle.bits.specs.Bits.{part}
+use Rattle.bits.specs.RankLaws.{rank-le}
+use Rattle.bits.specs.PartLaws.{rank-part}
 use Rattle.spec.specs.Bytes.{blocks}
 use borrow.Author.Needs.{needs}
 use Rattle.check_frame.proofs.count_dense.Statement.{statement}

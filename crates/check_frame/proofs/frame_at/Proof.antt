@@ -1,7 +1,7 @@
 -- Each start is the one that the header gives, and fits a number.
 use mathlib.Core.Path.{refl}
 use native.Mathlib.Omega.{arith}
-use Rattle.check_frame_laws.specs.FrameLaws.{starts-small, gap-small}
+use Rattle.check_frame.specs.FrameLaws.{starts-small, gap-small}
 use borrow.Author.Needs.{needs}
 use Rattle.check_frame.proofs.frame_at.Statement.{statement}
 use Rattle.check_frame.proofs.frame_at.Tie as tie

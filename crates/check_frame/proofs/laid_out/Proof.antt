@@ -1,5 +1,5 @@
 -- The frame of the header is that of the image, once its dense nodes are counted.
-use Rattle.check_frame_laws.specs.FrameLaws.{uncounted, frame-laid, dense-laid}
+use Rattle.check_frame.specs.FrameLaws.{uncounted, frame-laid, dense-laid}
 use borrow.Author.Needs.{needs}
 use Rattle.check_frame.proofs.laid_out.Statement.{statement}
 use Rattle.check_frame.proofs.laid_out.Tie as tie

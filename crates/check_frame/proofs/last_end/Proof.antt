@@ -1,7 +1,7 @@
 -- The twelve, and LV behind them in version 2.
 use mathlib.Core.Path.{sym, _∙_}
 use native.Mathlib.Omega.{arith}
-use Rattle.check_frame_laws.specs.FrameLaws.{end-missing, end-twelve}
+use Rattle.check_frame.specs.FrameLaws.{end-missing, end-twelve}
 use Rattle.check_frame.specs.Found.{level-found}
 use borrow.Author.Needs.{needs}
 use Rattle.check_frame.proofs.last_end.Statement.{statement}

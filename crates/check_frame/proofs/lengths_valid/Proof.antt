@@ -7,8 +7,8 @@ use native.Mathlib.Omega.{arith}
 use lib.ListN.{length, drop}
 use Rattle.spec.specs.Bytes.{Bytes}
 use Rattle.spec.specs.Image.{rows}
-use Rattle.image_types.specs.Header.{settings-of, counts-of}
-use Rattle.image_types.specs.Records.{records-end, lengths-agree, row-at, stands, record-end, record-within, rows-from, rows-end, first-stands, end-more, agree-more, agree-not}
+use Rattle.image.specs.Header.{settings-of, counts-of}
+use Rattle.image.specs.Records.{records-end, lengths-agree, row-at, stands, record-end, record-within, rows-from, rows-end, first-stands, end-more, agree-more, agree-not}
 use Rattle.check_frame.proofs.lengths_valid.Statement.{statement}
 use Rattle.check_frame.proofs.lengths_valid.Tie as tie
 

@@ -7,7 +7,7 @@ use native.Mathlib.Omega.{arith}
 use lib.ListN.{length}
 use borrow.Author.Needs.{needs}
 use borrow.Author.Tests.{not-true, not-false}
-use Rattle.check_frame_laws.specs.FrameLaws.{header-short, header-first, header-second, header-stands, records-standing, records-absent, records-short, Frame-stands, settings-wrong, lengths-wrong}
+use Rattle.check_frame.specs.FrameLaws.{header-short, header-first, header-second, header-stands, records-standing, records-absent, records-short, Frame-stands, settings-wrong, lengths-wrong}
 use Rattle.check_frame.specs.Found.{end-found}
 use Rattle.check_frame.proofs.read_frame.Statement.{statement}
 use Rattle.check_frame.proofs.read_frame.Tie as tie

@@ -4,7 +4,7 @@ use Prim.Native.Nat.{ℕ, _+_}
 use mathlib.Core.List.{List}
 use native.Mathlib.Omega.{arith}
 use lib.ListN.{getD}
-use Rattle.image_types.specs.Records.{row-at, record-short, record-past, record-first, record-second, record-stands}
+use Rattle.image.specs.Records.{row-at, record-short, record-past, record-first, record-second, record-stands}
 use borrow.Author.Needs.{needs}
 use Rattle.check_frame.proofs.record_end.Statement.{statement}
 use Rattle.check_frame.proofs.record_end.Tie as tie

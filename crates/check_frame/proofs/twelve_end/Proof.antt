@@ -4,7 +4,7 @@ use mathlib.Core.Path.{_≡_, refl, sym, ap, _∙_}
 use native.Mathlib.Omega.{arith}
 use lib.ListN.{length, drop}
 use Rattle.spec.specs.Image.{rows}
-use Rattle.image_types.specs.Records.{records-end, row-at, record-within, rows-from, rows-end, end-more, end-none}
+use Rattle.image.specs.Records.{records-end, row-at, record-within, rows-from, rows-end, end-more, end-none}
 use borrow.Author.Needs.{needs}
 use Rattle.check_frame.proofs.twelve_end.Statement.{statement}
 use Rattle.check_frame.proofs.twelve_end.Tie as tie

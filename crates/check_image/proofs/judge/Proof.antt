@@ -10,11 +10,11 @@ use Rattle.spec.specs.Trie.{builders-trie}
 use Rattle.spec.specs.Check.{ranks-valid, starts-valid, tables-valid}
 use Rattle.theory.specs.Demands.{Passes-13, Passes-14, Passes-15, spare-set, no-trie, table-wrong, slot-set}
 use Rattle.theory.specs.CheckStages.{passes-verdict}
-use Rattle.image_types.specs.FrameOf.{FrameOf, frame-bodies, frame-named}
-use Rattle.image_types.specs.declared.Frame.{Frame}
-use Rattle.check_tables_laws.specs.Tables.{dense-agrees, sparse-agrees, tables-are}
-use Rattle.check_frame_laws.specs.FrameLaws.{frame-passes}
-use Rattle.check_slots_laws.specs.Passed.{Passed-to-15}
+use Rattle.image.specs.FrameOf.{FrameOf, frame-bodies, frame-named}
+use Rattle.image.specs.declared.Frame.{Frame}
+use Rattle.check_tables.specs.Tables.{dense-agrees, sparse-agrees, tables-are}
+use Rattle.check_frame.specs.FrameLaws.{frame-passes}
+use Rattle.check_slots.specs.Passed.{Passed-to-15}
 use Rattle.check_image.specs.Answers.{refuses}
 use Rattle.check_image.proofs.judge.Statement.{statement}
 use Rattle.check_image.proofs.judge.Tie as tie

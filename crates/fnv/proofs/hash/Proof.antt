@@ -6,7 +6,7 @@ use borrow.Author.Needs.{needs}
 use lib.ListN.{length, drop}
 use Rattle.spec.specs.Bytes.{Bytes}
 use Rattle.spec.specs.Fnv.{hash-from, hash}
-use Rattle.fnv_laws.specs.HashLaws.{hash-next, hash-end}
+use Rattle.fnv.specs.HashLaws.{hash-next, hash-end}
 use Rattle.fnv.proofs.hash.Statement.{statement}
 use Rattle.fnv.proofs.hash.Tie as tie
 

@@ -1,11 +1,11 @@
 use borrow.Author.Needs.{needs}
-use Rattle.query_bounds.specs.Bounds.{Leaf-shared, leads-parted, count-nowhere, count-absent, count-shared}
-use Rattle.query_laws.specs.Leads.{Leads-to}
-use Rattle.query_laws.specs.OpenBetween.{Open-between, open-between}
-use Rattle.query_laws.specs.declared.KeyEnd.{KeyEnd}
-use Rattle.query_laws.specs.declared.KeyEnd.the-variants as End
-use Rattle.image_types.specs.declared.BitPos.{BitPos}
-use Rattle.image_types.specs.declared.NodeNum.{NodeNum}
+use Rattle.query_sums.specs.Bounds.{Leaf-shared, leads-parted, count-nowhere, count-absent, count-shared}
+use Rattle.query_descent.specs.Leads.{Leads-to}
+use Rattle.query_descent.specs.OpenBetween.{Open-between, open-between}
+use Rattle.query_descent.specs.declared.KeyEnd.{KeyEnd}
+use Rattle.query_descent.specs.declared.KeyEnd.the-variants as End
+use Rattle.image.specs.declared.BitPos.{BitPos}
+use Rattle.image.specs.declared.NodeNum.{NodeNum}
 use Rattle.spec.specs.Bytes.{bit, shared}
 use Rattle.theory.specs.Order.{shared-le}
 use Prim.Native.Nat.{ℕ}

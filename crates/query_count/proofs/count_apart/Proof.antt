@@ -1,5 +1,5 @@
 use borrow.Author.Needs.{needs}
-use Rattle.query_bounds.specs.Bounds.{Bound-ended, lower-leads, upper-leads, bound-down, bound-key, count-parted}
+use Rattle.query_sums.specs.Bounds.{Bound-ended, lower-leads, upper-leads, bound-down, bound-key, count-parted}
 use mathlib.Core.Path.{sym, _∙_}
 use Rattle.query_count.proofs.count_apart.Statement.{statement}
 use Rattle.query_count.proofs.count_apart.Tie as tie

@@ -1,8 +1,8 @@
 -- The answer is one number, and replies are short enough that it decodes.
 use borrow.Author.Needs.{needs}
 use Rattle.theory.specs.LengthBounds.{ask-short}
-use Rattle.query_laws.specs.Answers.{all-small}
-use Rattle.range_filter_codes.proofs.CodedLaws.{coded}
+use Rattle.query_descent.specs.Answers.{all-small}
+use Rattle.image.proofs.CodedLaws.{coded}
 use Rattle.range_filter.proofs.range_filter_ask.Statement.{statement}
 use Rattle.range_filter.proofs.range_filter_ask.Tie as tie
 

@@ -4,8 +4,8 @@ use borrow.Author.Needs.{needs}
 use Rattle.spec.specs.Image.{Settings}
 use Rattle.spec.specs.Build.{build}
 use Rattle.theory.specs.LengthBounds.{build-short}
-use Rattle.query_laws.specs.Answers.{all-small}
-use Rattle.range_filter_codes.proofs.CodedLaws.{coded}
+use Rattle.query_descent.specs.Answers.{all-small}
+use Rattle.image.proofs.CodedLaws.{coded}
 use Rattle.range_filter.proofs.range_filter_build.Statement.{statement}
 use Rattle.range_filter.proofs.range_filter_build.Tie as tie
 

@@ -3,7 +3,7 @@ use mathlib.Core.Path.{ap, _∙_}
 use borrow.Author.Needs.{needs}
 use Rattle.spec.specs.Build.{image-length}
 use Rattle.theory.specs.LengthBounds.{length-short}
-use Rattle.query_laws.specs.Answers.{all-small}
+use Rattle.query_descent.specs.Answers.{all-small}
 use Rattle.range_filter.proofs.LengthLaws.{coded-length}
 use Rattle.range_filter.proofs.range_filter_image_length.Statement.{statement}
 use Rattle.range_filter.proofs.range_filter_image_length.Tie as tie

@@ -1,8 +1,8 @@
 -- The leaves behind the cursor's are those from the next higher branch of its path on.
 use Prim.Native.Nat.{ℕ}
 use mathlib.Core.Path.{_≡_, refl, sym, _∙_}
-use Rattle.nav_laws.specs.declared.BranchKind.the-variants.{Absent}
-use Rattle.nav_laws.specs.NextLabel.{there-not, not-there}
+use Rattle.nav_nodes.specs.declared.BranchKind.the-variants.{Absent}
+use Rattle.nav_nodes.specs.NextLabel.{there-not, not-there}
 use Rattle.walk_cursor.specs.Stands.{At-leaf, cursor-of}
 use Rattle.walk_cursor.specs.Places.{Resumes, resumes, stands-last, stands-next}
 use borrow.Author.Needs.{needs}

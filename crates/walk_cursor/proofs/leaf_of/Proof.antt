@@ -2,9 +2,9 @@
 use mathlib.Core.Path.{_≡_, refl, sym, ap, _∙_}
 use Prim.Native.Nat.{ℕ}
 use native.Mathlib.Omega.{arith}
-use Rattle.image_types.specs.declared.ValuePos.{ValuePos}
-use Rattle.nav_laws.specs.Accepted.{nodes}
-use Rattle.nav_laws.specs.Slots.{slot-of}
+use Rattle.image.specs.declared.ValuePos.{ValuePos}
+use Rattle.nav_nodes.specs.Accepted.{nodes}
+use Rattle.nav_nodes.specs.Slots.{slot-of}
 use Rattle.walk_cursor.proofs.Stops.{not-open}
 use borrow.Author.Needs.{needs}
 use Rattle.walk_cursor.proofs.leaf_of.Statement.{statement}

@@ -5,10 +5,10 @@ use mathlib.Core.Bool.{false}
 use mathlib.Core.Path.{_≡_, ap, _∙_}
 use lib.ListN.{drop, getD}
 use Rattle.spec.specs.Bytes.{bit}
-use Rattle.nav_laws.specs.Slots.{slot-of}
-use Rattle.query_laws.specs.SuffixBytes.{slot-length}
-use Rattle.nav_laws.specs.Accepted.{nodes}
-use Rattle.walk_laws.specs.SuffixNumber.{number-bits}
+use Rattle.nav_nodes.specs.Slots.{slot-of}
+use Rattle.query_descent.specs.SuffixBytes.{slot-length}
+use Rattle.nav_nodes.specs.Accepted.{nodes}
+use Rattle.walk_cursor.specs.SuffixNumber.{number-bits}
 use Rattle.walk_cursor.proofs.suffix.Statement.{statement}
 use Rattle.walk_cursor.proofs.suffix.Tie as tie
 

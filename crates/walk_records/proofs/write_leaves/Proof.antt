@@ -4,13 +4,13 @@ use mathlib.Core.Path.{_≡_, ap, _∙_}
 use native.Mathlib.Omega.{arith}
 use Rattle.spec.specs.Nodes.{read-leaves}
 use Rattle.spec.specs.WalkRecords.{record-size}
-use Rattle.bits_laws.specs.Bits.{placed}
-use Rattle.image_types.specs.Value.{leaf-of}
-use Rattle.walk_laws.specs.Filling.{Filled, filled-none, filled-length, filled-more, filled-full, filled-done}
+use Rattle.bits.specs.Bits.{placed}
+use Rattle.image.specs.Value.{leaf-of}
+use Rattle.walk.specs.Filling.{Filled, filled-none, filled-length, filled-more, filled-full, filled-done}
 use Rattle.walk_cursor.specs.Stands.{Stands, At-leaf, Is-leaf, cursor-of}
 use Rattle.walk_cursor.specs.Places.{leaf-total, leaf-read}
-use Rattle.walk_states.specs.Walks.{At-place}
-use Rattle.walk_states.specs.StateLaws.{record-room, record-is}
+use Rattle.walk.specs.Walks.{At-place}
+use Rattle.walk.specs.StateLaws.{record-room, record-is}
 use Rattle.walk_records.proofs.write_leaves.Statement.{statement}
 use Rattle.walk_records.proofs.write_leaves.Tie as tie
 

@@ -3,7 +3,7 @@ use mathlib.Core.Path.{_≡_, sym, _∙_}
 use native.Mathlib.Omega.{arith}
 use borrow.Author.Needs.{needs}
 use lib.ListN.{length, length-map, length-set}
-use Rattle.walk_laws.specs.LeafValues.{record-placed}
+use Rattle.walk_cursor.specs.LeafValues.{record-placed}
 use Rattle.walk_records.proofs.write_record.Statement.{statement}
 use Rattle.walk_records.proofs.write_record.Tie as tie
 

@@ -3,7 +3,7 @@ use mathlib.Core.Path.{_∙_}
 use native.Mathlib.Omega.{arith}
 use borrow.Author.Needs.{needs}
 use Rattle.spec.specs.Nodes.{read-leaves}
-use Rattle.ask_reply_bytes.proofs.AnswerLaws.{inside-matched, reply-matched, reply-key, seek-matched, keyless-matched, point-length}
+use Rattle.ask_files.proofs.AnswerLaws.{inside-matched, reply-matched, reply-key, seek-matched, keyless-matched, point-length}
 use Rattle.ask.proofs.lengths.key_length.Statement.{statement}
 use Rattle.ask.proofs.lengths.key_length.Tie as tie
 

@@ -8,9 +8,9 @@ use lib.ListN.{length}
 use lib.Dec.{leb}
 use Rattle.spec.specs.Nodes.{read-leaves}
 use Rattle.spec.specs.Questions.{questions-of}
-use Rattle.nav_laws.specs.Accepted.{real-sized}
-use Rattle.query_laws.specs.Answers.{all-small}
-use Rattle.ask_laws.specs.FileLaws.{few-questions}
+use Rattle.nav_nodes.specs.Accepted.{real-sized}
+use Rattle.query_descent.specs.Answers.{all-small}
+use Rattle.ask_files.specs.FileLaws.{few-questions}
 use Rattle.theory.specs.LengthBounds.{replies-bound}
 use Rattle.ask_replies.specs.Replies.{file-replies}
 use Rattle.ask.proofs.lengths.replies_fit.Statement.{statement}

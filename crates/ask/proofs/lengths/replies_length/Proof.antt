@@ -4,7 +4,7 @@ use native.Mathlib.Omega.{arith}
 use borrow.Author.Needs.{needs}
 use lib.ListN.{length}
 use Rattle.spec.specs.Nodes.{read-leaves}
-use Rattle.ask_laws.specs.ReplyLaws.{Measured, measured-start, measured-more, measured-end}
+use Rattle.ask_files.specs.ReplyLaws.{Measured, measured-start, measured-more, measured-end}
 use Rattle.ask_files.specs.Questions.{question-of}
 use Rattle.ask.proofs.lengths.replies_length.Statement.{statement}
 use Rattle.ask.proofs.lengths.replies_length.Tie as tie

@@ -1,6 +1,6 @@
 use native.Mathlib.Omega.{arith}
 use native.Mathlib.Nat.{add-zero}
-use Rattle.bits_laws.specs.ValueLaws.{word-bytes}
+use Rattle.bits.specs.ValueLaws.{word-bytes}
 use borrow.Author.Needs.{needs}
 use Rattle.bits.proofs.numbers.read64.Statement.{statement}
 use Rattle.bits.proofs.numbers.read64.Tie as tie

@@ -1,11 +1,11 @@
 use mathlib.Core.Path.{_≡_, sym, ap, _∙_}
 use Prim.Native.Nat.{ℕ, _+_, _-_, _≤_}
-use Rattle.bits_laws.specs.ValueLaws.{Small, value-front, value-end, word-end}
+use Rattle.bits.specs.ValueLaws.{Small, value-front, value-end, word-end}
 use native.Mathlib.Omega.{arith}
 use borrow.Author.Needs.{needs}
 use lib.ListN.{length, drop}
 use lib.Seq.{drop-length}
-use Rattle.bits_laws.specs.Bits.{value}
+use Rattle.bits.specs.Bits.{value}
 use Rattle.bits.proofs.numbers.read_end.Statement.{statement}
 use Rattle.bits.proofs.numbers.read_end.Tie as tie
 

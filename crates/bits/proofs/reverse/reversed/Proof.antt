@@ -1,8 +1,8 @@
 -- The test of all bytes is in the law.
 use mathlib.Core.Path.{_≡_, ap, _∙_}
 use native.Mathlib.Omega.{arith}
-use Rattle.bits_laws.specs.Bits.{reversed}
-use Rattle.bits_laws.specs.ReverseLaws.{mirror, mirror-reversed, reversed-small}
+use Rattle.bits.specs.Bits.{reversed}
+use Rattle.bits.specs.ReverseLaws.{mirror, mirror-reversed, reversed-small}
 use borrow.Author.Needs.{needs}
 use Rattle.bits.proofs.reverse.reversed.Statement.{statement}
 use Rattle.bits.proofs.reverse.reversed.Tie as tie

@@ -1,5 +1,5 @@
 use borrow.Author.Needs.{needs}
-use Rattle.bits_laws.specs.CountLaws.{every-other, field-counts}
+use Rattle.bits_select.specs.CountLaws.{every-other, field-counts}
 use Rattle.bits_select.proofs.in_word.field_counts.Statement.{statement}
 use Rattle.bits_select.proofs.in_word.field_counts.Tie as tie
 

@@ -1,8 +1,8 @@
 use native.Mathlib.Omega.{arith}
 use borrow.Author.Needs.{needs}
 use lib.Pow.{pow-pos}
-use Rattle.bits_laws.specs.RankLaws.{one-shl}
-use Rattle.bits_laws.specs.NarrowLaws.{narrowed-low, narrowed-high}
+use Rattle.bits.specs.RankLaws.{one-shl}
+use Rattle.bits_select.specs.NarrowLaws.{narrowed-low, narrowed-high}
 use Rattle.bits_select.proofs.in_word.half_of.Statement.{statement}
 use Rattle.bits_select.proofs.in_word.half_of.Tie as tie
 

@@ -2,7 +2,7 @@ use Prim.Native.Nat.{_-_}
 use native.Mathlib.Omega.{arith}
 use borrow.Author.Needs.{needs}
 use lib.Count.{trailing-le}
-use Rattle.bits_laws.specs.WordLaws.{lowest-run}
+use Rattle.bits_select.specs.WordLaws.{lowest-run}
 use Rattle.bits_select.proofs.in_word.lowest_run.Statement.{statement}
 use Rattle.bits_select.proofs.in_word.lowest_run.Tie as tie
 

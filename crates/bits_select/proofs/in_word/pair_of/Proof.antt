@@ -1,6 +1,6 @@
 use native.Mathlib.Omega.{arith}
 use borrow.Author.Needs.{needs}
-use Rattle.bits_laws.specs.NarrowLaws.{narrowed-word}
+use Rattle.bits_select.specs.NarrowLaws.{narrowed-word}
 use Rattle.bits_select.proofs.in_word.pair_of.Statement.{statement}
 use Rattle.bits_select.proofs.in_word.pair_of.Tie as tie
 

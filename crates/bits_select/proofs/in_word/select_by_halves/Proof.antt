@@ -1,7 +1,7 @@
 use native.Mathlib.Omega.{arith}
 use borrow.Author.Needs.{needs}
-use Rattle.bits_laws.specs.CountLaws.{counts-digits}
-use Rattle.bits_laws.specs.NarrowLaws.{narrowed-bit}
+use Rattle.bits_select.specs.CountLaws.{counts-digits}
+use Rattle.bits_select.specs.NarrowLaws.{narrowed-bit}
 use Rattle.bits_select.proofs.in_word.select_by_halves.Statement.{statement}
 use Rattle.bits_select.proofs.in_word.select_by_halves.Tie as tie
 

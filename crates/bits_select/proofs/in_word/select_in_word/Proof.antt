@@ -5,8 +5,8 @@ use borrow.Author.Needs.{needs}
 use native.Mathlib.Nat.{mod-lt}
 use lib.Count.{ones-le}
 use lib.Pow.{pow-pos}
-use Rattle.bits_laws.specs.Bits.{place}
-use Rattle.bits_laws.specs.NarrowLaws.{narrowed-place}
+use Rattle.bits.specs.Bits.{place}
+use Rattle.bits_select.specs.NarrowLaws.{narrowed-place}
 use Rattle.bits_select.proofs.in_word.select_in_word.Statement.{statement}
 use Rattle.bits_select.proofs.in_word.select_in_word.Tie as tie
 

@@ -1,7 +1,7 @@
 use native.Mathlib.Numerals.{add-one}
 use native.Mathlib.Omega.{arith}
 use lib.Count.{trailing-le}
-use Rattle.bits_laws.specs.WordLaws.{lowest, power-lt}
+use Rattle.bits_select.specs.WordLaws.{lowest, power-lt}
 use Rattle.bits_select.proofs.select.lowest_one.Statement.{statement}
 use Rattle.bits_select.proofs.select.lowest_one.Tie as tie
 

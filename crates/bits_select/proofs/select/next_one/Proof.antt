@@ -2,10 +2,10 @@ use mathlib.Core.Path.{ap, _∙_}
 use Prim.Native.Nat.{ℕ, _/_, _%_, _^_}
 use native.Mathlib.Omega.{arith}
 use borrow.Author.Needs.{needs}
-use Rattle.bits_laws.specs.Bits.{rank, select}
-use Rattle.bits_laws.specs.ValueLaws.{Small}
-use Rattle.bits_laws.specs.SelectLaws.{select-behind, select-le}
-use Rattle.bits_laws.specs.WordLaws.{word-room, rank-clear, select-word}
+use Rattle.bits.specs.Bits.{rank, select}
+use Rattle.bits.specs.ValueLaws.{Small}
+use Rattle.bits_select.specs.SelectLaws.{select-behind, select-le}
+use Rattle.bits_select.specs.WordLaws.{word-room, rank-clear, select-word}
 use Rattle.bits_select.proofs.select.next_one.Statement.{statement}
 use Rattle.bits_select.proofs.select.next_one.Tie as tie
 

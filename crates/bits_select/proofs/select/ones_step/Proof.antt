@@ -3,7 +3,7 @@ use mathlib.Core.Path.{_≡_, ap}
 use Prim.Native.Nat.{_+_, _*_, _-_, _≤_}
 use native.Mathlib.Omega.{arith}
 use borrow.Author.Needs.{needs}
-use Rattle.bits_laws.specs.Bits.{rank}
+use Rattle.bits.specs.Bits.{rank}
 use Rattle.bits_select.proofs.select.ones_step.Statement.{statement}
 use Rattle.bits_select.proofs.select.ones_step.Tie as tie
 

@@ -1,7 +1,7 @@
 use mathlib.Core.Path.{_≡_}
 use Prim.Native.Nat.{_+_, _*_, _-_, _/_, _≤_}
 use borrow.Author.Needs.{needs}
-use Rattle.bits_laws.specs.Bits.{rank}
+use Rattle.bits.specs.Bits.{rank}
 use Rattle.bits_select.proofs.select.pass_steps.Statement.{statement}
 use Rattle.bits_select.proofs.select.pass_steps.Tie as tie
 

@@ -4,9 +4,9 @@ use native.Mathlib.Nat.{div-le-self}
 use native.Mathlib.Omega.{arith}
 use borrow.Author.Needs.{needs}
 use lib.Count.{ones, ones-le}
-use Rattle.bits_laws.specs.Bits.{rank, select}
-use Rattle.bits_laws.specs.ValueLaws.{Small}
-use Rattle.bits_laws.specs.WordLaws.{one-reached, word-room, rank-rest, select-word}
+use Rattle.bits.specs.Bits.{rank, select}
+use Rattle.bits.specs.ValueLaws.{Small}
+use Rattle.bits_select.specs.WordLaws.{one-reached, word-room, rank-rest, select-word}
 use Rattle.bits_select.proofs.select.select_from.Statement.{statement}
 use Rattle.bits_select.proofs.select.select_from.Tie as tie
 

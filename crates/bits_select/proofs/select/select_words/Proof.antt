@@ -3,11 +3,11 @@ use Prim.Native.Nat.{_+_, _*_, _-_, _/_, _≤_}
 use native.Mathlib.Omega.{arith}
 use borrow.Author.Needs.{needs}
 use lib.Count.{ones, ones-le}
-use Rattle.bits_laws.specs.Bits.{rank}
-use Rattle.bits_laws.specs.ValueLaws.{Small}
-use Rattle.bits_laws.specs.RankLaws.{rank-up, rank-whole-word}
-use Rattle.bits_laws.specs.SelectLaws.{select-all}
-use Rattle.bits_laws.specs.WordLaws.{select-word}
+use Rattle.bits.specs.Bits.{rank}
+use Rattle.bits.specs.ValueLaws.{Small}
+use Rattle.bits.specs.RankLaws.{rank-up, rank-whole-word}
+use Rattle.bits_select.specs.SelectLaws.{select-all}
+use Rattle.bits_select.specs.WordLaws.{select-word}
 use Rattle.bits_select.proofs.select.select_words.Statement.{statement}
 use Rattle.bits_select.proofs.select.select_words.Tie as tie
 

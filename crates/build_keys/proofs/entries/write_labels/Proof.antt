@@ -13,7 +13,7 @@ use Rattle.build_laws.specs.declared.Kind.the-variants.{SL}
 use Rattle.build_laws.specs.KeyEntries.{entry-at, exact-entry}
 use Rattle.build_laws.specs.Passes.{key-bytes, listed-entries, Entries-room, write-entries}
 use Rattle.build_laws.specs.KeyLaws.{key-byte}
-use Rattle.build_laws.specs.EntryLaws.{entry-rest, entries-all, entries-more, entries-exact, entries-none, Left, left-next, left-room, left-done}
+use Rattle.build_keys.specs.EntryLaws.{entry-rest, entries-all, entries-more, entries-exact, entries-none, Left, left-next, left-room, left-done}
 use Rattle.build_keys.proofs.entries.write_labels.Statement.{statement}
 use Rattle.build_keys.proofs.entries.write_labels.Tie as tie
 

@@ -2,7 +2,7 @@
 use borrow.Author.Needs.{needs}
 use Rattle.build_laws.specs.BytePass.{byte-state}
 use lib.ListN.{set, length, getD}
-use Rattle.build_laws.specs.CursorWrites.{bit-set, bit-kept, bit-below}
+use Rattle.build_keys.specs.CursorWrites.{bit-set, bit-kept, bit-below}
 use mathlib.Core.Path.{ap}
 use mathlib.Core.List.{List}
 use Prim.Native.Nat.{ℕ, _+_, _*_}

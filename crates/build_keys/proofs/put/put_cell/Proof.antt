@@ -4,11 +4,11 @@ use mathlib.Core.Path.{_≡_, ap, ap₂, _∙_}
 use mathlib.Core.List.{List}
 use lib.ListN.{set, length, getD}
 use Rattle.spec.specs.Bytes.{bit}
-use Rattle.bits_laws.specs.Bits.{with-bit}
+use Rattle.bits.specs.Bits.{with-bit}
 use Rattle.build_laws.specs.BytePass.{byte-state}
 use Rattle.build_laws.specs.LevelEntries.{pred}
 use Rattle.build_laws.specs.KeyLaws.{pred-sub}
-use Rattle.build_laws.specs.CursorWrites.{cell-set, cell-kept, cell-below}
+use Rattle.build_keys.specs.CursorWrites.{cell-set, cell-kept, cell-below}
 use Rattle.build_laws.specs.Limits.{counter-max}
 use borrow.Author.Needs.{needs}
 use native.Mathlib.Omega.{arith}

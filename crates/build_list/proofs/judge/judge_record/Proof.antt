@@ -5,12 +5,12 @@ use mathlib.Core.Logic.{inl, inr}
 use Prim.Native.Nat.{ℕ, _+_, _-_}
 use lib.ListN.{length, take, drop, length-drop}
 use native.Mathlib.Omega.{arith}
-use Rattle.bits_laws.specs.Bits.{key}
-use Rattle.image_types.specs.Records.{tail-part}
+use Rattle.bits.specs.Bits.{key}
+use Rattle.image.specs.Records.{tail-part}
 use Rattle.keys.specs.Order.{order}
-use Rattle.build_laws.specs.KeyList.{Record-read}
+use Rattle.build_list.specs.KeyList.{Record-read}
 use Rattle.keys.proofs.OrderLaws.{order-is-below, order-not-below}
-use Rattle.build_laws.specs.declared.Record.the-variants.{Key, Refused as Record-refused}
+use Rattle.build_list.specs.declared.Record.the-variants.{Key, Refused as Record-refused}
 use borrow.Author.Needs.{needs}
 use Rattle.build_list.proofs.judge.judge_record.Statement.{statement}
 use Rattle.build_list.proofs.judge.judge_record.Tie as tie

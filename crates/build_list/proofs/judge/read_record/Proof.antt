@@ -1,4 +1,4 @@
-use Rattle.build_laws.specs.RecordLaws.{read-many, read-short, read-unmarked, read-none, read-long, read-missing, read-whole}
+use Rattle.build_list.specs.RecordLaws.{read-many, read-short, read-unmarked, read-none, read-long, read-missing, read-whole}
 use borrow.Author.Tests.{eq-eqb, ne-eqb}
 use native.Mathlib.Omega.{arith}
 use borrow.Author.Needs.{needs}

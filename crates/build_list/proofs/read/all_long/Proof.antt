@@ -4,7 +4,7 @@ use mathlib.Core.Path.{sym, subst}
 use native.Mathlib.Omega.{arith}
 use borrow.Author.Needs.{needs}
 use lib.ListN.{length}
-use Rattle.build_laws.specs.LongKeys.{Long-left, long-start, long-here, long-short, long-next, long-done}
+use Rattle.build_list.specs.LongKeys.{Long-left, long-start, long-here, long-short, long-next, long-done}
 use Rattle.build_list.proofs.read.all_long.Statement.{statement}
 use Rattle.build_list.proofs.read.all_long.Tie as tie
 

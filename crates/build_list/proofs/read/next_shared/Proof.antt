@@ -1,7 +1,7 @@
 -- By cases of a record behind.
 use borrow.Author.Needs.{needs}
 use Rattle.build_laws.specs.KeyLaws.{behind-none, behind-some}
-use Rattle.image_types.specs.Records.{tail-part}
+use Rattle.image.specs.Records.{tail-part}
 use lib.ListN.{length, length-drop}
 use mathlib.Core.Path.{ap}
 use Prim.Native.Nat.{_+_}

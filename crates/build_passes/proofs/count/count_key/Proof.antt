@@ -3,7 +3,7 @@ use borrow.Author.Needs.{needs}
 use lib.ListN.{getD}
 use Rattle.build_laws.specs.LevelEntries.{pred}
 use Rattle.build_laws.specs.PassEmissions.{Key-numbers, leaf-level}
-use Rattle.build_laws.specs.CountPass.{raised}
+use Rattle.build_keys.specs.CountPass.{raised}
 use mathlib.Core.Path.{subst, _≡_, sym, ap, _∙_}
 use Prim.Native.Nat.{ℕ}
 use native.Mathlib.Omega.{arith}

@@ -2,8 +2,8 @@
 use Prim.Native.Nat.{_+_, _-_}
 use lib.ListN.{length}
 use Rattle.spec.specs.Keys.{keys-of}
-use Rattle.build_laws.specs.CountPass.{list-counts}
-use Rattle.build_laws.specs.CountedKeys.{Counting-starts, starts-same, starts-key, starts-reads, starts-done, starts-begin}
+use Rattle.build_keys.specs.CountPass.{list-counts}
+use Rattle.build_passes.specs.CountedKeys.{Counting-starts, starts-same, starts-key, starts-reads, starts-done, starts-begin}
 use native.Mathlib.Omega.{arith}
 use Rattle.build_passes.proofs.count.count_keys.Statement.{statement}
 use Rattle.build_passes.proofs.count.count_keys.Tie as tie

@@ -1,8 +1,8 @@
 -- Where keys start and end gives each level's counts.
 use mathlib.Core.Path.{ap}
 use lib.ListN.{length}
-use Rattle.build_laws.specs.CountPass.{Level-counts}
-use Rattle.build_laws.specs.LevelSums.{balanced-sums}
+use Rattle.build_keys.specs.CountPass.{Level-counts}
+use Rattle.build_passes.specs.LevelSums.{balanced-sums}
 use Rattle.build_passes.proofs.count.count_levels.Statement.{statement}
 use Rattle.build_passes.proofs.count.count_levels.Tie as tie
 

@@ -1,5 +1,5 @@
 -- Up to the level reached there are entries and nodes.
-use Rattle.build_laws.specs.LevelSums.{Summing, summing-root, summing-fits, summing-few, summing-next, summing-done}
+use Rattle.build_passes.specs.LevelSums.{Summing, summing-root, summing-fits, summing-few, summing-next, summing-done}
 use mathlib.Core.Path.{refl, ap, _∙_}
 use Prim.Native.Nat.{_-_, _≤_, min}
 use borrow.Author.Needs.{needs}

@@ -2,7 +2,7 @@
 use mathlib.Core.Path.{sym, ap, _∙_}
 use Rattle.spec.specs.Keys.{keys-of}
 use Rattle.build_laws.specs.BytePass.{Byte-state, byte-state}
-use Rattle.build_laws.specs.LongKeys.{long-unset}
+use Rattle.build_list.specs.LongKeys.{long-unset}
 use borrow.Author.Needs.{needs}
 use Rattle.build_passes.proofs.fill.fill_exact.Statement.{statement}
 use Rattle.build_passes.proofs.fill.fill_exact.Tie as tie

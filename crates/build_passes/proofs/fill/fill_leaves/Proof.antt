@@ -5,10 +5,10 @@ use lib.ListN.{length}
 use Rattle.spec.specs.Keys.{keys-of}
 use Rattle.build_laws.specs.BytePass.{Byte-state, byte-state}
 use Rattle.build_laws.specs.Passes.{entries-pass, key-bytes, pass-keys, Key-room-of}
-use Rattle.build_laws.specs.ListPass.{Filling, fill-key, fill-reads, fill-done, fill-start}
+use Rattle.build_passes.specs.ListPass.{Filling, fill-key, fill-reads, fill-done, fill-start}
 use Rattle.build_laws.specs.declared.Kind.the-variants.{SC}
 use Rattle.build_laws.specs.KeyLaws.{key-length}
-use Rattle.build_laws.specs.KeyMarks.{leaves-ask, leaves-written}
+use Rattle.build_keys.specs.KeyMarks.{leaves-ask, leaves-written}
 use native.Mathlib.Omega.{arith}
 use Rattle.build_passes.proofs.fill.fill_leaves.Statement.{statement}
 use Rattle.build_passes.proofs.fill.fill_leaves.Tie as tie

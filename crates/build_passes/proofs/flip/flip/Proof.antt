@@ -4,7 +4,7 @@ use mathlib.Core.Path.{_≡_, refl, _∙_}
 use native.Mathlib.Omega.{arith}
 use lib.ListN.{length, length-set}
 use borrow.Author.Needs.{needs}
-use Rattle.build_laws.specs.FlippedBits.{flipped, flip-none, flip-whole, flip-rest, flip-even}
+use Rattle.build_passes.specs.FlippedBits.{flipped, flip-none, flip-whole, flip-rest, flip-even}
 use Rattle.build_passes.proofs.flip.flip.Statement.{statement}
 use Rattle.build_passes.proofs.flip.flip.Tie as tie
 

@@ -4,8 +4,8 @@ use native.Mathlib.Omega.{arith}
 use native.Mathlib.Nat.{mod-lt}
 use lib.ListN.{getD}
 use borrow.Author.Needs.{needs}
-use Rattle.bits_laws.specs.RankLaws.{one-shl}
-use Rattle.build_laws.specs.FlippedBits.{flip-byte}
+use Rattle.bits.specs.RankLaws.{one-shl}
+use Rattle.build_passes.specs.FlippedBits.{flip-byte}
 use Rattle.build_passes.proofs.flip.flip_last.Statement.{statement}
 use Rattle.build_passes.proofs.flip.flip_last.Tie as tie
 

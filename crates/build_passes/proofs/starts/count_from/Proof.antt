@@ -1,6 +1,6 @@
 -- By cases of the level.
 use borrow.Author.Needs.{needs}
-use Rattle.build_laws.specs.CounterSums.{sums-in, sums-out}
+use Rattle.build_passes.specs.CounterSums.{sums-in, sums-out}
 use Rattle.build_passes.proofs.starts.count_from.Statement.{statement}
 use Rattle.build_passes.proofs.starts.count_from.Tie as tie
 

@@ -1,7 +1,7 @@
 -- The cursors passed stand at the sums before them.
 use lib.ListN.{length-set, length, getD}
 use Rattle.build_laws.specs.Cursors.{sums, sums-none}
-use Rattle.build_laws.specs.CounterSums.{sums-le, cursor-more}
+use Rattle.build_passes.specs.CounterSums.{sums-le, cursor-more}
 use mathlib.Core.Path.{_≡_, sym, _∙_}
 use Prim.Native.Nat.{ℕ, _+_, _-_, _≤_, _<_}
 use borrow.Author.Needs.{needs}

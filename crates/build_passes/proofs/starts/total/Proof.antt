@@ -1,6 +1,6 @@
 -- The sum so far is that of the levels passed.
 use Rattle.build_laws.specs.Cursors.{sums, sums-none}
-use Rattle.build_laws.specs.CounterSums.{sums-le}
+use Rattle.build_passes.specs.CounterSums.{sums-le}
 use mathlib.Core.Path.{_≡_, sym, ap, _∙_}
 use Prim.Native.Nat.{_+_, _-_, _≤_}
 use borrow.Author.Needs.{needs}

@@ -2,11 +2,11 @@
 use Prim.Native.Nat.{ℕ, _<_}
 use mathlib.Core.Path.{_≡_, sym, subst, _∙_}
 use Rattle.spec.specs.Bytes.{Bytes}
-use Rattle.build_laws.specs.declared.Plan.{Plan}
-use Rattle.build_laws.specs.declared.Source.{Source}
-use Rattle.build_laws.specs.declared.Source.the-variants.{Keys, Ranks, Samples}
-use Rattle.build_laws.specs.Plan.{Planned, source-at, Gives, sources-give}
-use Rattle.build_laws.specs.BodyWritten.{own-laid, earlier-laid, span-within, keys-ask, keys-leave, ranks-ask, ranks-leave, samples-ask, samples-leave}
+use Rattle.build_records.specs.declared.Plan.{Plan}
+use Rattle.build_records.specs.declared.Source.{Source}
+use Rattle.build_records.specs.declared.Source.the-variants.{Keys, Ranks, Samples}
+use Rattle.build_records.specs.Plan.{Planned, source-at, Gives, sources-give}
+use Rattle.build_records.specs.BodyWritten.{own-laid, earlier-laid, span-within, keys-ask, keys-leave, ranks-ask, ranks-leave, samples-ask, samples-leave}
 use borrow.Author.Needs.{needs}
 use native.Mathlib.Omega.{arith}
 use borrow.Author.Needs.{needs}

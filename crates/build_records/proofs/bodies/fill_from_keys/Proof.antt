@@ -6,8 +6,8 @@ use lib.ListN.{length, drop}
 use Rattle.spec.specs.Bytes.{Bytes}
 use Rattle.theory.specs.Lists.{bytes-drop}
 use Rattle.build_laws.specs.PackedBody.{small-of}
-use Rattle.build_laws.specs.Plan.{list-body}
-use Rattle.build_laws.specs.BodyWritten.{ready-list, empty-body, sums-small, pass-room, pass-leaves, flip-room, body-again, body-whole}
+use Rattle.build_records.specs.Plan.{list-body}
+use Rattle.build_records.specs.BodyWritten.{ready-list, empty-body, sums-small, pass-room, pass-leaves, flip-room, body-again, body-whole}
 use borrow.Author.Needs.{needs}
 use native.Mathlib.Omega.{arith}
 use borrow.Author.Needs.{needs}

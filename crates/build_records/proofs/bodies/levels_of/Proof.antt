@@ -3,7 +3,7 @@ use borrow.Author.Needs.{needs}
 use Rattle.build_laws.specs.declared.Kind.{Kind}
 use Rattle.build_laws.specs.declared.Body.{Body}
 use Rattle.build_laws.specs.declared.Body.the-variants.{Entries}
-use Rattle.build_laws.specs.BodyChoice.{levels-of}
+use Rattle.build_records.specs.BodyChoice.{levels-of}
 use mathlib.Core.Path.{sym, ap, _∙_}
 use Rattle.build_records.proofs.bodies.levels_of.Statement.{statement}
 use Rattle.build_records.proofs.bodies.levels_of.Tie as tie

@@ -1,6 +1,6 @@
 -- Each arm knows the number, and the source of that number computes.
 use mathlib.Core.Path.{_≡_}
-use Rattle.image_types.specs.Records.{last-row}
+use Rattle.image.specs.Records.{last-row}
 use native.Mathlib.Omega.{arith}
 use borrow.Author.Needs.{needs}
 use Rattle.build_records.proofs.bodies.source_of.Statement.{statement}

@@ -2,11 +2,11 @@
 use Prim.Native.Nat.{ℕ, _+_, _-_, _≤_}
 use mathlib.Core.Path.{_≡_, refl, sym, ap, _∙_}
 use lib.ListN.{length, getD}
-use Rattle.bits_laws.specs.Bits.{placed}
-use Rattle.bits_laws.specs.Placing.{placed-nil, placed-behind}
+use Rattle.bits.specs.Bits.{placed}
+use Rattle.bits.specs.Placing.{placed-nil, placed-behind}
 use Rattle.build_laws.specs.Cursors.{sums, sums-none}
-use Rattle.build_laws.specs.CounterSums.{sums-in, sums-le}
-use Rattle.build_laws.specs.LevelRecord.{start-bytes, starts-below, starts-none, starts-more, starts-longer, starts-le, start-length}
+use Rattle.build_passes.specs.CounterSums.{sums-in, sums-le}
+use Rattle.build_records.specs.LevelRecord.{start-bytes, starts-below, starts-none, starts-more, starts-longer, starts-le, start-length}
 use Rattle.build_laws.specs.Limits.{counters}
 use borrow.Author.Needs.{needs}
 use native.Mathlib.Omega.{arith}

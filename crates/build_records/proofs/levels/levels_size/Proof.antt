@@ -1,7 +1,7 @@
 -- A version without LV has no bytes behind the twelve records, and one with it has its mark, its length and its body.
 use mathlib.Core.Path.{sym, ap}
 use lib.ListN.{length}
-use Rattle.build_laws.specs.LevelRecord.{levels-none, levels-length}
+use Rattle.build_records.specs.LevelRecord.{levels-none, levels-length}
 use borrow.Author.Needs.{needs}
 use native.Mathlib.Omega.{arith}
 use Rattle.build_records.proofs.levels.levels_size.Statement.{statement}

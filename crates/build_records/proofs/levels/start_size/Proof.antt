@@ -1,6 +1,6 @@
 -- A level with nodes has four bytes, and one without has none.
 use mathlib.Core.Path.{sym}
-use Rattle.build_laws.specs.LevelRecord.{size-some, size-none}
+use Rattle.build_records.specs.LevelRecord.{size-some, size-none}
 use Rattle.build_records.proofs.levels.start_size.Statement.{statement}
 use Rattle.build_records.proofs.levels.start_size.Tie as tie
 

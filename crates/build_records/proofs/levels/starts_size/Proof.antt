@@ -2,7 +2,7 @@
 use Prim.Native.Nat.{ℕ, _*_, _-_, _≤_}
 use mathlib.Core.Path.{_≡_, sym, ap, _∙_}
 use lib.ListN.{length, getD}
-use Rattle.build_laws.specs.LevelRecord.{starts-below, starts-none, starts-longer, size-few}
+use Rattle.build_records.specs.LevelRecord.{starts-below, starts-none, starts-longer, size-few}
 use borrow.Author.Needs.{needs}
 use native.Mathlib.Omega.{arith}
 use Rattle.build_records.proofs.levels.starts_size.Statement.{statement}

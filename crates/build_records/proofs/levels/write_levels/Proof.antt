@@ -4,10 +4,10 @@ use mathlib.Core.Path.{_≡_, sym, ap, _∙_}
 use borrow.Rule.Slice.PartMut.{putMid}
 use lib.ListN.{length, drop, length-drop}
 use lib.Seq.{length-take-le}
-use Rattle.bits_laws.specs.Bits.{placed}
-use Rattle.bits_laws.specs.Placing.{placed-nil, lent-placed}
-use Rattle.build_laws.specs.LevelRecord.{starts-below, levels-none, levels-some, levels-length}
-use Rattle.build_laws.specs.RecordsWritten.{record-done}
+use Rattle.bits.specs.Bits.{placed}
+use Rattle.bits.specs.Placing.{placed-nil, lent-placed}
+use Rattle.build_records.specs.LevelRecord.{starts-below, levels-none, levels-some, levels-length}
+use Rattle.build_records.specs.RecordsWritten.{record-done}
 use borrow.Author.Needs.{needs}
 use native.Mathlib.Omega.{arith}
 use Rattle.build_records.proofs.levels.write_levels.Statement.{statement}

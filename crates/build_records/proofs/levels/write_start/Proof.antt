@@ -1,8 +1,8 @@
 -- A level with nodes has its first node placed, and one without has nothing placed.
 use mathlib.Core.Path.{sym, ap, _∙_}
-use Rattle.bits_laws.specs.Bits.{placed}
-use Rattle.bits_laws.specs.Placing.{placed-nil}
-use Rattle.build_laws.specs.LevelRecord.{start-some, start-none, size-some}
+use Rattle.bits.specs.Bits.{placed}
+use Rattle.bits.specs.Placing.{placed-nil}
+use Rattle.build_records.specs.LevelRecord.{start-some, start-none, size-some}
 use borrow.Author.Needs.{needs}
 use native.Mathlib.Omega.{arith}
 use Rattle.build_records.proofs.levels.write_start.Statement.{statement}

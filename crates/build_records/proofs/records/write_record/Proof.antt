@@ -3,9 +3,9 @@ use mathlib.Core.Path.{_≡_, sym, subst, _∙_}
 use mathlib.Core.List.{_++_}
 use lib.ListN.{length}
 use Rattle.spec.specs.Bytes.{le32}
-use Rattle.image_types.specs.Header.{mark-bytes}
-use Rattle.build_laws.specs.RecordsWritten.{length-begin, record-done}
-use Rattle.build_laws.specs.Plan.{body-at, start-at, body-size, plan-short, Writing, record-room, record-begun}
+use Rattle.image.specs.Header.{mark-bytes}
+use Rattle.build_records.specs.RecordsWritten.{length-begin, record-done}
+use Rattle.build_records.specs.Plan.{body-at, start-at, body-size, plan-short, Writing, record-room, record-begun}
 use borrow.Author.Needs.{needs}
 use native.Mathlib.Omega.{arith}
 use borrow.Author.Needs.{needs}

@@ -2,8 +2,8 @@
 use Prim.Native.Nat.{ℕ, _≤_, _-_}
 use mathlib.Core.Path.{_≡_, subst, ap, _∙_}
 use Rattle.spec.specs.Keys.{keys-of}
-use Rattle.build_laws.specs.CountPass.{Level-counts, list-counts}
-use Rattle.build_laws.specs.Plan.{source-counters, Written, written-none, written-asks, written-more, written-all}
+use Rattle.build_keys.specs.CountPass.{Level-counts, list-counts}
+use Rattle.build_records.specs.Plan.{source-counters, Written, written-none, written-asks, written-more, written-all}
 use borrow.Author.Needs.{needs}
 use native.Mathlib.Omega.{arith}
 use Rattle.build_records.proofs.records.write_records.Statement.{statement}

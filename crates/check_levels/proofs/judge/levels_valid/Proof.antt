@@ -6,11 +6,11 @@ use native.Mathlib.Omega.{arith}
 use mir.Val.{Fits}
 use mir.Syntax.{w64}
 use Rattle.spec.specs.Bytes.{Bytes}
-use Rattle.image_types.specs.declared.Frame.{Frame}
-use Rattle.check_trie_laws.specs.Bodies.{dc-body, sc-body, sb-body}
-use Rattle.check_trie_laws.specs.NodeBranches.{branches-le}
-use Rattle.check_trie_laws.specs.LevelTests.{Ends-to, ends-first, ends-next, ends-level-64, ends-stuck, ends-over, ends-last, less-64}
-use Rattle.check_trie_laws.specs.Levels.{node-count, branches-before, LevelOf, level-root}
+use Rattle.image.specs.declared.Frame.{Frame}
+use Rattle.check_levels.specs.Bodies.{dc-body, sc-body, sb-body}
+use Rattle.check_levels.specs.NodeBranches.{branches-le}
+use Rattle.check_levels.specs.LevelTests.{Ends-to, ends-first, ends-next, ends-level-64, ends-stuck, ends-over, ends-last, less-64}
+use Rattle.check_levels.specs.Levels.{node-count, branches-before, LevelOf, level-root}
 use Rattle.check_levels.proofs.judge.levels_valid.Statement.{statement}
 use Rattle.check_levels.proofs.judge.levels_valid.Tie as tie
 

@@ -5,10 +5,10 @@ use native.Mathlib.Omega.{arith}
 use mir.Val.{Fits}
 use mir.Syntax.{w64}
 use Rattle.spec.specs.Bytes.{Bytes}
-use Rattle.image_types.specs.FrameOf.{within}
-use Rattle.bits_laws.specs.Bits.{rank}
-use Rattle.check_trie_laws.specs.Bodies.{dc-body, bodies-sized, dense-children}
-use Rattle.check_trie_laws.specs.Levels.{level-dense, dense-level}
+use Rattle.image.specs.FrameOf.{within}
+use Rattle.bits.specs.Bits.{rank}
+use Rattle.check_levels.specs.Bodies.{dc-body, bodies-sized, dense-children}
+use Rattle.check_levels.specs.Levels.{level-dense, dense-level}
 use Rattle.check_levels.proofs.step.dense_level.Statement.{statement}
 use Rattle.check_levels.proofs.step.dense_level.Tie as tie
 

@@ -5,11 +5,11 @@ use native.Mathlib.Omega.{arith}
 use mir.Val.{Fits}
 use mir.Syntax.{w64}
 use Rattle.spec.specs.Bytes.{Bytes}
-use Rattle.bits_laws.specs.PartLaws.{bits-room, lent-part}
-use Rattle.bits_laws.specs.RankLaws.{rank-le}
-use Rattle.image_types.specs.FrameOf.{within}
-use Rattle.check_trie_laws.specs.Bodies.{dc-body, sc-body, sb-body, bodies-sized, dense-children}
-use Rattle.check_trie_laws.specs.Levels.{entry-within, level-starts, level-children, entry-up, sparse-level}
+use Rattle.bits.specs.PartLaws.{bits-room, lent-part}
+use Rattle.bits.specs.RankLaws.{rank-le}
+use Rattle.image.specs.FrameOf.{within}
+use Rattle.check_levels.specs.Bodies.{dc-body, sc-body, sb-body, bodies-sized, dense-children}
+use Rattle.check_levels.specs.Levels.{entry-within, level-starts, level-children, entry-up, sparse-level}
 use borrow.Author.Needs.{needs}
 use Rattle.check_levels.proofs.step.sparse_level.Statement.{statement}
 use Rattle.check_levels.proofs.step.sparse_level.Tie as tie

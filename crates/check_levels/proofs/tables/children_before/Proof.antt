@@ -5,12 +5,12 @@ use native.Mathlib.Omega.{arith}
 use mir.Val.{Fits}
 use mir.Syntax.{w64}
 use Rattle.spec.specs.Bytes.{Bytes, blocks}
-use Rattle.bits_laws.specs.Bits.{rank}
-use Rattle.bits_laws.specs.Parts.{length-part}
-use Rattle.bits_laws.specs.PartLaws.{bits-room, lent-part}
-use Rattle.bits_laws.specs.ValueLaws.{Small}
-use Rattle.image_types.specs.FrameOf.{within}
-use Rattle.check_trie_laws.specs.Bodies.{sc-body, bodies-sized}
+use Rattle.bits.specs.Bits.{rank}
+use Rattle.bits.specs.Parts.{length-part}
+use Rattle.bits.specs.PartLaws.{bits-room, lent-part}
+use Rattle.bits.specs.ValueLaws.{Small}
+use Rattle.image.specs.FrameOf.{within}
+use Rattle.check_levels.specs.Bodies.{sc-body, bodies-sized}
 use Rattle.check_levels.specs.Indexed.{rank-read}
 use borrow.Author.Needs.{needs}
 use Rattle.check_levels.proofs.tables.children_before.Statement.{statement}

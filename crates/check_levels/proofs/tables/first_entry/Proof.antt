@@ -3,13 +3,13 @@ use Prim.Native.Nat.{ℕ, _+_, _*_, _/_, _≤_, _<_}
 use mathlib.Core.Path.{_≡_, sym, ap, _∙_}
 use native.Mathlib.Omega.{arith}
 use Rattle.spec.specs.Bytes.{Bytes, blocks}
-use Rattle.bits_laws.specs.Bits.{rank, part}
-use Rattle.bits_laws.specs.Parts.{length-part}
-use Rattle.bits_laws.specs.PartLaws.{bits-room, lent-part}
-use Rattle.bits_laws.specs.SelectLaws.{select-le}
-use Rattle.bits_laws.specs.ValueLaws.{Small}
-use Rattle.image_types.specs.FrameOf.{within}
-use Rattle.check_trie_laws.specs.Bodies.{sb-body, bodies-sized}
+use Rattle.bits.specs.Bits.{rank, part}
+use Rattle.bits.specs.Parts.{length-part}
+use Rattle.bits.specs.PartLaws.{bits-room, lent-part}
+use Rattle.bits_select.specs.SelectLaws.{select-le}
+use Rattle.bits.specs.ValueLaws.{Small}
+use Rattle.image.specs.FrameOf.{within}
+use Rattle.check_levels.specs.Bodies.{sb-body, bodies-sized}
 use Rattle.check_levels.specs.Indexed.{sample-read, sample-starts}
 use borrow.Author.Needs.{needs}
 use Rattle.check_levels.proofs.tables.first_entry.Statement.{statement}

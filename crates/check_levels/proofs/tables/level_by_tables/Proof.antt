@@ -4,10 +4,10 @@ use Prim.Native.Nat.{ℕ, _+_, _-_, _*_, _≤_, _<_}
 use native.Mathlib.Omega.{arith}
 use mir.Val.{Fits}
 use mir.Syntax.{w64}
-use Rattle.bits_laws.specs.RankLaws.{rank-le}
-use Rattle.bits_laws.specs.SelectLaws.{select-found}
-use Rattle.check_trie_laws.specs.Bodies.{dc-body, sc-body, sb-body, dense-children}
-use Rattle.check_trie_laws.specs.Levels.{sparse-level}
+use Rattle.bits.specs.RankLaws.{rank-le}
+use Rattle.bits_select.specs.SelectLaws.{select-found}
+use Rattle.check_levels.specs.Bodies.{dc-body, sc-body, sb-body, dense-children}
+use Rattle.check_levels.specs.Levels.{sparse-level}
 use borrow.Author.Needs.{needs}
 use Rattle.check_levels.proofs.tables.level_by_tables.Statement.{statement}
 use Rattle.check_levels.proofs.tables.level_by_tables.Tie as tie

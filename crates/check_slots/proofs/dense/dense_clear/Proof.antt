@@ -6,14 +6,14 @@ use mathlib.Core.Bool.{Bool}
 use Prim.Native.Nat.{ℕ, _+_, _-_, _≤_, _<_}
 use native.Mathlib.Omega.{arith}
 use Rattle.spec.specs.Bytes.{Bytes}
-use Rattle.bits_laws.specs.Bits.{bit-at, rank}
-use Rattle.bits_laws.specs.RankLaws.{rank-zero}
-use Rattle.image_types.specs.declared.Frame.{Frame}
-use Rattle.check_trie_laws.specs.Bodies.{dl-body, dc-body, dp-body}
-use Rattle.check_trie_laws.specs.Ranges.{all-from, from-end}
-use Rattle.check_slots_laws.specs.DenseExact.{dense-exact}
-use Rattle.check_slots_laws.specs.DenseSlots.{skip-clear, exact-fails, exact-passes, exact-count, exact-few}
-use Rattle.check_slots_laws.specs.SlotTests.{clear-at, dense-clear}
+use Rattle.bits.specs.Bits.{bit-at, rank}
+use Rattle.bits.specs.RankLaws.{rank-zero}
+use Rattle.image.specs.declared.Frame.{Frame}
+use Rattle.check_levels.specs.Bodies.{dl-body, dc-body, dp-body}
+use Rattle.check_levels.specs.Ranges.{all-from, from-end}
+use Rattle.check_slots.specs.DenseExact.{dense-exact}
+use Rattle.check_slots.specs.DenseSlots.{skip-clear, exact-fails, exact-passes, exact-count, exact-few}
+use Rattle.check_slots.specs.SlotTests.{clear-at, dense-clear}
 use borrow.Author.Tests.{not-true, not-false}
 use Rattle.check_slots.proofs.dense.dense_clear.Statement.{statement}
 use Rattle.check_slots.proofs.dense.dense_clear.Tie as tie

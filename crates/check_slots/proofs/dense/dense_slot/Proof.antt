@@ -4,9 +4,9 @@ use Prim.Native.Nat.{ℕ, _+_, _*_, _≤_, _<_}
 use native.Mathlib.Omega.{arith}
 use mir.Val.{Fits}
 use mir.Syntax.{w64}
-use Rattle.bits_laws.specs.RankLaws.{rank-le}
-use Rattle.check_trie_laws.specs.Bodies.{dp-body}
-use Rattle.check_slots_laws.specs.DenseSlots.{entries-within, slot-read}
+use Rattle.bits.specs.RankLaws.{rank-le}
+use Rattle.check_levels.specs.Bodies.{dp-body}
+use Rattle.check_slots.specs.DenseSlots.{entries-within, slot-read}
 use borrow.Author.Needs.{needs}
 use Rattle.check_slots.proofs.dense.dense_slot.Statement.{statement}
 use Rattle.check_slots.proofs.dense.dense_slot.Tie as tie

@@ -5,10 +5,10 @@ use native.Mathlib.Omega.{arith}
 use mir.Val.{Fits}
 use mir.Syntax.{w64}
 use Rattle.spec.specs.Bytes.{Bytes}
-use Rattle.bits_laws.specs.PartLaws.{lent-part}
-use Rattle.image_types.specs.FrameOf.{within}
-use Rattle.check_trie_laws.specs.Bodies.{sv-body}
-use Rattle.check_slots_laws.specs.SlotTests.{clear-at, slots-sized}
+use Rattle.bits.specs.PartLaws.{lent-part}
+use Rattle.image.specs.FrameOf.{within}
+use Rattle.check_levels.specs.Bodies.{sv-body}
+use Rattle.check_slots.specs.SlotTests.{clear-at, slots-sized}
 use borrow.Author.Needs.{needs}
 use Rattle.check_slots.proofs.dense.exact_clear.Statement.{statement}
 use Rattle.check_slots.proofs.dense.exact_clear.Tie as tie

@@ -1,10 +1,10 @@
 -- D-IsPrefixKey lies within the image, and its next set bit is the next exact leaf.
 use mathlib.Core.Path.{_≡_}
 use Rattle.spec.specs.Bytes.{Bytes}
-use Rattle.bits_laws.specs.PartLaws.{bits-room, lent-part}
-use Rattle.image_types.specs.FrameOf.{within}
-use Rattle.check_trie_laws.specs.Bodies.{dp-body, bodies-sized}
-use Rattle.check_slots_laws.specs.DenseSlots.{exact-select}
+use Rattle.bits.specs.PartLaws.{bits-room, lent-part}
+use Rattle.image.specs.FrameOf.{within}
+use Rattle.check_levels.specs.Bodies.{dp-body, bodies-sized}
+use Rattle.check_slots.specs.DenseSlots.{exact-select}
 use borrow.Author.Needs.{needs}
 use Rattle.check_slots.proofs.dense.next_exact.Statement.{statement}
 use Rattle.check_slots.proofs.dense.next_exact.Tie as tie

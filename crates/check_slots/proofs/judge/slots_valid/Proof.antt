@@ -1,8 +1,8 @@
 -- Without leaves or without bits nothing is set; else the three tests are those of number 16.
 use mathlib.Core.Path.{sym, _∙_}
 use borrow.Author.Tests.{not-true, not-false}
-use Rattle.check_trie_laws.specs.BodyTests.{some-nodes}
-use Rattle.check_slots_laws.specs.SlotTests.{no-leaves, no-bits, dense-fails, sparse-fails, levels-decide}
+use Rattle.check_levels.specs.BodyTests.{some-nodes}
+use Rattle.check_slots.specs.SlotTests.{no-leaves, no-bits, dense-fails, sparse-fails, levels-decide}
 use Rattle.check_slots.proofs.judge.slots_valid.Statement.{statement}
 use Rattle.check_slots.proofs.judge.slots_valid.Tie as tie
 

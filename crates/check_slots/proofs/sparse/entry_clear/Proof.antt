@@ -8,9 +8,9 @@ use mir.Val.{Fits}
 use mir.Syntax.{w64}
 use borrow.Author.Tests.{eq-eqb, ne-eqb}
 use Rattle.spec.specs.Bytes.{Bytes}
-use Rattle.bits_laws.specs.Bits.{rank}
-use Rattle.bits_laws.specs.RankLaws.{rank-le}
-use Rattle.check_slots_laws.specs.SparseExact.{sparse-slot}
+use Rattle.bits.specs.Bits.{rank}
+use Rattle.bits.specs.RankLaws.{rank-le}
+use Rattle.check_slots.specs.SparseExact.{sparse-slot}
 use Rattle.check_slots.specs.Entries.{clear-slot}
 use borrow.Author.Needs.{needs}
 use Rattle.check_slots.proofs.sparse.entry_clear.Statement.{statement}

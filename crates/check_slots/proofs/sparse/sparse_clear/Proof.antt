@@ -8,14 +8,14 @@ use mir.Val.{Fits}
 use mir.Syntax.{w64}
 use borrow.Author.Tests.{not-true, not-false}
 use Rattle.spec.specs.Bytes.{Bytes}
-use Rattle.bits_laws.specs.PartLaws.{bits-room, lent-part}
-use Rattle.image_types.specs.declared.Frame.{Frame}
-use Rattle.image_types.specs.FrameOf.{within}
-use Rattle.check_trie_laws.specs.Bodies.{sl-body, sc-body, sb-body, bodies-sized}
-use Rattle.check_trie_laws.specs.Ranges.{all-from, from-none, from-end}
-use Rattle.check_slots_laws.specs.LevelStarts.{dense-leaf-count}
-use Rattle.check_slots_laws.specs.SparseWords.{Range-judged, all-kept, starts-kept, starts-none}
-use Rattle.check_slots_laws.specs.SlotTests.{clear-at, sparse-test, sparse-clear}
+use Rattle.bits.specs.PartLaws.{bits-room, lent-part}
+use Rattle.image.specs.declared.Frame.{Frame}
+use Rattle.image.specs.FrameOf.{within}
+use Rattle.check_levels.specs.Bodies.{sl-body, sc-body, sb-body, bodies-sized}
+use Rattle.check_levels.specs.Ranges.{all-from, from-none, from-end}
+use Rattle.check_slots.specs.LevelStarts.{dense-leaf-count}
+use Rattle.check_slots.specs.SparseWords.{Range-judged, all-kept, starts-kept, starts-none}
+use Rattle.check_slots.specs.SlotTests.{clear-at, sparse-test, sparse-clear}
 use borrow.Author.Needs.{needs}
 use Rattle.check_slots.proofs.sparse.sparse_clear.Statement.{statement}
 use Rattle.check_slots.proofs.sparse.sparse_clear.Tie as tie

@@ -6,9 +6,9 @@ use native.Mathlib.Omega.{arith}
 use mathlib.Core.Bool.{Bool, true≢false}
 use Prim.Native.Nat.{_^_}
 use lib.Count.{trailingZeros}
-use Rattle.check_trie_laws.specs.Ranges.{all-from}
-use Rattle.check_slots_laws.specs.WordDigits.{lowest-within, lowest-rest}
-use Rattle.check_slots_laws.specs.SparseWords.{Candidates, starts-end, start-last, start-fail, start-pass}
+use Rattle.check_levels.specs.Ranges.{all-from}
+use Rattle.check_slots.specs.WordDigits.{lowest-within, lowest-rest}
+use Rattle.check_slots.specs.SparseWords.{Candidates, starts-end, start-last, start-fail, start-pass}
 use Rattle.check_slots.specs.Entries.{clear-slot, exact-test}
 use Rattle.check_slots.specs.declared.sparse.SparseSlots.{SparseSlots}
 use borrow.Author.Tests.{not-true, not-false}

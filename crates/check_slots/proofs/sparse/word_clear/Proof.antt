@@ -5,12 +5,12 @@ use native.Mathlib.Omega.{arith}
 use mir.Val.{Fits}
 use mir.Syntax.{w64}
 use Rattle.spec.specs.Bytes.{Bytes}
-use Rattle.bits_laws.specs.PartLaws.{bits-room, lent-part}
-use Rattle.image_types.specs.FrameOf.{within}
-use Rattle.check_trie_laws.specs.Bodies.{sc-body, sb-body, sv-body, bodies-sized}
-use Rattle.check_slots_laws.specs.LevelStarts.{dense-room, dense-few}
-use Rattle.check_slots_laws.specs.SlotTests.{slots-sized}
-use Rattle.check_slots_levels.specs.Tables.{indexed}
+use Rattle.bits.specs.PartLaws.{bits-room, lent-part}
+use Rattle.image.specs.FrameOf.{within}
+use Rattle.check_levels.specs.Bodies.{sc-body, sb-body, sv-body, bodies-sized}
+use Rattle.check_slots.specs.LevelStarts.{dense-room, dense-few}
+use Rattle.check_slots.specs.SlotTests.{slots-sized}
+use Rattle.check_slots.specs.Tables.{indexed}
 use borrow.Author.Needs.{needs}
 use Rattle.check_slots.proofs.sparse.word_clear.Statement.{statement}
 use Rattle.check_slots.proofs.sparse.word_clear.Tie as tie

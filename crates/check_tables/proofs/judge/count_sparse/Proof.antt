@@ -3,7 +3,7 @@ use Prim.Native.Nat.{ℕ, _<_}
 use mathlib.Core.Path.{ap₂}
 use mathlib.Core.Bool.{_&&_}
 use native.Mathlib.Omega.{arith}
-use Rattle.image_types.specs.FrameOf.{within}
+use Rattle.image.specs.FrameOf.{within}
 use borrow.Author.Needs.{needs}
 use Rattle.check_tables.proofs.judge.count_sparse.Statement.{statement}
 use Rattle.check_tables.proofs.judge.count_sparse.Tie as tie

@@ -5,9 +5,9 @@ use native.Mathlib.Omega.{arith}
 use mir.Val.{Fits}
 use mir.Syntax.{w64}
 use Rattle.spec.specs.Bytes.{Bytes, blocks}
-use Rattle.bits_laws.specs.Bits.{part}
-use Rattle.bits_laws.specs.PartLaws.{lent-part}
-use Rattle.check_tables_laws.specs.Tables.{ranked-parts, ranked-is}
+use Rattle.bits.specs.Bits.{part}
+use Rattle.bits.specs.PartLaws.{lent-part}
+use Rattle.check_tables.specs.Tables.{ranked-parts, ranked-is}
 use borrow.Author.Needs.{needs}
 use Rattle.check_tables.proofs.judge.ranks_at.Statement.{statement}
 use Rattle.check_tables.proofs.judge.ranks_at.Tie as tie

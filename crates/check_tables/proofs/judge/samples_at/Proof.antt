@@ -1,10 +1,10 @@
 -- The body and the samples lie within the image, so the comparison of the two parts is that of document 01.
 use mathlib.Core.Path.{_≡_, _∙_}
 use Rattle.spec.specs.Bytes.{Bytes, blocks}
-use Rattle.bits_laws.specs.Bits.{part}
-use Rattle.bits_laws.specs.Parts.{length-part}
-use Rattle.bits_laws.specs.PartLaws.{bits-room, lent-part}
-use Rattle.check_tables_laws.specs.Tables.{sampled-is}
+use Rattle.bits.specs.Bits.{part}
+use Rattle.bits.specs.Parts.{length-part}
+use Rattle.bits.specs.PartLaws.{bits-room, lent-part}
+use Rattle.check_tables.specs.Tables.{sampled-is}
 use borrow.Author.Needs.{needs}
 use Rattle.check_tables.proofs.judge.samples_at.Statement.{statement}
 use Rattle.check_tables.proofs.judge.samples_at.Tie as tie

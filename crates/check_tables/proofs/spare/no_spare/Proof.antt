@@ -4,11 +4,11 @@ use mathlib.Core.Path.{sym, ap, _∙_}
 use native.Mathlib.Omega.{arith}
 use lib.Dec.{eqb}
 use Rattle.spec.specs.Bytes.{blocks}
-use Rattle.bits_laws.specs.ValueLaws.{Small}
-use Rattle.bits_laws.specs.Bits.{part}
-use Rattle.rank_tables_laws.specs.Spare.{spare-none, spare-last}
-use Rattle.bits_laws.specs.Parts.{length-part}
-use Rattle.bits_laws.specs.PartLaws.{byte-part, small-part}
+use Rattle.bits.specs.ValueLaws.{Small}
+use Rattle.bits.specs.Bits.{part}
+use Rattle.check_tables.specs.Spare.{spare-none, spare-last}
+use Rattle.bits.specs.Parts.{length-part}
+use Rattle.bits.specs.PartLaws.{byte-part, small-part}
 use borrow.Author.Needs.{needs}
 use Rattle.check_tables.proofs.spare.no_spare.Statement.{statement}
 use Rattle.check_tables.proofs.spare.no_spare.Tie as tie

@@ -5,8 +5,8 @@ use mir.Syntax.{w64}
 use mathlib.Core.Path.{sym, ap₂, _∙_}
 use mathlib.Core.Bool.{_&&_}
 use native.Mathlib.Omega.{arith}
-use Rattle.image_types.specs.FrameOf.{within}
-use Rattle.check_tables_laws.specs.Tables.{spare-is}
+use Rattle.image.specs.FrameOf.{within}
+use Rattle.check_tables.specs.Tables.{spare-is}
 use Rattle.check_tables.proofs.spare.spare_clear.Statement.{statement}
 use Rattle.check_tables.proofs.spare.spare_clear.Tie as tie
 

@@ -5,8 +5,8 @@ use native.Mathlib.Omega.{arith}
 use borrow.Author.Tests.{not-true, not-false}
 use mir.Val.{Fits}
 use mir.Syntax.{w64}
-use Rattle.check_trie_laws.specs.Levels.{node-count}
-use Rattle.check_trie_laws.specs.BodyTests.{sums-test, counts-few, counts-none, sums-fail, sums-pass, some-nodes}
+use Rattle.check_levels.specs.Levels.{node-count}
+use Rattle.check_levels.specs.BodyTests.{sums-test, counts-few, counts-none, sums-fail, sums-pass, some-nodes}
 use Rattle.check_trie.proofs.trie.counts_valid.Statement.{statement}
 use Rattle.check_trie.proofs.trie.counts_valid.Tie as tie
 

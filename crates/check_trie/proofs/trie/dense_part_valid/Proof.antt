@@ -5,9 +5,9 @@ use native.Mathlib.Omega.{arith}
 use mir.Val.{Fits}
 use mir.Syntax.{w64}
 use Rattle.spec.specs.Bytes.{Bytes}
-use Rattle.bits_laws.specs.PartLaws.{bits-room, lent-part}
-use Rattle.image_types.specs.FrameOf.{within}
-use Rattle.check_trie_laws.specs.Bodies.{dp-body, bodies-sized}
+use Rattle.bits.specs.PartLaws.{bits-room, lent-part}
+use Rattle.image.specs.FrameOf.{within}
+use Rattle.check_levels.specs.Bodies.{dp-body, bodies-sized}
 use borrow.Author.Needs.{needs}
 use Rattle.check_trie.proofs.trie.dense_part_valid.Statement.{statement}
 use Rattle.check_trie.proofs.trie.dense_part_valid.Tie as tie

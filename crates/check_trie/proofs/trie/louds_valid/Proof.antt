@@ -4,10 +4,10 @@ use mathlib.Core.Bool.{_&&_}
 use Prim.Native.Nat.{ℕ}
 use lib.Dec.{eqb}
 use Rattle.spec.specs.Bytes.{Bytes}
-use Rattle.bits_laws.specs.PartLaws.{bits-room, lent-part}
-use Rattle.image_types.specs.FrameOf.{within}
-use Rattle.check_trie_laws.specs.Bodies.{sb-body, bodies-sized}
-use Rattle.check_trie_laws.specs.BodyTests.{first-bit}
+use Rattle.bits.specs.PartLaws.{bits-room, lent-part}
+use Rattle.image.specs.FrameOf.{within}
+use Rattle.check_levels.specs.Bodies.{sb-body, bodies-sized}
+use Rattle.check_levels.specs.BodyTests.{first-bit}
 use borrow.Author.Needs.{needs}
 use Rattle.check_trie.proofs.trie.louds_valid.Statement.{statement}
 use Rattle.check_trie.proofs.trie.louds_valid.Tie as tie

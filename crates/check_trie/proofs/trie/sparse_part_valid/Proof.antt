@@ -1,9 +1,9 @@
 -- The three bodies lie within the image and have the lengths that the counts give.
 use mathlib.Core.Path.{_≡_}
 use Rattle.spec.specs.Bytes.{Bytes}
-use Rattle.bits_laws.specs.PartLaws.{bits-room, lent-part}
-use Rattle.image_types.specs.FrameOf.{within}
-use Rattle.check_trie_laws.specs.Bodies.{sc-body, sb-body, bodies-sized}
+use Rattle.bits.specs.PartLaws.{bits-room, lent-part}
+use Rattle.image.specs.FrameOf.{within}
+use Rattle.check_levels.specs.Bodies.{sc-body, sb-body, bodies-sized}
 use borrow.Author.Needs.{needs}
 use Rattle.check_trie.proofs.trie.sparse_part_valid.Statement.{statement}
 use Rattle.check_trie.proofs.trie.sparse_part_valid.Tie as tie

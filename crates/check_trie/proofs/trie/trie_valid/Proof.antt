@@ -2,10 +2,10 @@
 use mathlib.Core.Path.{_≡_, sym, ap, ap₂, _∙_}
 use mathlib.Core.Bool.{Bool, true, _&&_}
 use borrow.Author.Tests.{not-true, not-false}
-use Rattle.check_trie_laws.specs.BodyTests.{louds-test, louds-valid, louds-fails, louds-passes}
+use Rattle.check_levels.specs.BodyTests.{louds-test, louds-valid, louds-fails, louds-passes}
 use Rattle.spec.specs.Trie.{builders-trie}
-use Rattle.image_types.specs.FrameOf.{frame-parts}
-use Rattle.check_trie_laws.specs.BitTests.{counts-valid}
+use Rattle.image.specs.FrameOf.{frame-parts}
+use Rattle.check_levels.specs.BitTests.{counts-valid}
 use borrow.Author.Needs.{needs}
 use Rattle.check_trie.proofs.trie.trie_valid.Statement.{statement}
 use Rattle.check_trie.proofs.trie.trie_valid.Tie as tie

@@ -1,7 +1,7 @@
 use mathlib.Core.Path.{refl}
 use borrow.Author.Needs.{needs}
 use Rattle.spec.specs.Fnv.{prime}
-use Rattle.fnv_laws.specs.ProductLaws.{product-of-halves}
+use Rattle.fnv.specs.ProductLaws.{product-of-halves}
 use Rattle.fnv.proofs.Fnv1a.times_prime.Statement.{statement}
 use Rattle.fnv.proofs.Fnv1a.times_prime.Tie as tie
 

@@ -1,6 +1,6 @@
 use native.Mathlib.Omega.{arith}
 use Rattle.keys.proofs.PrefixLaws.{word-equal}
-use Rattle.bits_laws.specs.ValueLaws.{Small}
+use Rattle.bits.specs.ValueLaws.{Small}
 use borrow.Author.Needs.{needs}
 use Rattle.keys.proofs.compare.equal_word.Statement.{statement}
 use Rattle.keys.proofs.compare.equal_word.Tie as tie

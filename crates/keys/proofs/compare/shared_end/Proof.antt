@@ -1,7 +1,7 @@
 -- The word's bytes before its first difference are shared with all before the word, and no more.
 use mathlib.Core.Path.{sym}
 use Rattle.keys.proofs.PrefixLaws.{last-word}
-use Rattle.bits_laws.specs.ValueLaws.{Small}
+use Rattle.bits.specs.ValueLaws.{Small}
 use borrow.Author.Needs.{needs}
 use Rattle.keys.proofs.compare.shared_end.Statement.{statement}
 use Rattle.keys.proofs.compare.shared_end.Tie as tie

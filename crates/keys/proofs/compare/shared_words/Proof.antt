@@ -1,7 +1,7 @@
 use mathlib.Core.Path.{_≡_, refl, sym}
 use Prim.Native.Nat.{_-_, _≤_}
 use Rattle.keys.proofs.PrefixLaws.{take-fewer, word-shared, word-differs}
-use Rattle.bits_laws.specs.ValueLaws.{Small}
+use Rattle.bits.specs.ValueLaws.{Small}
 use native.Mathlib.Omega.{arith}
 use borrow.Author.Needs.{needs}
 use lib.ListN.{take}

@@ -3,8 +3,8 @@ use mathlib.Core.List.{[], _∷_, _++_}
 use Prim.Native.Nat.{_≤_, _/_, _<_}
 use native.Mathlib.Omega.{arith}
 use Rattle.spec.specs.Print.{decimal}
-use Rattle.print_laws.specs.Writing.{written-append, written-as}
-use Rattle.print_laws.specs.Texts.{decimal-one, decimal-last, length-decimal-one, length-decimal-last}
+use Rattle.print_text.specs.Writing.{written-append, written-as}
+use Rattle.print_text.specs.Texts.{decimal-one, decimal-last, length-decimal-one, length-decimal-last}
 use Prim.Native.Nat.{ℕ}
 use borrow.Fn.Kinds.{In}
 use borrow.Fn.PlainCycle.{Measures, is, falls, and}

@@ -3,7 +3,7 @@ use mathlib.Core.Bool.{Bool, cond}
 use Prim.Native.Nat.{_+_, _-_}
 use borrow.Author.Tests.{lt-ltb, le-ltb}
 use Rattle.spec.specs.Bytes.{letter}
-use Rattle.print_laws.specs.Texts.{hex-digit-is}
+use Rattle.print_text.specs.Texts.{hex-digit-is}
 use borrow.Author.Needs.{needs}
 use Rattle.print_text.proofs.digits.hex_digit.Statement.{statement}
 use Rattle.print_text.proofs.digits.hex_digit.Tie as tie

@@ -1,5 +1,5 @@
 use native.Mathlib.Omega.{arith}
-use Rattle.print_laws.specs.Writing.{written-byte}
+use Rattle.print_text.specs.Writing.{written-byte}
 use borrow.Author.Needs.{needs}
 use Rattle.print_text.proofs.digits.write_byte.Statement.{statement}
 use Rattle.print_text.proofs.digits.write_byte.Tie as tie

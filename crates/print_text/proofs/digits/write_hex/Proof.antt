@@ -5,9 +5,9 @@ use Prim.Native.Nat.{ℕ, _-_, _≤_}
 use native.Mathlib.Omega.{arith}
 use borrow.Author.Needs.{needs}
 use lib.ListN.{length, take}
-use Rattle.print_laws.specs.Writing.{Written, written-none, written-append, written-as}
+use Rattle.print_text.specs.Writing.{Written, written-none, written-append, written-as}
 use Rattle.spec.specs.Print.{hex}
-use Rattle.print_laws.specs.Texts.{hex-none, hex-more, length-hex-take}
+use Rattle.print_text.specs.Texts.{hex-none, hex-more, length-hex-take}
 use Rattle.print_text.proofs.digits.write_hex.Statement.{statement}
 use Rattle.print_text.proofs.digits.write_hex.Tie as tie
 

@@ -2,8 +2,8 @@ use mathlib.Core.Path.{sym, ap₂, _∙_}
 use mathlib.Core.List.{[], _∷_}
 use Prim.Native.Nat.{ℕ}
 use native.Mathlib.Omega.{arith}
-use Rattle.print_laws.specs.Writing.{written-append, written-as}
-use Rattle.print_laws.specs.Texts.{hex-byte}
+use Rattle.print_text.specs.Writing.{written-append, written-as}
+use Rattle.print_text.specs.Texts.{hex-byte}
 use borrow.Author.Needs.{needs}
 use Rattle.print_text.proofs.digits.write_hex_byte.Statement.{statement}
 use Rattle.print_text.proofs.digits.write_hex_byte.Tie as tie

@@ -1,6 +1,6 @@
 -- The text is copied.
 use borrow.Author.Needs.{needs}
-use Rattle.print_laws.specs.Writing.{written-placed}
+use Rattle.print_text.specs.Writing.{written-placed}
 use Rattle.print_text.proofs.digits.write_text.Statement.{statement}
 use Rattle.print_text.proofs.digits.write_text.Tie as tie
 

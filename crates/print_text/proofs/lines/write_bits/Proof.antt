@@ -6,8 +6,8 @@ use native.Mathlib.Numerals.{add-one}
 use borrow.Author.Needs.{needs}
 use lib.ListN.{length}
 use Rattle.spec.specs.Bytes.{low-bits}
-use Rattle.print_laws.specs.Writing.{Written, written-none, written-append, written-as}
-use Rattle.print_laws.specs.Texts.{bit-digit, bit-digits-none, bit-digits-more, length-bit-digits}
+use Rattle.print_text.specs.Writing.{Written, written-none, written-append, written-as}
+use Rattle.print_text.specs.Texts.{bit-digit, bit-digits-none, bit-digits-more, length-bit-digits}
 use Rattle.print_text.proofs.lines.write_bits.Statement.{statement}
 use Rattle.print_text.proofs.lines.write_bits.Tie as tie
 

@@ -1,8 +1,8 @@
 use native.Mathlib.Omega.{arith}
 use lib.ListN.{length-append}
 use Rattle.spec.specs.Print.{decimal}
-use Rattle.print_laws.specs.Writing.{written-append}
-use Rattle.print_laws.specs.Texts.{length-decimal}
+use Rattle.print_text.specs.Writing.{written-append}
+use Rattle.print_text.specs.Texts.{length-decimal}
 use borrow.Author.Needs.{needs}
 use Rattle.print_text.proofs.lines.write_count.Statement.{statement}
 use Rattle.print_text.proofs.lines.write_count.Tie as tie

@@ -2,8 +2,8 @@ use mathlib.Core.Path.{_≡_, sym, _∙_}
 use native.Mathlib.Omega.{arith}
 use lib.ListN.{length, take}
 use lib.Seq.{length-take-le}
-use Rattle.print_laws.specs.Writing.{written-append}
-use Rattle.print_laws.specs.Texts.{length-map, length-hex}
+use Rattle.print_text.specs.Writing.{written-append}
+use Rattle.print_text.specs.Texts.{length-map, length-hex}
 use borrow.Author.Needs.{needs}
 use Rattle.print_text.proofs.lines.write_cut.Statement.{statement}
 use Rattle.print_text.proofs.lines.write_cut.Tie as tie

@@ -2,8 +2,8 @@ use mathlib.Core.Path.{sym, ap}
 use mathlib.Core.Bool.{Bool}
 use mathlib.Core.List.{[], _∷_}
 use Rattle.spec.specs.Bytes.{letter}
-use Rattle.print_laws.specs.Writing.{written-as}
-use Rattle.print_laws.specs.Texts.{kind-letter}
+use Rattle.print_text.specs.Writing.{written-as}
+use Rattle.print_text.specs.Texts.{kind-letter}
 use borrow.Author.Needs.{needs}
 use Rattle.print_text.proofs.lines.write_kind.Statement.{statement}
 use Rattle.print_text.proofs.lines.write_kind.Tie as tie

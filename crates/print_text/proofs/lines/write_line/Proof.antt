@@ -4,10 +4,10 @@ use Prim.Native.Nat.{_+_, _≤_}
 use native.Mathlib.Omega.{arith}
 use lib.ListN.{length, length-append, length-take}
 use Rattle.spec.specs.Print.{decimal}
-use Rattle.image_types.specs.Value.{leaf-of}
-use Rattle.print_laws.specs.Writing.{written-append, written-as}
-use Rattle.print_laws.specs.Texts.{cut-text, slot-text, line-is, length-pieces, length-line}
-use Rattle.bits_laws.specs.UnpackLaws.{length-low-bits}
+use Rattle.image.specs.Value.{leaf-of}
+use Rattle.print_text.specs.Writing.{written-append, written-as}
+use Rattle.print_text.specs.Texts.{cut-text, slot-text, line-is, length-pieces, length-line}
+use Rattle.bits.specs.UnpackLaws.{length-low-bits}
 use borrow.Author.Needs.{needs}
 use Rattle.print_text.proofs.lines.write_line.Statement.{statement}
 use Rattle.print_text.proofs.lines.write_line.Tie as tie

@@ -1,5 +1,5 @@
 use native.Mathlib.Omega.{arith}
-use Rattle.print_laws.specs.Writing.{written-append}
+use Rattle.print_text.specs.Writing.{written-append}
 use borrow.Author.Needs.{needs}
 use Rattle.print_text.proofs.lines.write_slot.Statement.{statement}
 use Rattle.print_text.proofs.lines.write_slot.Tie as tie

@@ -2,8 +2,8 @@ use mathlib.Core.Path.{sym, ap}
 use mathlib.Core.Logic.{inl, inr}
 use native.Mathlib.Omega.{arith}
 use lib.ListN.{length}
-use Rattle.print_laws.specs.Writing.{written-as}
-use Rattle.print_laws.specs.Texts.{suffix-none, suffix-open, length-bit-digits}
+use Rattle.print_text.specs.Writing.{written-as}
+use Rattle.print_text.specs.Texts.{suffix-none, suffix-open, length-bit-digits}
 use borrow.Author.Needs.{needs}
 use Rattle.print_text.proofs.lines.write_suffix.Statement.{statement}
 use Rattle.print_text.proofs.lines.write_suffix.Tie as tie

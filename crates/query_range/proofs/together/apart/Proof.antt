@@ -1,9 +1,9 @@
 use borrow.Author.Needs.{needs}
-use Rattle.query_laws.specs.RangeWays.{Key-branch, key-node, next-nothing, next-under, next-upto, next-over, next-own, met-crossed, met-inside}
+use Rattle.query_range.specs.RangeWays.{Key-branch, key-node, next-nothing, next-under, next-upto, next-over, next-own, met-crossed, met-inside}
 use Rattle.query_range.proofs.ApartLaws.{from-not, from-not-false, apart-lower, apart-left, apart-upper}
-use Rattle.nav_laws.specs.declared.BranchKind.the-variants.{Absent}
-use Rattle.nav_laws.specs.NextBranch.{Next-branch}
-use Rattle.nav_laws.specs.NextLabel.{there-not, not-there}
+use Rattle.nav_nodes.specs.declared.BranchKind.the-variants.{Absent}
+use Rattle.nav_nodes.specs.NextBranch.{Next-branch}
+use Rattle.nav_nodes.specs.NextLabel.{there-not, not-there}
 use borrow.Author.Tests.{ltb-true, ltb-false}
 use lib.ListN.{getD}
 use Prim.Native.Nat.{_+_, _≤_}

@@ -1,6 +1,6 @@
 use borrow.Author.Needs.{needs}
-use Rattle.query_laws.specs.Leads.{shared-parts}
-use Rattle.query_laws.specs.RangeWays.{met-stop, met-ended}
+use Rattle.query_descent.specs.Leads.{shared-parts}
+use Rattle.query_range.specs.RangeWays.{met-stop, met-ended}
 use lib.ListN.{length}
 use Prim.Native.Nat.{_<_}
 use mathlib.Core.Path.{sym, _∙_}

@@ -1,9 +1,9 @@
 use borrow.Author.Needs.{needs}
 use Rattle.theory.specs.Order.{shared-le}
-use Rattle.query_laws.specs.declared.KeyEnd.{KeyEnd}
-use Rattle.query_laws.specs.declared.KeyEnd.the-variants as End
-use Rattle.query_laws.specs.Leads.{Leads-to}
-use Rattle.query_laws.specs.RangeWays.{Both-at, Both-leaf, range-nowhere, range-absent, range-node, range-leaf}
+use Rattle.query_descent.specs.declared.KeyEnd.{KeyEnd}
+use Rattle.query_descent.specs.declared.KeyEnd.the-variants as End
+use Rattle.query_descent.specs.Leads.{Leads-to}
+use Rattle.query_range.specs.RangeWays.{Both-at, Both-leaf, range-nowhere, range-absent, range-node, range-leaf}
 use Rattle.spec.specs.Bytes.{bit, shared}
 use Prim.Native.Nat.{_≤_}
 use mathlib.Core.Path.{_≡_, sym, ap, subst, _∙_}

@@ -1,13 +1,13 @@
-use Rattle.query_laws.specs.LeafKeys.{First-behind, Reached, no-key, start-behind}
-use Rattle.query_laws.specs.FirstLeaf.{leaf-behind}
-use Rattle.query_laws.specs.Seeking.{higher-leaf, Higher-in}
-use Rattle.nav_laws.specs.Accepted.{nodes}
-use Rattle.nav_laws.specs.PathSteps.{node-in}
-use Rattle.query_laws.specs.declared.LastHigher.{LastHigher}
-use Rattle.query_laws.specs.declared.LastHigher.the-variants.{At}
+use Rattle.query_seek.specs.LeafKeys.{First-behind, Reached, no-key, start-behind}
+use Rattle.query_descent.specs.FirstLeaf.{leaf-behind}
+use Rattle.query_descent.specs.Seeking.{higher-leaf, Higher-in}
+use Rattle.nav_nodes.specs.Accepted.{nodes}
+use Rattle.nav_branches.specs.PathSteps.{node-in}
+use Rattle.query_descent.specs.declared.LastHigher.{LastHigher}
+use Rattle.query_descent.specs.declared.LastHigher.the-variants.{At}
 use mathlib.Core.Path.{sym, subst}
-use Rattle.image_types.specs.declared.NodeNum.{NodeNum}
-use Rattle.nav_laws.specs.declared.Found.{Found}
+use Rattle.image.specs.declared.NodeNum.{NodeNum}
+use Rattle.nav_nodes.specs.declared.Found.{Found}
 use lib.ListN.{length, getD}
 use Prim.Native.Nat.{ℕ, _+_, _-_}
 use native.Mathlib.Omega.{arith}

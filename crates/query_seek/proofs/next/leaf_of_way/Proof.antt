@@ -1,8 +1,8 @@
-use Rattle.query_laws.specs.LeafKeys.{First-below, open-key, same-front, start-below}
-use Rattle.query_laws.specs.FirstLeaf.{leaf-below}
-use Rattle.query_laws.specs.Seeking.{higher-within, ended-nowhere, ended-node, ended-leaf}
-use Rattle.nav_laws.specs.Accepted.{nodes}
-use Rattle.image_types.specs.declared.ValuePos.{ValuePos}
+use Rattle.query_seek.specs.LeafKeys.{First-below, open-key, same-front, start-below}
+use Rattle.query_descent.specs.FirstLeaf.{leaf-below}
+use Rattle.query_descent.specs.Seeking.{higher-within, ended-nowhere, ended-node, ended-leaf}
+use Rattle.nav_nodes.specs.Accepted.{nodes}
+use Rattle.image.specs.declared.ValuePos.{ValuePos}
 use lib.ListN.{length}
 use native.Mathlib.Omega.{arith}
 use mathlib.Core.Path.{_∙_}

@@ -1,7 +1,7 @@
-use Rattle.query_laws.specs.LeafKeys.{no-key}
-use Rattle.query_laws.specs.Seeks.{next-nowhere}
+use Rattle.query_seek.specs.LeafKeys.{no-key}
+use Rattle.query_descent.specs.Seeks.{next-nowhere}
 use Rattle.query_seek.proofs.NextLaws.{placed-front}
-use Rattle.bits_laws.specs.Placing.{length-placed}
+use Rattle.bits.specs.Placing.{length-placed}
 use lib.ListN.{length, take}
 use mathlib.Core.Path.{refl, ap, _∙_}
 use native.Mathlib.Omega.{arith}

@@ -1,8 +1,8 @@
 use borrow.Author.Needs.{needs}
-use Rattle.query_laws.specs.LowestKeys.{Filling, filling-none, filling-zero, filling-byte, filling-done}
+use Rattle.query_descent.specs.LowestKeys.{Filling, filling-none, filling-zero, filling-byte, filling-done}
 use Rattle.query_seek.proofs.SeekLaws.{low-open}
-use Rattle.query_laws.specs.SuffixBytes.{real-length}
-use Rattle.nav_laws.specs.Accepted.{real-slot}
+use Rattle.query_descent.specs.SuffixBytes.{real-length}
+use Rattle.nav_nodes.specs.Accepted.{real-slot}
 use lib.ListN.{length, length-set}
 use mathlib.Core.Logic.{inl, inr}
 use Prim.Native.Nat.{_-_, _≤_}

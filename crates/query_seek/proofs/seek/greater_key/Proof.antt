@@ -1,6 +1,6 @@
 use Rattle.query_seek.proofs.NextLaws.{placed-front}
 use Rattle.query_seek.proofs.SeekLaws.{greater-below, greater-equal, greater-above}
-use Rattle.bits_laws.specs.Placing.{length-placed}
+use Rattle.bits.specs.Placing.{length-placed}
 use lib.Seq.{length-take-le}
 use lib.ListN.{length, take}
 use native.Mathlib.Omega.{arith}

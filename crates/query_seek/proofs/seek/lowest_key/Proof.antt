@@ -1,6 +1,6 @@
-use Rattle.query_laws.specs.Seeks.{low-of}
-use Rattle.nav_laws.specs.declared.LeafStop.{LeafStop}
-use Rattle.nav_laws.specs.Accepted.{nodes}
+use Rattle.query_descent.specs.Seeks.{low-of}
+use Rattle.nav_branches.specs.declared.LeafStop.{LeafStop}
+use Rattle.nav_nodes.specs.Accepted.{nodes}
 use lib.ListN.{take}
 use mathlib.Core.Path.{ap}
 use borrow.Author.Needs.{needs}

@@ -1,11 +1,11 @@
 use Rattle.query_seek.proofs.NextLaws.{there-not, not-there}
 use Rattle.query_seek.proofs.SeekLaws.{few-passed, seek-none, seek-found}
-use Rattle.query_laws.specs.Answers.{passed-sums}
-use Rattle.query_laws.specs.Summed.{Summed}
-use Rattle.nav_laws.specs.declared.LeafStop.the-variants.{Nowhere}
+use Rattle.query_descent.specs.Answers.{passed-sums}
+use Rattle.query_descent.specs.Summed.{Summed}
+use Rattle.nav_branches.specs.declared.LeafStop.the-variants.{Nowhere}
 use borrow.Author.Tests.{not-true, not-false}
-use Rattle.query_laws.specs.Ordered.{passed}
-use Rattle.nav_laws.specs.Accepted.{real-leaves}
+use Rattle.query_descent.specs.Ordered.{passed}
+use Rattle.nav_nodes.specs.Accepted.{real-leaves}
 use Prim.Native.Nat.{_-_, _≤_}
 use native.Mathlib.Omega.{arith}
 use mathlib.Core.Path.{_≡_, sym, _∙_}

@@ -8,12 +8,12 @@ use native.Mathlib.Numerals.{add-one}
 use lib.Dec.{eqb}
 use borrow.Author.Needs.{needs}
 use Rattle.spec.specs.Bytes.{Bytes, blocks}
-use Rattle.bits_laws.specs.Bits.{rank}
-use Rattle.bits_laws.specs.ValueLaws.{Small}
-use Rattle.bits_laws.specs.RankLaws.{rank-zero, rank-le}
-use Rattle.rank_tables_laws.specs.Entries.{entry-right, all-below, all-none, all-more, table-agrees}
-use Rattle.rank_tables_laws.specs.Ranks.{block-begun, blocks-are}
-use Rattle.rank_tables_laws.specs.Tables.{word-counted}
+use Rattle.bits.specs.Bits.{rank}
+use Rattle.bits.specs.ValueLaws.{Small}
+use Rattle.bits.specs.RankLaws.{rank-zero, rank-le}
+use Rattle.rank_tables.specs.Entries.{entry-right, all-below, all-none, all-more, table-agrees}
+use Rattle.rank_tables.specs.Ranks.{block-begun, blocks-are}
+use Rattle.rank_tables.specs.Tables.{word-counted}
 use Rattle.rank_tables.proofs.rank_compare.count_ranks.Statement.{statement}
 use Rattle.rank_tables.proofs.rank_compare.count_ranks.Tie as tie
 

@@ -7,11 +7,11 @@ use mathlib.Core.Path.{_≡_, sym, ap, ap₂, _∙_}
 use mathlib.Core.List.{List}
 use Prim.Native.Nat.{ℕ, _+_, _*_, _-_, _≤_}
 use lib.ListN.{length}
-use Rattle.bits_laws.specs.Bits.{placed, rank, part}
-use Rattle.bits_laws.specs.RankLaws.{rank-zero}
-use Rattle.bits_laws.specs.Parts.{length-part}
-use Rattle.rank_tables_laws.specs.Entries.{rank-entries}
-use Rattle.rank_tables_laws.specs.Filling.{Filled, filled-none, filled-more}
+use Rattle.bits.specs.Bits.{placed, rank, part}
+use Rattle.bits.specs.RankLaws.{rank-zero}
+use Rattle.bits.specs.Parts.{length-part}
+use Rattle.rank_tables.specs.Entries.{rank-entries}
+use Rattle.rank_tables.specs.Filling.{Filled, filled-none, filled-more}
 use Rattle.rank_tables.proofs.rank_write.fill_ranks.Statement.{statement}
 use Rattle.rank_tables.proofs.rank_write.fill_ranks.Tie as tie
 

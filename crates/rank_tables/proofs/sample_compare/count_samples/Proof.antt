@@ -7,12 +7,12 @@ use lib.Dec.{eqb}
 use lib.ListN.{length}
 use borrow.Author.Needs.{needs}
 use Rattle.spec.specs.Bytes.{blocks}
-use Rattle.bits_laws.specs.Bits.{rank}
-use Rattle.bits_laws.specs.ValueLaws.{Small}
-use Rattle.bits_laws.specs.RankLaws.{rank-zero, rank-le}
-use Rattle.rank_tables_laws.specs.Entries.{all-below, all-none, all-more}
-use Rattle.rank_tables_laws.specs.Samples.{sampled, samples-agree}
-use Rattle.rank_tables_laws.specs.Tables.{word-counted}
+use Rattle.bits.specs.Bits.{rank}
+use Rattle.bits.specs.ValueLaws.{Small}
+use Rattle.bits.specs.RankLaws.{rank-zero, rank-le}
+use Rattle.rank_tables.specs.Entries.{all-below, all-none, all-more}
+use Rattle.rank_tables.specs.Samples.{sampled, samples-agree}
+use Rattle.rank_tables.specs.Tables.{word-counted}
 use Rattle.rank_tables.proofs.sample_compare.count_samples.Statement.{statement}
 use Rattle.rank_tables.proofs.sample_compare.count_samples.Tie as tie
 

@@ -3,8 +3,8 @@ use Prim.Native.Nat.{ℕ, _+_, _*_, min}
 use mathlib.Core.Path.{ap, _∙_}
 use native.Mathlib.Omega.{arith}
 use lib.Dec.{eqb}
-use Rattle.bits_laws.specs.RankLaws.{rank-le}
-use Rattle.rank_tables_laws.specs.Tables.{sample-missing, sample-early, sample-late, sample-past, sample-other, sample-bit}
+use Rattle.bits.specs.RankLaws.{rank-le}
+use Rattle.rank_tables.specs.Tables.{sample-missing, sample-early, sample-late, sample-past, sample-other, sample-bit}
 use borrow.Author.Needs.{needs}
 use Rattle.rank_tables.proofs.sample_compare.sample_valid.Statement.{statement}
 use Rattle.rank_tables.proofs.sample_compare.sample_valid.Tie as tie

@@ -4,11 +4,11 @@ use mathlib.Core.Path.{_≡_, refl, sym, ap, ap₂, _∙_}
 use mathlib.Core.List.{List}
 use lib.ListN.{length, length-drop}
 use Rattle.spec.specs.Bytes.{blocks}
-use Rattle.bits_laws.specs.Bits.{placed, rank, select, part}
-use Rattle.bits_laws.specs.RankLaws.{rank-zero, rank-slow, rank-le}
-use Rattle.bits_laws.specs.Parts.{length-part, mid-is}
-use Rattle.rank_tables_laws.specs.Entries.{sample-entries}
-use Rattle.rank_tables_laws.specs.Filling.{Filled, filled-none, filled-more}
+use Rattle.bits.specs.Bits.{placed, rank, select, part}
+use Rattle.bits.specs.RankLaws.{rank-zero, rank-slow, rank-le}
+use Rattle.bits.specs.Parts.{length-part, mid-is}
+use Rattle.rank_tables.specs.Entries.{sample-entries}
+use Rattle.rank_tables.specs.Filling.{Filled, filled-none, filled-more}
 use borrow.Author.Needs.{needs}
 use native.Mathlib.Omega.{arith}
 use Rattle.rank_tables.proofs.sample_write.fill_samples.Statement.{statement}

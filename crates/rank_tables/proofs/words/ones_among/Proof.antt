@@ -2,7 +2,7 @@
 use Prim.Native.Nat.{_+_, _*_, _-_, min}
 use mathlib.Core.Path.{_≡_, ap, _∙_}
 use native.Mathlib.Omega.{arith}
-use Rattle.bits_laws.specs.Bits.{rank}
+use Rattle.bits.specs.Bits.{rank}
 use borrow.Author.Needs.{needs}
 use Rattle.rank_tables.proofs.words.ones_among.Statement.{statement}
 use Rattle.rank_tables.proofs.words.ones_among.Tie as tie

@@ -1,0 +1,5 @@
+pub mod CountLaws
+pub mod NarrowLaws
+pub mod SelectLaws
+pub mod TableLaws
+pub mod WordLaws

@@ -1,0 +1,9 @@
+pub mod ByteLevel
+pub mod CountPass
+pub mod CounterRoom
+pub mod CursorWrites
+pub mod EntryLaws
+pub mod KeyMarks
+pub mod SlotLaws
+pub mod SmallCounters
+pub mod SuffixLaws

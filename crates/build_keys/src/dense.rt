@@ -1,0 +1,107 @@
+// A key's cells in the dense bodies: one on each level, in the row of its node.
+ghost use mathlib.Core.Path.{_≡_};
+ghost use lib.ListN.{length};
+ghost use Rattle.build_laws.specs.BytePass.{byte-state};
+ghost use Rattle.build_laws.specs.Passes.{key-bytes, Listed-key, listed-entries, Entries-room, write-entries};
+ghost use Rattle.build_laws.specs.declared.Kind.the-variants.{DL, DC, DP};
+ghost use Rattle.build_laws.specs.Limits.{counters};
+use super::Counters;
+use super::entries::continues;
+use super::entries::has_exact;
+use super::numbers::cut_length;
+use super::numbers::one_less;
+use super::put::put_cell;
+use bits::numbers::larger;
+use bits::numbers::smaller;
+use bits::numbers::wide;
+use build_laws::Cell;
+use build_laws::Key;
+use build_laws::Levels;
+use image::ROW_BITS;
+
+// A key's cells in D-Labels: its label on each level; an exact leaf starts a row and sets no bit.
+pub fn write_label_cells(out: &mut [u8], cur: &mut Counters, s: &[u8], k: Key, l: Levels)
+    requires { ⌜ Listed-key (now s) k × (length (now cur) ≡ counters) × Entries-room DL (listed-entries l k (key-bytes (now s) k)) (length (now out)) (now cur) ⌝ }
+    ensures { λ _. ⌜ byte-state (now (out .exit)) (now (cur .exit)) ≡ write-entries DL (listed-entries l k (key-bytes (now (s .entry)) k)) (byte-state (now (out .entry)) (now (cur .entry))) ⌝ }
+{
+    let b = one_less(k.first);
+    let c = cut_length(b, k.next, k.len);
+    let end = smaller(c, l.hi);
+    let mut d = larger(b, l.lo);
+    while d < end {
+        let at = k.at + d;
+        let x = Cell {
+            start: k.first <= d,
+            set: true,
+            column: wide(s[at]),
+        };
+        put_cell(out, cur, d, ROW_BITS, x);
+        d = d + 1;
+    }
+    if has_exact(k, l) {
+        let x = Cell {
+            start: true,
+            set: false,
+            column: 255,
+        };
+        put_cell(out, cur, k.len, ROW_BITS, x);
+    }
+}
+
+// A key's cells in D-HasChild: its label on each level from which it continues; an exact leaf starts a row and sets no bit.
+pub fn write_child_cells(out: &mut [u8], cur: &mut Counters, s: &[u8], k: Key, l: Levels)
+    requires { ⌜ Listed-key (now s) k × (length (now cur) ≡ counters) × Entries-room DC (listed-entries l k (key-bytes (now s) k)) (length (now out)) (now cur) ⌝ }
+    ensures { λ _. ⌜ byte-state (now (out .exit)) (now (cur .exit)) ≡ write-entries DC (listed-entries l k (key-bytes (now (s .entry)) k)) (byte-state (now (out .entry)) (now (cur .entry))) ⌝ }
+{
+    let b = one_less(k.first);
+    let c = cut_length(b, k.next, k.len);
+    let end = smaller(c, l.hi);
+    let mut d = larger(b, l.lo);
+    while d < end {
+        let at = k.at + d;
+        let more = continues(k, c, d);
+        let x = Cell {
+            start: k.first <= d,
+            set: more,
+            column: wide(s[at]),
+        };
+        put_cell(out, cur, d, ROW_BITS, x);
+        d = d + 1;
+    }
+    if has_exact(k, l) {
+        let x = Cell {
+            start: true,
+            set: false,
+            column: 255,
+        };
+        put_cell(out, cur, k.len, ROW_BITS, x);
+    }
+}
+
+// A key's cells in D-IsPrefixKey, whose rows have one bit: only an exact leaf sets it.
+pub fn write_exact_cells(out: &mut [u8], cur: &mut Counters, s: &[u8], k: Key, l: Levels)
+    requires { ⌜ Listed-key (now s) k × (length (now cur) ≡ counters) × Entries-room DP (listed-entries l k (key-bytes (now s) k)) (length (now out)) (now cur) ⌝ }
+    ensures { λ _. ⌜ byte-state (now (out .exit)) (now (cur .exit)) ≡ write-entries DP (listed-entries l k (key-bytes (now (s .entry)) k)) (byte-state (now (out .entry)) (now (cur .entry))) ⌝ }
+{
+    let b = one_less(k.first);
+    let c = cut_length(b, k.next, k.len);
+    let end = smaller(c, l.hi);
+    let mut d = larger(b, l.lo);
+    while d < end {
+        let x = Cell {
+            start: k.first <= d,
+            set: false, // a branch is no exact leaf
+            column: 0,
+        };
+        put_cell(out, cur, d, 1, x);
+        d = d + 1;
+    }
+    if has_exact(k, l) {
+        let x = Cell {
+            start: true,
+            set: true,
+            column: 0,
+        };
+        put_cell(out, cur, k.len, 1, x);
+    }
+}

@@ -1,0 +1,4 @@
+pub mod KeyList
+pub mod ListLaws
+pub mod LongKeys
+pub mod RecordLaws

@@ -1,0 +1,10 @@
+pub mod BodyChoice
+pub mod BodyFilled
+pub mod BodyRoom
+pub mod BodyWritten
+pub mod ImageRecords
+pub mod LevelRecord
+pub mod LevelWidths
+pub mod Plan
+pub mod RecordsWritten
+pub mod TableBodies

@@ -1,0 +1,4 @@
+pub mod DensePositions
+pub mod LaneLaws
+pub mod MarkLaws
+pub mod WordEntries

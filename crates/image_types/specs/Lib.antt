@@ -1,5 +1,0 @@
-pub mod Header
-pub mod Outcomes
-pub mod Records
-pub mod FrameOf
-pub mod Value

@@ -1,0 +1,2 @@
+pub mod BranchTests
+pub mod EdgeLaws

@@ -1,0 +1,6 @@
+pub mod Below
+pub mod EdgeContracts
+pub mod PathContracts
+pub mod PathLaws
+pub mod PathSteps
+pub mod Paths

@@ -1,0 +1,15 @@
+pub mod Accepted
+pub mod Counting
+pub mod DensePositions
+pub mod Descent
+pub mod FoundBranch
+pub mod FromCheck
+pub mod LabelMaps
+pub mod NextBranch
+pub mod NextLabel
+pub mod NumberBounds
+pub mod Positions
+pub mod Slots
+pub mod SparsePositions
+pub mod Stored
+pub mod Tables

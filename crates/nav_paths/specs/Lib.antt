@@ -1,2 +1,0 @@
-pub mod PathContracts
-pub mod PathLaws

@@ -1,0 +1,18 @@
+use lib.ListN.{List·getD-eq-default}
+use native.Mathlib.Omega.{arith}
+use mathlib.Core.Path.{sym}
+use borrow.Author.Needs.{needs}
+use Rattle.query_descent.proofs.suffix.key_byte.Statement.{statement}
+use Rattle.query_descent.proofs.suffix.key_byte.Tie as tie
+
+shared-slice-read-result : tie.Need-shared-slice-read-result
+shared-slice-read-result c = search needs
+
+returns : tie.Need-returns
+returns c = search needs
+
+returns-2 : tie.Need-returns-2
+returns-2 c = sym (List·getD-eq-default (c .before .args .key .now) 0 (omega arith))
+
+pub key-byte-spec : {M : Type 1} → statement M
+key-byte-spec = tie.close (tie.spec shared-slice-read-result returns returns-2)

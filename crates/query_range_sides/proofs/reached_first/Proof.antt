@@ -1,9 +1,0 @@
-use mathlib.Core.Path.{refl}
-use Rattle.query_range_sides.proofs.reached_first.Statement.{statement}
-use Rattle.query_range_sides.proofs.reached_first.Tie as tie
-
-returns : tie.Need-returns
-returns c = refl
-
-pub reached-first-spec : {M : Type 1} → statement M
-reached-first-spec = tie.close (tie.spec returns)

@@ -1,0 +1,4 @@
+pub mod Bounds
+pub mod LevelTable
+pub mod Levels
+pub mod Runs

@@ -1,0 +1,5 @@
+pub mod Entries
+pub mod Filling
+pub mod Ranks
+pub mod Samples
+pub mod Tables

@@ -1,5 +1,0 @@
-pub mod SuffixNumber
-pub mod Opening
-pub mod LeafValues
-pub mod Filling
-pub mod Counted

@@ -1,0 +1,5 @@
+pub mod DownLaws
+pub mod Entries
+pub mod EntryLaws
+pub mod LevelLaws
+pub mod Levels

@@ -1,3 +1,0 @@
-pub mod Walks
-pub mod Records
-pub mod StateLaws
