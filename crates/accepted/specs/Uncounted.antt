@@ -17,14 +17,14 @@ use Rattle.image.specs.declared.DenseTotals.{DenseTotals}
 use Rattle.image.specs.declared.Frame.{Frame}
 use Rattle.theory.specs.Terms.{Is-bytes}
 use Rattle.check_frame.specs.FrameLaws.{frame-at, header-starts, uncounted, Totals, Laid-out, accepted-laid, laid-totals, laid-frame, frame-laid}
+use Rattle.rank_tables.specs.Reading.{Rank-entry, Rank-table}
 use Rattle.nav_nodes.specs.Accepted.{Accepted, nodes}
-use Rattle.nav_nodes.specs.Stored.{Rank-entry}
 use Rattle.nav_nodes.specs.Slots.{leaves-before}
 use Rattle.nav_nodes.specs.Descent.{children-before}
 use Rattle.nav_nodes.specs.Positions.{before-sparse, dense-totals}
 use Rattle.nav_nodes.specs.FoundBranch.{node-count}
 use Rattle.nav_nodes.specs.FromCheck.{checked-accepted}
-use Rattle.nav_nodes.specs.Tables.{Ranked, children-ranked, starts-sampled}
+use Rattle.nav_nodes.specs.Tables.{children-ranked, starts-sampled}
 use Rattle.query_descent.specs.Followed.{node-length}
 
 -- the frame f is that of a header, and with some totals it is the frame of the accepted image s
@@ -72,7 +72,7 @@ module _ (s : Bytes) (f : Frame) (u : Uncounted s f) where
       rw (u .frame-is) (omega (arith, a .writable .few-dense, a .dense-size), omega (arith, a .writable .few-sparse, a .sparse-size), omega (arith, a .writable .few))
 
   -- D-HasChild and its ranks
-  pub children-at : (f .dc ≤ length s) × (f .rc ≤ length s) × Ranked 64 (256 * f .dense .nodes) (drop (f .dc) s) (drop (f .rc) s)
+  pub children-at : (f .dc ≤ length s) × (f .rc ≤ length s) × Rank-table 64 (256 * f .dense .nodes) (drop (f .dc) s) (drop (f .rc) s)
   children-at = let a = u .accepted in rw (u .frame-is) (a .DC .0, a .RC .0, children-ranked s _ a)
 
   -- the last word of D-HasChild, its rank, and that all bits end with it

@@ -8,28 +8,25 @@ ghost use Rattle.check_levels.specs.Indexed.{Indexed};
 use super::Level;
 use bits::numbers::blocks_for;
 use bits::numbers::bytes_for;
-use bits::numbers::read32;
 use bits::parts::part;
-use bits::ranks::rank_from;
-use bits_select::select::select_from;
 use image::BitPos;
 use image::Frame;
 use image::NodeNum;
 use image::SAMPLE_RATE;
 use image::SPARSE_BLOCK_BITS;
-use image::SPARSE_BLOCK_WORDS;
+use rank_tables::read::rank_512;
+use rank_tables::read::select_64;
 
 // Where sparse node m, counted from 0 among the sparse ones, begins: the search starts at the sample before it.
 fn first_entry(image: &[u8], f: Frame, m: usize) -> BitPos
-    requires { ⌜ Indexed (now image) f × (m < f .sparse .nodes) ⌝ }
+    requires { ⌜ Indexed (now image) f ⌝ }
     ensures { λ r. ⌜ r .0 ≡ select (sb-body (now (image .entry)) f) (f .sparse .entries) m ⌝ }
 {
     let entries = f.sparse.entries;
+    let nodes = f.sparse.nodes;
     let sb = part(image, f.sb, bytes_for(entries));
-    let samples = part(image, f.ts, 4 * blocks_for(SAMPLE_RATE, f.sparse.nodes));
-    let t = m / SAMPLE_RATE;
-    let sample = read32(samples, 4 * t);
-    BitPos(select_from(sb, entries, sample, SAMPLE_RATE * t, m))
+    let samples = part(image, f.ts, 4 * blocks_for(SAMPLE_RATE, nodes));
+    BitPos(select_64(sb, samples, entries, nodes, m))
 }
 
 // The sparse entries that continue before the one at a position, counted on from the rank of its block.
@@ -40,9 +37,7 @@ pub fn children_before(image: &[u8], f: Frame, at: BitPos) -> usize
     let entries = f.sparse.entries;
     let sc = part(image, f.sc, bytes_for(entries));
     let ranks = part(image, f.rs, 4 * blocks_for(SPARSE_BLOCK_BITS, entries));
-    let block = at.0 / SPARSE_BLOCK_BITS;
-    let before = read32(ranks, 4 * block);
-    rank_from(sc, SPARSE_BLOCK_WORDS * block, before, at.0)
+    rank_512(sc, ranks, entries, at.0)
 }
 
 // The level that starts at a sparse node.

@@ -13,6 +13,8 @@ use Rattle.bits.specs.UnpackLaws.{bit-unpack, rank-unpack}
 use Rattle.theory.specs.Bits.{length-pack, unpack-pack, length-ranks, length-samples}
 use Rattle.theory.specs.Frame.{from32-le32}
 use Rattle.theory.specs.Bits.{length-positions}
+use Rattle.rank_tables.specs.Ranks.{block-begun}
+use Rattle.rank_tables.specs.Reading.{Rank-entry, Sample}
 
 -- s starts with the bytes of b
 abbrev pub Starts : Bytes → Bytes → Type 0
@@ -75,28 +77,15 @@ ones-le (suc k) [] = omega arith
 ones-le (suc k) (true ∷ bs) = omega (arith, ones-le k bs)
 ones-le (suc k) (false ∷ bs) = omega (arith, ones-le k bs)
 
--- entry b of a table of ranks by blocks of w bits
-abbrev pub Rank-entry : ℕ → Bytes → Bytes → ℕ → Type 0
-Rank-entry w s rt b = (4 * b + 4 ≤ length rt) × (from32 (drop (4 * b) rt) ≡ rank s (w * b))
-
--- The ranks by blocks of 64 of bits that s starts with.
-pub ranks-64 : (bs : Bits) (s rt : Bytes) → Starts (pack bs) s → Starts (ranks 64 bs) rt → length bs < 4294967296 → (b : ℕ) → 64 * b < length bs → Rank-entry 64 s rt b
+-- The ranks by blocks of w bits of bits that s starts with.
+pub ranks-at : (w : ℕ) (bs : Bits) (s rt : Bytes) → 0 < w → Starts (pack bs) s → Starts (ranks w bs) rt → length bs < 4294967296 → (b : ℕ) → w * b < length bs → Rank-entry w s rt b
 unfolding ranks
-ranks-64 bs s rt h r l b k =
+ranks-at w bs s rt p h r l b k =
     let z : 0 + b ≡ b = omega arith in
-    let e = rw z at (row (λ b. ones (take (64 * b) bs)) (blocks 64 (length bs)) 0 b (r .0) (omega arith) (rw z (omega (arith, ones-le (64 * b) bs)))) in (
-      rw (r .1) (omega (arith, length-append (ranks 64 bs) (r .0), length-ranks 64 bs)),
-      ap (λ (z : Bytes). from32 (drop (4 * b) z)) (r .1) ∙ e ∙ sym (bits-rank bs s h (64 * b) (omega arith)),
-    )
-
--- The ranks by blocks of 512.
-pub ranks-512 : (bs : Bits) (s rt : Bytes) → Starts (pack bs) s → Starts (ranks 512 bs) rt → length bs < 4294967296 → (b : ℕ) → 512 * b < length bs → Rank-entry 512 s rt b
-unfolding ranks
-ranks-512 bs s rt h r l b k =
-    let z : 0 + b ≡ b = omega arith in
-    let e = rw z at (row (λ b. ones (take (512 * b) bs)) (blocks 512 (length bs)) 0 b (r .0) (omega arith) (rw z (omega (arith, ones-le (512 * b) bs)))) in (
-      rw (r .1) (omega (arith, length-append (ranks 512 bs) (r .0), length-ranks 512 bs)),
-      ap (λ (z : Bytes). from32 (drop (4 * b) z)) (r .1) ∙ e ∙ sym (bits-rank bs s h (512 * b) (omega arith)),
+    let g = block-begun w b (length bs) p k in
+    let e = rw z at (row (λ b. ones (take (w * b) bs)) (blocks w (length bs)) 0 b (r .0) g (rw z (omega (arith, ones-le (w * b) bs)))) in (
+      rw (r .1) (omega (arith, length-append (ranks w bs) (r .0), length-ranks w bs)),
+      ap (λ (z : Bytes). from32 (drop (4 * b) z)) (r .1) ∙ e ∙ sym (bits-rank bs s h (w * b) (omega arith)),
     )
 
 -- ---- positions of ones
@@ -116,10 +105,6 @@ position-is i (false ∷ bs) m h =
     let p : ℕ = getD (positions (suc i) bs) m 0 in
     let z : p - i ≡ suc (p - suc i) = omega (arith, r .0) in
     (omega (arith, r .0), omega (arith, r .1), rw z (omega (arith, r .2)))
-
--- entry t of the samples of the first n bits: the position of one number 64 t, from 0
-abbrev pub Sample : Bytes → Bytes → ℕ → ℕ → Type 0
-Sample s ts n t = (4 * t + 4 ≤ length ts) × (from32 (drop (4 * t) ts) ≤ n) × (rank s (from32 (drop (4 * t) ts)) ≡ 64 * t)
 
 -- The samples of bits that s starts with.
 pub samples-at : (bs : Bits) (s ts : Bytes) → Starts (pack bs) s → Starts (samples bs) ts → length bs < 4294967296 → (t : ℕ) → 64 * t < ones bs → Sample s ts (length bs) t

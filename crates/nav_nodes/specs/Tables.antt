@@ -9,23 +9,16 @@ use Rattle.spec.specs.Nodes.{is-exact}
 use Rattle.bits.specs.Bits.{rank, select}
 use Rattle.bits_select.specs.SelectLaws.{select-found}
 use Rattle.image.specs.declared.Frame.{Frame}
-use Rattle.nav_nodes.specs.Stored.{bits-room, bits-all, Rank-entry, ranks-64, ranks-512, Sample, samples-at}
+use Rattle.rank_tables.specs.Reading.{Rank-table, Sample-table}
+use Rattle.nav_nodes.specs.Stored.{bits-room, bits-all, ranks-at, samples-at}
 use Rattle.nav_nodes.specs.Accepted.{Accepted, dense-nodes, sparse-nodes}
 use Rattle.theory.specs.NodeBits.{dense-labels, dense-has-child, sparse-has-child, louds}
 use Rattle.theory.specs.DenseBits.{length-dl, length-dc}
 use Rattle.theory.specs.SparseBits.{length-sc, length-sb, louds-ones}
 
--- n bits and their ranks by blocks of w
-abbrev pub Ranked : ℕ → ℕ → Bytes → Bytes → Type 0
-Ranked w n s rt = (n ≤ 8 * length s) × ((b : ℕ) → w * b < n → Rank-entry w s rt b)
-
--- n bits with so many ones, and every 64th one's position
-abbrev pub Sampled : ℕ → ℕ → Bytes → Bytes → Type 0
-Sampled n total s st = (n ≤ 8 * length s) × (rank s n ≡ total) × ((t : ℕ) → 64 * t < total → Sample s st n t)
-
 module _ (s : Bytes) (f : Frame) (a : Accepted s f) where
   -- D-Labels
-  pub labels-ranked : Ranked 64 (256 * f .dense .nodes) (drop (f .dl) s) (drop (f .rl) s)
+  pub labels-ranked : Rank-table 64 (256 * f .dense .nodes) (drop (f .dl) s) (drop (f .rl) s)
   labels-ranked =
       let bs : Bits = concat (map dense-labels (dense-nodes s f)) in
       let l = length-dl (dense-nodes s f) in
@@ -33,11 +26,11 @@ module _ (s : Bytes) (f : Frame) (a : Accepted s f) where
       let w = a .writable .few-dense in
       let h = a .DL .1 in (
         omega (arith, bits-room bs (drop (f .dl) s) h),
-        λ b k. ranks-64 bs (drop (f .dl) s) (drop (f .rl) s) h (a .RL .1) (omega arith) b (omega arith),
+        λ b k. ranks-at 64 bs (drop (f .dl) s) (drop (f .rl) s) (omega arith) h (a .RL .1) (omega arith) b (omega arith),
       )
 
   -- D-HasChild
-  pub children-ranked : Ranked 64 (256 * f .dense .nodes) (drop (f .dc) s) (drop (f .rc) s)
+  pub children-ranked : Rank-table 64 (256 * f .dense .nodes) (drop (f .dc) s) (drop (f .rc) s)
   children-ranked =
       let bs : Bits = concat (map dense-has-child (dense-nodes s f)) in
       let l = length-dc (dense-nodes s f) in
@@ -45,11 +38,11 @@ module _ (s : Bytes) (f : Frame) (a : Accepted s f) where
       let w = a .writable .few-dense in
       let h = a .DC .1 in (
         omega (arith, bits-room bs (drop (f .dc) s) h),
-        λ b k. ranks-64 bs (drop (f .dc) s) (drop (f .rc) s) h (a .RC .1) (omega arith) b (omega arith),
+        λ b k. ranks-at 64 bs (drop (f .dc) s) (drop (f .rc) s) (omega arith) h (a .RC .1) (omega arith) b (omega arith),
       )
 
   -- D-IsPrefixKey
-  pub exacts-ranked : Ranked 64 (f .dense .nodes) (drop (f .dp) s) (drop (f .rp) s)
+  pub exacts-ranked : Rank-table 64 (f .dense .nodes) (drop (f .dp) s) (drop (f .rp) s)
   exacts-ranked =
       let bs : Bits = map is-exact (dense-nodes s f) in
       let l = length-map (dense-nodes s f) is-exact in
@@ -57,11 +50,11 @@ module _ (s : Bytes) (f : Frame) (a : Accepted s f) where
       let w = a .writable .few-dense in
       let h = a .DP .1 in (
         omega (arith, bits-room bs (drop (f .dp) s) h),
-        λ b k. ranks-64 bs (drop (f .dp) s) (drop (f .rp) s) h (a .RP .1) (omega arith) b (omega arith),
+        λ b k. ranks-at 64 bs (drop (f .dp) s) (drop (f .rp) s) (omega arith) h (a .RP .1) (omega arith) b (omega arith),
       )
 
   -- S-HasChild
-  pub entries-ranked : Ranked 512 (f .sparse .entries) (drop (f .sc) s) (drop (f .rs) s)
+  pub entries-ranked : Rank-table 512 (f .sparse .entries) (drop (f .sc) s) (drop (f .rs) s)
   entries-ranked =
       let bs : Bits = concat (map sparse-has-child (sparse-nodes s f)) in
       let l = length-sc (sparse-nodes s f) (a .writable .sparse-labelled) in
@@ -69,11 +62,11 @@ module _ (s : Bytes) (f : Frame) (a : Accepted s f) where
       let w = a .writable .few-entries in
       let h = a .SC .1 in (
         omega (arith, bits-room bs (drop (f .sc) s) h),
-        λ b k. ranks-512 bs (drop (f .sc) s) (drop (f .rs) s) h (a .RS .1) (omega arith) b (omega arith),
+        λ b k. ranks-at 512 bs (drop (f .sc) s) (drop (f .rs) s) (omega arith) h (a .RS .1) (omega arith) b (omega arith),
       )
 
   -- S-LOUDS: as many ones as sparse nodes, and the samples
-  pub starts-sampled : Sampled (f .sparse .entries) (f .sparse .nodes) (drop (f .sb) s) (drop (f .ts) s)
+  pub starts-sampled : Sample-table (f .sparse .entries) (f .sparse .nodes) (drop (f .sb) s) (drop (f .ts) s)
   starts-sampled =
       let bs : Bits = concat (map louds (sparse-nodes s f)) in
       let l : length (concat (map louds (sparse-nodes s f))) ≡ f .sparse .entries = length-sb (sparse-nodes s f) (a .writable .sparse-labelled) ∙ a .entry-size in

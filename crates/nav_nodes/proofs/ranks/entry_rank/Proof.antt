@@ -30,8 +30,7 @@ rank-512-requires : tie.Need-rank-512-requires
 rank-512-requires c κs =
     let a = c .before .before .before .args in
     let p = c .before .before .before .pre in
-    let t = entries-ranked (a .image .now) (a .f) (p .0) in
-    rw (tail-part (a .image .now) (a .f .sc), tail-part (a .image .now) (a .f .rs)) (t .0, p .1, t .1)
+    rw (tail-part (a .image .now) (a .f .sc), tail-part (a .image .now) (a .f .rs)) (entries-ranked (a .image .now) (a .f) (p .0), p .1)
 
 returns : tie.Need-returns
 returns c =

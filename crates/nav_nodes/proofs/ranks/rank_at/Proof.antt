@@ -30,7 +30,7 @@ rank-64-requires : tie.Need-rank-64-requires
 rank-64-requires c κs =
     let a = c .before .before .before .args in
     let p = c .before .before .before .pre in
-    rw (tail-part (a .image .now) (a .body), tail-part (a .image .now) (a .table)) (p .2 .0, p .3, p .2 .1)
+    rw (tail-part (a .image .now) (a .body), tail-part (a .image .now) (a .table)) (p .2, p .3)
 
 returns : tie.Need-returns
 returns c =

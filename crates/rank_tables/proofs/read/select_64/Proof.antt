@@ -4,8 +4,8 @@ use native.Mathlib.Omega.{arith}
 use Rattle.bits.specs.Bits.{rank}
 use Rattle.bits_select.specs.SelectLaws.{select-all}
 use borrow.Author.Needs.{needs}
-use Rattle.nav_nodes.proofs.ranks.select_64.Statement.{statement}
-use Rattle.nav_nodes.proofs.ranks.select_64.Tie as tie
+use Rattle.rank_tables.proofs.read.select_64.Statement.{statement}
+use Rattle.rank_tables.proofs.read.select_64.Tie as tie
 
 returns : tie.Need-returns
 returns c =

@@ -1,10 +1,10 @@
-use mathlib.Core.Path.{_≡_, ap, _∙_}
-use Prim.Native.Nat.{_*_, _-_, _/_}
+use Prim.Native.Nat.{_-_, _/_}
 use native.Mathlib.Omega.{arith}
 use Rattle.bits.specs.Bits.{rank}
+use Rattle.rank_tables.specs.Reading.{entry-room, entry-counts}
 use borrow.Author.Needs.{needs}
-use Rattle.nav_nodes.proofs.ranks.rank_512.Statement.{statement}
-use Rattle.nav_nodes.proofs.ranks.rank_512.Tie as tie
+use Rattle.rank_tables.proofs.read.rank_512.Statement.{statement}
+use Rattle.rank_tables.proofs.read.rank_512.Tie as tie
 
 returns : tie.Need-returns
 unfolding rank
@@ -20,7 +20,7 @@ read32-requires : tie.Need-read32-requires
 read32-requires c κs =
     let a = c .before .before .before .args in
     let p = c .before .before .before .pre in
-    omega (arith, p .2 ((a .k - 1) / 512) (omega arith) .0)
+    entry-room 512 (a .n) (a .k) ((a .k - 1) / 512) (a .bits .now) (a .table .now) (p .0) (p .1) (omega arith)
 
 mul-rank-from : tie.Need-mul-rank-from
 mul-rank-from c = search needs
@@ -29,9 +29,7 @@ rank-from-requires : tie.Need-rank-from-requires
 rank-from-requires c κs =
     let a = c .before .before .before .before .args in
     let p = c .before .before .before .before .pre in
-    let b = (a .k - 1) / 512 in
-    let e : 512 * b ≡ 64 * (8 * b) = omega arith in
-    (omega arith, omega arith, c .read32 .ensures .0 ∙ p .2 b (omega arith) .1 ∙ ap (rank (a .bits .now)) e)
+    entry-counts 512 (a .n) (a .k) ((a .k - 1) / 512) (a .bits .now) (a .table .now) (p .0) (p .1) (omega arith) _ _ (omega arith) (c .read32 .ensures .0)
 
 returns-2 : tie.Need-returns-2
 returns-2 c = search needs
