@@ -1,4 +1,4 @@
--- Bits and numbers of a byte string by position: what `bits`, `bits_ranks` and `bits_select` give, and what the crates above say ranks, selects and writes with.
+-- Bits and numbers of a byte string by position: what `bits` and `bits_select` give, and what the crates above say ranks, selects and writes with.
 use Prim.Native.Nat.{ℕ, zero, suc, _+_, _*_, _/_, _%_, _^_, _≤_, _<_}
 use mathlib.Core.Bool.{cond}
 use mathlib.Core.List.{[], _∷_, _++_}

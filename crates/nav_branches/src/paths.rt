@@ -1,4 +1,4 @@
-// Paths from the root of an accepted image, by which a walk goes (`walk_levels`, `walk_locate`): the one that has its root only, where one ends, and what its next higher branch is.
+// The path from the root of an accepted image that has its root only, with which a walk begins.
 ghost use Rattle.nav_branches.specs.PathContracts.{Root-only};
 use super::Path;
 use image::NodeNum;
