@@ -1,4 +1,4 @@
--- The numbers of a key by cases. Used by the small functions of this crate.
+-- The numbers of a key by cases. Used by the small functions of `build_keys` and by the passes.
 use Prim.Native.Nat.{ℕ, zero, suc, _+_, _-_, _≤_, _<_, max}
 use mathlib.Core.Path.{_≡_, refl, sym, ap, _∙_}
 use mathlib.Core.Bool.{true}

@@ -1,4 +1,4 @@
--- The counts of a header and the lengths of the twelve bodies, by the counters of the counting pass; the numbers 6 and 7 are decided by them. Used by the builder before it writes.
+-- The counts of a header and the lengths of the twelve bodies, by the counters of the counting pass; the numbers 8 and 7 are decided by them. Used by the builder before it writes.
 use Prim.Native.Nat.{ℕ, _*_}
 use mathlib.Core.Path.{_≡_, sym, ap, _∙_}
 use mathlib.Core.List.{List, _++_, map}

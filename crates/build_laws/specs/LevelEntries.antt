@@ -1,4 +1,4 @@
--- The branches and exact leaves of each level of the trie: those that the leaves add one by one in key order are those of the level's nodes, node by node. Used by TrieItems and KeyItems.
+-- The branches and exact leaves of each level of the trie: those that the leaves add one by one in key order are those of the level's nodes, node by node. Used by TrieEntries and KeyEntries.
 use Prim.Native.Nat.{ℕ, zero, suc, _≤_}
 use mathlib.Core.Path.{_≡_, refl, sym, ap, ap₂, _∙_}
 use mathlib.Core.Bool.{Bool, true, false, cond, _&&_, _||_, true≢false, or-true}

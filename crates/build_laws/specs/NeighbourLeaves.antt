@@ -1,4 +1,4 @@
--- The leaves of an ascending key list, each from its key and two neighbours: their cut keys, kinds and lengths, and that each one follows the one before. Used by KeyItems.
+-- The leaves of an ascending key list, each from its key and two neighbours: their cut keys, kinds and lengths, and that each one follows the one before. Used by KeyEntries.
 use Prim.Native.Nat.{ℕ, zero, suc, _<_, _≤_, max}
 use mathlib.Core.Path.{_≡_, refl, sym, ap, _∙_}
 use mathlib.Core.Bool.{Bool, true, false, cond, true≢false}

@@ -1,4 +1,4 @@
-// The types that the laws of the builder speak of. No function is declared here.
+// The types that the laws of the builder speak of: a key with its neighbours, an entry and its cell, the bodies that a pass fills, a range of levels, the bits of a suffix slot, and a pass. No function is declared here.
 
 // A key of the list: where its bytes start and how many there are, the first level on which it starts a node, and the length of the prefix that it shares with the key behind.
 pub struct Key {

@@ -1,6 +1,5 @@
 pub mod Below
 pub mod EdgeContracts
 pub mod PathContracts
-pub mod PathLaws
 pub mod PathSteps
 pub mod Paths

@@ -1,5 +1,5 @@
 -- Bits in bytes and back, bitmaps of labels and back, and the lengths of ranks and samples.
--- Used by the nodes' bits (DenseBits, SparseBits, SlotBits) and by acceptance.
+-- Used by the nodes' bits (DenseBits, SparseBits) and by acceptance.
 use Prim.Native.Nat.{ℕ, _%_, _<_, _^_, zero, suc, _/_, _+_, _*_, _≤_, _-_}
 use mathlib.Core.Path.{_≡_, refl, sym, ap, ap₂, _∙_}
 use mathlib.Core.Bool.{Bool, true, false, true≢false}

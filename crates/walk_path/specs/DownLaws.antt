@@ -23,7 +23,7 @@ use Rattle.nav_branches.specs.Paths.{node-on}
 use Rattle.nav_branches.specs.PathSteps.{node-in}
 use Rattle.nav_nodes.specs.FoundBranch.{node-count, Is-position}
 use Rattle.nav_branches.specs.declared.path_higher.Higher.{Higher}
-use Rattle.nav_branches.specs.PathLaws.{Descends, descends-first, leaf-reached, next-deep, next-on, exact-reached, descends-next}
+use Rattle.walk_path.specs.PathLaws.{Descends, descends-first, leaf-reached, next-deep, next-on, exact-reached, descends-next}
 use Rattle.walk_path.specs.declared.entries.Entry.{Entry}
 use Rattle.walk_path.specs.declared.moves.Entered.{Entered}
 use Rattle.walk_path.specs.Entries.{child-from, Behind-node}

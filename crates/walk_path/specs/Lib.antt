@@ -3,3 +3,4 @@ pub mod Entries
 pub mod EntryLaws
 pub mod LevelLaws
 pub mod Levels
+pub mod PathLaws
