@@ -57,6 +57,14 @@ Holds list k = In k (keys-of list)
 abbrev pub number-in : Bytes → Bytes → Bytes → ℕ
 number-in list lo hi = count (within lo hi) (keys-of list)
 
+-- the list has a key in the range
+abbrev pub Has-in-range : Bytes → Bytes → Bytes → Type 0
+Has-in-range list lo hi = (k : Bytes) × Holds list k × (within lo hi k ≡ true)
+
+-- the list has a key that begins with the stem
+abbrev pub Has-with-stem : Bytes → Bytes → Type 0
+Has-with-stem list stem = (k : Bytes) × Holds list k × (begins stem k ≡ true)
+
 -- none of the lists that build the image holds the key
 abbrev pub No-list-holds : Bytes → Bytes → Type 0
 No-list-holds b k = (list : Bytes) → Builds list b → Holds list k → ⊥
@@ -253,12 +261,29 @@ pub record Lists-told (c file final : Bytes) : Type 0 where
   pub next : (i : ℕ) (start : Bytes) → question-at file i ≡ some (QS start) → (None (reply-at i final) → ⊥)
       → Next-key c start (reply-at i final .number) (reply-at i final .key)
 
+-- What replies say of each list that builds the accepted image b, at every h.
+pub record Stored-told (b file final : Bytes) : Type 0 where
+  -- "a stored key is [..] never denied": a point gets 1 for a key that the list holds;
+  pub key : (i : ℕ) (k : Bytes) → question-at file i ≡ some (QP k) → (list : Bytes) → Builds list b → Holds list k → reply-at i final .number ≡ 1
+  -- a range that has one of its keys gets 1;
+  pub range : (i : ℕ) (lo hi : Bytes) → question-at file i ≡ some (QR lo hi) → (list : Bytes) → Builds list b → Has-in-range list lo hi → reply-at i final .number ≡ 1
+  -- so does a stem with which one of its keys begins;
+  pub stem : (i : ℕ) (stem : Bytes) → question-at file i ≡ some (QB stem) → (list : Bytes) → Builds list b → Has-with-stem list stem → reply-at i final .number ≡ 1
+  -- a count is not below the number of keys that the list has in the range, nor over two above it;
+  pub count : (i : ℕ) (lo hi : Bytes) → question-at file i ≡ some (QC lo hi) → (list : Bytes) → Builds list b
+      → (number-in list lo hi ≤ reply-at i final .number) × (reply-at i final .number ≤ number-in list lo hi + 2)
+  -- a seek from a start at or before one of its keys is not none, and the key that it gives is not behind that key.
+  pub seek : (i : ℕ) (start : Bytes) → question-at file i ≡ some (QS start) → (list : Bytes) → Builds list b → (k : Bytes) → Holds list k → below k start ≡ false
+      → (None (reply-at i final) → ⊥) × (below k (reply-at i final .key) ≡ false)
+
 -- of an accepted image with h 0, a question file that is taken, and the reply buffer's final bytes
 pub record Replies-correct (b file final : Bytes) : Type 0 where
   -- "a key or range is denied exactly when none of the lists that build the image holds it"
   pub key : (i : ℕ) (k : Bytes) → question-at file i ≡ some (QP k) → (reply-at i final .number ≡ 0) ↔ No-list-holds b k
   pub rules : Rules-correct b file final
   pub others : Lists-told b file final
+  -- What follows for each list that builds the image.
+  pub stored : Stored-told b file final
 
 -- ---- order 4, with h from 1 to 16
 
@@ -280,8 +305,8 @@ Same-real-leaves list b = Is-bytes list × Key-list list (keys-of list) × Agree
 
 -- of an accepted image with hash bits, a question file that is taken, and the reply buffer's final bytes
 pub record Hashed-replies-correct (b file final : Bytes) : Type 0 where
-  -- "With h above 0 a stored key is still never denied": the reply is 1 for every key of every list that builds the image,
-  pub stored : (i : ℕ) (k : Bytes) → question-at file i ≡ some (QP k) → (list : Bytes) → Builds list b → Holds list k → reply-at i final .number ≡ 1
+  -- "With h above 0 a stored key is still never denied": neither by a point nor by another question,
+  pub stored : Stored-told b file final
   pub rules : Rules-correct b file final
   -- "and ranges, stems, counts and seeks read as before over lists of the same cut keys and real bits".
   pub others : Lists-told (struck b) file final
@@ -308,6 +333,8 @@ pub record Demand-3 : Type 0 where
   pub hashed-exactly : (b : Bytes) → Is-bytes b → Hashed b → Accepted b ↔ (Exact-slots-zero b × Spare-bits-zero b × Accepted (struck b))
   -- The lists that build the image with its hash bits struck out are those of the same cut keys and real bits.
   pub struck-lists : (b : Bytes) → Is-bytes b → Accepted b → (list : Bytes) → Builds list (struck b) ↔ Same-real-leaves list b
+  -- A list that builds an image is one of them, at every h.
+  pub built-lists : (list b : Bytes) → Builds list b → Same-real-leaves list b
   -- "ask and walk judge it alike"
   pub alike : (b : Bytes) → Judged-alike b
   -- "A question file is taken if ask refuses nothing, as it must where none of 21 to 25 applies.": its questions are at most 1,024, "with keys and bounds of at most 64 bytes

@@ -1,7 +1,7 @@
 -- The three demands hold.
 use Prim.Native.Nat.{ℕ, suc, _/_, _+_, _<_, _≤_}
 use mathlib.Core.Path.{_≡_, refl, sym, ap, ap₂, subst, _∙_}
-use mathlib.Core.Bool.{true, false}
+use mathlib.Core.Bool.{true, false, true≢false}
 use mathlib.Core.List.{List, [], _∷_, _++_}
 use mathlib.Core.Option.{some}
 use mathlib.Core.Logic.{_↔_, Iff·trans}
@@ -24,16 +24,16 @@ use Rattle.spec.specs.Ask.{ask}
 use Rattle.theory.specs.Terms.{Is-bytes, In, Bound, Key-list, Proper}
 use Rattle.theory.specs.Lists.{all-at}
 use Rattle.theory.specs.LeafLists.{Realizable, All-real-sized, leaf-equal}
-use Rattle.theory.specs.KeyLeaves.{leaves-possible-keys, reals-none, reals-realizable}
+use Rattle.theory.specs.KeyLeaves.{leaves-possible-keys, reals-none, reals-leaves, reals-realizable}
 use Rattle.theory.specs.Choices.{Has-leaves, has-leaves-exactly, has-leaves-length}
-use Rattle.theory.specs.RangeLaws.{Count-correct, point-stored, point-denied, range-denied, count-correct}
+use Rattle.theory.specs.RangeLaws.{Count-correct, point-stored, point-denied, range-held, range-denied, count-correct}
 use Rattle.theory.specs.Rules.{one-rule, point-rule, rule-number-injective}
-use Rattle.theory.specs.Stems.{begins-denied}
+use Rattle.theory.specs.Stems.{begins-held, begins-denied}
 use Rattle.theory.specs.SeekLaws.{Seek-correct, seek-none, seek-found}
 use Rattle.theory.specs.ReadBack.{read-back, settings-back}
 use Rattle.theory.specs.KeyFiles.{keys-exactly, bytes-write-keys}
 use Rattle.theory.specs.QuestionFiles.{questions-exactly}
-use Rattle.theory.specs.Demands.{Builds-with, Builds, Count, Next-key, None, Agree, Demand-1, Demand-2, Rules-correct, Lists-told, Replies-correct, Same-real-leaves, Same-answers, Demand-3, Demands}
+use Rattle.theory.specs.Demands.{Builds-with, Builds, Has-in-range, Has-with-stem, Count, Next-key, None, Agree, Demand-1, Demand-2, Rules-correct, Lists-told, Stored-told, Replies-correct, Same-real-leaves, Same-answers, Demand-3, Demands}
 use Rattle.theory.specs.OutcomeLaws.{final-is, write-fits, success-written, success-answer}
 use Rattle.theory.specs.BuildLaws.{built-from, built-fits, keys-of-list, in-range-exactly, build-writes, length-builds, built-length, build-writes-image}
 use Rattle.theory.specs.AskLaws.{bytes-replies, reply-written, Answered, ask-answers, ask-takes, walk-correct, print-correct}
@@ -96,6 +96,18 @@ module _ (st : Settings) (list b : Bytes) (w : Builds-with st list b) where
 
   list-accepted : verdict b ≡ 0
   list-accepted = ap verdict list-image ∙ image-accepted st (leaves (st .hash-width) (st .real-width) (keys-of list)) list-fits
+
+-- A list that builds an image has its cut keys and real bits.
+same-real-leaves : (list b : Bytes) → Builds list b → Same-real-leaves list b
+same-real-leaves list b w =
+    let st : Settings = w .0 in
+    let ks : List Bytes = keys-of list in
+    let s : read-settings b ≡ st = list-settings st list b (w .1) in
+    let e : leaves 0 (read-settings b .real-width) ks ≡ reals (read-settings b .hash-width) (read-leaves b) =
+    ap (λ (su : Settings). leaves 0 (su .real-width) ks) s
+    ∙ sym (reals-leaves (st .hash-width) (st .real-width) ks)
+    ∙ sym (ap₂ (λ (su : Settings) (ls : List Leaf). reals (su .hash-width) ls) s (list-read st list b (w .1))) in
+    (w .1 .bytes, list-keys st list b (w .1), subst (Agree (leaves 0 (read-settings b .real-width) ks)) e (agree-self (leaves 0 (read-settings b .real-width) ks)))
 
 -- a key list builds its image
 key-list-builds : (st : Settings) (list : Bytes) (ks : List Bytes) → Is-bytes list → in-range st ≡ true → Key-list list ks → (out : Bytes) → length (image st (leaves (st .hash-width) (st .real-width) ks)) ≤ length out
@@ -264,13 +276,16 @@ module _ (b : Bytes) (o : Accept.Image-of-leaves b) (no-hash-width : o .settings
     λ f ks w. let x = keys-build ks w in subst P (x .1) (f (write-keys ks) (x .0)),
   )
 
-  some-list : (P : List Bytes → Type 0) → (ks : List Bytes) × Has-leaves (o .settings .real-width) ks (o .leaves) × P ks → (list : Bytes) × Builds list b × P (keys-of list)
-  some-list P w = let x = keys-build (w .0) (w .1) in (write-keys (w .0), x .0, subst P (sym (x .1)) (w .2))
+  some-list : (P : List Bytes → Type 0) → ((ks : List Bytes) × Has-leaves (o .settings .real-width) ks (o .leaves) × P ks) ↔ ((list : Bytes) × Builds list b × P (keys-of list))
+  some-list P = (
+    λ w. let x = keys-build (w .0) (w .1) in (write-keys (w .0), x .0, subst P (sym (x .1)) (w .2)),
+    λ w. (keys-of (w .0), list-has (w .0) (w .1), w .2),
+  )
 
   -- a count and a seek over the leaves, of the lists that build the image
   count-lists : (lo hi : Bytes) (c : ℕ) → Count-correct (o .settings .real-width) (o .leaves) lo hi c → Count b lo hi c
   count-lists lo hi c w = record {
-    reached = some-list (λ ks. count (within lo hi) ks ≡ c) (w .reached);
+    reached = some-list (λ ks. count (within lo hi) ks ≡ c) .0 (w .reached);
     most = every (λ ks. count (within lo hi) ks ≤ c) .0 (w .most);
     near = every (λ ks. c ≤ count (within lo hi) ks + 2) .0 (w .near);
   }
@@ -278,7 +293,7 @@ module _ (b : Bytes) (o : Accept.Image-of-leaves b) (no-hash-width : o .settings
   found-lists : (start : Bytes) (place : ℕ) (key : Bytes) → Seek-correct (o .settings .real-width) (o .leaves) start place key → Next-key b start place key
   found-lists start place key w = record {
     after = w .after;
-    held = some-list (λ ks. In key ks) (w .held);
+    held = some-list (λ ks. In key ks) .0 (w .held);
     smallest = every (λ ks. (k : Bytes) → In k ks → below k start ≡ false → below k key ≡ false) .0 (w .smallest);
     placed = every (λ ks. In key ks → (place < length ks) × (getD ks place [] ≡ key)) .0 (w .placed);
   }
@@ -336,6 +351,16 @@ module _ (b : Bytes) (o : Accept.Image-of-leaves b) (file out : Bytes) (small : 
     rule = λ i k e r. rw (rule-on i k e) (rule-exactly k r);
   }
 
+  -- a stored key is never denied by a point
+  stored-key : (i : ℕ) (k : Bytes) → question-at file i ≡ some (QP k) → (list : Bytes) → Builds list b → In k (keys-of list) → reply-at i (ask b file out .final) .number ≡ 1
+  stored-key i k e list w m =
+      let st : Settings = w .0 in
+      let x = list-keys st list b (w .1) in
+      let s : o .settings ≡ st = sym (settings-are b o) ∙ list-settings st list b (w .1) in
+      let l : o .leaves ≡ leaves (st .hash-width) (st .real-width) (keys-of list) = sym (leaves-are b o) ∙ list-read st list b (w .1) in
+      number-on i (QP k) e ∙ reply-point (o .settings .hash-width) (o .leaves) k ∙ ap₂ (λ (su : Settings) (ls : List Leaf). point (su .hash-width) ls k) s l
+      ∙ point-stored (list-fits st list b (w .1) .well-sized) (x .each) (leaves-possible-keys (st .hash-width) (st .real-width) (keys-of list) (x .each)) m
+
   -- an image c without hash bits whose leaves are the image's with their hash bits struck out
   module _ (c : Bytes) (p : Accept.Image-of-leaves c) (no-hash-width : p .settings .hash-width ≡ 0) (same : reals (o .settings .hash-width) (o .leaves) ≡ p .leaves) where
     range-on : (i : ℕ) (lo hi : Bytes) → question-at file i ≡ some (QR lo hi) → reply-at i (ask b file out .final) .number ≡ range (p .leaves) lo hi
@@ -372,6 +397,30 @@ module _ (b : Bytes) (o : Accept.Image-of-leaves b) (file out : Bytes) (small : 
           rw x (found-reply c p no-hash-width start (proper i (QS start) e) (λ z. f (rw x z)));
     }
 
+    -- a range or a stem gets 1 exactly if a list that builds c has a key there
+    range-one : (i : ℕ) (lo hi : Bytes) → question-at file i ≡ some (QR lo hi) → (reply-at i (ask b file out .final) .number ≡ 1) ↔ ((list : Bytes) × Builds list c × Has-in-range list lo hi)
+    range-one i lo hi e =
+        let r = proper i (QR lo hi) e in
+        rw (range-on i lo hi e)
+        (Iff·trans (range-held (p .leaves) lo hi (good c p no-hash-width) (sized c p no-hash-width) (r .lower) (r .order)) (some-list c p no-hash-width (λ ks. (k : Bytes) × In k ks × (within lo hi k ≡ true))))
+
+    stem-one : (i : ℕ) (stem : Bytes) → question-at file i ≡ some (QB stem) → (reply-at i (ask b file out .final) .number ≡ 1) ↔ ((list : Bytes) × Builds list c × Has-with-stem list stem)
+    stem-one i stem e =
+        rw (stem-on i stem e)
+        (Iff·trans (begins-held (p .leaves) stem (good c p no-hash-width) (sized c p no-hash-width) (proper i (QB stem) e)) (some-list c p no-hash-width (λ ks. (k : Bytes) × In k ks × (begins stem k ≡ true))))
+
+    -- if the lists that build the image build c too
+    stored-told : ((list : Bytes) → Builds list b → Builds list c) → Stored-told b file (ask b file out .final)
+    stored-told f = record {
+      key = stored-key;
+      range = λ i lo hi e list w h. range-one i lo hi e .1 (list, f list w, h);
+      stem = λ i stem e list w h. stem-one i stem e .1 (list, f list w, h);
+      count = λ i lo hi e list w. let n = lists-told .count i lo hi e in (n .most list (f list w), n .near list (f list w));
+      seek = λ i start e list w k m h.
+          let some : None (reply-at i (ask b file out .final)) → ⊥ = λ z. true≢false (sym (lists-told .none i start e .0 z list (f list w) k m) ∙ h) in
+          (some, lists-told .next i start e some .smallest list (f list w) k m h);
+    }
+
   -- with h 0
   replies-valid : o .settings .hash-width ≡ 0 → Replies-correct b file (ask b file out .final)
   replies-valid z = record {
@@ -380,6 +429,7 @@ module _ (b : Bytes) (o : Accept.Image-of-leaves b) (file out : Bytes) (small : 
         rw n (Iff·trans (point-denied (o .leaves) k (good b o z) (sized b o z) (proper i (QP k) e)) (every b o z (λ ks. In k ks → ⊥)));
     rules = rules-valid;
     others = lists-told b o z (no-hash b o z);
+    stored = stored-told b o z (no-hash b o z) (λ list w. w);
   }
 
 -- an image whose header says h 0
@@ -441,16 +491,6 @@ module _ (b : Bytes) (small : Is-bytes b) (v : verdict b ≡ 0) (o : Accept.Imag
         list-builds (struck b) struck-image struck-none list (a .0) (a .1) e,
   )
 
-  -- A stored key is never denied.
-  stored-key : (file out : Bytes) → Is-bytes file → Answered b file out → (i : ℕ) (k : Bytes) → question-at file i ≡ some (QP k) → (list : Bytes) → Builds list b → In k (keys-of list) → reply-at i (ask b file out .final) .number ≡ 1
-  stored-key file out sf a i k e list w m =
-      let st : Settings = w .0 in
-      let x = list-keys st list b (w .1) in
-      let s : o .settings ≡ st = sym (settings-are b o) ∙ list-settings st list b (w .1) in
-      let l : o .leaves ≡ leaves (st .hash-width) (st .real-width) (keys-of list) = sym (leaves-are b o) ∙ list-read st list b (w .1) in
-      number-on b o file out sf a i (QP k) e ∙ reply-point (o .settings .hash-width) (o .leaves) k ∙ ap₂ (λ (su : Settings) (ls : List Leaf). point (su .hash-width) ls k) s l
-      ∙ point-stored (list-fits st list b (w .1) .well-sized) (x .each) (leaves-possible-keys (st .hash-width) (st .real-width) (keys-of list) (x .each)) m
-
 -- Demand 3.
 pub demand-3 : Demand-3
 demand-3 = record {
@@ -465,6 +505,7 @@ demand-3 = record {
         λ r. check-accepts b .1 (e .1 (r .0, r .1, check-accepts (struck b) .0 (r .2))),
       );
   struck-lists = λ b s c. let v = check-accepts b .0 c in struck-lists b s v (Accept.accepted-is-image b s v);
+  built-lists = same-real-leaves;
   alike = judged-alike;
   taken-exactly = λ b c file s out.
       let v = check-accepts b .0 c in (
@@ -480,7 +521,7 @@ demand-3 = record {
       let o = Accept.accepted-is-image b s v in
       let a = ask-answers b file out v t in
       record {
-        stored = stored-key b s v o file out sf a;
+        stored = stored-told b o file out sf a (struck b) (struck-image b s v o) (struck-none b s v o) (struck-same b s v o) (λ list w. struck-lists b s v o list .1 (same-real-leaves list b w));
         rules = rules-valid b o file out sf a;
         others = lists-told b o file out sf a (struck b) (struck-image b s v o) (struck-none b s v o) (struck-same b s v o);
       };

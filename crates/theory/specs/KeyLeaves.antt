@@ -1,6 +1,6 @@
 -- The leaves of a key list: they are realizable and well sized, and each key is a possible key of its leaf.
 use Prim.Native.Nat.{ℕ, zero, suc, _+_, _/_, _<_, _≤_, suc-le-suc, _-_}
-use mathlib.Core.Path.{_≡_, refl, sym, ap, subst, _∙_}
+use mathlib.Core.Path.{_≡_, refl, sym, ap, ap₂, subst, _∙_}
 use mathlib.Core.Bool.{cond, Bool, true, false, not, _&&_, _||_, true≢false}
 use mathlib.Core.List.{List, [], _∷_, map, _++_}
 use mathlib.Core.Logic.{_↔_}
@@ -302,6 +302,29 @@ pub reals-none : (ls : List Leaf) → reals 0 ls ≡ ls
 unfolding reals real
 reals-none [] = refl
 reals-none (l ∷ ls) = ap (λ (z : List Leaf). l ∷ z) (reals-none ls)
+
+-- The leaves of a key list with their hash bits struck out are its leaves without hash bits.
+pub reals-leaves : (h n : ℕ) (ks : List Bytes) → reals h (leaves h n ks) ≡ leaves 0 n ks
+unfolding reals real leaves
+reals-leaves h n ks = go ks
+  where
+    z : n ≡ 0 + n
+    z = omega arith
+
+    one : (k : Bytes) (b : Bool) → any (begins k) (others ks k) ≡ b → real h (leaf h n ks k) ≡ leaf 0 n ks k
+    one k true e =
+        ap (real h) (leaf-exact h n ks k e)
+        ∙ ap (λ (s : Bits). record { cut = k; exact = true; suffix = s }) (zeros-behind h n ∙ padded-nil n ∙ ap (λ (m : ℕ). replicate m false) z)
+        ∙ sym (leaf-exact 0 n ks k e)
+    one k false e =
+        let c : ℕ = suc (maximum (map (shared k) (others ks k))) in
+        ap (real h) (leaf-open h n ks k e)
+        ∙ ap (λ (s : Bits). record { cut = take c k; exact = false; suffix = s }) (real-suffix h n c k ∙ sym (real-suffix 0 n c k))
+        ∙ sym (leaf-open 0 n ks k e)
+
+    go : (ms : List Bytes) → map (real h) (map (leaf h n ks) ms) ≡ map (leaf 0 n ks) ms
+    go [] = refl
+    go (m ∷ ms) = ap₂ _∷_ (one m (any (begins m) (others ks m)) refl) (go ms)
 
 -- The leaves of a list of keys without hash bits, as an accepted image has them.
 pub leaves-real-sized : (n : ℕ) (ks : List Bytes) → Keys ks → All-real-sized n (leaves 0 n ks)

@@ -17,7 +17,7 @@ use Rattle.theory.specs.Order.{below-append, below-nil, prefix-append, o
 use Rattle.theory.specs.LeafLists.{Realizable, All-real-sized}
 use Rattle.theory.specs.Intervals.{below-all-ff}
 use Rattle.theory.specs.Choices.{Has-leaves}
-use Rattle.theory.specs.RangeLaws.{range-denied}
+use Rattle.theory.specs.RangeLaws.{range-held, range-denied}
 
 -- no bytes are above as many FF bytes
 pub below-ff : (m : ℕ) (r : Bytes) → length r ≤ m → Is-bytes r → below (replicate m 255) r ≡ false
@@ -48,14 +48,27 @@ stem-exactly stem k h b = go (begins stem k) refl
         rw (low, high)
     go false e = rw (append-nil stem) at (outside-prefix stem k [] (replicate (64 - length stem) 255) e)
 
+-- some list that has the leaves has a key that begins with the stem
+abbrev pub Some-begins : ℕ → List Leaf → Bytes → Type 0
+Some-begins n ls stem = (ks : List Bytes) × Has-leaves n ks ls × ((k : Bytes) × In k ks × (begins stem k ≡ true))
+
+-- The keys of a list that has the leaves lie in the stem's range just as they begin with the stem.
+stem-keys : {n : ℕ} (ls : List Leaf) (stem : Bytes) (ks : List Bytes) → Has-leaves n ks ls → (k : Bytes) → In k ks → within stem (stem-end stem) k ≡ begins stem k
+stem-keys ls stem ks w k i = let q = all-in Key (w .keys) i in stem-exactly stem k (q .fits) (q .bytes)
+
+-- A stem's reply is 1 exactly when some list that has the leaves has a key that begins with it.
+pub begins-held : {n : ℕ} (ls : List Leaf) (stem : Bytes) → Realizable n ls → All-real-sized n ls → Bound stem → (begins-with ls stem ≡ 1) ↔ Some-begins n ls stem
+unfolding begins-with
+begins-held ls stem g o q = Iff·trans (range-held ls stem (stem-end stem) g o q (stem-order stem)) (
+  λ a. (a .0, a .1, (a .2 .0, a .2 .1, sym (stem-keys ls stem (a .0) (a .1) (a .2 .0) (a .2 .1)) ∙ a .2 .2)),
+  λ a. (a .0, a .1, (a .2 .0, a .2 .1, stem-keys ls stem (a .0) (a .1) (a .2 .0) (a .2 .1) ∙ a .2 .2)),
+)
+
 -- A stem is denied exactly when none of the lists that have the leaves has a key that begins with it.
 pub begins-denied : {n : ℕ} (ls : List Leaf) (stem : Bytes) → Realizable n ls → All-real-sized n ls → Bound stem
     → (begins-with ls stem ≡ 0) ↔ ((ks : List Bytes) → Has-leaves n ks ls → (k : Bytes) → In k ks → begins stem k ≡ false)
 unfolding begins-with
-begins-denied {n} ls stem g o q = Iff·trans (range-denied ls stem (stem-end stem) g o q (stem-order stem)) (
-  λ f ks w k i. sym (same ks w k i) ∙ f ks w k i,
-  λ f ks w k i. same ks w k i ∙ f ks w k i,
+begins-denied ls stem g o q = Iff·trans (range-denied ls stem (stem-end stem) g o q (stem-order stem)) (
+  λ f ks w k i. sym (stem-keys ls stem ks w k i) ∙ f ks w k i,
+  λ f ks w k i. stem-keys ls stem ks w k i ∙ f ks w k i,
 )
-  where
-    same : (ks : List Bytes) → Has-leaves n ks ls → (k : Bytes) → In k ks → within stem (stem-end stem) k ≡ begins stem k
-    same ks w k i = let q = all-in Key (w .keys) i in stem-exactly stem k (q .fits) (q .bytes)
