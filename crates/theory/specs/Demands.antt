@@ -276,6 +276,15 @@ pub record Stored-told (b file final : Bytes) : Type 0 where
   pub seek : (i : ℕ) (start : Bytes) → question-at file i ≡ some (QS start) → (list : Bytes) → Builds list b → (k : Bytes) → Holds list k → below k start ≡ false
       → (None (reply-at i final) → ⊥) × (below k (reply-at i final .key) ≡ false)
 
+-- Order 4: "that every 1 is held by some list is claimed for h = 0".
+pub record Ones-held (b file final : Bytes) : Type 0 where
+  -- A point's 1 comes with a list that builds the image and holds the key,
+  pub key : (i : ℕ) (k : Bytes) → question-at file i ≡ some (QP k) → reply-at i final .number ≡ 1 → (list : Bytes) × Builds list b × Holds list k
+  -- a range's with one that has a key in the range,
+  pub range : (i : ℕ) (lo hi : Bytes) → question-at file i ≡ some (QR lo hi) → reply-at i final .number ≡ 1 → (list : Bytes) × Builds list b × Has-in-range list lo hi
+  -- and a stem's with one that has a key that begins with the stem.
+  pub stem : (i : ℕ) (stem : Bytes) → question-at file i ≡ some (QB stem) → reply-at i final .number ≡ 1 → (list : Bytes) × Builds list b × Has-with-stem list stem
+
 -- of an accepted image with h 0, a question file that is taken, and the reply buffer's final bytes
 pub record Replies-correct (b file final : Bytes) : Type 0 where
   -- "a key or range is denied exactly when none of the lists that build the image holds it"
@@ -284,6 +293,8 @@ pub record Replies-correct (b file final : Bytes) : Type 0 where
   pub others : Lists-told b file final
   -- What follows for each list that builds the image.
   pub stored : Stored-told b file final
+  -- A 1 is held.
+  pub held : Ones-held b file final
 
 -- ---- order 4, with h from 1 to 16
 

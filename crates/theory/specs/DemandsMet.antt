@@ -26,7 +26,7 @@ use Rattle.theory.specs.Lists.{all-at}
 use Rattle.theory.specs.LeafLists.{Realizable, All-real-sized, leaf-equal}
 use Rattle.theory.specs.KeyLeaves.{leaves-possible-keys, reals-none, reals-leaves, reals-realizable}
 use Rattle.theory.specs.Choices.{Has-leaves, has-leaves-exactly, has-leaves-length}
-use Rattle.theory.specs.RangeLaws.{Count-correct, point-stored, point-denied, range-held, range-denied, count-correct}
+use Rattle.theory.specs.RangeLaws.{Count-correct, point-stored, point-held, point-denied, range-held, range-denied, count-correct}
 use Rattle.theory.specs.Rules.{one-rule, point-rule, rule-number-injective}
 use Rattle.theory.specs.Stems.{begins-held, begins-denied}
 use Rattle.theory.specs.SeekLaws.{Seek-correct, seek-none, seek-found}
@@ -422,14 +422,21 @@ module _ (b : Bytes) (o : Accept.Image-of-leaves b) (file out : Bytes) (small : 
     }
 
   -- with h 0
+  point-on : o .settings .hash-width ≡ 0 → (i : ℕ) (k : Bytes) → question-at file i ≡ some (QP k) → reply-at i (ask b file out .final) .number ≡ point 0 (o .leaves) k
+  point-on z i k e = number-on i (QP k) e ∙ reply-point (o .settings .hash-width) (o .leaves) k ∙ ap (λ (h : ℕ). point h (o .leaves) k) z
+
   replies-valid : o .settings .hash-width ≡ 0 → Replies-correct b file (ask b file out .final)
   replies-valid z = record {
-    key = λ i k e.
-        let n : reply-at i (ask b file out .final) .number ≡ point 0 (o .leaves) k = number-on i (QP k) e ∙ reply-point (o .settings .hash-width) (o .leaves) k ∙ ap (λ (h : ℕ). point h (o .leaves) k) z in
-        rw n (Iff·trans (point-denied (o .leaves) k (good b o z) (sized b o z) (proper i (QP k) e)) (every b o z (λ ks. In k ks → ⊥)));
+    key = λ i k e. rw (point-on z i k e) (Iff·trans (point-denied (o .leaves) k (good b o z) (sized b o z) (proper i (QP k) e)) (every b o z (λ ks. In k ks → ⊥)));
     rules = rules-valid;
     others = lists-told b o z (no-hash b o z);
     stored = stored-told b o z (no-hash b o z) (λ list w. w);
+    held = record {
+      key = λ i k e h.
+          some-list b o z (λ ks. In k ks) .0 (point-held (o .leaves) k (good b o z) (sized b o z) (proper i (QP k) e) .0 (sym (point-on z i k e) ∙ h));
+      range = λ i lo hi e. range-one b o z (no-hash b o z) i lo hi e .0;
+      stem = λ i stem e. stem-one b o z (no-hash b o z) i stem e .0;
+    };
   }
 
 -- an image whose header says h 0
