@@ -1,4 +1,4 @@
--- The buyer's demands 1, 2 and 3, on bytes, in the words of the sheet and of document 01 ("Words of demand 3").
+-- The buyer's demands 1, 2 and 3, on bytes, in the words of the sheet and of document 01 ("Words of demand 3"); and what holds of the calls over an accepted image, which the sheet does not name.
 -- A reader needs this file, Terms and crate `spec`. DemandsMet proves them; the contracts of the public calls equate each call with its definition here.
 use Prim.Native.Nat.{ℕ, _+_, _/_, _<_, _≤_}
 use mathlib.Core.Path.{_≡_}
@@ -15,7 +15,7 @@ use Rattle.spec.specs.Frame.{has-header, rows-of, read-bodies, named, parts, re
 use Rattle.spec.specs.Nodes.{exact-slot, nodes-of, levels-of, read-nodes, read-leaves}
 use Rattle.spec.specs.Trie.{builders-trie}
 use Rattle.spec.specs.Rules.{Rule, rule-number, applies, rule-says}
-use Rattle.spec.specs.Questions.{Question, QP, QS, QB, QR, QC, Reply, reply, replies, reply-at, taken, parse-questions, questions-of, question-at}
+use Rattle.spec.specs.Questions.{Question, QP, QS, QB, QR, QC, Reply, reply, reply-bytes, replies, reply-at, taken, parse-questions, questions-of, question-at}
 use Rattle.spec.specs.Answer.{written, refused, refusal-weight, Outcome, success}
 use Rattle.spec.specs.Build.{in-range, trie-entries, image-length, build}
 use Rattle.spec.specs.Check.{header-valid, spare-clear, tables-valid, slots-valid, accepted, check}
@@ -23,11 +23,13 @@ use Rattle.spec.specs.Struck.{struck}
 use Rattle.spec.specs.Ask.{ask}
 use Rattle.spec.specs.Walk.{open-walk, next}
 use Rattle.spec.specs.WalkRecords.{record-size, records-from, walk-records}
+use Rattle.spec.specs.OneQuestion.{Answered, replied, ask-one, reply-number, reply-rule, key-written}
 use Rattle.spec.specs.Print.{longest-input, listing, print}
-use Rattle.theory.specs.Terms.{In, Is-bytes, Key-list, most-entries, Question-file, Taken, Walk-correct, From, Judged-alike}
+use Rattle.theory.specs.Terms.{In, Is-bytes, Key-list, most-entries, key-bytes, alone, Question-file, found-size, Taken, reply-alone, Walk-correct, From, Judged-alike}
 use Rattle.spec.specs.Build as Build
 use Rattle.spec.specs.Check as Check
 use Rattle.spec.specs.Keys as Keys
+use Rattle.spec.specs.OneQuestion as OneQuestion
 use Rattle.spec.specs.Questions as Questions
 use Rattle.spec.specs.Walk as Walk
 
@@ -362,10 +364,55 @@ pub record Demand-3 : Type 0 where
   -- Order 8: "one list's images in both versions, other settings equal, get the same replies", and walk and printer say the same of them.
   pub both-versions : (st su : Settings) (list b c : Bytes) → Other-settings-equal st su → Builds-with st list b → Builds-with su list c → Same-answers b c
 
--- ---- the three
+-- ---- the calls over an accepted image
 
--- what a hire firm buys, at all three levels
+-- what a seek leaves of the buffer lent for its key, by its answer
+pub record Key-kept (found : Bytes) (a : Answered) : Type 0 where
+  -- "after a refusal no lent byte has changed"
+  pub refusal : (r : ℕ) → a ≡ OneQuestion.refused r → key-written a found ≡ found
+  -- the reply's key is at the front, behind its length byte; the buffer keeps its length and the bytes behind them
+  pub success : (x : Reply) → a ≡ replied x
+      → (take (length (key-bytes (x .key))) (key-written a found) ≡ key-bytes (x .key)) × (length (key-written a found) ≡ length found) × (drop (length (key-bytes (x .key))) (key-written a found) ≡ drop (length (key-bytes (x .key))) found)
+
+-- Of an accepted image b: what the calls give that ask their caller for such an image. They take a question by value, and give the number in its reply, a point's rule or a seek's key of what `ask-one` answers
+-- (crate `spec`, OneQuestion: `reply-number`, `reply-rule`, `key-written`); their walk is that of the public call.
+pub record Calls-correct (b : Bytes) : Type 0 where
+  -- The answer is what ask's reply to that question alone says: it is the reply x, and a reply buffer holds x, exactly if ask, lent this buffer, takes a file of the question alone and writes x.
+  pub as-asked : (q : Question) (x : Reply) (out : Bytes) → ((ask-one b q ≡ replied x) × (length (reply-bytes x) ≤ length out)) ↔ (Taken b (alone q) out × (reply-alone b q out ≡ x))
+  -- So the number that is given of it is the number in ask's reply,
+  pub number : (q : Question) (out : Bytes) → Taken b (alone q) out → reply-number (ask-one b q) ≡ OneQuestion.number (reply-alone b q out .number)
+  -- and a point's rule is the one byte of the key in ask's reply.
+  pub rule : (k out : Bytes) → Taken b (alone (QP k)) out → (r : Rule) × (reply-alone b (QP k) out .key ≡ rule-number r ∷ []) × (reply-rule (ask-one b (QP k)) ≡ OneQuestion.number (rule-number r))
+  -- 22 and 23 come as there: a question is refused with just the number, of these two, with which ask refuses the file.
+  pub refuses : (q : Question) (out : Bytes) (r : ℕ) → (ask-one b q ≡ OneQuestion.refused r) ↔ ((ask b (alone q) out .answer ≡ refused r) × From 22 23 r)
+  -- A seek's key is at the front of the buffer that is lent for it, and the rest of the buffer is kept.
+  pub key-kept : (start found : Bytes) → found-size ≤ length found → Key-kept found (ask-one b (QS start))
+  -- The walk writes the records of the leaves from its place on, of as many as the buffer holds whole;
+  pub walks : (place : ℕ) → place ≤ length (read-leaves b) → (out : Bytes) → walk-records b place out ≡ success (records-from (read-leaves b) place (length out / record-size)) out
+  -- it refuses with 17 alone, just where the place is neither a leaf nor done;
+  pub walk-refuses : (place : ℕ) (out : Bytes) (r : ℕ) → (walk-records b place out .answer ≡ refused r) ↔ ((r ≡ 17) × (length (read-leaves b) < place))
+  -- and its buffer is kept.
+  pub walk-kept : (place : ℕ) (out : Bytes) → Kept out (walk-records b place out)
+
+-- two images get the same from every one of these calls
+pub record Same-calls (b c : Bytes) : Type 0 where
+  -- the answer to each question, and so what is given of it
+  pub one : (q : Question) → ask-one b q ≡ ask-one c q
+  -- and the walk, with the final bytes of its buffer
+  pub walk : (place : ℕ) (out : Bytes) → walk-records b place out ≡ walk-records c place out
+
+-- of images and lists
+pub record Accepted-calls : Type 0 where
+  -- For every image that the check accepts, what the calls give is right.
+  pub calls : (b : Bytes) → Is-bytes b → Accepted b → Calls-correct b
+  -- Both versions of one list's image give the same, other settings equal.
+  pub both-versions : (st su : Settings) (list b c : Bytes) → Other-settings-equal st su → Builds-with st list b → Builds-with su list c → Same-calls b c
+
+-- ---- the three, and the calls beside them
+
+-- what a hire firm buys, at all three levels; and what holds of the calls over an accepted image
 pub record Demands : Type 0 where
   pub first : Demand-1
   pub second : Demand-2
   pub third : Demand-3
+  pub over-accepted : Accepted-calls

@@ -1,4 +1,4 @@
--- The three demands hold.
+-- The three demands hold, and what is said of the calls over an accepted image.
 use Prim.Native.Nat.{ℕ, suc, _/_, _+_, _<_, _≤_}
 use mathlib.Core.Path.{_≡_, refl, sym, ap, ap₂, subst, _∙_}
 use mathlib.Core.Bool.{true, false, true≢false}
@@ -18,10 +18,10 @@ use Rattle.spec.specs.Rules.{Rule, rule-number, applies, rule}
 use Rattle.spec.specs.Questions.{point, range, begins-with, counted, seek, Sought, found, Question, QP, QS, QB, QR, QC, Reply, keyless, sought, reply, replies, reply-at, taken, parse-questions, questions-of, question-at}
 use Rattle.spec.specs.Answer.{success, refuse, write, Outcome}
 use Rattle.spec.specs.Build.{in-range, build}
-use Rattle.spec.specs.Check.{verdict}
+use Rattle.spec.specs.Check.{verdict, accepted, check}
 use Rattle.spec.specs.Struck.{struck}
 use Rattle.spec.specs.Ask.{ask}
-use Rattle.theory.specs.Terms.{Is-bytes, In, Bound, Key-list, Proper}
+use Rattle.theory.specs.Terms.{Is-bytes, In, Bound, Key-list, Proper, reply-alone}
 use Rattle.theory.specs.Lists.{all-at}
 use Rattle.theory.specs.LeafLists.{Realizable, All-real-sized, leaf-equal}
 use Rattle.theory.specs.KeyLeaves.{leaves-possible-keys, reals-none, reals-leaves, reals-realizable}
@@ -33,7 +33,8 @@ use Rattle.theory.specs.SeekLaws.{Seek-correct, seek-none, seek-found}
 use Rattle.theory.specs.ReadBack.{read-back, settings-back}
 use Rattle.theory.specs.KeyFiles.{keys-exactly, bytes-write-keys}
 use Rattle.theory.specs.QuestionFiles.{questions-exactly}
-use Rattle.theory.specs.Demands.{Builds-with, Builds, Has-in-range, Has-with-stem, Count, Next-key, None, Agree, Demand-1, Demand-2, Rules-correct, Lists-told, Stored-told, Replies-correct, Same-real-leaves, Same-answers, Demand-3, Demands}
+use Rattle.theory.specs.Demands.{Builds-with, Builds, Has-in-range, Has-with-stem, Count, Next-key, None, Agree, Demand-1, Demand-2, Rules-correct, Lists-told, Stored-told, Replies-correct, Same-real-leaves, Other-settings-equal, Same-answers, Walk-refusal, refused-image, place-refused, Demand-3, Accepted-calls, Demands}
+use Rattle.theory.specs.OneQuestionLaws.{same-one, one-refuses, one-replies, one-rule-byte, seek-kept}
 use Rattle.theory.specs.OutcomeLaws.{final-is, write-fits, success-written, success-answer}
 use Rattle.theory.specs.BuildLaws.{built-from, built-fits, keys-of-list, in-range-exactly, build-writes, length-builds, built-length, build-writes-image}
 use Rattle.theory.specs.AskLaws.{bytes-replies, reply-written, Answered, ask-answers, ask-takes, walk-correct, print-correct}
@@ -41,6 +42,7 @@ use Rattle.theory.specs.ImageBytes.{image-bytes}
 use Rattle.theory.specs.RefusalNumbers.{check-accepts, check-refuses}
 use Rattle.spec.specs.Walk.{Stand, stand-at, open-walk, next-place, next}
 use Rattle.spec.specs.WalkRecords.{record-size, records-from, written-by, walk-records}
+use Rattle.spec.specs.OneQuestion.{reply-number}
 use Rattle.spec.specs.Print.{listing}
 use Rattle.theory.specs.WalkRecordLaws.{bytes-records-from, records-written, records-answered, walk-records-refuses, walk-records-kept}
 use Rattle.theory.specs.LengthBounds.{leaves-are, settings-are, real-sizes, length-short, build-short, ask-short, walk-records-short}
@@ -462,6 +464,13 @@ same-answers b c v w d e = record {
     opened : (place : ℕ) → open-walk b place ≡ open-walk c place
     opened place = ap₂ (λ (x : ℕ) (ls : List Leaf). elim (eqb x 0) as (λ z. Stand) [ false ↦ Walk.refused x | true ↦ elim (ltb (length ls) place) [ true ↦ Walk.refused 17 | false ↦ stand-at ls place ] ]) same e
 
+-- one list's images in both versions, other settings equal, have as many hash bits and the same leaves
+versions-alike : (st su : Settings) (list b c : Bytes) → Other-settings-equal st su → Builds-with st list b → Builds-with su list c → (read-settings b .hash-width ≡ read-settings c .hash-width) × (read-leaves b ≡ read-leaves c)
+versions-alike st su list b c e w x = (
+  ap (λ (z : Settings). z .hash-width) (list-settings st list b w) ∙ e .2 ∙ sym (ap (λ (z : Settings). z .hash-width) (list-settings su list c x)),
+  list-read st list b w ∙ ap₂ (λ (h n : ℕ). leaves h n (keys-of list)) (e .2) (e .1) ∙ sym (list-read su list c x),
+)
+
 -- ---- order 4
 
 -- an accepted image, as the laws of acceptance give it, and the same with its hash bits struck out
@@ -538,10 +547,42 @@ demand-3 = record {
     λ g. list-image st list b w ∙ ap (image st) (agree-same (leaves (st .hash-width) (st .real-width) (keys-of list)) (leaves (st .hash-width) (st .real-width) (keys-of other)) g) ∙ sym (list-image st other c x),
   );
   both-versions = λ st su list b c e w x.
-      same-answers b c (list-accepted st list b w) (list-accepted su list c x) (ap (λ (z : Settings). z .hash-width) (list-settings st list b w) ∙ e .2 ∙ sym (ap (λ (z : Settings). z .hash-width) (list-settings su list c x)))
-      (list-read st list b w ∙ ap₂ (λ (h n : ℕ). leaves h n (keys-of list)) (e .2) (e .1) ∙ sym (list-read su list c x));
+      let s = versions-alike st su list b c e w x in
+      same-answers b c (list-accepted st list b w) (list-accepted su list c x) (s .0) (s .1);
 }
 
--- The three demands hold.
+-- ---- the calls over an accepted image
+
+-- the numbers of a walk over an accepted image
+accepted-walk-refuses : (b : Bytes) → check b ≡ accepted → (place : ℕ) (out : Bytes) (r : ℕ) → (walk-records b place out .answer ≡ Answer.refused r) ↔ ((r ≡ 17) × (length (read-leaves b) < place))
+accepted-walk-refuses b c place out r = Iff·trans (walk-records-refuses b place out r) (to, λ w. rw (w .0) (place-refused c (w .1)))
+  where
+    to : {r : ℕ} → Walk-refusal b place r → (r ≡ 17) × (length (read-leaves b) < place)
+    to (refused-image e n) = let z : _≡_ {A = ℕ} 0 1 = cc in absurd (omega arith)
+    to (place-refused e l) = (refl, l)
+
+-- What holds of the calls over an accepted image.
+pub accepted-calls : Accepted-calls
+accepted-calls = record {
+  calls = λ b s c.
+      let v = check-accepts b .0 c in
+      let o = Accept.accepted-is-image b s v in
+      let few : length (read-leaves b) ≤ 65535 = omega (arith, o .fits .few, ap length (leaves-are b o)) in
+      record {
+        as-asked = λ q. one-replies b v q few;
+        number = λ q out t. ap reply-number (one-replies b v q few (reply-alone b q out) out .1 (t, refl) .0);
+        rule = λ k out t. one-rule-byte b v k (reply-alone b (QP k) out) (one-replies b v (QP k) few (reply-alone b (QP k) out) out .1 (t, refl) .0);
+        refuses = one-refuses b v;
+        key-kept = seek-kept (o .settings .real-width) b v (rw (settings-are b o, leaves-are b o) (real-sizes b o));
+        walks = λ place h out. records-written b place out v h;
+        walk-refuses = accepted-walk-refuses b c;
+        walk-kept = walk-records-kept b;
+      };
+  both-versions = λ st su list b c e w x.
+      let s = versions-alike st su list b c e w x in
+      record { one = same-one b c (s .0) (s .1); walk = demand-3 .both-versions st su list b c e w x .walk-records };
+}
+
+-- The three demands hold, and what is said of the calls over an accepted image.
 pub demands : Demands
-demands = record { first = demand-1; second = demand-2; third = demand-3 }
+demands = record { first = demand-1; second = demand-2; third = demand-3; over-accepted = accepted-calls }

@@ -81,7 +81,7 @@ greater-small a b h l = go (below a b)
     go false = h
 
 -- the key of a seek's reply
-sought-small : (w i : ℕ) (ls : List Leaf) (start : Bytes) → All-real-sized w ls → length start ≤ 64 → length (sought (seek-from i ls start) .key) ≤ 64
+pub sought-small : (w i : ℕ) (ls : List Leaf) (start : Bytes) → All-real-sized w ls → length start ≤ 64 → length (sought (seek-from i ls start) .key) ≤ 64
 unfolding seek-from sought keyless
 sought-small w i [] start o h = omega arith
 sought-small w i (l ∷ ls) start o h = go (below (highest l) start) (sought-small w (suc i) ls start (o .1) h)

@@ -1,25 +1,35 @@
 -- One question at a time over an accepted image: its answer by what it is turned down for, and that a file of this question alone gets the same reply.
-use Prim.Native.Nat.{ℕ, _<_, _≤_}
-use mathlib.Core.Path.{_≡_, refl, ap, _∙_}
-use mathlib.Core.Bool.{true, false}
-use mathlib.Core.List.{[], _∷_}
+use Prim.Native.Nat.{ℕ, zero, suc, _<_, _≤_}
+use mathlib.Core.Path.{_≡_, refl, sym, ap, ap₂, subst, _∙_}
+use mathlib.Core.Bool.{Bool, true, false}
+use mathlib.Core.List.{List, [], _∷_, _++_, append-assoc, append-nil}
+use mathlib.Core.Logic.{_↔_}
 use native.Mathlib.Omega.{arith}
-use lib.ListN.{length}
+use lib.ListN.{length, getD, take, drop, length-append, length-drop}
+use lib.Seq.{take-append-seam, drop-append-seam}
 use lib.Dec.{eqb}
 use borrow.Author.Tests.{lt-ltb, le-ltb, ne-eqb}
-use Rattle.spec.specs.Bytes.{Bytes}
+use Rattle.spec.specs.Bytes.{Bytes, concat}
 use Rattle.spec.specs.Keys.{below}
+use Rattle.spec.specs.Leaves.{Leaf, reals}
 use Rattle.spec.specs.Frame.{read-settings}
 use Rattle.spec.specs.Nodes.{read-leaves}
-use Rattle.spec.specs.Questions.{Question, QP, QS, QB, QR, QC, reply, replies, taken, parse-questions}
-use Rattle.spec.specs.Answer.{write}
+use Rattle.spec.specs.Rules.{Rule, rule, rule-number}
+use Rattle.spec.specs.Questions.{Question, QP, QS, QB, QR, QC, seek, Reply, reply, reply-bytes, replies, reply-at, Front, bad, got, read-key, one-key, two-keys, read-keys, read-question, taken, with-question, parse-from, parse-questions}
+use Rattle.spec.specs.Answer.{Outcome, refuse, write}
 use Rattle.spec.specs.Check.{verdict}
 use Rattle.spec.specs.Ask.{ask}
-use Rattle.spec.specs.OneQuestion.{key-refusal, bounds-refusal, question-refusal, Answered, replied, refused, ask-one}
-use Rattle.theory.specs.Terms.{Proper, file-bytes}
+use Rattle.spec.specs.OneQuestion.{key-refusal, bounds-refusal, question-refusal, Answered, replied, refused, ask-one, number, reply-rule}
+use Rattle.theory.specs.Terms.{key-bytes, question-bytes, file-bytes, alone, found-size, Taken, reply-alone, From}
 use Rattle.theory.specs.Lists.{le-or-lt}
-use Rattle.theory.specs.QuestionFiles.{questions-read}
-use Rattle.theory.specs.AskLaws.{ask-is}
+use Rattle.theory.specs.QuestionFiles.{key-read, one-read, two-read, question-size}
+use Rattle.theory.specs.AskLaws.{reply-written, ask-is}
+use Rattle.theory.specs.LeafLists.{All-real-sized}
+use Rattle.theory.specs.OutcomeLaws.{write-fits, write-short, no-written, success-answer, refuse-answer, write-answer, final-is}
+use Rattle.theory.specs.LengthBounds.{sought-small}
+use Rattle.theory.specs.Demands.{Key-kept}
+use Rattle.spec.specs.Answer as Answer
+use Rattle.spec.specs.Questions as Questions
 
 -- ---- what a question is turned down for
 
@@ -90,27 +100,223 @@ one-refused b q r e h = one-is b q r e ∙ rw (ne-eqb r 0 (λ z. omega arith))
 pub one-replied : (b : Bytes) (q : Question) → question-refusal q ≡ 0 → ask-one b q ≡ replied (reply (read-settings b .hash-width) (read-leaves b) q)
 one-replied b q e = one-is b q 0 e
 
+-- Bounds by what they are turned down for.
+by-bounds : {A : Type 0} (lo hi : Bytes) → (64 < length lo → A) → (length lo ≤ 64 → 64 < length hi → A) → (length lo ≤ 64 → length hi ≤ 64 → (t : Bool) → below hi lo ≡ t → A) → A
+by-bounds lo hi f g k = le-or-lt (length lo) 64 (λ l. le-or-lt (length hi) 64 (λ h. k l h (below hi lo) refl) (g l)) f
+
 -- Bounds that are taken have at most 64 bytes each.
 pub bounds-short : (lo hi : Bytes) → bounds-refusal lo hi ≡ 0 → (length lo ≤ 64) × (length hi ≤ 64)
-bounds-short lo hi e =
-    le-or-lt (length lo) 64 (λ l. le-or-lt (length hi) 64 (λ h. (l, h)) (λ h. absurd (omega (arith, e, upper-long lo hi l h)))) (λ l. absurd (omega (arith, e, lower-long lo hi l)))
+bounds-short lo hi e = by-bounds lo hi (λ l. absurd (omega (arith, e, lower-long lo hi l))) (λ l h. absurd (omega (arith, e, upper-long lo hi l h))) (λ l h t b. (l, h))
+
+-- a key that is taken has at most 64 bytes
+key-short : (k : Bytes) → key-refusal k ≡ 0 → length k ≤ 64
+key-short k e = le-or-lt (length k) 64 (λ h. h) (λ h. absurd (omega (arith, e, key-long k h)))
+
+-- ---- the numbers
+
+-- a key is turned down with 22, bounds with 22 or 23
+key-number : (k : Bytes) → 0 < key-refusal k → From 22 23 (key-refusal k)
+key-number k z = le-or-lt (length k) 64 (λ h. absurd (omega (arith, key-fits k h))) (λ h. rw (key-long k h) (omega arith, omega arith))
+
+bounds-number : (lo hi : Bytes) → 0 < bounds-refusal lo hi → From 22 23 (bounds-refusal lo hi)
+bounds-number lo hi z = by-bounds lo hi (λ l. rw (lower-long lo hi l) (omega arith, omega arith)) (λ l h. rw (upper-long lo hi l h) (omega arith, omega arith)) ordered
+  where
+    ordered : length lo ≤ 64 → length hi ≤ 64 → (t : Bool) → below hi lo ≡ t → From 22 23 (bounds-refusal lo hi)
+    ordered l h true e = rw (bounds-reversed lo hi l h e) (omega arith, omega arith)
+    ordered l h false e = absurd (omega (arith, bounds-fit lo hi l h e))
+
+-- A question is turned down with 22 or 23.
+turned-down-number : (q : Question) → 0 < question-refusal q → From 22 23 (question-refusal q)
+unfolding question-refusal
+turned-down-number (QP k) z = key-number k z
+turned-down-number (QS start) z = key-number start z
+turned-down-number (QB stem) z = key-number stem z
+turned-down-number (QR lo hi) z = bounds-number lo hi z
+turned-down-number (QC lo hi) z = bounds-number lo hi z
 
 -- ---- a file of one question
 
--- keys and bounds of at most 64 bytes, and ranges the right way round, are taken
-proper-taken : (q : Question) → Proper q → question-refusal q ≡ 0
-unfolding question-refusal
-proper-taken (QP k) p = key-fits k (p .fits)
-proper-taken (QS start) p = key-fits start (p .fits)
-proper-taken (QB stem) p = key-fits stem (p .fits)
-proper-taken (QR lo hi) p = bounds-fit lo hi (p .lower .fits) (p .upper .fits) (p .order)
-proper-taken (QC lo hi) p = bounds-fit lo hi (p .lower .fits) (p .upper .fits) (p .order)
+-- what is read at the front of bytes that begin with a question, by the number with which it is turned down
+abbrev read-by : Question → Bytes → ℕ → Front Question
+read-by q t r = elim (eqb r 0) [ true ↦ got q t | false ↦ bad r ]
 
-one-parsed : (q : Question) → Proper q → parse-questions (file-bytes (q ∷ [])) ≡ taken (q ∷ [])
-unfolding parse-questions
-one-parsed q p = questions-read (length (file-bytes (q ∷ []))) 0 (q ∷ []) (p, tt) (omega arith) (omega arith)
+-- a key of over 64 bytes
+long-read : (k t : Bytes) → 64 < length k → read-key (key-bytes k ++ t) ≡ bad 22
+unfolding read-key
+long-read k t h = rw (lt-ltb 64 (length k) h, read-key)
 
--- Over an accepted image, a question with keys of at most 64 bytes and a range the right way round is answered with the reply that ask writes for a file of this question alone.
-pub one-asked : (b : Bytes) → verdict b ≡ 0 → (q : Question) → Proper q
-    → (ask-one b q ≡ replied (reply (read-settings b .hash-width) (read-leaves b) q)) × ((out : Bytes) → ask b (file-bytes (q ∷ [])) out ≡ write 25 (replies (read-settings b .hash-width) (read-leaves b) (q ∷ [])) out)
-one-asked b v q p = (one-replied b q (proper-taken q p), λ out. ask-is b (file-bytes (q ∷ [])) out 0 (taken (q ∷ [])) v (one-parsed q p))
+-- a question with one key, with two bounds, and any question
+one-read-by : (c : Bytes → Question) (k t : Bytes) → one-key c (key-bytes k ++ t) ≡ read-by (c k) t (key-refusal k)
+unfolding one-key
+one-read-by c k t = le-or-lt (length k) 64 (λ h. one-read c k t h ∙ sym (ap (read-by (c k) t) (key-fits k h))) (λ h. rw (long-read k t h, one-key) (sym (ap (read-by (c k) t) (key-long k h))))
+
+two-read-by : (c : Bytes → Bytes → Question) (lo hi t : Bytes) → two-keys c ((key-bytes lo ++ key-bytes hi) ++ t) ≡ read-by (c lo hi) t (bounds-refusal lo hi)
+unfolding two-keys
+two-read-by c lo hi t =
+    by-bounds lo hi (λ l. at-lower ∙ rw (long-read lo (key-bytes hi ++ t) l, two-keys) (sym (ap (read-by (c lo hi) t) (lower-long lo hi l))))
+    (λ l h. at-lower ∙ rw (key-read lo (key-bytes hi ++ t) l, long-read hi t h, two-keys) (sym (ap (read-by (c lo hi) t) (upper-long lo hi l h)))) ordered
+  where
+    at-lower : two-keys c ((key-bytes lo ++ key-bytes hi) ++ t) ≡ two-keys c (key-bytes lo ++ (key-bytes hi ++ t))
+    at-lower = ap (two-keys c) (append-assoc (key-bytes lo) (key-bytes hi) t)
+
+    ordered : length lo ≤ 64 → length hi ≤ 64 → (x : Bool) → below hi lo ≡ x → two-keys c ((key-bytes lo ++ key-bytes hi) ++ t) ≡ read-by (c lo hi) t (bounds-refusal lo hi)
+    ordered l h true e = at-lower ∙ rw (key-read lo (key-bytes hi ++ t) l, key-read hi t h, e, two-keys) (sym (ap (read-by (c lo hi) t) (bounds-reversed lo hi l h e)))
+    ordered l h false e = two-read c lo hi t l h e ∙ sym (ap (read-by (c lo hi) t) (bounds-fit lo hi l h e))
+
+question-read-by : (q : Question) (t : Bytes) → read-question (question-bytes q ++ t) ≡ read-by q t (question-refusal q)
+unfolding read-question read-keys question-bytes question-refusal
+question-read-by (QP k) t = one-read-by QP k t
+question-read-by (QS start) t = one-read-by QS start t
+question-read-by (QB stem) t = one-read-by QB stem t
+question-read-by (QR lo hi) t = two-read-by QR lo hi t
+question-read-by (QC lo hi) t = two-read-by QC lo hi t
+
+-- a file whose first question is its last
+last-taken : (s : Bytes) (q : Question) → 0 < length s → read-question s ≡ got q [] → parse-questions s ≡ taken (q ∷ [])
+unfolding parse-questions parse-from with-question
+last-taken [] q l e = absurd (omega arith)
+last-taken (b ∷ s) q l e = rw (e, parse-from) (ap (with-question q) (none (length s) 1))
+  where
+    none : (fuel done : ℕ) → parse-from fuel done [] ≡ taken []
+    none zero done = refl
+    none (suc fuel) done = refl
+
+-- a file whose first question is turned down
+first-refused : (s : Bytes) (r : ℕ) → 0 < length s → read-question s ≡ bad r → parse-questions s ≡ Questions.refused r
+unfolding parse-questions parse-from
+first-refused [] r l e = absurd (omega arith)
+first-refused (b ∷ s) r l e = rw (e, parse-from)
+
+module _ (q : Question) where
+  alone-read : (r : ℕ) → question-refusal q ≡ r → read-question (alone q) ≡ read-by q [] r
+  unfolding file-bytes concat
+  alone-read r e = question-read-by q [] ∙ ap (read-by q []) e
+
+  alone-long : 0 < length (alone q)
+  unfolding file-bytes concat
+  alone-long = question-size q []
+
+  -- a question that is taken is the file's question
+  alone-taken : question-refusal q ≡ 0 → parse-questions (alone q) ≡ taken (q ∷ [])
+  alone-taken e = last-taken (alone q) q alone-long (alone-read 0 e)
+
+  -- a file of a question that is turned down is refused with its number
+  alone-refused : (r : ℕ) → question-refusal q ≡ r → 0 < r → parse-questions (alone q) ≡ Questions.refused r
+  alone-refused r e h = first-refused (alone q) r alone-long (alone-read r e ∙ rw (ne-eqb r 0 (λ z. omega arith), read-by))
+
+-- ---- the answer, and what ask does with a file of the question
+
+-- the reply to a question over an image's leaves
+abbrev reply-over : Bytes → Question → Reply
+reply-over b q = reply (read-settings b .hash-width) (read-leaves b) q
+
+-- the bytes that ask writes for a file of one question
+abbrev alone-replies : Bytes → Question → Bytes
+alone-replies b q = replies (read-settings b .hash-width) (read-leaves b) (q ∷ [])
+
+-- are the reply's
+alone-bytes : (b : Bytes) (q : Question) → alone-replies b q ≡ reply-bytes (reply-over b q)
+unfolding replies concat
+alone-bytes b q = append-nil (reply-bytes (reply-over b q))
+
+-- Images with as many hash bits and the same leaves answer alike.
+pub same-one : (b c : Bytes) → read-settings b .hash-width ≡ read-settings c .hash-width → read-leaves b ≡ read-leaves c → (q : Question) → ask-one b q ≡ ask-one c q
+unfolding ask-one
+same-one b c d e q = ap₂ {C = Answered} (λ (h : ℕ) (ls : List Leaf). elim (eqb (question-refusal q) 0) [ true ↦ replied (reply h ls q) | false ↦ refused (question-refusal q) ]) d e
+
+module _ (b : Bytes) (v : verdict b ≡ 0) (q : Question) where
+  -- Over an accepted image, a question that is taken is answered with the reply that ask writes for a file of this question alone.
+  pub one-asked : question-refusal q ≡ 0 → (ask-one b q ≡ replied (reply-over b q)) × ((out : Bytes) → ask b (alone q) out ≡ write 25 (alone-replies b q) out)
+  one-asked e = (one-replied b q e, λ out. ask-is b (alone q) out 0 (taken (q ∷ [])) v (alone-taken q e))
+
+  -- One that is turned down is refused with the number with which ask refuses the file.
+  one-turned-down : 0 < question-refusal q → (ask-one b q ≡ refused (question-refusal q)) × ((out : Bytes) → ask b (alone q) out ≡ refuse (question-refusal q) out)
+  one-turned-down h = (one-refused b q (question-refusal q) refl h, λ out. ask-is b (alone q) out 0 (Questions.refused (question-refusal q)) v (alone-refused q (question-refusal q) refl h))
+
+  -- every question is one or the other
+  by-refusal : {A : Type 0} → (question-refusal q ≡ 0 → A) → (0 < question-refusal q → A) → A
+  by-refusal f g = le-or-lt (question-refusal q) 0 (λ h. f (omega arith)) g
+
+  -- The reply of an answer, for a question that is taken.
+  answered-with : (x : Reply) → ask-one b q ≡ replied x → (question-refusal q ≡ 0) × (reply-over b q ≡ x)
+  answered-with x e = by-refusal
+      (λ z. let a = one-asked z .0 in (z, cc))
+      (λ z. let a = one-turned-down z .0 in let y : _≡_ {A = ℕ} 0 1 = cc in absurd (omega arith))
+
+  -- A question is refused with just the number, of 22 and 23, with which ask refuses the file.
+  pub one-refuses : (out : Bytes) (r : ℕ) → (ask-one b q ≡ refused r) ↔ ((ask b (alone q) out .answer ≡ Answer.refused r) × From 22 23 r)
+  one-refuses out r = (to, from)
+    where
+      to : ask-one b q ≡ refused r → (ask b (alone q) out .answer ≡ Answer.refused r) × From 22 23 r
+      to e = by-refusal
+          (λ z. let a = one-asked z .0 in let y : _≡_ {A = ℕ} 0 1 = cc in absurd (omega arith))
+          (λ z. let a = one-turned-down z in
+          let f = a .0 in
+          let s : question-refusal q ≡ r = cc in
+          (refuse-answer (question-refusal q) r out (ask b (alone q) out) (a .1 out) .1 s, subst (From 22 23) s (turned-down-number q z)))
+
+      from : (ask b (alone q) out .answer ≡ Answer.refused r) × From 22 23 r → ask-one b q ≡ refused r
+      from w = by-refusal
+          (λ z. absurd (omega (arith, write-answer 25 r (alone-replies b q) out (ask b (alone q) out) (one-asked z .1 out) .0 (w .0) .0, w .1 .1)))
+          (λ z. let a = one-turned-down z in a .0 ∙ ap refused (refuse-answer (question-refusal q) r out (ask b (alone q) out) (a .1 out) .0 (w .0)))
+
+  -- what ask writes for a file that it takes of the question alone
+  alone-written : length (read-leaves b) ≤ 65535 → question-refusal q ≡ 0 → (out : Bytes) → length (alone-replies b q) ≤ length out → Taken b (alone q) out × (reply-alone b q out ≡ reply-over b q)
+  alone-written few z out l =
+      let w = one-asked z .1 out ∙ write-fits 25 (alone-replies b q) out l in (
+        (length (alone-replies b q), ap (λ (o : Outcome). o .answer) w ∙ success-answer (alone-replies b q) out),
+        ap (reply-at 0) (final-is (alone-replies b q) out (ask b (alone q) out) w) ∙ reply-written (read-settings b .hash-width) (read-leaves b) few 0 (q ∷ []) q (drop (length (alone-replies b q)) out) refl,
+      )
+
+  -- The answer is a reply, and a buffer holds its bytes, exactly if ask takes the file with this buffer and writes this reply.
+  pub one-replies : length (read-leaves b) ≤ 65535 → (x : Reply) (out : Bytes)
+      → ((ask-one b q ≡ replied x) × (length (reply-bytes x) ≤ length out)) ↔ (Taken b (alone q) out × (reply-alone b q out ≡ x))
+  one-replies few x out = (to, from)
+    where
+      to : (ask-one b q ≡ replied x) × (length (reply-bytes x) ≤ length out) → Taken b (alone q) out × (reply-alone b q out ≡ x)
+      to w =
+          let a = answered-with x (w .0) in
+          let r = alone-written few (a .0) out (omega (arith, ap length (alone-bytes b q), ap (λ (y : Reply). length (reply-bytes y)) (a .1), w .1)) in
+          (r .0, r .1 ∙ a .1)
+
+      from : Taken b (alone q) out × (reply-alone b q out ≡ x) → (ask-one b q ≡ replied x) × (length (reply-bytes x) ≤ length out)
+      from t = by-refusal
+          (λ z. le-or-lt (length (alone-replies b q)) (length out)
+          (λ l. let e : reply-over b q ≡ x = sym (alone-written few z out l .1) ∙ t .1 in
+          (one-asked z .0 ∙ ap replied e, omega (arith, ap length (alone-bytes b q), ap (λ (y : Reply). length (reply-bytes y)) e, l)))
+          (λ l. no-written 25 (t .0 .0) out (ask b (alone q) out) (one-asked z .1 out ∙ write-short 25 (alone-replies b q) out l) (t .0 .1)))
+          (λ z. no-written (question-refusal q) (t .0 .0) out (ask b (alone q) out) (one-turned-down z .1 out) (t .0 .1))
+
+-- ---- a point's rule, and a seek's key
+
+-- The rule of a point is the one byte of its reply's key.
+pub one-rule-byte : (b : Bytes) → verdict b ≡ 0 → (k : Bytes) (x : Reply) → ask-one b (QP k) ≡ replied x → (r : Rule) × (x .key ≡ rule-number r ∷ []) × (reply-rule (ask-one b (QP k)) ≡ number (rule-number r))
+unfolding reply
+one-rule-byte b v k x e =
+    let r : Rule = rule (read-settings b .hash-width) (read-leaves b) k in
+    let f : x .key ≡ rule-number r ∷ [] = sym (ap (λ (y : Reply). y .key) (answered-with b v (QP k) x e .1)) in
+    (r, f, ap reply-rule e ∙ ap (λ (s : Bytes). number (getD s 0 0)) f)
+
+-- what is left of a buffer that is longer than the reply's key
+kept-by : (a : Answered) (found : Bytes) → ((x : Reply) → a ≡ replied x → length (x .key) < length found) → Key-kept found a
+kept-by (refused n) found f = record {
+  refusal = λ r e. refl;
+  success = λ x e. let z : _≡_ {A = ℕ} 0 1 = cc in absurd (omega arith);
+}
+kept-by (replied y) found f = record {
+  refusal = λ r e. let z : _≡_ {A = ℕ} 0 1 = cc in absurd (omega arith);
+  success = λ x e.
+      let s : y ≡ x = cc in
+      let k : Bytes = key-bytes (y .key) in
+      let rest : Bytes = drop (length k) found in
+      subst (λ (x : Reply). (take (length (key-bytes (x .key))) (k ++ rest) ≡ key-bytes (x .key)) × (length (k ++ rest) ≡ length found) × (drop (length (key-bytes (x .key))) (k ++ rest) ≡ drop (length (key-bytes (x .key))) found)) s
+      (take-append-seam k rest, omega (arith, length-append k rest, length-drop (length k) found, f y refl), drop-append-seam k rest);
+}
+
+-- The buffer that is lent for a seek's key is kept.
+pub seek-kept : (w : ℕ) (b : Bytes) → verdict b ≡ 0 → All-real-sized w (reals (read-settings b .hash-width) (read-leaves b)) → (start found : Bytes) → found-size ≤ length found → Key-kept found (ask-one b (QS start))
+unfolding reply seek
+seek-kept w b v o start found l = kept-by (ask-one b (QS start)) found (λ x e.
+    let a = answered-with b v (QS start) x e in
+    let h = sought-small w 0 (reals (read-settings b .hash-width) (read-leaves b)) start o (key-short start (sym (seek-keys start) ∙ a .0)) in
+    omega (arith, h, ap (λ (y : Reply). length (y .key)) (a .1)))

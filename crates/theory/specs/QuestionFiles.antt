@@ -17,9 +17,10 @@ use Rattle.theory.specs.Lists.{bytes-drop, bytes-take}
 
 -- ---- a key
 
-key-read : (k t : Bytes) → Bound k → read-key (key-bytes k ++ t) ≡ got k t
+-- a key of at most 64 bytes is read
+pub key-read : (k t : Bytes) → length k ≤ 64 → read-key (key-bytes k ++ t) ≡ got k t
 unfolding read-key
-key-read k t q = rw (le-ltb 64 (length k) (q .fits), le-ltb (length (k ++ t)) (length k) (omega (arith, length-append k t)), take-append-seam k t, drop-append-seam k t, read-key)
+key-read k t h = rw (le-ltb 64 (length k) h, le-ltb (length (k ++ t)) (length k) (omega (arith, length-append k t)), take-append-seam k t, drop-append-seam k t, read-key)
 
 record Key-read (s k t : Bytes) : Type 0 where
   bytes : s ≡ key-bytes k ++ t
@@ -54,22 +55,23 @@ read-key-is (n ∷ s) k t w h = one (ltb 64 n) refl
 
 -- ---- a question
 
-one-read : (q : Bytes → Question) (k t : Bytes) → Bound k → one-key q (key-bytes k ++ t) ≡ got (q k) t
+-- a question with one key
+pub one-read : (q : Bytes → Question) (k t : Bytes) → length k ≤ 64 → one-key q (key-bytes k ++ t) ≡ got (q k) t
 unfolding one-key
-one-read q k t b = rw (key-read k t b, one-key)
+one-read q k t h = rw (key-read k t h, one-key)
 
-two-read : (q : Bytes → Bytes → Question) (lo hi t : Bytes) → Range lo hi → two-keys q ((key-bytes lo ++ key-bytes hi) ++ t) ≡ got (q lo hi) t
+-- a question with two bounds
+pub two-read : (q : Bytes → Bytes → Question) (lo hi t : Bytes) → length lo ≤ 64 → length hi ≤ 64 → below hi lo ≡ false → two-keys q ((key-bytes lo ++ key-bytes hi) ++ t) ≡ got (q lo hi) t
 unfolding two-keys
-two-read q lo hi t r =
-    ap (two-keys q) (append-assoc (key-bytes lo) (key-bytes hi) t) ∙ rw (key-read lo (key-bytes hi ++ t) (r .lower), key-read hi t (r .upper), r .order, two-keys)
+two-read q lo hi t l h e = ap (two-keys q) (append-assoc (key-bytes lo) (key-bytes hi) t) ∙ rw (key-read lo (key-bytes hi ++ t) l, key-read hi t h, e, two-keys)
 
 question-read : (q : Question) (t : Bytes) → Proper q → read-question (question-bytes q ++ t) ≡ got q t
 unfolding read-question read-keys question-bytes
-question-read (QP k) t p = one-read QP k t p
-question-read (QS k) t p = one-read QS k t p
-question-read (QB k) t p = one-read QB k t p
-question-read (QR lo hi) t p = two-read QR lo hi t p
-question-read (QC lo hi) t p = two-read QC lo hi t p
+question-read (QP k) t p = one-read QP k t (p .fits)
+question-read (QS k) t p = one-read QS k t (p .fits)
+question-read (QB k) t p = one-read QB k t (p .fits)
+question-read (QR lo hi) t p = two-read QR lo hi t (p .lower .fits) (p .upper .fits) (p .order)
+question-read (QC lo hi) t p = two-read QC lo hi t (p .lower .fits) (p .upper .fits) (p .order)
 
 one-key-is : (q : Bytes → Question) (s : Bytes) (x : Question) (t : Bytes) → Is-bytes s → one-key q s ≡ got x t → (k : Bytes) × (q k ≡ x) × Key-read s k t
 unfolding one-key
@@ -179,7 +181,8 @@ read-question-is (a ∷ x ∷ s) q t w h = go (eqb a 81) refl
 
 -- ---- a file
 
-question-size : (q : Question) (t : Bytes) → length t < length (question-bytes q ++ t)
+-- a question has bytes
+pub question-size : (q : Question) (t : Bytes) → length t < length (question-bytes q ++ t)
 unfolding question-bytes
 question-size (QP k) t = omega (arith, length-append k t)
 question-size (QS k) t = omega (arith, length-append k t)

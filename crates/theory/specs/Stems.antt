@@ -53,15 +53,15 @@ abbrev pub Some-begins : ℕ → List Leaf → Bytes → Type 0
 Some-begins n ls stem = (ks : List Bytes) × Has-leaves n ks ls × ((k : Bytes) × In k ks × (begins stem k ≡ true))
 
 -- The keys of a list that has the leaves lie in the stem's range just as they begin with the stem.
-stem-keys : {n : ℕ} (ls : List Leaf) (stem : Bytes) (ks : List Bytes) → Has-leaves n ks ls → (k : Bytes) → In k ks → within stem (stem-end stem) k ≡ begins stem k
-stem-keys ls stem ks w k i = let q = all-in Key (w .keys) i in stem-exactly stem k (q .fits) (q .bytes)
+keys-with-stem : {n : ℕ} (ls : List Leaf) (stem : Bytes) (ks : List Bytes) → Has-leaves n ks ls → (k : Bytes) → In k ks → within stem (stem-end stem) k ≡ begins stem k
+keys-with-stem ls stem ks w k i = let q = all-in Key (w .keys) i in stem-exactly stem k (q .fits) (q .bytes)
 
 -- A stem's reply is 1 exactly when some list that has the leaves has a key that begins with it.
 pub begins-held : {n : ℕ} (ls : List Leaf) (stem : Bytes) → Realizable n ls → All-real-sized n ls → Bound stem → (begins-with ls stem ≡ 1) ↔ Some-begins n ls stem
 unfolding begins-with
 begins-held ls stem g o q = Iff·trans (range-held ls stem (stem-end stem) g o q (stem-order stem)) (
-  λ a. (a .0, a .1, (a .2 .0, a .2 .1, sym (stem-keys ls stem (a .0) (a .1) (a .2 .0) (a .2 .1)) ∙ a .2 .2)),
-  λ a. (a .0, a .1, (a .2 .0, a .2 .1, stem-keys ls stem (a .0) (a .1) (a .2 .0) (a .2 .1) ∙ a .2 .2)),
+  λ a. (a .0, a .1, (a .2 .0, a .2 .1, sym (keys-with-stem ls stem (a .0) (a .1) (a .2 .0) (a .2 .1)) ∙ a .2 .2)),
+  λ a. (a .0, a .1, (a .2 .0, a .2 .1, keys-with-stem ls stem (a .0) (a .1) (a .2 .0) (a .2 .1) ∙ a .2 .2)),
 )
 
 -- A stem is denied exactly when none of the lists that have the leaves has a key that begins with it.
@@ -69,6 +69,6 @@ pub begins-denied : {n : ℕ} (ls : List Leaf) (stem : Bytes) → Realizable n l
     → (begins-with ls stem ≡ 0) ↔ ((ks : List Bytes) → Has-leaves n ks ls → (k : Bytes) → In k ks → begins stem k ≡ false)
 unfolding begins-with
 begins-denied ls stem g o q = Iff·trans (range-denied ls stem (stem-end stem) g o q (stem-order stem)) (
-  λ f ks w k i. sym (stem-keys ls stem ks w k i) ∙ f ks w k i,
-  λ f ks w k i. stem-keys ls stem ks w k i ∙ f ks w k i,
+  λ f ks w k i. sym (keys-with-stem ls stem ks w k i) ∙ f ks w k i,
+  λ f ks w k i. keys-with-stem ls stem ks w k i ∙ f ks w k i,
 )

@@ -8,7 +8,7 @@ use lib.ListN.{length}
 use Rattle.spec.specs.Bytes.{Bytes, concat, letter}
 use Rattle.spec.specs.Keys.{below, write-keys}
 use Rattle.spec.specs.Leaves.{Leaf}
-use Rattle.spec.specs.Questions.{Question, QP, QS, QB, QR, QC}
+use Rattle.spec.specs.Questions.{Question, QP, QS, QB, QR, QC, Reply, reply-at}
 use Rattle.spec.specs.Answer.{written, refused, refuse}
 use Rattle.spec.specs.Check.{accepted, check}
 use Rattle.spec.specs.Ask.{ask}
@@ -100,17 +100,29 @@ unfoldable pub file-bytes : List Question → Bytes
 unfolding concat question-bytes
 file-bytes qs = concat (map question-bytes qs)
 
+-- A question file of one question alone. No byte holds the length of a key of over 255; like any over 64 it is refused with 22.
+abbrev pub alone : Question → Bytes
+alone q = file-bytes (q ∷ [])
+
 -- The bytes are a question file, and these are its questions: at most 1,024.
 pub record Question-file (s : Bytes) (qs : List Question) : Type 0 where
   pub bytes : s ≡ file-bytes qs
   pub each : All Proper qs
   pub few : length qs ≤ 1024
 
+-- the bytes of the buffer that a seek over an accepted image is lent for its key: a length byte and a key of at most 64
+abbrev pub found-size : ℕ
+found-size = 65
+
 -- ---- ask, the walk and the check
 
 -- A question file is taken if ask refuses nothing.
 abbrev pub Taken : Bytes → Bytes → Bytes → Type 0
 Taken b file out = (n : ℕ) × (ask b file out .answer ≡ written n)
+
+-- the reply that ask writes for a file of one question alone
+abbrev pub reply-alone : Bytes → Question → Bytes → Reply
+reply-alone b q out = reply-at 0 (ask b (alone q) out .final)
 
 -- The walk over an image with these leaves stands at the leaf whose number is the place, and goes to the next;
 -- at the leaf count it is done, and stays there; a place beyond is refused with 17.
