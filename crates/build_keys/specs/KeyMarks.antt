@@ -116,11 +116,11 @@ not-below d m h = ap not (le-ltb d m h)
 below : (d m : ℕ) → d < m → not (ltb d m) ≡ false
 below d m h = ap not (lt-ltb d m h)
 
--- an entry is a leaf on no level before the leaf's
-leaf-at : (p q n d : ℕ) → d < cut-length (pred p) q n → not (continues-at p q n d) ≡ not (ltb d (leaf-level (pred p) q n))
-leaf-at p q n d h = go (eqb q n) refl (ltb d (leaf-level (pred p) q n)) refl
+-- a branch continues above the level of the leaf
+pub continues-above : (p q n d : ℕ) → d < cut-length (pred p) q n → continues-at p q n d ≡ ltb d (leaf-level (pred p) q n)
+continues-above p q n d h = go (eqb q n) refl (ltb d (leaf-level (pred p) q n)) refl
   where
-    go : (b : Bool) → eqb q n ≡ b → (x : Bool) → ltb d (leaf-level (pred p) q n) ≡ x → not (continues-at p q n d) ≡ not x
+    go : (b : Bool) → eqb q n ≡ b → (x : Bool) → ltb d (leaf-level (pred p) q n) ≡ x → continues-at p q n d ≡ x
     go true e true g = rw e
     go true e false g =
         let z : q ≡ n = eqb-true q n e in
@@ -148,7 +148,7 @@ module _ (l : Levels) (k : Key) (b d : ℕ) (e : b ≡ pred (k .first)) (f : d �
   leaves-are : listed-leaves l k ≡ blank (max b (l .lo)) (min d (l .hi) - max b (l .lo)) ++ cond (among l d) (emission d true ∷ []) []
   leaves-are =
       let u : ℕ → Bool = λ i. not (ltb i d) in
-      key-same (l .lo) (l .hi) (λ i. not (continues-at (k .first) (k .next) (k .len) i)) u true (pred (k .first)) (k .next) (k .len) (λ i g. leaf-at (k .first) (k .next) (k .len) i g ∙ ap (λ (j : ℕ). not (ltb i j)) level-is)
+      key-same (l .lo) (l .hi) (λ i. not (continues-at (k .first) (k .next) (k .len) i)) u true (pred (k .first)) (k .next) (k .len) (λ i g. ap not (continues-above (k .first) (k .next) (k .len) i g ∙ ap (ltb i) level-is))
       ∙ ap (λ (i : ℕ). key-emissions (l .lo) (l .hi) u true i (k .next) (k .len)) (sym e)
       ∙ key-run (l .lo) (l .hi) u true b (k .next) (k .len) h (λ z. not-below (k .len) d (omega (arith, f, level-exact b (k .next) (k .len) z)))
       ∙ ap (λ (i : ℕ). consecutive u (max b (l .lo)) (min (suc i) (l .hi) - max b (l .lo))) (sym f)

@@ -1,14 +1,13 @@
 // A key's entries: a branch on each level of its cut key that the keys before have not made, and the exact leaf; and their labels in S-Labels.
 ghost use mathlib.Core.Path.{_≡_};
-ghost use Prim.Native.Nat.{_<_};
 ghost use lib.ListN.{length};
 ghost use Rattle.build_laws.specs.LevelEntries.{pred};
-ghost use Rattle.build_laws.specs.NeighbourLeaves.{cut-length};
-ghost use Rattle.build_laws.specs.KeyEntries.{continues-at};
+ghost use Rattle.build_laws.specs.PassEmissions.{Key-numbers};
 ghost use Rattle.build_laws.specs.BytePass.{byte-state};
 ghost use Rattle.build_laws.specs.Passes.{key-bytes, Listed-key, listed-entries, key-exact, Entries-room, write-entries};
 ghost use Rattle.build_laws.specs.declared.Kind.the-variants.{SL};
 ghost use Rattle.build_laws.specs.Limits.{counters};
+ghost use Rattle.build_keys.specs.EntryLaws.{Branch-levels};
 use super::Counters;
 use super::numbers::cut_length;
 use super::numbers::one_less;
@@ -19,15 +18,17 @@ use build_laws::Key;
 use build_laws::Levels;
 use image::EXTRA_LABEL;
 
-// Whether the branch on level d of a key continues. The cut key has c bytes.
-pub fn continues(k: Key, c: usize, d: usize) -> bool
-    requires { ⌜ (d < 64) × (c ≡ cut-length (pred (k .first)) (k .next) (k .len)) ⌝ }
-    ensures { λ r. ⌜ r ≡ continues-at (k .first) (k .next) (k .len) d ⌝ }
+// The levels of a key's branches among some levels: from the one where it leaves the key before it to the last one of its cut key.
+pub fn branch_levels(k: Key, l: Levels) -> Levels
+    requires { ⌜ Key-numbers (pred (k .first)) (k .next) (k .len) ⌝ }
+    ensures { λ r. ⌜ Branch-levels k l r ⌝ }
 {
-    if k.next == k.len {
-        return true;
+    let b = one_less(k.first);
+    let c = cut_length(b, k.next, k.len);
+    Levels {
+        lo: larger(b, l.lo),
+        hi: smaller(c, l.hi),
     }
-    d + 1 < c
 }
 
 // Whether the key is an exact leaf on one of the levels.
@@ -42,11 +43,9 @@ pub fn write_labels(out: &mut [u8], cur: &mut Counters, s: &[u8], k: Key, l: Lev
     requires { ⌜ Listed-key (now s) k × (length (now cur) ≡ counters) × Entries-room SL (listed-entries l k (key-bytes (now s) k)) (length (now out)) (now cur) ⌝ }
     ensures { λ _. ⌜ byte-state (now (out .exit)) (now (cur .exit)) ≡ write-entries SL (listed-entries l k (key-bytes (now (s .entry)) k)) (byte-state (now (out .entry)) (now (cur .entry))) ⌝ }
 {
-    let b = one_less(k.first);
-    let c = cut_length(b, k.next, k.len);
-    let end = smaller(c, l.hi);
-    let mut d = larger(b, l.lo);
-    while d < end {
+    let b = branch_levels(k, l);
+    let mut d = b.lo;
+    while d < b.hi {
         let at = k.at + d;
         put_byte(out, cur, d, s[at]);
         d = d + 1;

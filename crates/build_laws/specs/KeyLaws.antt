@@ -1,9 +1,7 @@
 -- The numbers of a key by cases. Used by the small functions of `build_keys` and by the passes.
 use Prim.Native.Nat.{ℕ, zero, suc, _+_, _-_, _≤_, _<_, max}
-use mathlib.Core.Path.{_≡_, refl, sym, ap, _∙_}
-use mathlib.Core.Bool.{true}
+use mathlib.Core.Path.{_≡_, refl, sym, _∙_}
 use native.Mathlib.Omega.{arith}
-use native.Mathlib.Numerals.{add-one}
 use lib.ListN.{length, getD, take, drop, length-drop}
 use lib.Seq.{getD-take, getD-drop, length-take-le}
 use lib.Dec.{leb, ltb, eqb}
@@ -12,8 +10,6 @@ use Rattle.spec.specs.Bytes.{Bytes, shared}
 use Rattle.bits.specs.Bits.{key}
 use Rattle.image.specs.Records.{tail-part}
 use Rattle.build_laws.specs.LevelEntries.{pred}
-use Rattle.build_laws.specs.NeighbourLeaves.{cut-length}
-use Rattle.build_laws.specs.KeyEntries.{continues-at}
 use Rattle.build_laws.specs.PassEmissions.{leaf-level}
 use Rattle.build_laws.specs.KeyRecords.{shared-behind}
 use Rattle.build_laws.specs.Passes.{key-exact}
@@ -47,14 +43,6 @@ pub behind-some : (s : Bytes) (a n m r : ℕ) → a + n < length s → m ≡ get
     → r ≡ shared (take n (take (length s - a) (drop a s))) (take m (take (length s - (a + n + 3)) (drop (a + n + 3) s))) → r ≡ shared-behind s a n
 unfolding shared-behind
 behind-some s a n m r h e f = f ∙ rw (tail-part s a, tail-part s (a + n + 3), e, lt-ltb (a + n) (length s) h)
-
--- an exact leaf's branches continue
-pub continues-exact : (p q n d : ℕ) → q ≡ n → true ≡ continues-at p q n d
-continues-exact p q n d e = rw (eq-eqb q n e)
-
--- an open leaf's do below the last
-pub continues-open : (p q n c d : ℕ) → (q ≡ n → ⊥) → c ≡ cut-length (pred p) q n → ltb (d + 1) c ≡ continues-at p q n d
-continues-open p q n c d e f = rw (ne-eqb q n e, add-one d) (ap (ltb (suc d)) f)
 
 -- a byte of a key
 pub key-byte : (s : Bytes) (a n d : ℕ) → d < n → getD s (a + d) 0 ≡ getD (key s a n) d 0

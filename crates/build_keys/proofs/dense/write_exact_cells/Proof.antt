@@ -1,72 +1,27 @@
 -- What is left of the key's entries stands from level d on; an exact leaf comes last.
-use Prim.Native.Nat.{max, ℕ, _*_, _-_, _≤_}
-use mathlib.Core.Path.{subst, _≡_, refl, sym, ap, _∙_}
-use mathlib.Core.Bool.{false}
-use mathlib.Core.List.{List, [], _∷_}
+use Prim.Native.Nat.{_-_}
+use mathlib.Core.Path.{sym, _∙_}
 use native.Mathlib.Omega.{arith}
 use borrow.Author.Needs.{needs}
-use lib.ListN.{length}
-use lib.Dec.{leb}
-use Rattle.build_laws.specs.Emissions.{Emission, emission}
-use Rattle.build_laws.specs.BitPass.{Room}
-use Rattle.build_laws.specs.BytePass.{byte-state}
-use Rattle.build_laws.specs.DenseRows.{cell, cell-step, cell-ones}
-use Rattle.build_laws.specs.PassEmissions.{Key-numbers}
-use Rattle.build_laws.specs.declared.Cell.{Cell}
-use Rattle.build_laws.specs.declared.Entry.{Entry}
 use Rattle.build_laws.specs.declared.Kind.the-variants.{DP}
-use Rattle.build_laws.specs.KeyEntries.{entry-at, exact-entry}
-use Rattle.build_laws.specs.Passes.{key-bytes, listed-entries, Entries-room, write-entries, set-at-cursor}
-use Rattle.build_keys.specs.EntryLaws.{entry-rest, entries-all, entries-more, entries-exact, entries-none, Left, left-next, left-room, left-done}
-use Rattle.build_laws.specs.Limits.{counter-max}
+use Rattle.build_keys.specs.EntryLaws.{Left, left-all, branch-room, branch-written, exact-room, exact-written, all-written}
 use Rattle.build_keys.proofs.dense.write_exact_cells.Statement.{statement}
 use Rattle.build_keys.proofs.dense.write_exact_cells.Tie as tie
 
 abbrev Inv-loop : tie.InvT-loop
-Inv-loop out₀ cur₀ s k l b c end d₀ out cur d = (d₀ ≤ d) × (d ≤ max end d₀) × (length out ≡ length out₀) × Left DP (8 * length out₀) (entry-rest s k l d end) (byte-state out cur) (write-entries DP (listed-entries l k (key-bytes s k)) (byte-state out₀ cur₀))
+Inv-loop out₀ cur₀ s k l b d₀ out cur d = Left DP s k l b out₀ cur₀ out cur d
 
 abbrev μ-loop : tie.MeasureT-loop
-μ-loop out₀ cur₀ s k l b c end d₀ out cur d = end - d
+μ-loop out₀ cur₀ s k l b d₀ out cur d = b .hi - d
 
-one-less-requires : tie.Need-one-less-requires Inv-loop μ-loop
-one-less-requires c κs = search needs
-
-cut-length-requires : tie.Need-cut-length-requires Inv-loop μ-loop
-cut-length-requires c κs = subst (λ (p : ℕ). Key-numbers p (c .before .before .before .args .k .next) (c .before .before .before .args .k .len)) (sym (c .one-less .ensures)) (c .before .before .before .pre .0 .numbers)
-
-smaller-requires : tie.Need-smaller-requires Inv-loop μ-loop
-smaller-requires c κs = search needs
-
-larger-requires : tie.Need-larger-requires Inv-loop μ-loop
-larger-requires c κs = search needs
+branch-levels-requires : tie.Need-branch-levels-requires Inv-loop μ-loop
+branch-levels-requires c κs = search needs
 
 loop-holds : tie.Need-loop-holds Inv-loop μ-loop
-loop-holds c =
-    let pre = c .before .before .before .before .before .before .pre in
-    let a = c .before .before .before .before .before .before .args in
-    let e = entries-all (a .s .now) (a .k) (a .l) (pre .0 .within) _ _ _ _ (c .before .before .before .one-less .ensures) (c .before .before .cut-length .ensures .0) (c .before .smaller .ensures) (c .larger .ensures) in (
-      omega arith,
-      omega arith,
-      refl,
-      record {
-        run = ap (λ (es : List (Emission Entry)). write-entries DP es (byte-state (a .out .now) (a .cur .now))) e;
-        room = subst (λ (es : List (Emission Entry)). Entries-room DP es (length (a .out .now)) (a .cur .now)) (sym e) (pre .2);
-      },
-    )
+loop-holds c = left-all (c .before .before .before .pre .0) (c .branch-levels .ensures) (c .before .before .before .pre .2)
 
 put-cell-requires : tie.Need-put-cell-requires Inv-loop μ-loop
-put-cell-requires c κs =
-    let a = c .before .before .before .before .before .before .before .before .before .before .before .args in
-    let k = a .k in
-    let l = c .before .before .before .before .loop in
-    let x = entry-at (k .first) (k .next) (key-bytes (a .s .now) k) (l .d) in
-    let e = entries-more (a .s .now) k (a .l) (c .before .before .before .before .before .before .before .before .before .before .before .pre .0 .within) (l .d) (c .before .before .before .before .before .before .smaller .result) (c .before .before .before .loop-test .taken) in
-    let q : cell (leb (k .first) (l .d)) false 0 ≡ cell (leb (k .first) (l .d)) false 0 = refl in (
-      omega arith,
-      omega arith,
-      subst (λ (z : Cell). Room cell-step (cell-ones 1) (8 * length (l .out)) counter-max (emission (l .d) z ∷ []) (l .cur)) (sym q)
-          (left-room DP (8 * length (a .out .now)) (length (l .out)) (l .d) x x _ (byte-state (l .out) (l .cur)) _ refl (ap (λ (n : ℕ). 8 * n) (sym (l .inv .2))) (rw e at (l .inv .3))),
-    )
+put-cell-requires c κs = (omega arith, omega arith, branch-room (c .before .before .before .before .before .loop .inv) (c .before .before .before .if1 .taken))
 
 add-d : tie.Need-add-d Inv-loop μ-loop
 add-d c = search needs
@@ -75,51 +30,25 @@ loop-less : tie.Need-loop-less Inv-loop μ-loop
 loop-less c = search needs
 
 loop-again : tie.Need-loop-again Inv-loop μ-loop
-loop-again c =
-    let a = c .before .before .before .before .before .before .before .before .before .before .before .before .before .before .args in
-    let k = a .k in
-    let l = c .before .before .before .before .before .before .before .loop in
-    let x = entry-at (k .first) (k .next) (key-bytes (a .s .now) k) (l .d) in
-    let e = entries-more (a .s .now) k (a .l) (c .before .before .before .before .before .before .before .before .before .before .before .before .before .before .pre .0 .within) (l .d) (c .before .before .before .before .before .before .before .before .before .smaller .result) (c .before .before .before .before .before .before .loop-test .taken) in
-    let q : cell (leb (k .first) (l .d)) false 0 ≡ cell (leb (k .first) (l .d)) false 0 = refl in (
-      omega arith,
-      omega arith,
-      omega (arith, c .before .before .put-cell .kept .0, l .inv .2),
-      left-next DP (8 * length (a .out .now)) (l .d) x x _ (byte-state (l .out) (l .cur)) _ _ refl (c .before .before .put-cell .ensures ∙ ap (λ (z : Cell). set-at-cursor cell-step (cell-ones 1) (emission (l .d) z) (byte-state (l .out) (l .cur))) q) (rw e at (l .inv .3)),
-    )
+loop-again c = branch-written (c .before .before .before .before .before .before .before .before .loop .inv) (c .before .before .before .before .before .before .if1 .taken) (c .before .before .put-cell .kept .0) (c .before .before .put-cell .ensures)
 
 has-exact-requires : tie.Need-has-exact-requires Inv-loop μ-loop
 has-exact-requires c κs = search needs
 
 put-cell-requires-2 : tie.Need-put-cell-requires-2 Inv-loop μ-loop
-put-cell-requires-2 c κs =
-    let a = c .before .before .before .before .before .before .before .before .before .before .before .before .args in
-    let k = a .k in
-    let l = c .before .before .before .before .before .loop in
-    let e = entries-exact (a .s .now) k (a .l) (c .before .before .before .before .before .before .before .before .before .before .before .before .pre .0 .within) (l .d) (c .before .before .before .before .before .before .before .smaller .result) (c .before .before .before .before .loop-test .left) (sym (c .before .before .before .has-exact .ensures) ∙ c .before .before .if1 .taken) in
-    (omega arith, omega arith, left-room DP (8 * length (a .out .now)) (length (l .out)) (k .len) exact-entry exact-entry [] (byte-state (l .out) (l .cur)) _ refl (ap (λ (n : ℕ). 8 * n) (sym (l .inv .2))) (rw e at (l .inv .3)))
+put-cell-requires-2 c κs = (omega arith, omega arith, exact-room (c .before .before .before .before .before .before .loop .inv) (c .before .before .before .before .if1 .left) (sym (c .before .before .before .has-exact .ensures) ∙ c .before .before .if2 .taken))
 
 same-length : tie.Need-same-length Inv-loop μ-loop
 same-length c = search needs
 
 returns : tie.Need-returns Inv-loop μ-loop
-returns c =
-    let a = c .before .before .before .before .before .before .before .before .before .before .before .before .before .before .before .args in
-    let k = a .k in
-    let l = c .before .before .before .before .before .before .before .before .loop in
-    let e = entries-exact (a .s .now) k (a .l) (c .before .before .before .before .before .before .before .before .before .before .before .before .before .before .before .pre .0 .within) (l .d) (c .before .before .before .before .before .before .before .before .before .before .smaller .result) (c .before .before .before .before .before .before .before .loop-test .left) (sym (c .before .before .before .before .before .before .has-exact .ensures) ∙ c .before .before .before .before .before .if1 .taken) in
-    left-done DP (8 * length (a .out .now)) _ _ (left-next DP (8 * length (a .out .now)) (k .len) exact-entry exact-entry [] (byte-state (l .out) (l .cur)) _ _ refl (c .before .before .put-cell2 .ensures) (rw e at (l .inv .3)))
+returns c = exact-written (c .before .before .before .before .before .before .before .before .before .loop .inv) (c .before .before .before .before .before .before .before .if1 .left) (sym (c .before .before .before .before .before .before .has-exact .ensures) ∙ c .before .before .before .before .before .if2 .taken) (c .before .before .put-cell2 .ensures)
 
 same-length-2 : tie.Need-same-length-2 Inv-loop μ-loop
 same-length-2 c = search needs
 
 returns-2 : tie.Need-returns-2 Inv-loop μ-loop
-returns-2 c =
-    let a = c .before .before .before .before .before .before .before .before .before .before .args in
-    let k = a .k in
-    let l = c .before .before .before .loop in
-    let e = entries-none (a .s .now) k (a .l) (c .before .before .before .before .before .before .before .before .before .before .pre .0 .within) (l .d) (c .before .before .before .before .before .smaller .result) (c .before .before .loop-test .left) (sym (c .before .has-exact .ensures) ∙ c .if1 .left) in
-    left-done DP (8 * length (a .out .now)) (byte-state (l .out) (l .cur)) _ (rw e at (l .inv .3))
+returns-2 c = all-written (c .before .before .before .before .loop .inv) (c .before .before .if1 .left) (sym (c .before .has-exact .ensures) ∙ c .if2 .left)
 
 pub write-exact-cells-spec : {M : Type 1} → statement M
 write-exact-cells-spec =
@@ -127,10 +56,7 @@ write-exact-cells-spec =
     (tie.spec
     Inv-loop
     μ-loop
-    one-less-requires
-    cut-length-requires
-    smaller-requires
-    larger-requires
+    branch-levels-requires
     loop-holds
     put-cell-requires
     add-d

@@ -1,68 +1,36 @@
 -- What is left of the key's entries stands from level d on; an exact leaf comes last.
-use Prim.Native.Nat.{max, ℕ, _-_, _≤_}
-use mathlib.Core.Path.{subst, _≡_, refl, sym, ap, _∙_}
-use mathlib.Core.List.{List, []}
+use Prim.Native.Nat.{ℕ, _-_}
+use mathlib.Core.Path.{sym, ap, _∙_}
 use native.Mathlib.Omega.{arith}
 use borrow.Author.Needs.{needs}
-use lib.ListN.{length}
-use Rattle.build_laws.specs.Emissions.{Emission, emission}
+use Rattle.build_laws.specs.Emissions.{emission}
 use Rattle.build_laws.specs.BytePass.{byte-state, put-byte}
-use Rattle.build_laws.specs.PassEmissions.{Key-numbers}
-use Rattle.build_laws.specs.declared.Entry.{Entry}
 use Rattle.build_laws.specs.declared.Kind.the-variants.{SL}
-use Rattle.build_laws.specs.KeyEntries.{entry-at, exact-entry}
-use Rattle.build_laws.specs.Passes.{key-bytes, listed-entries, Entries-room, write-entries}
 use Rattle.build_laws.specs.KeyLaws.{key-byte}
-use Rattle.build_keys.specs.EntryLaws.{entry-rest, entries-all, entries-more, entries-exact, entries-none, Left, left-next, left-room, left-done}
+use Rattle.build_keys.specs.EntryLaws.{Left, left-all, branch-room, branch-written, exact-room, exact-written, all-written}
 use Rattle.build_keys.proofs.entries.write_labels.Statement.{statement}
 use Rattle.build_keys.proofs.entries.write_labels.Tie as tie
 
 abbrev Inv-loop : tie.InvT-loop
-Inv-loop out₀ cur₀ s k l b c end d₀ out cur d = (d₀ ≤ d) × (d ≤ max end d₀) × (length out ≡ length out₀) × Left SL (length out₀) (entry-rest s k l d end) (byte-state out cur) (write-entries SL (listed-entries l k (key-bytes s k)) (byte-state out₀ cur₀))
+Inv-loop out₀ cur₀ s k l b d₀ out cur d = Left SL s k l b out₀ cur₀ out cur d
 
 abbrev μ-loop : tie.MeasureT-loop
-μ-loop out₀ cur₀ s k l b c end d₀ out cur d = end - d
+μ-loop out₀ cur₀ s k l b d₀ out cur d = b .hi - d
 
-one-less-requires : tie.Need-one-less-requires Inv-loop μ-loop
-one-less-requires c κs = search needs
-
-cut-length-requires : tie.Need-cut-length-requires Inv-loop μ-loop
-cut-length-requires c κs = subst (λ (p : ℕ). Key-numbers p (c .before .before .before .args .k .next) (c .before .before .before .args .k .len)) (sym (c .one-less .ensures)) (c .before .before .before .pre .0 .numbers)
-
-smaller-requires : tie.Need-smaller-requires Inv-loop μ-loop
-smaller-requires c κs = search needs
-
-larger-requires : tie.Need-larger-requires Inv-loop μ-loop
-larger-requires c κs = search needs
+branch-levels-requires : tie.Need-branch-levels-requires Inv-loop μ-loop
+branch-levels-requires c κs = search needs
 
 loop-holds : tie.Need-loop-holds Inv-loop μ-loop
-loop-holds c =
-    let pre = c .before .before .before .before .before .before .pre in
-    let a = c .before .before .before .before .before .before .args in
-    let e = entries-all (a .s .now) (a .k) (a .l) (pre .0 .within) _ _ _ _ (c .before .before .before .one-less .ensures) (c .before .before .cut-length .ensures .0) (c .before .smaller .ensures) (c .larger .ensures) in (
-      omega arith,
-      omega arith,
-      refl,
-      record {
-        run = ap (λ (es : List (Emission Entry)). write-entries SL es (byte-state (a .out .now) (a .cur .now))) e;
-        room = subst (λ (es : List (Emission Entry)). Entries-room SL es (length (a .out .now)) (a .cur .now)) (sym e) (pre .2);
-      },
-    )
+loop-holds c = left-all (c .before .before .before .pre .0) (c .branch-levels .ensures) (c .before .before .before .pre .2)
 
 add-at : tie.Need-add-at Inv-loop μ-loop
-add-at c = omega (arith, c .before .loop-test .taken, c .before .before .before .before .smaller .ensures, c .before .before .before .before .before .cut-length .ensures .1, c .before .before .before .before .before .before .before .before .before .pre .0 .within)
+add-at c = search needs
 
 shared-slice-read-put-byte : tie.Need-shared-slice-read-put-byte Inv-loop μ-loop
-shared-slice-read-put-byte c = omega (arith, c .before .before .before .before .loop-test .taken, c .before .before .before .before .before .before .before .smaller .ensures, c .before .before .before .before .before .before .before .before .cut-length .ensures .1, c .before .before .before .before .before .before .before .before .before .before .before .before .pre .0 .within)
+shared-slice-read-put-byte c = search needs
 
 put-byte-requires : tie.Need-put-byte-requires Inv-loop μ-loop
-put-byte-requires c κs =
-    let a = c .before .before .before .before .before .before .before .before .before .before .before .before .args in
-    let k = a .k in
-    let l = c .before .before .before .before .before .loop in
-    let x = entry-at (k .first) (k .next) (key-bytes (a .s .now) k) (l .d) in
-    let e = entries-more (a .s .now) k (a .l) (c .before .before .before .before .before .before .before .before .before .before .before .before .pre .0 .within) (l .d) (c .before .before .before .before .before .before .before .smaller .result) (c .before .before .before .before .loop-test .taken) in
-    left-room SL (length (a .out .now)) (length (l .out)) (l .d) x x _ (byte-state (l .out) (l .cur)) _ refl (sym (l .inv .2)) (rw e at (l .inv .3))
+put-byte-requires c κs = branch-room (c .before .before .before .before .before .before .loop .inv) (c .before .before .before .before .if1 .taken)
 
 add-d : tie.Need-add-d Inv-loop μ-loop
 add-d c = search needs
@@ -72,50 +40,28 @@ loop-less c = search needs
 
 loop-again : tie.Need-loop-again Inv-loop μ-loop
 loop-again c =
-    let a = c .before .before .before .before .before .before .before .before .before .before .before .before .before .before .before .args in
-    let k = a .k in
-    let l = c .before .before .before .before .before .before .before .before .loop in
-    let x = entry-at (k .first) (k .next) (key-bytes (a .s .now) k) (l .d) in
-    let e = entries-more (a .s .now) k (a .l) (c .before .before .before .before .before .before .before .before .before .before .before .before .before .before .before .pre .0 .within) (l .d) (c .before .before .before .before .before .before .before .before .before .before .smaller .result) (c .before .before .before .before .before .before .before .loop-test .taken) in
-    let b = key-byte (a .s .now) (k .at) (k .len) (l .d) (omega (arith, c .before .before .before .before .before .before .before .loop-test .taken, c .before .before .before .before .before .before .before .before .before .before .smaller .ensures, c .before .before .before .before .before .before .before .before .before .before .before .cut-length .ensures .1)) in (
-      omega arith,
-      omega arith,
-      omega (arith, c .before .before .put-byte .kept .0, l .inv .2),
-      left-next SL (length (a .out .now)) (l .d) x x _ (byte-state (l .out) (l .cur)) _ _ refl (c .before .before .put-byte .ensures ∙ ap (λ (y : ℕ). put-byte (emission (l .d) y) (byte-state (l .out) (l .cur))) b) (rw e at (l .inv .3)),
-    )
+    let l = c .before .before .before .before .before .before .before .before .before .loop in
+    let k = c .before .before .before .before .before .before .before .before .before .before .before .before .before .args .k in
+    let b = key-byte (c .before .before .before .before .before .before .before .before .before .before .before .before .before .args .s .now) (k .at) (k .len) (l .d) (omega (arith, c .before .before .before .before .before .before .before .if1 .taken, l .inv .levels .within)) in
+    branch-written (l .inv) (c .before .before .before .before .before .before .before .if1 .taken) (c .before .before .put-byte .kept .0) (c .before .before .put-byte .ensures ∙ ap (λ (y : ℕ). put-byte (emission (l .d) y) (byte-state (l .out) (l .cur))) b)
 
 has-exact-requires : tie.Need-has-exact-requires Inv-loop μ-loop
 has-exact-requires c κs = search needs
 
 put-byte-requires-2 : tie.Need-put-byte-requires-2 Inv-loop μ-loop
-put-byte-requires-2 c κs =
-    let a = c .before .before .before .before .before .before .before .before .before .before .before .before .args in
-    let k = a .k in
-    let l = c .before .before .before .before .before .loop in
-    let e = entries-exact (a .s .now) k (a .l) (c .before .before .before .before .before .before .before .before .before .before .before .before .pre .0 .within) (l .d) (c .before .before .before .before .before .before .before .smaller .result) (c .before .before .before .before .loop-test .left) (sym (c .before .before .before .has-exact .ensures) ∙ c .before .before .if1 .taken) in
-    left-room SL (length (a .out .now)) (length (l .out)) (k .len) exact-entry exact-entry [] (byte-state (l .out) (l .cur)) _ refl (sym (l .inv .2)) (rw e at (l .inv .3))
+put-byte-requires-2 c κs = exact-room (c .before .before .before .before .before .before .loop .inv) (c .before .before .before .before .if1 .left) (sym (c .before .before .before .has-exact .ensures) ∙ c .before .before .if2 .taken)
 
 same-length : tie.Need-same-length Inv-loop μ-loop
 same-length c = search needs
 
 returns : tie.Need-returns Inv-loop μ-loop
-returns c =
-    let a = c .before .before .before .before .before .before .before .before .before .before .before .before .before .before .before .args in
-    let k = a .k in
-    let l = c .before .before .before .before .before .before .before .before .loop in
-    let e = entries-exact (a .s .now) k (a .l) (c .before .before .before .before .before .before .before .before .before .before .before .before .before .before .before .pre .0 .within) (l .d) (c .before .before .before .before .before .before .before .before .before .before .smaller .result) (c .before .before .before .before .before .before .before .loop-test .left) (sym (c .before .before .before .before .before .before .has-exact .ensures) ∙ c .before .before .before .before .before .if1 .taken) in
-    left-done SL (length (a .out .now)) _ _ (left-next SL (length (a .out .now)) (k .len) exact-entry exact-entry [] (byte-state (l .out) (l .cur)) _ _ refl (c .before .before .put-byte2 .ensures) (rw e at (l .inv .3)))
+returns c = exact-written (c .before .before .before .before .before .before .before .before .before .loop .inv) (c .before .before .before .before .before .before .before .if1 .left) (sym (c .before .before .before .before .before .before .has-exact .ensures) ∙ c .before .before .before .before .before .if2 .taken) (c .before .before .put-byte2 .ensures)
 
 same-length-2 : tie.Need-same-length-2 Inv-loop μ-loop
 same-length-2 c = search needs
 
 returns-2 : tie.Need-returns-2 Inv-loop μ-loop
-returns-2 c =
-    let a = c .before .before .before .before .before .before .before .before .before .before .args in
-    let k = a .k in
-    let l = c .before .before .before .loop in
-    let e = entries-none (a .s .now) k (a .l) (c .before .before .before .before .before .before .before .before .before .before .pre .0 .within) (l .d) (c .before .before .before .before .before .smaller .result) (c .before .before .loop-test .left) (sym (c .before .has-exact .ensures) ∙ c .if1 .left) in
-    left-done SL (length (a .out .now)) (byte-state (l .out) (l .cur)) _ (rw e at (l .inv .3))
+returns-2 c = all-written (c .before .before .before .before .loop .inv) (c .before .before .if1 .left) (sym (c .before .has-exact .ensures) ∙ c .if2 .left)
 
 pub write-labels-spec : {M : Type 1} → statement M
 write-labels-spec =
@@ -123,10 +69,7 @@ write-labels-spec =
     (tie.spec
     Inv-loop
     μ-loop
-    one-less-requires
-    cut-length-requires
-    smaller-requires
-    larger-requires
+    branch-levels-requires
     loop-holds
     add-at
     shared-slice-read-put-byte
