@@ -3,19 +3,19 @@
 use Prim.Native.Nat.{ℕ, _+_, _/_, _<_, _≤_}
 use mathlib.Core.Path.{_≡_}
 use mathlib.Core.Bool.{true, false}
-use mathlib.Core.List.{List, [], _∷_}
+use mathlib.Core.List.{List, [], _∷_, _++_}
 use mathlib.Core.Option.{none, some}
-use mathlib.Core.Logic.{_↔_}
+use mathlib.Core.Logic.{_↔_, _⊎_}
 use lib.ListN.{length, getD, take, drop}
-use Rattle.spec.specs.Bytes.{Bytes, all, count, begins, clear}
-use Rattle.spec.specs.Keys.{below, within, keys, parse-keys, keys-of}
+use Rattle.spec.specs.Bytes.{Bytes, all, count, begins, clear, letter}
+use Rattle.spec.specs.Keys.{below, within, write-keys, keys, parse-keys, keys-of}
 use Rattle.spec.specs.Leaves.{Leaf, leaves, reals}
 use Rattle.spec.specs.Image.{Settings, image}
 use Rattle.spec.specs.Frame.{has-header, rows-of, read-bodies, named, parts, read-settings}
 use Rattle.spec.specs.Nodes.{exact-slot, nodes-of, levels-of, read-nodes, read-leaves}
 use Rattle.spec.specs.Trie.{builders-trie}
 use Rattle.spec.specs.Rules.{Rule, rule-number, applies, rule-says}
-use Rattle.spec.specs.Questions.{Question, QP, QS, QB, QR, QC, Reply, reply, reply-bytes, replies, reply-at, taken, parse-questions, questions-of, question-at}
+use Rattle.spec.specs.Questions.{Question, QP, QS, QB, QR, QC, Reply, reply, reply-bytes, replies, reply-at, questions-of, question-at}
 use Rattle.spec.specs.Answer.{written, refused, refusal-weight, Outcome, success}
 use Rattle.spec.specs.Build.{in-range, trie-entries, image-length, build}
 use Rattle.spec.specs.Check.{header-valid, spare-clear, tables-valid, slots-valid, accepted, check}
@@ -25,12 +25,10 @@ use Rattle.spec.specs.Walk.{open-walk, next}
 use Rattle.spec.specs.WalkRecords.{record-size, records-from, walk-records}
 use Rattle.spec.specs.OneQuestion.{Answered, replied, ask-one, reply-number, reply-rule, key-written}
 use Rattle.spec.specs.Print.{longest-input, listing, print}
-use Rattle.theory.specs.Terms.{In, Is-bytes, Key-list, most-entries, key-bytes, alone, Question-file, found-size, Taken, reply-alone, Walk-correct, From, Judged-alike}
+use Rattle.theory.specs.Terms.{All, In, Is-bytes, Ascending, Key-list, most-entries, key-bytes, file-bytes, alone, Question-file, found-size, Taken, reply-alone, Walk-correct, From, Judged-alike}
 use Rattle.spec.specs.Build as Build
 use Rattle.spec.specs.Check as Check
-use Rattle.spec.specs.Keys as Keys
 use Rattle.spec.specs.OneQuestion as OneQuestion
-use Rattle.spec.specs.Questions as Questions
 use Rattle.spec.specs.Walk as Walk
 
 -- ---- the words
@@ -109,16 +107,49 @@ Agree (l ∷ ls) (m ∷ ms) = ((l .cut ≡ m .cut) × (l .exact ≡ m .exact) ×
 
 -- ---- demand 1
 
+-- The records of the keys ks stand at the front of a key list and are taken: each has the mark "KY", a length from 1 to 64 and a key, keys strictly ascending, at most 65,535 of them. The bytes `rest` stand behind them.
+-- Where `rest` is empty, the whole list is taken; of bytes that is `Key-list`.
+pub record Records-taken (list : Bytes) (ks : List Bytes) (rest : Bytes) : Type 0 where
+  pub bytes : list ≡ write-keys ks ++ rest
+  pub each : All (λ k. From 1 64 (length k)) ks
+  pub up : Ascending ks
+  pub few : length ks ≤ 65535
+
+-- The bytes behind them are judged as the next record, to which 4 does not apply;
+pub record Passes-4 (list : Bytes) (ks : List Bytes) (rest : Bytes) : Type 0 where
+  pub before : Records-taken list ks rest
+  pub room : length ks < 65535
+
+-- and they begin with the mark and a length n, to which neither 1 nor 2 applies.
+pub record Passes-2 (list : Bytes) (ks : List Bytes) (n : ℕ) (rest : Bytes) : Type 0 where
+  pub before : Passes-4 list ks (letter "K" ∷ letter "Y" ∷ n ∷ rest)
+  pub size : From 1 64 n
+
+-- The number that turns a key list down, "record by record": the records of ks are taken, and the next one is not.
+pub data List-refusal (list : Bytes) : ℕ → Type 0 where
+  -- "4, a record follows 65,535 others;
+  record-too-many : (ks : List Bytes) (b : ℕ) (rest : Bytes) → Records-taken list ks (b ∷ rest) → length ks ≡ 65535 → List-refusal list 4
+  -- 1, fewer than three bytes
+  record-short : (ks : List Bytes) (rest : Bytes) → Passes-4 list ks rest → From 1 2 (length rest) → List-refusal list 1
+  -- or a wrong mark;
+  record-unmarked : (ks : List Bytes) (a b n : ℕ) (rest : Bytes) → Passes-4 list ks (a ∷ b ∷ n ∷ rest) → (a ≡ letter "K" → b ≡ letter "Y" → ⊥) → List-refusal list 1
+  -- 2, length 0 or over 64;
+  record-length : (ks : List Bytes) (n : ℕ) (rest : Bytes) → Passes-4 list ks (letter "K" ∷ letter "Y" ∷ n ∷ rest) → (n ≡ 0) ⊎ (64 < n) → List-refusal list 2
+  -- 1, key bytes missing;
+  record-cut-off : (ks : List Bytes) (n : ℕ) (rest : Bytes) → Passes-2 list ks n rest → length rest < n → List-refusal list 1
+  -- 3, key not above the last."
+  record-not-above : (ks : List Bytes) (last key rest : Bytes) → Passes-2 list (ks ++ (last ∷ [])) (length key) (key ++ rest) → below last key ≡ false → List-refusal list 3
+
 -- The number that the order of checks names for the first call of build: 5, a setting out of range; then the records' 1 to 4.
 pub data Length-refusal (list : Bytes) (st : Settings) : ℕ → Type 0 where
   setting-refused : in-range st ≡ false → Length-refusal list st 5
-  record-refused : {r : ℕ} → in-range st ≡ true → parse-keys list ≡ Keys.refused r → From 1 4 r → Length-refusal list st r
+  record-refused : {r : ℕ} → in-range st ≡ true → List-refusal list r → Length-refusal list st r
 
 -- for the second: those; then 8, the stated length is not the image's; then 7, the image is longer than the output
 pub data Build-refusal (list : Bytes) (st : Settings) (stated : ℕ) (out : Bytes) : ℕ → Type 0 where
   judged-again : {r : ℕ} → Length-refusal list st r → Build-refusal list st stated out r
-  length-wrong : in-range st ≡ true → (ks : List Bytes) → parse-keys list ≡ keys ks → (stated ≡ length (image st (leaves (st .hash-width) (st .real-width) ks)) → ⊥) → Build-refusal list st stated out 8
-  image-too-long : in-range st ≡ true → (ks : List Bytes) → parse-keys list ≡ keys ks → stated ≡ length (image st (leaves (st .hash-width) (st .real-width) ks))
+  length-wrong : in-range st ≡ true → (ks : List Bytes) → Records-taken list ks [] → (stated ≡ length (image st (leaves (st .hash-width) (st .real-width) ks)) → ⊥) → Build-refusal list st stated out 8
+  image-too-long : in-range st ≡ true → (ks : List Bytes) → Records-taken list ks [] → stated ≡ length (image st (leaves (st .hash-width) (st .real-width) ks))
       → length out < length (image st (leaves (st .hash-width) (st .real-width) ks)) → Build-refusal list st stated out 7
 
 -- The stages of the check: the bodies of the image's records are bs, and none of the numbers from 11 up to the stage's own applies. What a number asks is its test in crate `spec`.
@@ -164,11 +195,58 @@ pub data Check-refusal (b : Bytes) : ℕ → Type 0 where
   -- "16, an exact leaf's slot not zero, or a suffix bit set past a key's 64th byte." Order 4: of an open leaf's slot the real bits are meant.
   slot-set : (bs : List Bytes) → Passes-15 b bs → slots-valid (read-settings b .hash-width) 0 (levels-of (nodes-of (parts b (named bs)))) ≡ false → Check-refusal b 16
 
+-- a question's keys have at most 64 bytes, and its lower bound is not above the upper
+abbrev pub Question-fits : Question → Type 0
+Question-fits (QP k) = length k ≤ 64
+Question-fits (QS start) = length start ≤ 64
+Question-fits (QB stem) = length stem ≤ 64
+Question-fits (QR lo hi) = (length lo ≤ 64) × (length hi ≤ 64) × (below hi lo ≡ false)
+Question-fits (QC lo hi) = (length lo ≤ 64) × (length hi ≤ 64) × (below hi lo ≡ false)
+
+-- The questions qs stand at the front of a question file and are taken, at most 1,024 of them. The bytes `rest` stand behind them. Where `rest` is empty, the whole file is taken; of bytes that is `Question-file`.
+pub record Questions-taken (file : Bytes) (qs : List Question) (rest : Bytes) : Type 0 where
+  pub bytes : file ≡ file-bytes qs ++ rest
+  pub each : All Question-fits qs
+  pub few : length qs ≤ 1024
+
+-- The bytes behind them are judged as the next question, to which 24 does not apply.
+pub record Passes-24 (file : Bytes) (qs : List Question) (rest : Bytes) : Type 0 where
+  pub before : Questions-taken file qs rest
+  pub room : length qs < 1024
+
+-- the second letters of the marks of questions with one key, and of those with two bounds
+abbrev pub one-key-letters : List ℕ
+one-key-letters = letter "P" ∷ letter "S" ∷ letter "B" ∷ []
+
+abbrev pub two-key-letters : List ℕ
+two-key-letters = letter "R" ∷ letter "C" ∷ []
+
+-- The last bytes s of a question stand where a key or bound of it has to begin, and nothing before them is wrong: behind the mark, or behind a lower bound of at most 64 bytes.
+pub data Key-due : Bytes → Bytes → Type 0 where
+  behind-mark : (x : ℕ) (s : Bytes) → In x (one-key-letters ++ two-key-letters) → Key-due (letter "Q" ∷ x ∷ s) s
+  behind-bound : (x : ℕ) (lo s : Bytes) → In x two-key-letters → length lo ≤ 64 → Key-due (letter "Q" ∷ x ∷ key-bytes lo ++ s) s
+
+-- The number that turns a question file down, "by question": the questions qs are taken, and the next one is not. "Length bytes are judged before their keys' bytes."
+pub data Question-refusal (file : Bytes) : ℕ → Type 0 where
+  -- "24, it follows 1,024 others;
+  question-too-many : (qs : List Question) (b : ℕ) (rest : Bytes) → Questions-taken file qs (b ∷ rest) → length qs ≡ 1024 → Question-refusal file 24
+  -- 21, mark wrong
+  question-unmarked : (qs : List Question) (a x : ℕ) (rest : Bytes) → Passes-24 file qs (a ∷ x ∷ rest) → (a ≡ letter "Q" → In x (one-key-letters ++ two-key-letters) → ⊥) → Question-refusal file 21
+  -- or bytes missing: the mark's second, a length byte, or a key's;
+  question-short : (qs : List Question) (b : ℕ) → Passes-24 file qs (b ∷ []) → Question-refusal file 21
+  no-length : (qs : List Question) (rest : Bytes) → Passes-24 file qs rest → Key-due rest [] → Question-refusal file 21
+  key-cut-off : (qs : List Question) (rest : Bytes) (n : ℕ) (s : Bytes) → Passes-24 file qs rest → Key-due rest (n ∷ s) → n ≤ 64 → length s < n → Question-refusal file 21
+  -- 22, a length over 64;
+  length-over : (qs : List Question) (rest : Bytes) (n : ℕ) (s : Bytes) → Passes-24 file qs rest → Key-due rest (n ∷ s) → 64 < n → Question-refusal file 22
+  -- 23, lower bound above upper."
+  bounds-crossed : (qs : List Question) (x : ℕ) (lo hi rest : Bytes) → Passes-24 file qs (letter "Q" ∷ x ∷ key-bytes lo ++ key-bytes hi ++ rest) → In x two-key-letters
+      → length lo ≤ 64 → length hi ≤ 64 → below hi lo ≡ true → Question-refusal file 23
+
 -- for ask: the check's 11 to 16; then the questions' 21 to 24; then 25, replies longer than the reply buffer
 pub data Ask-refusal (b file out : Bytes) : ℕ → Type 0 where
   image-refused : {r : ℕ} → check b ≡ Check.refused r → From 11 16 r → Ask-refusal b file out r
-  question-refused : {r : ℕ} → check b ≡ accepted → parse-questions file ≡ Questions.refused r → From 21 24 r → Ask-refusal b file out r
-  replies-too-long : check b ≡ accepted → (qs : List Question) → parse-questions file ≡ taken qs → length out < length (replies (read-settings b .hash-width) (read-leaves b) qs) → Ask-refusal b file out 25
+  question-refused : {r : ℕ} → check b ≡ accepted → Question-refusal file r → Ask-refusal b file out r
+  replies-too-long : check b ≡ accepted → (qs : List Question) → Questions-taken file qs [] → length out < length (replies (read-settings b .hash-width) (read-leaves b) qs) → Ask-refusal b file out 25
 
 -- for the walk: the check's 11 to 16; then 17, the place handed in is neither a leaf of this image nor done
 pub data Walk-refusal (b : Bytes) (place : ℕ) : ℕ → Type 0 where

@@ -1,18 +1,20 @@
--- Key lists, written and read: a byte string is a key list exactly when it is the records of at most 65,535 keys of 1 to 64 bytes that ascend strictly.
+-- Key lists, written and read. A byte string is the records of at most 65,535 keys of 1 to 64 bytes that ascend strictly, or the sentences on records name the one number that turns it down;
+-- what is read from it is those keys, or that number.
 use Prim.Native.Nat.{ℕ, zero, suc, _+_, _<_, _≤_}
-use mathlib.Core.Path.{_≡_, refl, ap, _∙_}
-use mathlib.Core.Bool.{Bool, true, false, not, _&&_, _||_}
-use mathlib.Core.List.{List, [], _∷_, _++_}
-use mathlib.Core.Logic.{_↔_}
+use mathlib.Core.Path.{_≡_, refl, sym, ap, subst, _∙_}
+use mathlib.Core.Bool.{Bool, true, false}
+use mathlib.Core.List.{List, [], _∷_, _++_, append-assoc, append-nil}
+use mathlib.Core.Logic.{_↔_, _⊎_, inl, inr}
 use native.Mathlib.Omega.{arith}
 use lib.ListN.{length, take, drop, length-append, length-drop, take-append-drop}
 use lib.Seq.{length-take-le, take-append-seam, drop-append-seam}
 use lib.Dec.{ltb, eqb}
-use borrow.Author.Tests.{ltb-false, eqb-true, eqb-false, lt-ltb, le-ltb, ne-eqb, not-false}
+use borrow.Author.Tests.{ltb-true, ltb-false, eqb-true, eqb-false, lt-ltb, le-ltb, eq-eqb, ne-eqb}
 use Rattle.spec.specs.Bytes.{Bytes}
 use Rattle.spec.specs.Keys.{below, Parsed-keys, refused, keys, with-key, parse-records, parse-keys, write-keys}
-use Rattle.theory.specs.Terms.{Below-all, Ascending, Is-bytes, Key, Keys, Key-list}
-use Rattle.theory.specs.Lists.{or-both-false, bytes-drop, bytes-take, bytes-append, and-both}
+use Rattle.theory.specs.Terms.{All, Below-all, Ascending, From, Is-bytes, Key, Keys, Key-list}
+use Rattle.theory.specs.Demands.{Records-taken, Passes-4, Passes-2, List-refusal, record-too-many, record-short, record-unmarked, record-length, record-cut-off, record-not-above}
+use Rattle.theory.specs.Lists.{all-append, all-split, all-weaken, bytes-append}
 use Rattle.theory.specs.Order.{below-trans}
 
 -- ---- ascending, key by key
@@ -22,22 +24,61 @@ abbrev Rising : Bytes → List Bytes → Type 0
 Rising last [] = Unit
 Rising last (k ∷ ks) = (below last k ≡ true) × Rising k ks
 
-rising-above : (k m : Bytes) (ks : List Bytes) → below k m ≡ true → Rising m ks → Below-all k ks
-rising-above k m [] h r = tt
-rising-above k m (o ∷ ks) h r = let t = below-trans k m o h (r .0) in (t, rising-above k o ks t (r .1))
-
-rising-ascending : (last : Bytes) (ks : List Bytes) → Rising last ks → Ascending ks
-rising-ascending last [] r = tt
-rising-ascending last (k ∷ []) r = (tt, tt)
-rising-ascending last (k ∷ m ∷ ks) r = ((r .1 .0, rising-above k m ks (r .1 .0) (r .1 .1)), rising-ascending k (m ∷ ks) (r .1))
-
 above-rising : (last : Bytes) (ks : List Bytes) → Below-all last ks → Ascending ks → Rising last ks
 above-rising last [] a u = tt
 above-rising last (k ∷ ks) a u = (a .0, above-rising k ks (u .0) (u .1))
 
--- ---- written, then read
+first-above : (ks : List Bytes) → All (λ k. From 1 64 (length k)) ks → Below-all [] ks
+unfolding below
+first-above [] q = tt
+first-above ([] ∷ ks) q = absurd (omega (arith, q .0 .0))
+first-above ((x ∷ k) ∷ ks) q = (refl, first-above ks (q .1))
 
-records-front : (f done : ℕ) (last k r : Bytes) → done < 65535 → Key k → below last k ≡ true
+-- a key above all others goes behind them
+ascending-above : (ks : List Bytes) (k : Bytes) → Ascending ks → All (λ m. below m k ≡ true) ks → Ascending (ks ++ (k ∷ []))
+ascending-above [] k u a = (tt, tt)
+ascending-above (m ∷ ks) k u a = (all-append (λ o. below m o ≡ true) ks (k ∷ []) (u .0) (a .0, tt), ascending-above ks k (u .1) (a .1))
+
+-- and above the last is above all
+above-last : (ks : List Bytes) (last k : Bytes) → Ascending (ks ++ (last ∷ [])) → below last k ≡ true → All (λ m. below m k ≡ true) (ks ++ (last ∷ []))
+above-last [] last k u h = (h, tt)
+above-last (m ∷ ks) last k u h = (below-trans m last k (last-all ks (u .0)) h, above-last ks last k (u .1) h)
+  where
+    last-all : (ks : List Bytes) → Below-all m (ks ++ (last ∷ [])) → below m last ≡ true
+    last-all [] a = a .0
+    last-all (o ∷ ks) a = last-all ks (a .1)
+
+-- the last of the keys, or `last` if there is none
+abbrev last-of : Bytes → List Bytes → Bytes
+last-of last [] = last
+last-of last (k ∷ ks) = last-of k ks
+
+last-behind : (last : Bytes) (ks : List Bytes) (k : Bytes) → last-of last (ks ++ (k ∷ [])) ≡ k
+last-behind last [] k = refl
+last-behind last (m ∷ ks) k = last-behind m ks k
+
+by-last : {A : Type 0} (ks : List Bytes) → (ks ≡ [] → A) → ((front : List Bytes) (last : Bytes) → ks ≡ front ++ (last ∷ []) → A) → A
+by-last [] f g = f refl
+by-last (k ∷ ks) f g = by-last ks (λ e. g [] k (ap (λ (z : List Bytes). k ∷ z) e)) (λ front last e. g (k ∷ front) last (ap (λ (z : List Bytes). k ∷ z) e))
+
+-- ---- records that are taken, then what stands behind them
+
+-- keys before those behind them
+abbrev with-keys : List Bytes → Parsed-keys → Parsed-keys
+with-keys [] p = p
+with-keys (k ∷ ks) p = with-key k (with-keys ks p)
+
+with-keys-refused : (ks : List Bytes) (r : ℕ) → with-keys ks (refused r) ≡ refused r
+unfolding with-key
+with-keys-refused [] r = refl
+with-keys-refused (k ∷ ks) r = ap (with-key k) (with-keys-refused ks r)
+
+with-keys-all : (ks : List Bytes) → with-keys ks (keys []) ≡ keys ks
+unfolding with-key
+with-keys-all [] = refl
+with-keys-all (k ∷ ks) = ap (with-key k) (with-keys-all ks)
+
+records-front : (f done : ℕ) (last k r : Bytes) → done < 65535 → From 1 64 (length k) → below last k ≡ true
     → parse-records (suc f) done last (75 ∷ 89 ∷ length k ∷ k ++ r) ≡ with-key k (parse-records f (suc done) k r)
 unfolding parse-records
 records-front f done last k r d q h =
@@ -46,8 +87,8 @@ records-front f done last k r d q h =
     rw (
       ne-eqb done 65535 (λ e. omega arith),
       le-ltb (suc (suc (length (k ++ r)))) 2 (omega arith),
-      ne-eqb (length k) 0 (λ e. omega (arith, q .least)),
-      le-ltb 64 (length k) (q .fits),
+      ne-eqb (length k) 0 (λ e. omega (arith, q .0)),
+      le-ltb 64 (length k) (q .1),
       two,
       le-ltb (suc (suc (length (k ++ r)))) (suc (suc (length k))) (omega arith),
       take-append-seam k r,
@@ -58,141 +99,212 @@ records-front f done last k r d q h =
       parse-records,
     )
 
-records-written : (f done : ℕ) (last : Bytes) (ks : List Bytes) → Keys ks → Rising last ks → done + length ks ≤ 65535 → length (write-keys ks) ≤ f
-    → parse-records f done last (write-keys ks) ≡ keys ks
-unfolding write-keys parse-records with-key
-records-written zero done last [] q u d h = refl
-records-written (suc f) done last [] q u d h = refl
-records-written zero done last (k ∷ ks) q u d h = absurd (omega arith)
-records-written (suc f) done last (k ∷ ks) q u d h =
-    records-front f done last k (write-keys ks) (omega arith) (q .0) (u .0)
-    ∙ ap (with-key k) (records-written f (suc done) k ks (q .1) (u .1) (omega arith) (omega (arith, length-append k (write-keys ks))))
-
--- ---- read, then written
-
--- what the records that are read say of the bytes
-record Records-read (done : ℕ) (last s : Bytes) (ks : List Bytes) : Type 0 where
-  bytes : s ≡ write-keys ks
-  each : Keys ks
-  up : Rising last ks
-  few : done + length ks ≤ 65535
-
-none-read : (done : ℕ) (last : Bytes) (ks : List Bytes) → done ≤ 65535 → keys [] ≡ keys ks → Records-read done last [] ks
+records-read : (f done : ℕ) (last : Bytes) (ks : List Bytes) (rest : Bytes) (p : Parsed-keys) (total : ℕ) → All (λ k. From 1 64 (length k)) ks → Rising last ks → done + length ks ≡ total → total ≤ 65535
+    → length (write-keys ks ++ rest) ≤ f → ((g : ℕ) → length rest ≤ g → parse-records g total (last-of last ks) rest ≡ p)
+    → parse-records f done last (write-keys ks ++ rest) ≡ with-keys ks p
 unfolding write-keys
-none-read done last ks d h =
-    let e : [] ≡ ks = cc in
-    rw (← e) (record { bytes = refl; each = tt; up = tt; few = omega arith })
+records-read f done last [] rest p total q u e d l h = let z : done ≡ total = omega arith in rw z (h f l)
+records-read zero done last (k ∷ ks) rest p total q u e d l h = absurd (omega arith)
+records-read (suc f) done last (k ∷ ks) rest p total q u e d l h =
+    let a = append-assoc k (write-keys ks) rest in
+    let n = length-append k (write-keys ks ++ rest) in
+    ap (λ (z : Bytes). parse-records (suc f) done last (75 ∷ 89 ∷ length k ∷ z)) a
+    ∙ records-front f done last k (write-keys ks ++ rest) (omega arith) (q .0) (u .0)
+    ∙ ap (with-key k) (records-read f (suc done) k ks rest p total (q .1) (u .1) (omega arith) d (omega (arith, ap length a)) h)
+
+-- What is read from a key list whose first records are taken.
+taken-read : {list : Bytes} {ks : List Bytes} {rest : Bytes} → Records-taken list ks rest → (p : Parsed-keys)
+    → ((g : ℕ) → length rest ≤ g → parse-records g (length ks) (last-of [] ks) rest ≡ p) → parse-keys list ≡ with-keys ks p
+unfolding parse-keys
+taken-read {ks = ks} {rest = rest} t p h =
+    rw (t .bytes) (records-read (length (write-keys ks ++ rest)) 0 [] ks rest p (length ks) (t .each) (above-rising [] ks (first-above ks (t .each)) (t .up)) (omega arith) (t .few) (omega arith) h)
+
+-- ---- the next record, read
+
+module _ (f done : ℕ) (last : Bytes) where
+  four-read : (b : ℕ) (s : Bytes) → done ≡ 65535 → parse-records (suc f) done last (b ∷ s) ≡ refused 4
+  unfolding parse-records
+  four-read b s e = rw (eq-eqb done 65535 e, parse-records)
+
+  short-read : (b : ℕ) (s : Bytes) → done < 65535 → length s < 2 → parse-records (suc f) done last (b ∷ s) ≡ refused 1
+  unfolding parse-records
+  short-read b s d l = rw (ne-eqb done 65535 (λ e. omega arith), lt-ltb (length s) 2 l, parse-records)
+
+  unmarked-read : (a b n : ℕ) (s : Bytes) → done < 65535 → (a ≡ 75 → b ≡ 89 → ⊥) → parse-records (suc f) done last (a ∷ b ∷ n ∷ s) ≡ refused 1
+  unfolding parse-records
+  unmarked-read a b n s d h = go (eqb a 75) refl
+    where
+      go : (t : Bool) → eqb a 75 ≡ t → parse-records (suc f) done last (a ∷ b ∷ n ∷ s) ≡ refused 1
+      go false e = rw (ne-eqb done 65535 (λ e. omega arith), le-ltb (suc (suc (length s))) 2 (omega arith), e, parse-records)
+      go true e = rw (ne-eqb done 65535 (λ e. omega arith), le-ltb (suc (suc (length s))) 2 (omega arith), e, ne-eqb b 89 (h (eqb-true a 75 e)), parse-records)
+
+  length-read : (n : ℕ) (s : Bytes) → done < 65535 → (n ≡ 0) ⊎ (64 < n) → parse-records (suc f) done last (75 ∷ 89 ∷ n ∷ s) ≡ refused 2
+  unfolding parse-records
+  length-read n s d (inl h) = rw (ne-eqb done 65535 (λ e. omega arith), le-ltb (suc (suc (length s))) 2 (omega arith), eq-eqb n 0 h, parse-records)
+  length-read n s d (inr h) = rw (ne-eqb done 65535 (λ e. omega arith), le-ltb (suc (suc (length s))) 2 (omega arith), ne-eqb n 0 (λ e. omega arith), lt-ltb 64 n h, parse-records)
+
+  cut-off-read : (n : ℕ) (s : Bytes) → done < 65535 → From 1 64 n → length s < n → parse-records (suc f) done last (75 ∷ 89 ∷ n ∷ s) ≡ refused 1
+  unfolding parse-records
+  cut-off-read n s d q h =
+      rw (ne-eqb done 65535 (λ e. omega arith), le-ltb (suc (suc (length s))) 2 (omega arith), ne-eqb n 0 (λ e. omega arith), le-ltb 64 n (q .1), lt-ltb (suc (suc (length s))) (n + 2) (omega arith), parse-records)
+
+  not-above-read : (k s : Bytes) → done < 65535 → From 1 64 (length k) → below last k ≡ false → parse-records (suc f) done last (75 ∷ 89 ∷ length k ∷ k ++ s) ≡ refused 3
+  unfolding parse-records
+  not-above-read k s d q h =
+      let n = length-append k s in
+      rw (
+        ne-eqb done 65535 (λ e. omega arith),
+        le-ltb (suc (suc (length (k ++ s)))) 2 (omega arith),
+        ne-eqb (length k) 0 (λ e. omega arith),
+        le-ltb 64 (length k) (q .1),
+        le-ltb (suc (suc (length (k ++ s)))) (length k + 2) (omega arith),
+        take-append-seam k s,
+        h,
+        parse-records,
+      )
+
+-- a number that is read at the next record is the list's
+refused-read : {list : Bytes} {ks : List Bytes} {b : ℕ} {s : Bytes} → Records-taken list ks (b ∷ s) → (r : ℕ) → ((f : ℕ) → parse-records (suc f) (length ks) (last-of [] ks) (b ∷ s) ≡ refused r) → parse-keys list ≡ refused r
+refused-read {ks = ks} {b = b} {s = s} t r h = taken-read t (refused r) go ∙ with-keys-refused ks r
+  where
+    go : (g : ℕ) → length (b ∷ s) ≤ g → parse-records g (length ks) (last-of [] ks) (b ∷ s) ≡ refused r
+    go zero l = absurd (omega arith)
+    go (suc f) l = h f
+
+-- The number of a refusal is the one that is read.
+refusal-read : {list : Bytes} {r : ℕ} → List-refusal list r → parse-keys list ≡ refused r
+refusal-read (record-too-many ks b rest t e) = refused-read t 4 (λ f. four-read f (length ks) (last-of [] ks) b rest e)
+refusal-read (record-short ks [] p h) = absurd (omega arith)
+refusal-read (record-short ks (b ∷ s) p h) = refused-read (p .before) 1 (λ f. short-read f (length ks) (last-of [] ks) b s (p .room) (omega arith))
+refusal-read (record-unmarked ks a b n rest p h) = refused-read (p .before) 1 (λ f. unmarked-read f (length ks) (last-of [] ks) a b n rest (p .room) h)
+refusal-read (record-length ks n rest p h) = refused-read (p .before) 2 (λ f. length-read f (length ks) (last-of [] ks) n rest (p .room) h)
+refusal-read (record-cut-off ks n rest p h) = refused-read (p .before .before) 1 (λ f. cut-off-read f (length ks) (last-of [] ks) n rest (p .before .room) (p .size) h)
+refusal-read (record-not-above ks last k rest p h) =
+    let l = last-behind [] ks last in
+    refused-read (p .before .before) 3 (λ f. rw l (not-above-read f (length (ks ++ (last ∷ []))) last k rest (p .before .room) (p .size) h))
+
+-- So are the keys of a list that is taken.
+list-read : {list : Bytes} {ks : List Bytes} → Records-taken list ks [] → parse-keys list ≡ keys ks
+unfolding parse-records
+list-read {ks = ks} t = taken-read t (keys []) none ∙ with-keys-all ks
+  where
+    none : (g : ℕ) → 0 ≤ g → parse-records g (length ks) (last-of [] ks) [] ≡ keys []
+    none zero l = refl
+    none (suc g) l = refl
+
+-- ---- every byte string is taken, or is turned down
+
+write-keys-append : (ks ms : List Bytes) → write-keys (ks ++ ms) ≡ write-keys ks ++ write-keys ms
+unfolding write-keys
+write-keys-append [] ms = refl
+write-keys-append (k ∷ ks) ms = ap (λ (z : Bytes). 75 ∷ 89 ∷ length k ∷ z) (ap (λ (z : Bytes). k ++ z) (write-keys-append ks ms) ∙ sym (append-assoc k (write-keys ks) (write-keys ms)))
+
+-- one more record is taken
+record-taken : {list : Bytes} {ks : List Bytes} (k s : Bytes) → Passes-2 list ks (length k) (k ++ s) → All (λ m. below m k ≡ true) ks → Records-taken list (ks ++ (k ∷ [])) s
+unfolding write-keys
+record-taken {ks = ks} k s p a =
+    let t = p .before .before in
+    record {
+      bytes = t .bytes ∙ ap (λ (z : Bytes). write-keys ks ++ 75 ∷ 89 ∷ length k ∷ z) (front k s) ∙ sym (append-assoc (write-keys ks) (write-keys (k ∷ [])) s) ∙ ap (λ (z : Bytes). z ++ s) (sym (write-keys-append ks (k ∷ [])));
+      each = all-append (λ m. From 1 64 (length m)) ks (k ∷ []) (t .each) (p .size, tt);
+      up = ascending-above ks k (t .up) a;
+      few = omega (arith, p .before .room, length-append ks (k ∷ []));
+    }
+  where
+    front : (k s : Bytes) → k ++ s ≡ (k ++ []) ++ s
+    front k s = sym (append-assoc k [] s)
+
+module _ {A : Type 0} (list : Bytes) (accepts : (ks : List Bytes) → Records-taken list ks [] → A) (refuses : (r : ℕ) → List-refusal list r → A) where
+  -- what is done where one more record is taken: of its key, and of the bytes behind it, which are fewer than `size`
+  abbrev Next : List Bytes → ℕ → Type 0
+  Next ks size = (k s : Bytes) → length s < size → Records-taken list (ks ++ (k ∷ [])) s → A
+
+  from-key : (ks : List Bytes) (k s : Bytes) → Passes-2 list ks (length k) (k ++ s) → (Records-taken list (ks ++ (k ∷ [])) s → A) → A
+  from-key ks k s p next = by-last ks (λ e. next (record-taken k s p (rw e tt))) (λ front last e. go front last e (below last k) refl)
+    where
+      go : (front : List Bytes) (last : Bytes) → ks ≡ front ++ (last ∷ []) → (t : Bool) → below last k ≡ t → A
+      go front last e true h = next (record-taken k s p (rw e (above-last front last k (subst Ascending e (p .before .before .up)) h)))
+      go front last e false h = refuses 3 (record-not-above front last k s (subst (λ (z : List Bytes). Passes-2 list z (length k) (k ++ s)) e p) h)
+
+  from-2 : (ks : List Bytes) (n : ℕ) (s : Bytes) → Passes-2 list ks n s → Next ks (suc (length s)) → (t : Bool) → ltb (length s) n ≡ t → A
+  from-2 ks n s p next true e = refuses 1 (record-cut-off ks n s p (ltb-true (length s) n e))
+  from-2 ks n s p next false e = from-key ks (take n s) (drop n s) (rw (length-take-le n s (ltb-false (length s) n e), take-append-drop n s) p) (next (take n s) (drop n s) (omega (arith, length-drop n s)))
+
+  from-mark : (ks : List Bytes) (n : ℕ) (s : Bytes) → Passes-4 list ks (75 ∷ 89 ∷ n ∷ s) → Next ks (suc (length s)) → (t u : Bool) → eqb n 0 ≡ t → ltb 64 n ≡ u → A
+  from-mark ks n s p next true u e h = refuses 2 (record-length ks n s p (inl (eqb-true n 0 e)))
+  from-mark ks n s p next false true e h = refuses 2 (record-length ks n s p (inr (ltb-true 64 n h)))
+  from-mark ks n s p next false false e h = from-2 ks n s (record { before = p; size = (omega (arith, eqb-false n 0 e), ltb-false 64 n h) }) next (ltb (length s) n) refl
+
+  from-4 : (ks : List Bytes) (b : ℕ) (s : Bytes) → Passes-4 list ks (b ∷ s) → Next ks (suc (length s)) → A
+  from-4 ks b [] p next = refuses 1 (record-short ks (b ∷ []) p (omega arith))
+  from-4 ks b (x ∷ []) p next = refuses 1 (record-short ks (b ∷ x ∷ []) p (omega arith))
+  from-4 ks b (x ∷ n ∷ s) p next = go (eqb b 75) (eqb x 89) refl refl
+    where
+      go : (t u : Bool) → eqb b 75 ≡ t → eqb x 89 ≡ u → A
+      go false u e h = refuses 1 (record-unmarked ks b x n s p (λ y z. eqb-false b 75 e y))
+      go true false e h = refuses 1 (record-unmarked ks b x n s p (λ y z. eqb-false x 89 h z))
+      go true true e h = from-mark ks n s (rw (eqb-true b 75 e, eqb-true x 89 h) at p) (λ k v l t. next k v (omega arith) t) (eqb n 0) (ltb 64 n) refl refl
+
+  from-record : (ks : List Bytes) (b : ℕ) (s : Bytes) → Records-taken list ks (b ∷ s) → Next ks (suc (length s)) → (t : Bool) → eqb (length ks) 65535 ≡ t → A
+  from-record ks b s t next true e = refuses 4 (record-too-many ks b s t (eqb-true (length ks) 65535 e))
+  from-record ks b s t next false e = from-4 ks b s (record { before = t; room = omega (arith, t .few, eqb-false (length ks) 65535 e) }) next
+
+  from-records : (f : ℕ) (ks : List Bytes) (s : Bytes) → length s ≤ f → Records-taken list ks s → A
+  from-records zero ks [] l t = accepts ks t
+  from-records zero ks (b ∷ s) l t = absurd (omega arith)
+  from-records (suc f) ks [] l t = accepts ks t
+  from-records (suc f) ks (b ∷ s) l t = from-record ks b s t (λ k v h u. from-records f (ks ++ (k ∷ [])) v (omega arith) u) (eqb (length ks) 65535) refl
+
+  -- A key list is taken whole, or is turned down at a record.
+  by-records : A
+  unfolding write-keys
+  by-records = from-records (length list) [] list (omega arith) (record { bytes = refl; each = tt; up = tt; few = omega arith })
+
+-- ---- both ways
 
 -- a refusal is no list
 no-keys : {A : Type 0} {r : ℕ} {ks : List Bytes} → refused r ≡ keys ks → A
 no-keys h = let z : _≡_ {A = ℕ} 0 1 = cc in absurd (omega arith)
 
-with-key-is : (k : Bytes) (p : Parsed-keys) (ks : List Bytes) → with-key k p ≡ keys ks → (ms : List Bytes) × (p ≡ keys ms) × (k ∷ ms ≡ ks)
-unfolding with-key
-with-key-is k (refused r) ks h = no-keys h
-with-key-is k (keys ms) ks h = (ms, refl, cc)
-
--- the tests that a record passes
-module _ (f done : ℕ) (last : Bytes) (b x n : ℕ) (r : Bytes) (ks : List Bytes) where
-  record Passed : Type 0 where
-    room : done ≡ 65535 → ⊥
-    mark : (b ≡ 75) × (x ≡ 89)
-    size : (n ≡ 0 → ⊥) × (n ≤ 64)
-    whole : n ≤ length r
-    above : below last (take n r) ≡ true
-    rest : with-key (take n r) (parse-records f (suc done) (take n r) (drop n r)) ≡ keys ks
-
-  passed-record : parse-records (suc f) done last (b ∷ x ∷ n ∷ r) ≡ keys ks → Passed
-  unfolding parse-records
-  passed-record h = one (eqb done 65535) refl
-    where
-      last-of : eqb done 65535 ≡ false → not (eqb b 75 && eqb x 89) ≡ false → (eqb n 0 || ltb 64 n) ≡ false → ltb (suc (suc (length r))) (n + 2) ≡ false → (t : Bool) → below last (take n r) ≡ t → Passed
-      last-of p q u v false w = no-keys (rw (p, le-ltb (suc (suc (length r))) 2 (omega arith), q, u, v, w, parse-records) at h)
-      last-of p q u v true w =
-          let m = and-both (eqb b 75) (eqb x 89) (not-false (eqb b 75 && eqb x 89) q) in
-          let z = or-both-false (eqb n 0) (ltb 64 n) u in
-          let two : n + 2 ≡ suc (suc n) = omega arith in
-          record {
-            room = eqb-false done 65535 p;
-            mark = (eqb-true b 75 (m .0), eqb-true x 89 (m .1));
-            size = (eqb-false n 0 (z .0), ltb-false 64 n (z .1));
-            whole = omega (arith, ltb-false (suc (suc (length r))) (n + 2) v);
-            above = w;
-            rest = rw (p, le-ltb (suc (suc (length r))) 2 (omega arith), q, u, v, w, two, parse-records) at h;
-          }
-
-      four : eqb done 65535 ≡ false → not (eqb b 75 && eqb x 89) ≡ false → (eqb n 0 || ltb 64 n) ≡ false → (t : Bool) → ltb (suc (suc (length r))) (n + 2) ≡ t → Passed
-      four p q u true v = no-keys (rw (p, le-ltb (suc (suc (length r))) 2 (omega arith), q, u, v, parse-records) at h)
-      four p q u false v = last-of p q u v (below last (take n r)) refl
-
-      three : eqb done 65535 ≡ false → not (eqb b 75 && eqb x 89) ≡ false → (t : Bool) → (eqb n 0 || ltb 64 n) ≡ t → Passed
-      three p q true u = no-keys (rw (p, le-ltb (suc (suc (length r))) 2 (omega arith), q, u, parse-records) at h)
-      three p q false u = four p q u (ltb (suc (suc (length r))) (n + 2)) refl
-
-      two : eqb done 65535 ≡ false → (t : Bool) → not (eqb b 75 && eqb x 89) ≡ t → Passed
-      two p true q = no-keys (rw (p, le-ltb (suc (suc (length r))) 2 (omega arith), q, parse-records) at h)
-      two p false q = three p q (eqb n 0 || ltb 64 n) refl
-
-      one : (t : Bool) → eqb done 65535 ≡ t → Passed
-      one true p = no-keys (rw (p, parse-records) at h)
-      one false p = two p (not (eqb b 75 && eqb x 89)) refl
-
-short-record : (f done : ℕ) (last : Bytes) (b : ℕ) (s : Bytes) (ks : List Bytes) → length s < 2 → parse-records (suc f) done last (b ∷ s) ≡ keys ks → ⊥
-unfolding parse-records
-short-record f done last b s ks l h = go (eqb done 65535) refl
+-- A key list is refused with the number that the sentences on records name, and with no other.
+pub list-refuses : (list : Bytes) (r : ℕ) → (parse-keys list ≡ refused r) ↔ List-refusal list r
+list-refuses list r = (to, refusal-read)
   where
-    go : (t : Bool) → eqb done 65535 ≡ t → ⊥
-    go true p = no-keys (rw (p, parse-records) at h)
-    go false p = no-keys (rw (p, lt-ltb (length s) 2 l, parse-records) at h)
+    to : parse-keys list ≡ refused r → List-refusal list r
+    to h = by-records list (λ ks t. no-keys (sym h ∙ list-read t)) (λ q l. let e : refused q ≡ refused r = sym (refusal-read l) ∙ h in let n : q ≡ r = cc in subst (List-refusal list) n l)
 
--- a record at the front, and the records behind it
-front-bytes : (b x n : ℕ) (r : Bytes) (ms : List Bytes) → b ≡ 75 → x ≡ 89 → length (take n r) ≡ n → drop n r ≡ write-keys ms → b ∷ x ∷ n ∷ r ≡ write-keys (take n r ∷ ms)
-unfolding write-keys
-front-bytes b x n r ms p q e t = rw (p, q, e, ← t, take-append-drop n r)
-
-read-records : (f done : ℕ) (last s : Bytes) (ks : List Bytes) → Is-bytes s → done ≤ 65535 → length s ≤ f → parse-records f done last s ≡ keys ks → Records-read done last s ks
-unfolding parse-records write-keys
-read-records zero done last [] ks w d l h = none-read done last ks d h
-read-records zero done last (b ∷ s) ks w d l h = absurd (omega arith)
-read-records (suc f) done last [] ks w d l h = none-read done last ks d h
-read-records (suc f) done last (b ∷ []) ks w d l h = absurd (short-record f done last b [] ks (omega arith) h)
-read-records (suc f) done last (b ∷ x ∷ []) ks w d l h = absurd (short-record f done last b (x ∷ []) ks (omega arith) h)
-read-records (suc f) done last (b ∷ x ∷ n ∷ r) ks w d l h =
-    let p = passed-record f done last b x n r ks h in
-    let m = with-key-is (take n r) (parse-records f (suc done) (take n r) (drop n r)) ks (p .rest) in
-    let size : length (take n r) ≡ n = length-take-le n r (p .whole) in
-    let inner : done < 65535 = omega (arith, p .room) in
-    let ih = read-records f (suc done) (take n r) (drop n r) (m .0) (bytes-drop n r (w .1 .1 .1)) inner (omega (arith, length-drop n r)) (m .1) in
-    rw (← m .2) (record {
-      bytes = front-bytes b x n r (m .0) (p .mark .0) (p .mark .1) size (ih .bytes);
-      each = (record { least = omega (arith, p .size .0); fits = omega (arith, p .size .1); bytes = bytes-take n r (w .1 .1 .1) }, ih .each);
-      up = (p .above, ih .up);
-      few = omega (arith, ih .few);
-    })
-
--- ---- both ways
-
-first-above : (ks : List Bytes) → Keys ks → Below-all [] ks
-unfolding below
-first-above [] q = tt
-first-above ([] ∷ ks) q = absurd (omega (arith, q .0 .least))
-first-above ((x ∷ k) ∷ ks) q = (refl, first-above ks (q .1))
-
--- None of 1 to 4 applies to a byte string exactly when it is such records, and they give these keys.
-pub keys-exactly : (s : Bytes) (ks : List Bytes) → Is-bytes s → (parse-keys s ≡ keys ks) ↔ Key-list s ks
-unfolding parse-keys
-keys-exactly s ks w = (to, from)
+-- It is read as keys exactly where it is taken whole, and they are those of its records.
+pub list-taken : (list : Bytes) (ks : List Bytes) → (parse-keys list ≡ keys ks) ↔ Records-taken list ks []
+list-taken list ks = (to, list-read)
   where
-    to : parse-records (length s) 0 [] s ≡ keys ks → Key-list s ks
-    to h =
-        let r = read-records (length s) 0 [] s ks w (omega arith) (omega arith) h in
-        record { bytes = r .bytes; each = r .each; up = rising-ascending [] ks (r .up); few = omega (arith, r .few) }
+    to : parse-keys list ≡ keys ks → Records-taken list ks []
+    to h = by-records list (λ ms t. let e : keys ms ≡ keys ks = sym (list-read t) ∙ h in let n : ms ≡ ks = cc in subst (λ (z : List Bytes). Records-taken list z []) n t) (λ q l. no-keys (sym (refusal-read l) ∙ h))
 
-    from : Key-list s ks → parse-records (length s) 0 [] s ≡ keys ks
-    from k = rw (k .bytes) (records-written (length (write-keys ks)) 0 [] ks (k .each) (above-rising [] ks (first-above ks (k .each)) (k .up)) (omega (arith, k .few)) (omega arith))
-
--- the records of keys are bytes
+-- keys of bytes have bytes as their records, and the other way round
 pub bytes-write-keys : (ks : List Bytes) → Keys ks → Is-bytes (write-keys ks)
 unfolding write-keys
 bytes-write-keys [] q = tt
 bytes-write-keys (k ∷ ks) q = (omega arith, (omega arith, (omega (arith, q .0 .fits), bytes-append k (write-keys ks) (q .0 .bytes) (bytes-write-keys ks (q .1)))))
+
+write-keys-bytes : (ks : List Bytes) → All (λ k. From 1 64 (length k)) ks → Is-bytes (write-keys ks) → Keys ks
+unfolding write-keys
+write-keys-bytes [] q w = tt
+write-keys-bytes (k ∷ ks) q w = let b = all-split (λ x. x < 256) k (write-keys ks) (w .1 .1 .1) in (record { least = q .0 .0; fits = q .0 .1; bytes = b .0 }, write-keys-bytes ks (q .1) (b .1))
+
+-- None of 1 to 4 applies to a byte string exactly when it is such records, and they give these keys.
+pub keys-exactly : (s : Bytes) (ks : List Bytes) → Is-bytes s → (parse-keys s ≡ keys ks) ↔ Key-list s ks
+keys-exactly s ks w = (to, from)
+  where
+    to : parse-keys s ≡ keys ks → Key-list s ks
+    to h =
+        let t = list-taken s ks .0 h in
+        let e : s ≡ write-keys ks = t .bytes ∙ append-nil (write-keys ks) in
+        record { bytes = e; each = write-keys-bytes ks (t .each) (subst Is-bytes e w); up = t .up; few = t .few }
+
+    from : Key-list s ks → parse-keys s ≡ keys ks
+    from k = list-taken s ks .1 (record {
+      bytes = k .bytes ∙ sym (append-nil (write-keys ks));
+      each = all-weaken Key (λ k. From 1 64 (length k)) (λ x q. (q .least, q .fits)) ks (k .each);
+      up = k .up;
+      few = k .few;
+    })

@@ -1,5 +1,5 @@
 -- One question at a time over an accepted image: its answer by what it is turned down for, and that a file of this question alone gets the same reply.
-use Prim.Native.Nat.{ℕ, zero, suc, _<_, _≤_}
+use Prim.Native.Nat.{ℕ, _<_, _≤_}
 use mathlib.Core.Path.{_≡_, refl, sym, ap, ap₂, subst, _∙_}
 use mathlib.Core.Bool.{Bool, true, false}
 use mathlib.Core.List.{List, [], _∷_, _++_, append-assoc, append-nil}
@@ -15,19 +15,19 @@ use Rattle.spec.specs.Leaves.{Leaf, reals}
 use Rattle.spec.specs.Frame.{read-settings}
 use Rattle.spec.specs.Nodes.{read-leaves}
 use Rattle.spec.specs.Rules.{Rule, rule, rule-number}
-use Rattle.spec.specs.Questions.{Question, QP, QS, QB, QR, QC, seek, Reply, reply, reply-bytes, replies, reply-at, Front, bad, got, read-key, one-key, two-keys, read-keys, read-question, taken, with-question, parse-from, parse-questions}
+use Rattle.spec.specs.Questions.{Question, QP, QS, QB, QR, QC, seek, Reply, reply, reply-bytes, replies, reply-at, taken, parse-questions}
 use Rattle.spec.specs.Answer.{Outcome, refuse, write}
 use Rattle.spec.specs.Check.{verdict}
 use Rattle.spec.specs.Ask.{ask}
 use Rattle.spec.specs.OneQuestion.{key-refusal, bounds-refusal, question-refusal, Answered, replied, refused, ask-one, number, reply-rule}
-use Rattle.theory.specs.Terms.{key-bytes, question-bytes, file-bytes, alone, found-size, Taken, reply-alone, From}
-use Rattle.theory.specs.Lists.{le-or-lt}
-use Rattle.theory.specs.QuestionFiles.{key-read, one-read, two-read, question-size}
+use Rattle.theory.specs.Terms.{In, here, there, key-bytes, question-bytes, file-bytes, alone, found-size, Taken, reply-alone, From}
+use Rattle.theory.specs.Lists.{le-or-lt, in-valid}
+use Rattle.theory.specs.QuestionFiles.{file-refuses, file-taken}
 use Rattle.theory.specs.AskLaws.{reply-written, ask-is}
 use Rattle.theory.specs.LeafLists.{All-real-sized}
 use Rattle.theory.specs.OutcomeLaws.{write-fits, write-short, no-written, success-answer, refuse-answer, write-answer, final-is}
 use Rattle.theory.specs.LengthBounds.{sought-small}
-use Rattle.theory.specs.Demands.{Key-kept}
+use Rattle.theory.specs.Demands.{Question-fits, Passes-24, one-key-letters, two-key-letters, Key-due, behind-mark, behind-bound, Question-refusal, length-over, bounds-crossed, Key-kept}
 use Rattle.spec.specs.Answer as Answer
 use Rattle.spec.specs.Questions as Questions
 
@@ -104,105 +104,67 @@ one-replied b q e = one-is b q 0 e
 by-bounds : {A : Type 0} (lo hi : Bytes) → (64 < length lo → A) → (length lo ≤ 64 → 64 < length hi → A) → (length lo ≤ 64 → length hi ≤ 64 → (t : Bool) → below hi lo ≡ t → A) → A
 by-bounds lo hi f g k = le-or-lt (length lo) 64 (λ l. le-or-lt (length hi) 64 (λ h. k l h (below hi lo) refl) (g l)) f
 
--- Bounds that are taken have at most 64 bytes each.
-pub bounds-short : (lo hi : Bytes) → bounds-refusal lo hi ≡ 0 → (length lo ≤ 64) × (length hi ≤ 64)
-bounds-short lo hi e = by-bounds lo hi (λ l. absurd (omega (arith, e, lower-long lo hi l))) (λ l h. absurd (omega (arith, e, upper-long lo hi l h))) (λ l h t b. (l, h))
+-- Bounds that are taken have at most 64 bytes each, and stand the right way round.
+pub bounds-short : (lo hi : Bytes) → bounds-refusal lo hi ≡ 0 → (length lo ≤ 64) × (length hi ≤ 64) × (below hi lo ≡ false)
+bounds-short lo hi e = by-bounds lo hi (λ l. absurd (omega (arith, e, lower-long lo hi l))) (λ l h. absurd (omega (arith, e, upper-long lo hi l h))) ordered
+  where
+    ordered : length lo ≤ 64 → length hi ≤ 64 → (t : Bool) → below hi lo ≡ t → (length lo ≤ 64) × (length hi ≤ 64) × (below hi lo ≡ false)
+    ordered l h true b = absurd (omega (arith, e, bounds-reversed lo hi l h b))
+    ordered l h false b = (l, h, b)
 
 -- a key that is taken has at most 64 bytes
 key-short : (k : Bytes) → key-refusal k ≡ 0 → length k ≤ 64
 key-short k e = le-or-lt (length k) 64 (λ h. h) (λ h. absurd (omega (arith, e, key-long k h)))
 
--- ---- the numbers
-
--- a key is turned down with 22, bounds with 22 or 23
-key-number : (k : Bytes) → 0 < key-refusal k → From 22 23 (key-refusal k)
-key-number k z = le-or-lt (length k) 64 (λ h. absurd (omega (arith, key-fits k h))) (λ h. rw (key-long k h) (omega arith, omega arith))
-
-bounds-number : (lo hi : Bytes) → 0 < bounds-refusal lo hi → From 22 23 (bounds-refusal lo hi)
-bounds-number lo hi z = by-bounds lo hi (λ l. rw (lower-long lo hi l) (omega arith, omega arith)) (λ l h. rw (upper-long lo hi l h) (omega arith, omega arith)) ordered
-  where
-    ordered : length lo ≤ 64 → length hi ≤ 64 → (t : Bool) → below hi lo ≡ t → From 22 23 (bounds-refusal lo hi)
-    ordered l h true e = rw (bounds-reversed lo hi l h e) (omega arith, omega arith)
-    ordered l h false e = absurd (omega (arith, bounds-fit lo hi l h e))
-
--- A question is turned down with 22 or 23.
-turned-down-number : (q : Question) → 0 < question-refusal q → From 22 23 (question-refusal q)
-unfolding question-refusal
-turned-down-number (QP k) z = key-number k z
-turned-down-number (QS start) z = key-number start z
-turned-down-number (QB stem) z = key-number stem z
-turned-down-number (QR lo hi) z = bounds-number lo hi z
-turned-down-number (QC lo hi) z = bounds-number lo hi z
-
 -- ---- a file of one question
 
--- what is read at the front of bytes that begin with a question, by the number with which it is turned down
-abbrev read-by : Question → Bytes → ℕ → Front Question
-read-by q t r = elim (eqb r 0) [ true ↦ got q t | false ↦ bad r ]
+-- a question that is taken
+question-fit : (q : Question) → question-refusal q ≡ 0 → Question-fits q
+unfolding question-refusal
+question-fit (QP k) e = key-short k e
+question-fit (QS start) e = key-short start e
+question-fit (QB stem) e = key-short stem e
+question-fit (QR lo hi) e = bounds-short lo hi e
+question-fit (QC lo hi) e = bounds-short lo hi e
 
--- a key of over 64 bytes
-long-read : (k t : Bytes) → 64 < length k → read-key (key-bytes k ++ t) ≡ bad 22
-unfolding read-key
-long-read k t h = rw (lt-ltb 64 (length k) h, read-key)
+-- is the file's question.
+alone-taken : (q : Question) → question-refusal q ≡ 0 → parse-questions (alone q) ≡ taken (q ∷ [])
+alone-taken q e = file-taken (alone q) (q ∷ []) .1 (record { bytes = sym (append-nil (alone q)); each = (question-fit q e, tt); few = omega arith })
+
+-- no question stands before the first
+at-first : (file : Bytes) → Passes-24 file [] file
+unfolding file-bytes concat
+at-first file = record { before = record { bytes = refl; each = tt; few = omega arith }; room = omega arith }
+
+-- the number with which a question is turned down, 22 or 23, and the sentence that names it for a file that begins with the question
+abbrev Turned-down : Bytes → ℕ → Type 0
+Turned-down file r = Question-refusal file r × From 22 23 r
+
+-- a length of over 64
+over-down : (s : Bytes) (n : ℕ) (t : Bytes) → Key-due s (n ∷ t) → 64 < n → Turned-down s 22
+over-down s n t d h = (length-over [] s n t (at-first s) d h, omega arith)
 
 -- a question with one key, with two bounds, and any question
-one-read-by : (c : Bytes → Question) (k t : Bytes) → one-key c (key-bytes k ++ t) ≡ read-by (c k) t (key-refusal k)
-unfolding one-key
-one-read-by c k t = le-or-lt (length k) 64 (λ h. one-read c k t h ∙ sym (ap (read-by (c k) t) (key-fits k h))) (λ h. rw (long-read k t h, one-key) (sym (ap (read-by (c k) t) (key-long k h))))
+key-down : (x : ℕ) (k t : Bytes) → In x (one-key-letters ++ two-key-letters) → 0 < key-refusal k → Turned-down (81 ∷ x ∷ key-bytes k ++ t) (key-refusal k)
+key-down x k t i z = le-or-lt (length k) 64 (λ h. absurd (omega (arith, key-fits k h))) (λ h. rw (key-long k h) (over-down (81 ∷ x ∷ key-bytes k ++ t) (length k) (k ++ t) (behind-mark x (key-bytes k ++ t) i) h))
 
-two-read-by : (c : Bytes → Bytes → Question) (lo hi t : Bytes) → two-keys c ((key-bytes lo ++ key-bytes hi) ++ t) ≡ read-by (c lo hi) t (bounds-refusal lo hi)
-unfolding two-keys
-two-read-by c lo hi t =
-    by-bounds lo hi (λ l. at-lower ∙ rw (long-read lo (key-bytes hi ++ t) l, two-keys) (sym (ap (read-by (c lo hi) t) (lower-long lo hi l))))
-    (λ l h. at-lower ∙ rw (key-read lo (key-bytes hi ++ t) l, long-read hi t h, two-keys) (sym (ap (read-by (c lo hi) t) (upper-long lo hi l h)))) ordered
+bounds-down : (x : ℕ) (lo hi t : Bytes) → In x two-key-letters → 0 < bounds-refusal lo hi → Turned-down (81 ∷ x ∷ (key-bytes lo ++ key-bytes hi) ++ t) (bounds-refusal lo hi)
+bounds-down x lo hi t i z =
+    let s : Bytes = (key-bytes lo ++ key-bytes hi) ++ t in
+    by-bounds lo hi (λ l. rw (lower-long lo hi l) (over-down (81 ∷ x ∷ s) (length lo) ((lo ++ key-bytes hi) ++ t) (behind-mark x s (in-valid one-key-letters two-key-letters i)) l))
+    (λ l h. rw (upper-long lo hi l h, append-assoc (key-bytes lo) (key-bytes hi) t) (over-down (81 ∷ x ∷ key-bytes lo ++ (key-bytes hi ++ t)) (length hi) (hi ++ t) (behind-bound x lo (key-bytes hi ++ t) i l) h)) ordered
   where
-    at-lower : two-keys c ((key-bytes lo ++ key-bytes hi) ++ t) ≡ two-keys c (key-bytes lo ++ (key-bytes hi ++ t))
-    at-lower = ap (two-keys c) (append-assoc (key-bytes lo) (key-bytes hi) t)
+    ordered : length lo ≤ 64 → length hi ≤ 64 → (b : Bool) → below hi lo ≡ b → Turned-down (81 ∷ x ∷ (key-bytes lo ++ key-bytes hi) ++ t) (bounds-refusal lo hi)
+    ordered l h true e = rw (bounds-reversed lo hi l h e) (bounds-crossed [] x lo hi t (at-first (81 ∷ x ∷ (key-bytes lo ++ key-bytes hi) ++ t)) i l h e, omega arith)
+    ordered l h false e = absurd (omega (arith, bounds-fit lo hi l h e))
 
-    ordered : length lo ≤ 64 → length hi ≤ 64 → (x : Bool) → below hi lo ≡ x → two-keys c ((key-bytes lo ++ key-bytes hi) ++ t) ≡ read-by (c lo hi) t (bounds-refusal lo hi)
-    ordered l h true e = at-lower ∙ rw (key-read lo (key-bytes hi ++ t) l, key-read hi t h, e, two-keys) (sym (ap (read-by (c lo hi) t) (bounds-reversed lo hi l h e)))
-    ordered l h false e = two-read c lo hi t l h e ∙ sym (ap (read-by (c lo hi) t) (bounds-fit lo hi l h e))
-
-question-read-by : (q : Question) (t : Bytes) → read-question (question-bytes q ++ t) ≡ read-by q t (question-refusal q)
-unfolding read-question read-keys question-bytes question-refusal
-question-read-by (QP k) t = one-read-by QP k t
-question-read-by (QS start) t = one-read-by QS start t
-question-read-by (QB stem) t = one-read-by QB stem t
-question-read-by (QR lo hi) t = two-read-by QR lo hi t
-question-read-by (QC lo hi) t = two-read-by QC lo hi t
-
--- a file whose first question is its last
-last-taken : (s : Bytes) (q : Question) → 0 < length s → read-question s ≡ got q [] → parse-questions s ≡ taken (q ∷ [])
-unfolding parse-questions parse-from with-question
-last-taken [] q l e = absurd (omega arith)
-last-taken (b ∷ s) q l e = rw (e, parse-from) (ap (with-question q) (none (length s) 1))
-  where
-    none : (fuel done : ℕ) → parse-from fuel done [] ≡ taken []
-    none zero done = refl
-    none (suc fuel) done = refl
-
--- a file whose first question is turned down
-first-refused : (s : Bytes) (r : ℕ) → 0 < length s → read-question s ≡ bad r → parse-questions s ≡ Questions.refused r
-unfolding parse-questions parse-from
-first-refused [] r l e = absurd (omega arith)
-first-refused (b ∷ s) r l e = rw (e, parse-from)
-
-module _ (q : Question) where
-  alone-read : (r : ℕ) → question-refusal q ≡ r → read-question (alone q) ≡ read-by q [] r
-  unfolding file-bytes concat
-  alone-read r e = question-read-by q [] ∙ ap (read-by q []) e
-
-  alone-long : 0 < length (alone q)
-  unfolding file-bytes concat
-  alone-long = question-size q []
-
-  -- a question that is taken is the file's question
-  alone-taken : question-refusal q ≡ 0 → parse-questions (alone q) ≡ taken (q ∷ [])
-  alone-taken e = last-taken (alone q) q alone-long (alone-read 0 e)
-
-  -- a file of a question that is turned down is refused with its number
-  alone-refused : (r : ℕ) → question-refusal q ≡ r → 0 < r → parse-questions (alone q) ≡ Questions.refused r
-  alone-refused r e h = first-refused (alone q) r alone-long (alone-read r e ∙ rw (ne-eqb r 0 (λ z. omega arith), read-by))
+alone-down : (q : Question) → 0 < question-refusal q → Turned-down (alone q) (question-refusal q)
+unfolding question-refusal question-bytes file-bytes concat
+alone-down (QP k) z = key-down 80 k [] here z
+alone-down (QS start) z = key-down 83 start [] (there here) z
+alone-down (QB stem) z = key-down 66 stem [] (there (there here)) z
+alone-down (QR lo hi) z = bounds-down 82 lo hi [] here z
+alone-down (QC lo hi) z = bounds-down 67 lo hi [] (there here) z
 
 -- ---- the answer, and what ask does with a file of the question
 
@@ -231,7 +193,7 @@ module _ (b : Bytes) (v : verdict b ≡ 0) (q : Question) where
 
   -- One that is turned down is refused with the number with which ask refuses the file.
   one-turned-down : 0 < question-refusal q → (ask-one b q ≡ refused (question-refusal q)) × ((out : Bytes) → ask b (alone q) out ≡ refuse (question-refusal q) out)
-  one-turned-down h = (one-refused b q (question-refusal q) refl h, λ out. ask-is b (alone q) out 0 (Questions.refused (question-refusal q)) v (alone-refused q (question-refusal q) refl h))
+  one-turned-down h = (one-refused b q (question-refusal q) refl h, λ out. ask-is b (alone q) out 0 (Questions.refused (question-refusal q)) v (file-refuses (alone q) (question-refusal q) .1 (alone-down q h .0)))
 
   -- every question is one or the other
   by-refusal : {A : Type 0} → (question-refusal q ≡ 0 → A) → (0 < question-refusal q → A) → A
@@ -253,7 +215,7 @@ module _ (b : Bytes) (v : verdict b ≡ 0) (q : Question) where
           (λ z. let a = one-turned-down z in
           let f = a .0 in
           let s : question-refusal q ≡ r = cc in
-          (refuse-answer (question-refusal q) r out (ask b (alone q) out) (a .1 out) .1 s, subst (From 22 23) s (turned-down-number q z)))
+          (refuse-answer (question-refusal q) r out (ask b (alone q) out) (a .1 out) .1 s, subst (From 22 23) s (alone-down q z .1)))
 
       from : (ask b (alone q) out .answer ≡ Answer.refused r) × From 22 23 r → ask-one b q ≡ refused r
       from w = by-refusal

@@ -1,188 +1,122 @@
--- Question files, written and read: a byte string is taken exactly when it is at most 1,024 questions with keys and bounds of at most 64 bytes and ranges the right way round.
+-- Question files, written and read. A byte string is at most 1,024 questions with keys and bounds of at most 64 bytes and ranges the right way round, or the sentences on questions name the one number that turns it down;
+-- what is read from it is those questions, or that number.
 use Prim.Native.Nat.{ℕ, zero, suc, _+_, _<_, _≤_}
-use mathlib.Core.Path.{_≡_, refl, sym, ap, ap₂, _∙_}
+use mathlib.Core.Path.{_≡_, refl, sym, ap, subst, _∙_}
 use mathlib.Core.Bool.{Bool, true, false}
-use mathlib.Core.List.{List, [], _∷_, _++_, map, append-assoc}
-use mathlib.Core.Logic.{_↔_}
+use mathlib.Core.List.{List, [], _∷_, _++_, map, append-assoc, append-nil, map-append}
+use mathlib.Core.Logic.{_↔_, ⊎-elim}
 use native.Mathlib.Omega.{arith}
 use lib.ListN.{length, take, drop, length-append, take-append-drop}
 use lib.Seq.{length-take-le, take-append-seam, drop-append-seam}
 use lib.Dec.{ltb, eqb}
-use borrow.Author.Tests.{ltb-false, eqb-true, eqb-false, le-ltb, ne-eqb}
+use borrow.Author.Tests.{ltb-true, ltb-false, eqb-true, eqb-false, lt-ltb, le-ltb, eq-eqb, ne-eqb}
 use Rattle.spec.specs.Bytes.{Bytes, concat}
 use Rattle.spec.specs.Keys.{below}
-use Rattle.spec.specs.Questions.{Question, QP, QS, QB, QR, QC, Front, bad, got, read-key, one-key, two-keys, read-keys, read-question, Parsed-questions, refused, taken, with-question, parse-from, parse-questions}
-use Rattle.theory.specs.Terms.{All, Is-bytes, Bound, file-bytes, question-bytes, Question-file, Range, key-bytes, Proper}
-use Rattle.theory.specs.Lists.{bytes-drop, bytes-take}
+use Rattle.spec.specs.Questions.{Question, QP, QS, QB, QR, QC, bad, got, read-key, one-key, two-keys, read-keys, read-question, Parsed-questions, refused, taken, with-question, parse-from, parse-questions}
+use Rattle.theory.specs.Terms.{All, In, here, there, From, Is-bytes, Range, file-bytes, question-bytes, Question-file, key-bytes, Proper}
+use Rattle.theory.specs.Demands.{Question-fits, Questions-taken, Passes-24, one-key-letters, two-key-letters, Key-due, behind-mark, behind-bound, Question-refusal, question-too-many, question-unmarked, question-short, no-length, key-cut-off, length-over, bounds-crossed}
+use Rattle.theory.specs.Lists.{none-in, in-cons, in-valid, all-in, all-append, all-split, all-weaken, concat-append}
 
--- ---- a key
+-- ---- a key, read
 
--- a key of at most 64 bytes is read
-pub key-read : (k t : Bytes) → length k ≤ 64 → read-key (key-bytes k ++ t) ≡ got k t
+key-read : (k t : Bytes) → length k ≤ 64 → read-key (key-bytes k ++ t) ≡ got k t
 unfolding read-key
 key-read k t h = rw (le-ltb 64 (length k) h, le-ltb (length (k ++ t)) (length k) (omega (arith, length-append k t)), take-append-seam k t, drop-append-seam k t, read-key)
 
-record Key-read (s k t : Bytes) : Type 0 where
-  bytes : s ≡ key-bytes k ++ t
-  bound : Bound k
-  rest : Is-bytes t
-
-no-got : {A B : Type 0} {r : ℕ} {a : B} {t : Bytes} → _≡_ {A = Front B} (bad r) (got a t) → A
-no-got h = let z : _≡_ {A = ℕ} 0 1 = cc in absurd (omega arith)
-
-read-key-is : (s k t : Bytes) → Is-bytes s → read-key s ≡ got k t → Key-read s k t
+no-length-read : read-key [] ≡ bad 21
 unfolding read-key
-read-key-is [] k t w h = no-got h
-read-key-is (n ∷ s) k t w h = one (ltb 64 n) refl
-  where
-    two : ltb 64 n ≡ false → (b : Bool) → ltb (length s) n ≡ b → Key-read (n ∷ s) k t
-    two p true q = no-got (rw (p, q, read-key) at h)
-    two p false q =
-        let e : got (take n s) (drop n s) ≡ got k t = rw (p, q, read-key) at h in
-        let x : take n s ≡ k = cc in
-        let y : drop n s ≡ t = cc in
-        let size : length (take n s) ≡ n = length-take-le n s (ltb-false (length s) n q) in
-        let split : n ∷ s ≡ key-bytes (take n s) ++ drop n s = rw (size, take-append-drop n s) in
-        rw (← x, ← y) (record {
-          bytes = split;
-          bound = record { fits = omega (arith, ltb-false 64 n p); bytes = bytes-take n s (w .1) };
-          rest = bytes-drop n s (w .1);
-        })
+no-length-read = refl
 
-    one : (b : Bool) → ltb 64 n ≡ b → Key-read (n ∷ s) k t
-    one true p = no-got (rw (p, read-key) at h)
-    one false p = two p (ltb (length s) n) refl
+cut-off-read : (n : ℕ) (s : Bytes) → n ≤ 64 → length s < n → read-key (n ∷ s) ≡ bad 21
+unfolding read-key
+cut-off-read n s h l = rw (le-ltb 64 n h, lt-ltb (length s) n l, read-key)
 
--- ---- a question
+over-read : (n : ℕ) (s : Bytes) → 64 < n → read-key (n ∷ s) ≡ bad 22
+unfolding read-key
+over-read n s h = rw (lt-ltb 64 n h, read-key)
 
--- a question with one key
-pub one-read : (q : Bytes → Question) (k t : Bytes) → length k ≤ 64 → one-key q (key-bytes k ++ t) ≡ got (q k) t
+-- ---- a question, read
+
+one-read : (q : Bytes → Question) (k t : Bytes) → length k ≤ 64 → one-key q (key-bytes k ++ t) ≡ got (q k) t
 unfolding one-key
 one-read q k t h = rw (key-read k t h, one-key)
 
--- a question with two bounds
-pub two-read : (q : Bytes → Bytes → Question) (lo hi t : Bytes) → length lo ≤ 64 → length hi ≤ 64 → below hi lo ≡ false → two-keys q ((key-bytes lo ++ key-bytes hi) ++ t) ≡ got (q lo hi) t
+two-read : (q : Bytes → Bytes → Question) (lo hi t : Bytes) → (length lo ≤ 64) × (length hi ≤ 64) × (below hi lo ≡ false) → two-keys q ((key-bytes lo ++ key-bytes hi) ++ t) ≡ got (q lo hi) t
 unfolding two-keys
-two-read q lo hi t l h e = ap (two-keys q) (append-assoc (key-bytes lo) (key-bytes hi) t) ∙ rw (key-read lo (key-bytes hi ++ t) l, key-read hi t h, e, two-keys)
+two-read q lo hi t r =
+    ap (two-keys q) (append-assoc (key-bytes lo) (key-bytes hi) t) ∙ rw (key-read lo (key-bytes hi ++ t) (r .0), key-read hi t (r .1), r .2, two-keys)
 
-question-read : (q : Question) (t : Bytes) → Proper q → read-question (question-bytes q ++ t) ≡ got q t
+question-read : (q : Question) (t : Bytes) → Question-fits q → read-question (question-bytes q ++ t) ≡ got q t
 unfolding read-question read-keys question-bytes
-question-read (QP k) t p = one-read QP k t (p .fits)
-question-read (QS k) t p = one-read QS k t (p .fits)
-question-read (QB k) t p = one-read QB k t (p .fits)
-question-read (QR lo hi) t p = two-read QR lo hi t (p .lower .fits) (p .upper .fits) (p .order)
-question-read (QC lo hi) t p = two-read QC lo hi t (p .lower .fits) (p .upper .fits) (p .order)
+question-read (QP k) t p = one-read QP k t p
+question-read (QS k) t p = one-read QS k t p
+question-read (QB k) t p = one-read QB k t p
+question-read (QR lo hi) t p = two-read QR lo hi t p
+question-read (QC lo hi) t p = two-read QC lo hi t p
 
-one-key-is : (q : Bytes → Question) (s : Bytes) (x : Question) (t : Bytes) → Is-bytes s → one-key q s ≡ got x t → (k : Bytes) × (q k ≡ x) × Key-read s k t
+one-bad : (q : Bytes → Question) (s : Bytes) (r : ℕ) → read-key s ≡ bad r → one-key q s ≡ bad r
 unfolding one-key
-one-key-is q s x t w h = go (read-key s) refl
-  where
-    go : (g : Front Bytes) → read-key s ≡ g → (k : Bytes) × (q k ≡ x) × Key-read s k t
-    go (bad r) e = no-got (rw (e, one-key) at h)
-    go (got k u) e =
-        let f : got (q k) u ≡ got x t = rw (e, one-key) at h in
-        let y : u ≡ t = cc in
-        (k, cc, rw y at (read-key-is s k u w e))
+one-bad q s r h = rw (h, one-key)
 
--- two bounds, and what stands behind them
-record Range-read (s lo hi t : Bytes) : Type 0 where
-  bytes : s ≡ (key-bytes lo ++ key-bytes hi) ++ t
-  range : Range lo hi
-  rest : Is-bytes t
-
-two-keys-is : (q : Bytes → Bytes → Question) (s : Bytes) (x : Question) (t : Bytes) → Is-bytes s → two-keys q s ≡ got x t → (lo hi : Bytes) × (q lo hi ≡ x) × Range-read s lo hi t
+lower-bad : (q : Bytes → Bytes → Question) (s : Bytes) (r : ℕ) → read-key s ≡ bad r → two-keys q s ≡ bad r
 unfolding two-keys
-two-keys-is q s x t w h = one (read-key s) refl
+lower-bad q s r h = rw (h, two-keys)
+
+upper-bad : (q : Bytes → Bytes → Question) (lo s : Bytes) (r : ℕ) → length lo ≤ 64 → read-key s ≡ bad r → two-keys q (key-bytes lo ++ s) ≡ bad r
+unfolding two-keys
+upper-bad q lo s r l h = rw (key-read lo s l, h, two-keys)
+
+crossed-bad : (q : Bytes → Bytes → Question) (lo hi s : Bytes) → length lo ≤ 64 → length hi ≤ 64 → below hi lo ≡ true → two-keys q ((key-bytes lo ++ key-bytes hi) ++ s) ≡ bad 23
+unfolding two-keys
+crossed-bad q lo hi s l m h = ap (two-keys q) (append-assoc (key-bytes lo) (key-bytes hi) s) ∙ rw (key-read lo (key-bytes hi ++ s) l, key-read hi s m, h, two-keys)
+
+-- a number that is read where a key is due is the question's
+due-read : {rest s : Bytes} → Key-due rest s → (r : ℕ) → read-key s ≡ bad r → read-question rest ≡ bad r
+unfolding read-question read-keys
+due-read (behind-mark x s i) r h = all-in (λ x. read-question (81 ∷ x ∷ s) ≡ bad r) (one-bad QP s r h, (one-bad QS s r h, (one-bad QB s r h, (lower-bad QR s r h, (lower-bad QC s r h, tt))))) i
+due-read (behind-bound x lo s i l) r h = all-in (λ x. read-question (81 ∷ x ∷ key-bytes lo ++ s) ≡ bad r) (upper-bad QR lo s r l h, (upper-bad QC lo s r l h, tt)) i
+
+crossed-read : (x : ℕ) (lo hi s : Bytes) → In x two-key-letters → length lo ≤ 64 → length hi ≤ 64 → below hi lo ≡ true → read-question (81 ∷ x ∷ (key-bytes lo ++ key-bytes hi) ++ s) ≡ bad 23
+unfolding read-question read-keys
+crossed-read x lo hi s i l m h = all-in (λ x. read-question (81 ∷ x ∷ (key-bytes lo ++ key-bytes hi) ++ s) ≡ bad 23) (crossed-bad QR lo hi s l m h, (crossed-bad QC lo hi s l m h, tt)) i
+
+unmarked-read : (a x : ℕ) (s : Bytes) → (a ≡ 81 → In x (one-key-letters ++ two-key-letters) → ⊥) → read-question (a ∷ x ∷ s) ≡ bad 21
+unfolding read-question read-keys
+unmarked-read a x s h = go (eqb a 81) refl
   where
-    three : (lo u hi v : Bytes) → read-key s ≡ got lo u → read-key u ≡ got hi v → (b : Bool) → below hi lo ≡ b → (lo hi : Bytes) × (q lo hi ≡ x) × Range-read s lo hi t
-    three lo u hi v e f true b = no-got (rw (e, f, b, two-keys) at h)
-    three lo u hi v e f false b =
-        let g : got (q lo hi) v ≡ got x t = rw (e, f, b, two-keys) at h in
-        let y : v ≡ t = cc in
-        let a = read-key-is s lo u w e in
-        let c : Key-read u hi t = rw y at (read-key-is u hi v (a .rest) f) in (
-          lo,
-          hi,
-          cc,
-          record {
-            bytes = a .bytes ∙ ap (λ (z : Bytes). key-bytes lo ++ z) (c .bytes) ∙ sym (append-assoc (key-bytes lo) (key-bytes hi) t);
-            range = record { lower = a .bound; upper = c .bound; order = b };
-            rest = c .rest;
-          },
+    go : (t : Bool) → eqb a 81 ≡ t → read-question (a ∷ x ∷ s) ≡ bad 21
+    go false e = rw (e, read-question)
+    go true e =
+        let no = h (eqb-true a 81 e) in
+        rw (
+          e,
+          ne-eqb x 80 (λ y. no (rw y here)),
+          ne-eqb x 83 (λ y. no (rw y (there here))),
+          ne-eqb x 66 (λ y. no (rw y (there (there here)))),
+          ne-eqb x 82 (λ y. no (rw y (there (there (there here))))),
+          ne-eqb x 67 (λ y. no (rw y (there (there (there (there here)))))),
+          read-question,
+          read-keys,
         )
 
-    two : (lo u : Bytes) → read-key s ≡ got lo u → (g : Front Bytes) → read-key u ≡ g → (lo hi : Bytes) × (q lo hi ≡ x) × Range-read s lo hi t
-    two lo u e (bad r) f = no-got (rw (e, f, two-keys) at h)
-    two lo u e (got hi v) f = three lo u hi v e f (below hi lo) refl
+-- ---- questions that are taken, then what stands behind them
 
-    one : (g : Front Bytes) → read-key s ≡ g → (lo hi : Bytes) × (q lo hi ≡ x) × Range-read s lo hi t
-    one (bad r) e = no-got (rw (e, two-keys) at h)
-    one (got lo u) e = two lo u e (read-key u) refl
+-- questions before those behind them
+abbrev with-questions : List Question → Parsed-questions → Parsed-questions
+with-questions [] p = p
+with-questions (q ∷ qs) p = with-question q (with-questions qs p)
 
-record Question-read (s : Bytes) (q : Question) (t : Bytes) : Type 0 where
-  bytes : s ≡ question-bytes q ++ t
-  proper : Proper q
-  rest : Is-bytes t
+with-questions-refused : (qs : List Question) (r : ℕ) → with-questions qs (refused r) ≡ refused r
+unfolding with-question
+with-questions-refused [] r = refl
+with-questions-refused (q ∷ qs) r = ap (with-question q) (with-questions-refused qs r)
 
-module _ (x : ℕ) (s : Bytes) (q : Question) (t : Bytes) (w : Is-bytes s) where
-  one-letter : (c : Bytes → Question) (y : ℕ) → ((k : Bytes) → question-bytes (c k) ≡ 81 ∷ y ∷ key-bytes k) → ((k : Bytes) → Bound k → Proper (c k))
-      → eqb x y ≡ true → one-key c s ≡ got q t → Question-read (81 ∷ x ∷ s) q t
-  one-letter c y b p e h =
-      let k = one-key-is c s q t w h in
-      rw (← k .1) (record {
-        bytes = ap₂ (λ (a : ℕ) (z : Bytes). 81 ∷ a ∷ z) (eqb-true x y e) (k .2 .bytes) ∙ ap (λ (z : Bytes). z ++ t) (sym (b (k .0)));
-        proper = p (k .0) (k .2 .bound);
-        rest = k .2 .rest;
-      })
+with-questions-all : (qs : List Question) → with-questions qs (taken []) ≡ taken qs
+unfolding with-question
+with-questions-all [] = refl
+with-questions-all (q ∷ qs) = ap (with-question q) (with-questions-all qs)
 
-  two-letter : (c : Bytes → Bytes → Question) (y : ℕ) → ((lo hi : Bytes) → question-bytes (c lo hi) ≡ 81 ∷ y ∷ key-bytes lo ++ key-bytes hi) → ((lo hi : Bytes) → Range lo hi → Proper (c lo hi))
-      → eqb x y ≡ true → two-keys c s ≡ got q t → Question-read (81 ∷ x ∷ s) q t
-  two-letter c y b p e h =
-      let k = two-keys-is c s q t w h in
-      rw (← k .2) (record {
-        bytes = ap₂ (λ (a : ℕ) (z : Bytes). 81 ∷ a ∷ z) (eqb-true x y e) (k .3 .bytes) ∙ ap (λ (z : Bytes). z ++ t) (sym (b (k .0) (k .1)));
-        proper = p (k .0) (k .1) (k .3 .range);
-        rest = k .3 .rest;
-      })
-
-  lettered-is : read-keys x s ≡ got q t → Question-read (81 ∷ x ∷ s) q t
-  unfolding read-keys question-bytes
-  lettered-is h = point (eqb x 80) refl
-    where
-      counts : eqb x 80 ≡ false → eqb x 83 ≡ false → eqb x 66 ≡ false → eqb x 82 ≡ false → (b : Bool) → eqb x 67 ≡ b → Question-read (81 ∷ x ∷ s) q t
-      counts a b c d true e = two-letter QC 67 (λ lo hi. refl) (λ lo hi r. r) e (rw (a, b, c, d, e, read-keys) at h)
-      counts a b c d false e = no-got (rw (a, b, c, d, e, read-keys) at h)
-
-      ranges : eqb x 80 ≡ false → eqb x 83 ≡ false → eqb x 66 ≡ false → (b : Bool) → eqb x 82 ≡ b → Question-read (81 ∷ x ∷ s) q t
-      ranges a b c true e = two-letter QR 82 (λ lo hi. refl) (λ lo hi r. r) e (rw (a, b, c, e, read-keys) at h)
-      ranges a b c false e = counts a b c e (eqb x 67) refl
-
-      stems : eqb x 80 ≡ false → eqb x 83 ≡ false → (b : Bool) → eqb x 66 ≡ b → Question-read (81 ∷ x ∷ s) q t
-      stems a b true e = one-letter QB 66 (λ k. refl) (λ k r. r) e (rw (a, b, e, read-keys) at h)
-      stems a b false e = ranges a b e (eqb x 82) refl
-
-      seeks : eqb x 80 ≡ false → (b : Bool) → eqb x 83 ≡ b → Question-read (81 ∷ x ∷ s) q t
-      seeks a true e = one-letter QS 83 (λ k. refl) (λ k r. r) e (rw (a, e, read-keys) at h)
-      seeks a false e = stems a e (eqb x 66) refl
-
-      point : (b : Bool) → eqb x 80 ≡ b → Question-read (81 ∷ x ∷ s) q t
-      point true e = one-letter QP 80 (λ k. refl) (λ k r. r) e (rw (e, read-keys) at h)
-      point false e = seeks e (eqb x 83) refl
-
-read-question-is : (s : Bytes) (q : Question) (t : Bytes) → Is-bytes s → read-question s ≡ got q t → Question-read s q t
-unfolding read-question
-read-question-is [] q t w h = no-got h
-read-question-is (a ∷ []) q t w h = no-got h
-read-question-is (a ∷ x ∷ s) q t w h = go (eqb a 81) refl
-  where
-    go : (b : Bool) → eqb a 81 ≡ b → Question-read (a ∷ x ∷ s) q t
-    go false e = no-got (rw (e, read-question) at h)
-    go true e = rw (eqb-true a 81 e) (lettered-is x s q t (w .1 .1) (rw (e, read-question) at h))
-
--- ---- a file
-
--- a question has bytes
-pub question-size : (q : Question) (t : Bytes) → length t < length (question-bytes q ++ t)
+question-size : (q : Question) (t : Bytes) → length t < length (question-bytes q ++ t)
 unfolding question-bytes
 question-size (QP k) t = omega (arith, length-append k t)
 question-size (QS k) t = omega (arith, length-append k t)
@@ -190,78 +124,227 @@ question-size (QB k) t = omega (arith, length-append k t)
 question-size (QR lo hi) t = omega (arith, length-append (lo ++ key-bytes hi) t)
 question-size (QC lo hi) t = omega (arith, length-append (lo ++ key-bytes hi) t)
 
-questions-front : (f done : ℕ) (s : Bytes) (q : Question) (t : Bytes) → (done ≡ 1024 → ⊥) → 0 < length s → read-question s ≡ got q t
-    → parse-from (suc f) done s ≡ with-question q (parse-from f (suc done) t)
+questions-front : (f done : ℕ) (s : Bytes) (q : Question) (t : Bytes) → done < 1024 → 0 < length s → read-question s ≡ got q t → parse-from (suc f) done s ≡ with-question q (parse-from f (suc done) t)
 unfolding parse-from
 questions-front f done [] q t d l h = absurd (omega arith)
-questions-front f done (b ∷ s) q t d l h = rw (ne-eqb done 1024 d, h, parse-from)
+questions-front f done (b ∷ s) q t d l h = rw (ne-eqb done 1024 (λ e. omega arith), h, parse-from)
 
-pub questions-read : (f done : ℕ) (qs : List Question) → All Proper qs → done + length qs ≤ 1024 → length (file-bytes qs) ≤ f → parse-from f done (file-bytes qs) ≡ taken qs
-unfolding parse-from file-bytes concat with-question
-questions-read zero done [] p d l = refl
-questions-read (suc f) done [] p d l = refl
-questions-read zero done (q ∷ qs) p d l = absurd (omega (arith, question-size q (concat (map question-bytes qs))))
-questions-read (suc f) done (q ∷ qs) p d l =
-    let n = question-size q (concat (map question-bytes qs)) in
-    questions-front f done (question-bytes q ++ concat (map question-bytes qs)) q (concat (map question-bytes qs)) (λ e. omega arith) (omega arith) (question-read q (concat (map question-bytes qs)) (p .0))
-    ∙ ap (with-question q) (questions-read f (suc done) qs (p .1) (omega arith) (omega arith))
+questions-read : (f done : ℕ) (qs : List Question) (rest : Bytes) (p : Parsed-questions) (total : ℕ) → All Question-fits qs → done + length qs ≡ total → total ≤ 1024
+    → length (file-bytes qs ++ rest) ≤ f → ((g : ℕ) → length rest ≤ g → parse-from g total rest ≡ p) → parse-from f done (file-bytes qs ++ rest) ≡ with-questions qs p
+unfolding file-bytes concat
+questions-read f done [] rest p total q e d l h = let z : done ≡ total = omega arith in rw z (h f l)
+questions-read zero done (q ∷ qs) rest p total w e d l h =
+    absurd (omega (arith, ap length (append-assoc (question-bytes q) (concat (map question-bytes qs)) rest), question-size q (concat (map question-bytes qs) ++ rest)))
+questions-read (suc f) done (q ∷ qs) rest p total w e d l h =
+    let behind : Bytes = concat (map question-bytes qs) ++ rest in
+    let a = append-assoc (question-bytes q) (concat (map question-bytes qs)) rest in
+    let n = question-size q behind in
+    ap (parse-from (suc f) done) a
+    ∙ questions-front f done (question-bytes q ++ behind) q behind (omega arith) (omega arith) (question-read q behind (w .0))
+    ∙ ap (with-question q) (questions-read f (suc done) qs rest p total (w .1) (omega arith) d (omega (arith, ap length a)) h)
 
--- what questions that are read say of the bytes
-record Questions-read (done : ℕ) (s : Bytes) (qs : List Question) : Type 0 where
-  bytes : s ≡ file-bytes qs
-  each : All Proper qs
-  few : done + length qs ≤ 1024
+-- What is read from a question file whose first questions are taken.
+taken-read : {file : Bytes} {qs : List Question} {rest : Bytes} → Questions-taken file qs rest → (p : Parsed-questions) → ((g : ℕ) → length rest ≤ g → parse-from g (length qs) rest ≡ p) → parse-questions file ≡ with-questions qs p
+unfolding parse-questions
+taken-read {qs = qs} {rest = rest} t p h = rw (t .bytes) (questions-read (length (file-bytes qs ++ rest)) 0 qs rest p (length qs) (t .each) (omega arith) (t .few) (omega arith) h)
 
+-- a number that is read at the next question is the file's
+refused-read : {file : Bytes} {qs : List Question} {rest : Bytes} → Questions-taken file qs rest → (r : ℕ) → 0 < length rest → ((f : ℕ) → parse-from (suc f) (length qs) rest ≡ refused r) → parse-questions file ≡ refused r
+refused-read {qs = qs} {rest = rest} t r l h = taken-read t (refused r) go ∙ with-questions-refused qs r
+  where
+    go : (g : ℕ) → length rest ≤ g → parse-from g (length qs) rest ≡ refused r
+    go zero m = absurd (omega arith)
+    go (suc f) m = h f
+
+bad-read : {file : Bytes} {qs : List Question} {rest : Bytes} → Passes-24 file qs rest → (r : ℕ) → 0 < length rest → read-question rest ≡ bad r → parse-questions file ≡ refused r
+unfolding parse-from
+bad-read {rest = []} p r l h = absurd (omega arith)
+bad-read {qs = qs} {rest = b ∷ s} p r l h = refused-read (p .before) r l (λ f. rw (ne-eqb (length qs) 1024 (λ e. omega (arith, p .room)), h, parse-from))
+
+due-size : {rest s : Bytes} → Key-due rest s → 0 < length rest
+due-size (behind-mark x s i) = omega arith
+due-size (behind-bound x lo s i l) = omega arith
+
+-- The number of a refusal is the one that is read.
+refusal-read : {file : Bytes} {r : ℕ} → Question-refusal file r → parse-questions file ≡ refused r
+unfolding parse-from read-question
+refusal-read (question-too-many qs b rest t e) = refused-read t 24 (omega arith) (λ f. rw (eq-eqb (length qs) 1024 e, parse-from))
+refusal-read (question-unmarked qs a x rest p h) = bad-read p 21 (omega arith) (unmarked-read a x rest h)
+refusal-read (question-short qs b p) = bad-read p 21 (omega arith) refl
+refusal-read (no-length qs rest p d) = bad-read p 21 (due-size d) (due-read d 21 no-length-read)
+refusal-read (key-cut-off qs rest n s p d h l) = bad-read p 21 (due-size d) (due-read d 21 (cut-off-read n s h l))
+refusal-read (length-over qs rest n s p d h) = bad-read p 22 (due-size d) (due-read d 22 (over-read n s h))
+refusal-read (bounds-crossed qs x lo hi rest p i l m h) = bad-read p 23 (omega arith) (crossed-read x lo hi rest i l m h)
+
+-- It is from 21 to 24.
+pub refusal-number : {file : Bytes} {r : ℕ} → Question-refusal file r → From 21 24 r
+refusal-number (question-too-many qs b rest t e) = omega arith
+refusal-number (question-unmarked qs a x rest p h) = omega arith
+refusal-number (question-short qs b p) = omega arith
+refusal-number (no-length qs rest p d) = omega arith
+refusal-number (key-cut-off qs rest n s p d h l) = omega arith
+refusal-number (length-over qs rest n s p d h) = omega arith
+refusal-number (bounds-crossed qs x lo hi rest p i l m h) = omega arith
+
+-- The questions of a file that is taken are those that are read.
+file-read : {file : Bytes} {qs : List Question} → Questions-taken file qs [] → parse-questions file ≡ taken qs
+unfolding parse-from
+file-read {qs = qs} t = taken-read t (taken []) none ∙ with-questions-all qs
+  where
+    none : (g : ℕ) → 0 ≤ g → parse-from g (length qs) [] ≡ taken []
+    none zero l = refl
+    none (suc g) l = refl
+
+-- ---- every byte string is taken, or is turned down
+
+file-bytes-append : (qs ps : List Question) → file-bytes (qs ++ ps) ≡ file-bytes qs ++ file-bytes ps
+unfolding file-bytes
+file-bytes-append qs ps = ap concat (map-append question-bytes qs ps) ∙ concat-append (map question-bytes qs) (map question-bytes ps)
+
+-- one more question is taken
+question-taken : {file : Bytes} {qs : List Question} (q : Question) (s : Bytes) → Passes-24 file qs (question-bytes q ++ s) → Question-fits q → Questions-taken file (qs ++ (q ∷ [])) s
+unfolding file-bytes concat
+question-taken {qs = qs} q s p f =
+    let t = p .before in
+    record {
+      bytes = t .bytes ∙ ap (λ (z : Bytes). file-bytes qs ++ (z ++ s)) (sym (append-nil (question-bytes q))) ∙ sym (append-assoc (file-bytes qs) (file-bytes (q ∷ [])) s) ∙ ap (λ (z : Bytes). z ++ s) (sym (file-bytes-append qs (q ∷ [])));
+      each = all-append Question-fits qs (q ∷ []) (t .each) (f, tt);
+      few = omega (arith, p .room, length-append qs (q ∷ []));
+    }
+
+-- a number is in a list, or is not
+in-or-not : {A : Type 0} (x : ℕ) (xs : List ℕ) → (In x xs → A) → ((In x xs → ⊥) → A) → A
+in-or-not x [] f g = g none-in
+in-or-not {A} x (y ∷ xs) f g = go (eqb x y) refl (λ h. in-or-not x xs (λ i. f (there i)) h)
+  where
+    go : (t : Bool) → eqb x y ≡ t → (((In x xs → ⊥) → A) → A) → A
+    go true e behind = f (rw (eqb-true x y e) here)
+    go false e behind = behind (λ h. g (λ i. ⊎-elim (λ z. eqb-false x y e (sym z)) h (in-cons i)))
+
+module _ {A : Type 0} (file : Bytes) (accepts : (qs : List Question) → Questions-taken file qs [] → A) (refuses : (r : ℕ) → Question-refusal file r → A) where
+  -- the next question, and what is done with it where it is taken
+  module _ (qs : List Question) (next : (q : Question) (t : Bytes) → Passes-24 file qs (question-bytes q ++ t) → Question-fits q → A) where
+    from-due : (rest s : Bytes) → Passes-24 file qs rest → Key-due rest s → ((k t : Bytes) → length k ≤ 64 → s ≡ key-bytes k ++ t → A) → A
+    from-due rest [] p d f = refuses 21 (no-length qs rest p d)
+    from-due rest (n ∷ s) p d f = go (ltb 64 n) (ltb (length s) n) refl refl
+      where
+        go : (t u : Bool) → ltb 64 n ≡ t → ltb (length s) n ≡ u → A
+        go true u e h = refuses 22 (length-over qs rest n s p d (ltb-true 64 n e))
+        go false true e h = refuses 21 (key-cut-off qs rest n s p d (ltb-false 64 n e) (ltb-true (length s) n h))
+        go false false e h =
+            let size : length (take n s) ≡ n = length-take-le n s (ltb-false (length s) n h) in
+            f (take n s) (drop n s) (omega (arith, ltb-false 64 n e)) (rw (size, take-append-drop n s))
+
+    from-one : (c : Bytes → Question) (x : ℕ) (s : Bytes) → ((k : Bytes) → question-bytes (c k) ≡ 81 ∷ x ∷ key-bytes k) → ((k : Bytes) → length k ≤ 64 → Question-fits (c k))
+        → In x (one-key-letters ++ two-key-letters) → Passes-24 file qs (81 ∷ x ∷ s) → A
+    from-one c x s b w i p =
+        from-due (81 ∷ x ∷ s) s p (behind-mark x s i) (λ k t l e. next (c k) t (subst (Passes-24 file qs) (ap (λ (z : Bytes). 81 ∷ x ∷ z) e ∙ ap (λ (z : Bytes). z ++ t) (sym (b k))) p) (w k l))
+
+    from-two : (c : Bytes → Bytes → Question) (x : ℕ) (s : Bytes) → ((lo hi : Bytes) → question-bytes (c lo hi) ≡ 81 ∷ x ∷ key-bytes lo ++ key-bytes hi)
+        → ((lo hi : Bytes) → length lo ≤ 64 → length hi ≤ 64 → below hi lo ≡ false → Question-fits (c lo hi)) → In x two-key-letters → Passes-24 file qs (81 ∷ x ∷ s) → A
+    from-two c x s b w i p =
+        from-due (81 ∷ x ∷ s) s p (behind-mark x s (in-valid one-key-letters two-key-letters i)) (λ lo t l e.
+        let q : Passes-24 file qs (81 ∷ x ∷ key-bytes lo ++ t) = subst (λ (z : Bytes). Passes-24 file qs (81 ∷ x ∷ z)) e p in
+        from-due (81 ∷ x ∷ key-bytes lo ++ t) t q (behind-bound x lo t i l) (λ hi u m h.
+        let both : key-bytes lo ++ t ≡ (key-bytes lo ++ key-bytes hi) ++ u = ap (λ (z : Bytes). key-bytes lo ++ z) h ∙ sym (append-assoc (key-bytes lo) (key-bytes hi) u) in
+        go lo hi u l m (subst (λ (z : Bytes). Passes-24 file qs (81 ∷ x ∷ z)) both q) (below hi lo) refl))
+      where
+        go : (lo hi u : Bytes) → length lo ≤ 64 → length hi ≤ 64 → Passes-24 file qs (81 ∷ x ∷ (key-bytes lo ++ key-bytes hi) ++ u) → (t : Bool) → below hi lo ≡ t → A
+        go lo hi u l m q true h = refuses 23 (bounds-crossed qs x lo hi u q i l m h)
+        go lo hi u l m q false h = next (c lo hi) u (subst (Passes-24 file qs) (ap (λ (z : Bytes). z ++ u) (sym (b lo hi))) q) (w lo hi l m h)
+
+    from-letter : (x : ℕ) (s : Bytes) → Passes-24 file qs (81 ∷ x ∷ s) → In x (one-key-letters ++ two-key-letters) → A
+    unfolding question-bytes
+    from-letter x s p i =
+        let one : All (λ x. Passes-24 file qs (81 ∷ x ∷ s) → A) one-key-letters
+        = (from-one QP 80 s (λ k. refl) (λ k l. l) here, (from-one QS 83 s (λ k. refl) (λ k l. l) (there here), (from-one QB 66 s (λ k. refl) (λ k l. l) (there (there here)), tt))) in
+        let two : All (λ x. Passes-24 file qs (81 ∷ x ∷ s) → A) two-key-letters
+        = (from-two QR 82 s (λ lo hi. refl) (λ lo hi l m h. (l, m, h)) here, (from-two QC 67 s (λ lo hi. refl) (λ lo hi l m h. (l, m, h)) (there here), tt)) in
+        all-in (λ x. Passes-24 file qs (81 ∷ x ∷ s) → A) (all-append (λ x. Passes-24 file qs (81 ∷ x ∷ s) → A) one-key-letters two-key-letters one two) i p
+
+    from-24 : (b : ℕ) (s : Bytes) → Passes-24 file qs (b ∷ s) → A
+    from-24 b [] p = refuses 21 (question-short qs b p)
+    from-24 b (x ∷ s) p = go (eqb b 81) refl
+      where
+        go : (t : Bool) → eqb b 81 ≡ t → A
+        go false e = refuses 21 (question-unmarked qs b x s p (λ y i. eqb-false b 81 e y))
+        go true e = in-or-not x (one-key-letters ++ two-key-letters) (from-letter x s (rw (eqb-true b 81 e) at p)) (λ h. refuses 21 (question-unmarked qs b x s p (λ y i. h i)))
+
+    from-question : (b : ℕ) (s : Bytes) → Questions-taken file qs (b ∷ s) → (t : Bool) → eqb (length qs) 1024 ≡ t → A
+    from-question b s t true e = refuses 24 (question-too-many qs b s t (eqb-true (length qs) 1024 e))
+    from-question b s t false e = from-24 b s (record { before = t; room = omega (arith, t .few, eqb-false (length qs) 1024 e) })
+
+  from-questions : (f : ℕ) (qs : List Question) (s : Bytes) → length s ≤ f → Questions-taken file qs s → A
+  from-questions zero qs [] l t = accepts qs t
+  from-questions zero qs (b ∷ s) l t = absurd (omega arith)
+  from-questions (suc f) qs [] l t = accepts qs t
+  from-questions (suc f) qs (b ∷ s) l t =
+      from-question qs
+      (λ q v p w. from-questions f (qs ++ (q ∷ [])) v
+      (omega (arith, ap length (t .bytes), length-append (file-bytes qs) (b ∷ s), ap length (p .before .bytes), length-append (file-bytes qs) (question-bytes q ++ v), question-size q v))
+      (question-taken q v p w))
+      b s t (eqb (length qs) 1024) refl
+
+  -- A question file is taken whole, or is turned down at a question.
+  by-questions : A
+  unfolding file-bytes concat
+  by-questions = from-questions (length file) [] file (omega arith) (record { bytes = refl; each = tt; few = omega arith })
+
+-- ---- both ways
+
+-- a refusal is no question
 no-taken : {A : Type 0} {r : ℕ} {qs : List Question} → refused r ≡ taken qs → A
 no-taken h = let z : _≡_ {A = ℕ} 0 1 = cc in absurd (omega arith)
 
-with-question-is : (q : Question) (a : Parsed-questions) (qs : List Question) → with-question q a ≡ taken qs → (ps : List Question) × (a ≡ taken ps) × (q ∷ ps ≡ qs)
-unfolding with-question
-with-question-is q (refused r) qs h = no-taken h
-with-question-is q (taken ps) qs h = (ps, refl, cc)
-
-none-read : (done : ℕ) (qs : List Question) → done ≤ 1024 → taken [] ≡ taken qs → Questions-read done [] qs
-unfolding file-bytes concat
-none-read done qs d h =
-    let e : [] ≡ qs = cc in
-    rw (← e) (record { bytes = refl; each = tt; few = omega arith })
-
-questions-are : (f done : ℕ) (s : Bytes) (qs : List Question) → Is-bytes s → done ≤ 1024 → length s ≤ f → parse-from f done s ≡ taken qs → Questions-read done s qs
-unfolding parse-from file-bytes concat
-questions-are zero done [] qs w d l h = none-read done qs d h
-questions-are zero done (b ∷ s) qs w d l h = absurd (omega arith)
-questions-are (suc f) done [] qs w d l h = none-read done qs d h
-questions-are (suc f) done (b ∷ s) qs w d l h = one (eqb done 1024) refl
-    (λ t ps v m n k. questions-are f (suc done) t ps v m (omega arith) k)
+-- A question file is refused with the number that the sentences on questions name, and with no other.
+pub file-refuses : (file : Bytes) (r : ℕ) → (parse-questions file ≡ refused r) ↔ Question-refusal file r
+file-refuses file r = (to, refusal-read)
   where
-    Behind : Type 0
-    Behind = (t : Bytes) (ps : List Question) → Is-bytes t → done < 1024 → length t < length (b ∷ s) → parse-from f (suc done) t ≡ taken ps → Questions-read (suc done) t ps
+    to : parse-questions file ≡ refused r → Question-refusal file r
+    to h = by-questions file (λ qs t. no-taken (sym h ∙ file-read t)) (λ q l. let e : refused q ≡ refused r = sym (refusal-read l) ∙ h in let n : q ≡ r = cc in subst (Question-refusal file) n l)
 
-    two : eqb done 1024 ≡ false → (g : Front Question) → read-question (b ∷ s) ≡ g → Behind → Questions-read done (b ∷ s) qs
-    two p (bad r) e ih = no-taken (rw (p, e, parse-from) at h)
-    two p (got q t) e ih =
-        let m = with-question-is q (parse-from f (suc done) t) qs (rw (p, e, parse-from) at h) in
-        let r = read-question-is (b ∷ s) q t w e in
-        let inner : done < 1024 = omega (arith, eqb-false done 1024 p) in
-        let size : length t < length (b ∷ s) = omega (arith, ap length (r .bytes), question-size q t) in
-        let i = ih t (m .0) (r .rest) inner size (m .1) in
-        rw (← m .2) (record {
-          bytes = r .bytes ∙ ap (λ (z : Bytes). question-bytes q ++ z) (i .bytes);
-          each = (r .proper, i .each);
-          few = omega (arith, i .few);
-        })
+-- It is read as questions exactly where it is taken whole, and they are those that stand in it.
+pub file-taken : (file : Bytes) (qs : List Question) → (parse-questions file ≡ taken qs) ↔ Questions-taken file qs []
+file-taken file qs = (to, file-read)
+  where
+    to : parse-questions file ≡ taken qs → Questions-taken file qs []
+    to h = by-questions file (λ ps t. let e : taken ps ≡ taken qs = sym (file-read t) ∙ h in let n : ps ≡ qs = cc in subst (λ (z : List Question). Questions-taken file z []) n t) (λ q l. no-taken (sym (refusal-read l) ∙ h))
 
-    one : (b′ : Bool) → eqb done 1024 ≡ b′ → Behind → Questions-read done (b ∷ s) qs
-    one true p ih = no-taken (rw (p, parse-from) at h)
-    one false p ih = two p (read-question (b ∷ s)) refl ih
+-- a question that is taken, of bytes, is a proper one, and the other way round
+range-bytes : (lo hi : Bytes) → (length lo ≤ 64) × (length hi ≤ 64) × (below hi lo ≡ false) → Is-bytes (key-bytes lo ++ key-bytes hi) → Range lo hi
+range-bytes lo hi f w =
+    let b = all-split (λ x. x < 256) (key-bytes lo) (key-bytes hi) w in
+    record { lower = record { fits = f .0; bytes = b .0 .1 }; upper = record { fits = f .1; bytes = b .1 .1 }; order = f .2 }
+
+proper-bytes : (q : Question) → Question-fits q → Is-bytes (question-bytes q) → Proper q
+unfolding question-bytes
+proper-bytes (QP k) f w = record { fits = f; bytes = w .1 .1 .1 }
+proper-bytes (QS k) f w = record { fits = f; bytes = w .1 .1 .1 }
+proper-bytes (QB k) f w = record { fits = f; bytes = w .1 .1 .1 }
+proper-bytes (QR lo hi) f w = range-bytes lo hi f (w .1 .1)
+proper-bytes (QC lo hi) f w = range-bytes lo hi f (w .1 .1)
+
+proper-fits : (q : Question) → Proper q → Question-fits q
+proper-fits (QP k) p = p .fits
+proper-fits (QS k) p = p .fits
+proper-fits (QB k) p = p .fits
+proper-fits (QR lo hi) p = (p .lower .fits, p .upper .fits, p .order)
+proper-fits (QC lo hi) p = (p .lower .fits, p .upper .fits, p .order)
+
+questions-proper : (qs : List Question) → All Question-fits qs → Is-bytes (file-bytes qs) → All Proper qs
+unfolding file-bytes concat
+questions-proper [] f w = tt
+questions-proper (q ∷ qs) f w = let b = all-split (λ x. x < 256) (question-bytes q) (concat (map question-bytes qs)) w in (proper-bytes q (f .0) (b .0), questions-proper qs (f .1) (b .1))
 
 -- None of 21 to 24 applies to a byte string exactly when it is such questions.
 pub questions-exactly : (s : Bytes) (qs : List Question) → Is-bytes s → (parse-questions s ≡ taken qs) ↔ Question-file s qs
-unfolding parse-questions
 questions-exactly s qs w = (to, from)
   where
-    to : parse-from (length s) 0 s ≡ taken qs → Question-file s qs
-    to h = let r = questions-are (length s) 0 s qs w (omega arith) (omega arith) h in record { bytes = r .bytes; each = r .each; few = omega (arith, r .few) }
+    to : parse-questions s ≡ taken qs → Question-file s qs
+    to h =
+        let t = file-taken s qs .0 h in
+        let e : s ≡ file-bytes qs = t .bytes ∙ append-nil (file-bytes qs) in
+        record { bytes = e; each = questions-proper qs (t .each) (subst Is-bytes e w); few = t .few }
 
-    from : Question-file s qs → parse-from (length s) 0 s ≡ taken qs
-    from k = rw (k .bytes) (questions-read (length (file-bytes qs)) 0 qs (k .each) (omega (arith, k .few)) (omega arith))
+    from : Question-file s qs → parse-questions s ≡ taken qs
+    from k = file-taken s qs .1 (record { bytes = k .bytes ∙ sym (append-nil (file-bytes qs)); each = all-weaken Proper Question-fits proper-fits qs (k .each); few = k .few })

@@ -23,10 +23,12 @@ use Rattle.spec.specs.Ask.{ask}
 use Rattle.spec.specs.Walk.{stand-at, open-walk, next}
 use Rattle.theory.specs.Terms.{From, Judged-alike}
 use Rattle.theory.specs.Demands.{Length-refusal, Build-refusal, Ask-refusal, Walk-refusal, setting-refused, record-refused, judged-again, length-wrong, image-too-long, image-refused, question-refused, replies-too-long, refused-image, place-refused, Kept}
+use Rattle.theory.specs.KeyFiles.{list-refuses, list-taken}
+use Rattle.theory.specs.QuestionFiles.{file-refuses, file-taken, refusal-number}
 use Rattle.theory.specs.OutcomeLaws.{no-written, refuse-answer, write-answer, success-written, refuse-kept, write-kept}
 use Rattle.theory.specs.BuildLaws.{judge-is, judge-keys, judged-keys, length-is, build-is, stated-wrong, stated-right}
 use Rattle.theory.specs.AskLaws.{ask-is, ask-answers, walk-is, step-is}
-use Rattle.theory.specs.RefusalNumbers.{keys-number, questions-number, check-accepts, check-refused, check-number, check-cases}
+use Rattle.theory.specs.RefusalNumbers.{check-accepts, check-refused, check-number, check-cases}
 use Rattle.spec.specs.Answer as Answer
 use Rattle.spec.specs.Build as Build
 use Rattle.spec.specs.Check as Check
@@ -44,13 +46,13 @@ turned-down-refusal list st r h = one (in-range st) refl (parse-keys list) refl
 
     one : (t : Bool) → in-range st ≡ t → (p : Parsed-keys) → parse-keys list ≡ p → Length-refusal list st r
     one false e p f = named 5 (judge-is list st false p e f) (setting-refused e)
-    one true e (refused q) f = named q (judge-is list st true (refused q) e f) (record-refused e f (keys-number list q f))
+    one true e (refused q) f = named q (judge-is list st true (refused q) e f) (record-refused e (list-refuses list q .0 f))
     one true e (keys ks) f = let j = judge-keys list st ks e f in let z : _≡_ {A = ℕ} 0 1 = cc in absurd (omega arith)
 
 -- and with no other
 refusal-turned-down : (list : Bytes) (st : Settings) (r : ℕ) → Length-refusal list st r → judge list st ≡ turned-down r
 refusal-turned-down list st r (setting-refused e) = judge-is list st false (parse-keys list) e refl
-refusal-turned-down list st r (record-refused e f n) = judge-is list st true (refused r) e f
+refusal-turned-down list st r (record-refused e f) = judge-is list st true (refused r) e (list-refuses list r .1 f)
 
 -- The first call refuses with the number that the order of checks names, and with no other.
 pub length-refuses : (list : Bytes) (st : Settings) (r : ℕ) → (image-length list st ≡ Build.refused r) ↔ Length-refusal list st r
@@ -76,12 +78,12 @@ module _ (list : Bytes) (st : Settings) (stated : ℕ) (out : Bytes) (r : ℕ) w
       over-image h ks e f false g =
           let b : Bytes = image st (leaves (st .hash-width) (st .real-width) ks) in
           let w = eqb-false stated (length b) g in
-          subst (Build-refusal list st stated out) (refuse-answer 8 r out _ (build-is list st stated out (to-build b) (judge-keys list st ks e f) ∙ stated-wrong stated b out w) .0 h) (length-wrong e ks f w)
+          subst (Build-refusal list st stated out) (refuse-answer 8 r out _ (build-is list st stated out (to-build b) (judge-keys list st ks e f) ∙ stated-wrong stated b out w) .0 h) (length-wrong e ks (list-taken list ks .0 f) w)
       over-image h ks e f true g =
           let b : Bytes = image st (leaves (st .hash-width) (st .real-width) ks) in
           let w = eqb-true stated (length b) g in
           let a = write-answer 7 r b out _ (build-is list st stated out (to-build b) (judge-keys list st ks e f) ∙ stated-right stated b out w) .0 h in
-          subst (Build-refusal list st stated out) (a .0) (image-too-long e ks f w (a .1))
+          subst (Build-refusal list st stated out) (a .0) (image-too-long e ks (list-taken list ks .0 f) w (a .1))
 
       to : build list st stated out .answer ≡ Answer.refused r → (j : Judged) → judge list st ≡ j → Build-refusal list st stated out r
       to h (turned-down q) j = subst (Build-refusal list st stated out) (refuse-answer q r out _ (build-is list st stated out (turned-down q) j) .0 h) (judged-again (turned-down-refusal list st q j))
@@ -91,10 +93,10 @@ module _ (list : Bytes) (st : Settings) (stated : ℕ) (out : Bytes) (r : ℕ) w
       from q (judged-again l) = refuse-answer q q out _ (build-is list st stated out (turned-down q) (refusal-turned-down list st q l)) .1 refl
       from q (length-wrong e ks f w) =
           let b : Bytes = image st (leaves (st .hash-width) (st .real-width) ks) in
-          refuse-answer 8 8 out _ (build-is list st stated out (to-build b) (judge-keys list st ks e f) ∙ stated-wrong stated b out w) .1 refl
+          refuse-answer 8 8 out _ (build-is list st stated out (to-build b) (judge-keys list st ks e (list-taken list ks .1 f)) ∙ stated-wrong stated b out w) .1 refl
       from q (image-too-long e ks f w l) =
           let b : Bytes = image st (leaves (st .hash-width) (st .real-width) ks) in
-          write-answer 7 7 b out _ (build-is list st stated out (to-build b) (judge-keys list st ks e f) ∙ stated-right stated b out w) .1 (refl, l)
+          write-answer 7 7 b out _ (build-is list st stated out (to-build b) (judge-keys list st ks e (list-taken list ks .1 f)) ∙ stated-right stated b out w) .1 (refl, l)
 
 -- ---- ask
 
@@ -119,15 +121,15 @@ module _ (b file out : Bytes) (r : ℕ) where
 
       over-accepted : ask b file out .answer ≡ Answer.refused r → check b ≡ accepted → (p : Parsed-questions) → parse-questions file ≡ p → Ask-refusal b file out r
       over-accepted h c (Questions.refused q) f =
-          subst (Ask-refusal b file out) (refuse-answer q r out _ (ask-over-accepted b file out c (Questions.refused q) f) .0 h) (question-refused c f (questions-number file q f))
+          subst (Ask-refusal b file out) (refuse-answer q r out _ (ask-over-accepted b file out c (Questions.refused q) f) .0 h) (question-refused c (file-refuses file q .0 f))
       over-accepted h c (taken qs) f =
           let a = write-answer 25 r (replies (read-settings b .hash-width) (read-leaves b) qs) out _ (ask-over-accepted b file out c (taken qs) f) .0 h in
-          subst (Ask-refusal b file out) (a .0) (replies-too-long c qs f (a .1))
+          subst (Ask-refusal b file out) (a .0) (replies-too-long c qs (file-taken file qs .0 f) (a .1))
 
       from : (q : ℕ) → Ask-refusal b file out q → ask b file out .answer ≡ Answer.refused q
       from q (image-refused c n) = refuse-answer q q out _ (ask-over-refused b file out q c) .1 refl
-      from q (question-refused c f n) = refuse-answer q q out _ (ask-over-accepted b file out c (Questions.refused q) f) .1 refl
-      from q (replies-too-long c qs f l) = write-answer 25 25 (replies (read-settings b .hash-width) (read-leaves b) qs) out _ (ask-over-accepted b file out c (taken qs) f) .1 (refl, l)
+      from q (question-refused c f) = refuse-answer q q out _ (ask-over-accepted b file out c (Questions.refused q) (file-refuses file q .1 f)) .1 refl
+      from q (replies-too-long c qs f l) = write-answer 25 25 (replies (read-settings b .hash-width) (read-leaves b) qs) out _ (ask-over-accepted b file out c (taken qs) (file-taken file qs .1 f)) .1 (refl, l)
 
 -- what ask writes is the replies to the questions of the file, over an accepted image
 pub ask-writes-replies : (b file out : Bytes) (n : ℕ) → ask b file out .answer ≡ written n
@@ -216,7 +218,7 @@ judged-alike b = record {
 
     asked : (file out : Bytes) (r : ℕ) → check b ≡ accepted → Ask-refusal b file out r → From 21 25 r
     asked file out r c (image-refused d n) = never c d
-    asked file out r c (question-refused d f n) = omega (arith, n)
+    asked file out r c (question-refused d f) = omega (arith, refusal-number f)
     asked file out r c (replies-too-long d qs f l) = omega arith
 
     walked : (place r : ℕ) → check b ≡ accepted → Walk-refusal b place r → r ≡ 17
