@@ -115,12 +115,12 @@ pub record Records-taken (list : Bytes) (ks : List Bytes) (rest : Bytes) : Type 
   pub up : Ascending ks
   pub few : length ks ≤ 65535
 
--- The bytes behind them are judged as the next record, to which 4 does not apply;
+-- The bytes behind them are judged as the next record, and 4 does not apply to it.
 pub record Passes-4 (list : Bytes) (ks : List Bytes) (rest : Bytes) : Type 0 where
   pub before : Records-taken list ks rest
   pub room : length ks < 65535
 
--- and they begin with the mark and a length n, to which neither 1 nor 2 applies.
+-- Nor does 1 or 2 apply to its first three bytes, the mark and a length n.
 pub record Passes-2 (list : Bytes) (ks : List Bytes) (n : ℕ) (rest : Bytes) : Type 0 where
   pub before : Passes-4 list ks (letter "K" ∷ letter "Y" ∷ n ∷ rest)
   pub size : From 1 64 n
@@ -209,7 +209,7 @@ pub record Questions-taken (file : Bytes) (qs : List Question) (rest : Bytes) : 
   pub each : All Question-fits qs
   pub few : length qs ≤ 1024
 
--- The bytes behind them are judged as the next question, to which 24 does not apply.
+-- The bytes behind them are judged as the next question, and 24 does not apply to it.
 pub record Passes-24 (file : Bytes) (qs : List Question) (rest : Bytes) : Type 0 where
   pub before : Questions-taken file qs rest
   pub room : length qs < 1024

@@ -172,7 +172,7 @@ refusal-read (question-too-many qs b rest t e) = refused-read t 24 (omega arith)
 refusal-read (question-unmarked qs a x rest p h) = bad-read p 21 (omega arith) (unmarked-read a x rest h)
 refusal-read (question-short qs b p) = bad-read p 21 (omega arith) refl
 refusal-read (no-length qs rest p d) = bad-read p 21 (due-size d) (due-read d 21 no-length-read)
-refusal-read (key-cut-off qs rest n s p d h l) = bad-read p 21 (due-size d) (due-read d 21 (cut-off-read n s h l))
+refusal-read (key-cut-off qs rest n s p d h l) = bad-read p 21 (due-size d) (due-read d 21 (cut-off-read n s (omega arith) l))
 refusal-read (length-over qs rest n s p d h) = bad-read p 22 (due-size d) (due-read d 22 (over-read n s h))
 refusal-read (bounds-crossed qs x lo hi rest p i l m h) = bad-read p 23 (omega arith) (crossed-read x lo hi rest i l m h)
 
@@ -230,7 +230,7 @@ module _ {A : Type 0} (file : Bytes) (accepts : (qs : List Question) → Questio
       where
         go : (t u : Bool) → ltb 64 n ≡ t → ltb (length s) n ≡ u → A
         go true u e h = refuses 22 (length-over qs rest n s p d (ltb-true 64 n e))
-        go false true e h = refuses 21 (key-cut-off qs rest n s p d (ltb-false 64 n e) (ltb-true (length s) n h))
+        go false true e h = refuses 21 (key-cut-off qs rest n s p d (omega (arith, ltb-false 64 n e)) (ltb-true (length s) n h))
         go false false e h =
             let size : length (take n s) ≡ n = length-take-le n s (ltb-false (length s) n h) in
             f (take n s) (drop n s) (omega (arith, ltb-false 64 n e)) (rw (size, take-append-drop n s))
