@@ -1,19 +1,14 @@
 // Building in two public calls: a key list and settings give the image's length; with that length and an output they give the answer, and the image in the output.
 ghost use mathlib.Core.Path.{_≡_};
-ghost use Rattle.spec.specs.Image.{known-version};
-ghost use Rattle.spec.specs.Build.{in-range, image-length, build};
+ghost use Rattle.spec.specs.Build.{image-length, build};
 ghost use Rattle.image.specs.Header.{asked};
 ghost use Rattle.image.specs.Outcomes.{outcome};
 ghost use Rattle.build.specs.Build.{Judges, length-of};
 use build_list::KeyList;
 use build_list::judge::judge_list;
-use image::LEVELED_VERSION;
 use image::Settings;
 use image::Written;
-use image::header_bytes::FIRST_VERSION;
-use image::header_bytes::MAX_DENSE_LEVELS;
-use image::header_bytes::MAX_HASH_BITS;
-use image::header_bytes::MAX_REAL_BITS;
+use image::header_bytes::settings_in_range;
 use layout::build_image;
 use layout::measure_image;
 
@@ -34,28 +29,11 @@ pub enum Judged {
     Refused(u32),
 }
 
-// Whether there is such a version.
-fn is_known(version: usize) -> bool
-    ensures { λ r. ⌜ r ≡ known-version version ⌝ }
-{
-    version == FIRST_VERSION || version == LEVELED_VERSION
-}
-
-// Whether the settings are in range.
-fn is_in_range(settings: Settings) -> bool
-    ensures { λ r. ⌜ r ≡ in-range (asked settings) ⌝ }
-{
-    is_known(settings.version)
-        && settings.levels <= MAX_DENSE_LEVELS
-        && settings.real <= MAX_REAL_BITS
-        && settings.hash <= MAX_HASH_BITS
-}
-
 // Judges settings and list, for both calls: 5, a setting out of range; then record by record 4, 1, 2, 1, 3.
 fn judge(list: &[u8], settings: Settings) -> Judged
     ensures { λ r. ⌜ Judges (now (list .entry)) (asked settings) r ⌝ }
 {
-    if !is_in_range(settings) {
+    if !settings_in_range(settings) {
         return Judged::Refused(SETTING_OUT_OF_RANGE);
     }
     let keys = judge_list(list);

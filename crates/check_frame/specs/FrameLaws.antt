@@ -12,8 +12,11 @@ use borrow.Author.Tests.{lt-leb, le-leb, leb-true, ne-eqb, eq-eqb, eqb-true}
 use Rattle.spec.specs.Bytes.{Bytes, blocks, every}
 use Rattle.spec.specs.Image.{Settings, known-version, Counts, Row, rows, level-row, level-rows, sizes}
 use Rattle.spec.specs.Frame.{has-header, rows-of, read-settings, read-bodies, named, parts}
+use Rattle.spec.specs.Build.{in-range}
 use Rattle.spec.specs.Check.{header-valid, verdict}
+use Rattle.theory.specs.Lists.{and-both}
 use Rattle.theory.specs.Terms.{All}
+use Rattle.theory.specs.BuildLaws.{in-range-exactly}
 use Rattle.theory.specs.Demands.{Passes-11, Passes-12, Check-refusal, header-missing, records-missing, header-wrong}
 use Rattle.theory.specs.LevelStarts.{version-rows-are}
 use Rattle.theory.specs.CheckStages.{verdict-passes}
@@ -47,9 +50,9 @@ pub header-stands : (s : Bytes) → 22 ≤ length s → getD s 0 0 ≡ 72 → ge
 unfolding has-header every
 header-stands s l a b = rw (le-leb 22 (length s) l, eq-eqb (getD s 0 0) 72 a, eq-eqb (getD s 1 0) 68 b)
 
--- the header's version, settings and leaf count are in range
+-- the header's settings and its leaf count are in range
 abbrev pub settings-valid : Header → Bool
-settings-valid h = known-version (h .version) && leb (h .dense .levels) 4 && leb (h .real) 16 && leb (h .hash) 16 && leb (h .leaves) 65535
+settings-valid h = in-range (settings-of h) && leb (h .leaves) 65535
 
 -- ---- the records
 
@@ -143,7 +146,7 @@ regroup a b c d e f = simp (and-assoc, and-true)
 
 -- the tests of number 12, by the header by value and the lengths that the records say
 tests-12 : (s : Bytes) (h : Header) → Frame-stands s h → header-valid (parts s (named (bodies-of s))) (bodies-of s) ≡ (settings-valid h && lengths-agree (settings-of h) (counts-of h) rows s 22)
-unfolding header-valid parts sizes
+unfolding header-valid in-range parts sizes
 tests-12 s h p =
     rw (← p .reads .settings, ← p .reads .counts, bodies-first s (p .records), sized-is (settings-of h) (counts-of h) rows s 22 (p .records .middle) (p .records .long) (p .records .twelve))
     (regroup (known-version (h .version)) (leb (h .dense .levels) 4) (leb (h .real) 16) (leb (h .hash) 16) (leb (h .leaves) 65535) (lengths-agree (settings-of h) (counts-of h) rows s 22))
@@ -235,15 +238,6 @@ pub record Totals (s : Bytes) (dl dc dp n : ℕ) (t : DenseTotals) : Type 0 wher
   pub children : t .children ≡ rank (drop dc s) (256 * n)
   pub entries : t .entries ≡ rank (drop dl s) (256 * n) + rank (drop dp s) n
 
--- five tests that all pass
-five-pass : (a b c d e : Bool) → (a && b && c && d && e) ≡ true → (b ≡ true) × (c ≡ true) × (d ≡ true) × (e ≡ true)
-five-pass true true true true true h = (refl, refl, refl, refl)
-five-pass false b c d e h = absurd (true≢false (sym h))
-five-pass true false c d e h = absurd (true≢false (sym h))
-five-pass true true false d e h = absurd (true≢false (sym h))
-five-pass true true true false e h = absurd (true≢false (sym h))
-five-pass true true true true false h = absurd (true≢false (sym h))
-
 -- the twelve bodies that are laid out are those of the frame
 laid-same : (s : Bytes) (h : Header) (t : DenseTotals) → laid-bodies (settings-of h) (counts-of h) rows s 22 ≡ twelve-bodies s (frame-at h (header-starts h) t)
 unfolding laid-bodies starts rows
@@ -295,18 +289,19 @@ frame-laid s h t o n =
     let at : r .middle ≡ getD (header-starts h) 12 0 = b .1 ∙ twelve-end h in
     let same : bodies-of s ≡ frame-bodies s (frame-at h (header-starts h) t) =
     bodies-split s r ∙ ap₂ _++_ (b .0 ∙ laid-same s h t) (ap (λ (v : ℕ). bodies-at (level-rows v) s (r .middle)) version ∙ lv .0 ∙ ap (λ (m : ℕ). cond (eqb (h .version) 2) (drop (m + level-gap (h .version)) s ∷ []) []) at) in
-    let q = five-pass (known-version (h .version)) (leb (h .dense .levels) 4) (leb (h .real) 16) (leb (h .hash) 16) (leb (h .leaves) 65535) (o .settings) in
+    let v = and-both (in-range (settings-of h)) (leb (h .leaves) 65535) (o .settings) in
+    let q = in-range-exactly (settings-of h) .0 (v .0) in
     let all : (settings-valid h && lengths-agree (settings-of h) (counts-of h) rows s 22) ≡ true = rw (o .settings, o .lengths) in
     record {
       header = p .header;
       bodies = bodies-read s (p .records) ∙ ap some same;
       parts-are = parts-same s h t (p .reads);
       valid = rw (← same) (tests-12 s h p ∙ all);
-      levels = leb-true (h .dense .levels) 4 (q .0);
-      real = leb-true (h .real) 16 (q .1);
-      hash = leb-true (h .hash) 16 (q .2);
+      levels = q .1;
+      real = q .2;
+      hash = q .3;
       width = refl;
-      leaves = leb-true (h .leaves) 65535 (q .3);
+      leaves = leb-true (h .leaves) 65535 (v .1);
       dense = p .reads .short .dense-nodes;
       entries = p .reads .short .sparse-entries;
       sparse = p .reads .short .sparse-nodes;
@@ -376,11 +371,6 @@ bodies-stand s bs l e = go (records-end (rows-of s) s 22) refl (sym (read-is (ro
     go none r e = let z : _≡_ {A = ℕ} 0 1 = cc in absurd (omega arith)
     go (some n) r e = at-end n (eqb n (length s)) refl r e
 
--- two tests that both pass
-two-pass : (a b : Bool) → (a && b) ≡ true → (a ≡ true) × (b ≡ true)
-two-pass true b h = (refl, h)
-two-pass false b h = absurd (true≢false (sym h))
-
 -- An image that the check takes is laid out as its header says.
 pub accepted-laid : (s : Bytes) (h : Header) → verdict s ≡ 0 → Reads-header s h → Laid-out s h
 accepted-laid s h v r =
@@ -389,5 +379,5 @@ accepted-laid s h v r =
     let l = header-long s (q .before .header) in
     let b = bodies-stand s (p .0) l (q .before .bodies) in
     let stands : Frame-stands s h = record { header = q .before .header; records = records-standing s l (b .0); reads = r } in
-    let t = two-pass (settings-valid h) (lengths-agree (settings-of h) (counts-of h) rows s 22) (sym (tests-12 s h stands) ∙ rw (b .1) (q .header)) in
+    let t = and-both (settings-valid h) (lengths-agree (settings-of h) (counts-of h) rows s 22) (sym (tests-12 s h stands) ∙ rw (b .1) (q .header)) in
     record { stands = stands; settings = t .0; lengths = t .1 }

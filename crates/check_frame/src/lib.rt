@@ -20,13 +20,11 @@ use image::Frame;
 use image::Header;
 use image::LEVELED_VERSION;
 use image::ROW_BITS;
-use image::header_bytes::FIRST_VERSION;
-use image::header_bytes::MAX_DENSE_LEVELS;
-use image::header_bytes::MAX_HASH_BITS;
+use image::Settings;
 use image::header_bytes::MAX_LEAVES;
-use image::header_bytes::MAX_REAL_BITS;
 use image::header_bytes::VERSION_AT;
 use image::header_bytes::read_header;
+use image::header_bytes::settings_in_range;
 use image::table::BEFORE_BODY;
 use image::table::HEADER;
 use image::table::MARK_BYTES;
@@ -101,15 +99,17 @@ fn last_end(image: &[u8]) -> RecordEnd
     record_end(image, RECORDS, end)
 }
 
-// The version, the settings and the leaf count are in range.
+// The header's settings and its leaf count are in range.
 fn settings_valid(h: Header) -> bool
     ensures { λ r. ⌜ r ≡ settings-valid h ⌝ }
 {
-    ((h.version == FIRST_VERSION) | (h.version == LEVELED_VERSION))
-        & (h.dense.levels <= MAX_DENSE_LEVELS)
-        & (h.real <= MAX_REAL_BITS)
-        & (h.hash <= MAX_HASH_BITS)
-        & (h.leaves <= MAX_LEAVES)
+    let settings = Settings {
+        version: h.version,
+        levels: h.dense.levels,
+        real: h.real,
+        hash: h.hash,
+    };
+    settings_in_range(settings) & (h.leaves <= MAX_LEAVES)
 }
 
 // Each of the twelve records has just the body length that the header gives.

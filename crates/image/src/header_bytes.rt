@@ -1,14 +1,17 @@
-// The header read and written, the beginning of a record, and cleared bytes.
+// Settings judged, the header read and written, the beginning of a record, and cleared bytes.
 ghost use mathlib.Core.Path.{_≡_};
 ghost use mathlib.Core.List.{_++_};
 ghost use Prim.Native.Nat.{_+_, _≤_, _<_};
 ghost use lib.ListN.{length, drop, replicate};
 ghost use Rattle.spec.specs.Bytes.{le32};
 ghost use Rattle.spec.specs.Image.{header};
+ghost use Rattle.spec.specs.Build.{in-range};
 ghost use Rattle.bits.specs.Bits.{placed};
-ghost use Rattle.image.specs.Header.{settings-of, counts-of, Short-fields, Reads-header, mark-bytes, first-bytes};
+ghost use Rattle.image.specs.Header.{asked, settings-of, counts-of, Short-fields, Reads-header, mark-bytes, first-bytes};
 use super::Dense;
 use super::Header;
+use super::LEVELED_VERSION;
+use super::Settings;
 use super::Sparse;
 use super::table::MARK_BYTES;
 use bits::numbers::read32;
@@ -16,16 +19,16 @@ use bits::numbers::wide;
 use bits::numbers::write32;
 
 // The first version of the format; the other one is LEVELED_VERSION.
-pub const FIRST_VERSION: usize = 1;
+const FIRST_VERSION: usize = 1;
 
 // No image has more dense levels.
-pub const MAX_DENSE_LEVELS: usize = 4;
+const MAX_DENSE_LEVELS: usize = 4;
 
 // No suffix slot has more real bits.
-pub const MAX_REAL_BITS: usize = 16;
+const MAX_REAL_BITS: usize = 16;
 
 // No suffix slot has more hash bits.
-pub const MAX_HASH_BITS: usize = 16;
+const MAX_HASH_BITS: usize = 16;
 
 // No image has more leaves.
 pub const MAX_LEAVES: usize = 65535;
@@ -53,6 +56,16 @@ const SPARSE_ENTRIES_AT: usize = 14;
 
 // The offset of the number of sparse nodes in a header.
 const SPARSE_NODES_AT: usize = 18;
+
+// Whether settings are in range: version 1 or 2, and no more dense levels, real bits and hash bits than there may be.
+pub fn settings_in_range(settings: Settings) -> bool
+    ensures { λ r. ⌜ r ≡ in-range (asked settings) ⌝ }
+{
+    ((settings.version == FIRST_VERSION) | (settings.version == LEVELED_VERSION))
+        & (settings.levels <= MAX_DENSE_LEVELS)
+        & (settings.real <= MAX_REAL_BITS)
+        & (settings.hash <= MAX_HASH_BITS)
+}
 
 // The mark's two bytes go to out from at, and all else stays.
 fn write_mark(out: &mut [u8], at: usize, mark: &[u8; MARK_BYTES])

@@ -1,7 +1,7 @@
-// An image: the three kinds of positions, what a header says, the frame, the answers of the calls that read one and of those that write, a leaf by value; and the table of the records, which the builder and the check both go by.
+// An image: the three kinds of positions, what a header says, the frame, the answers of the calls that read one and of those that write, a leaf by value; and what the builder and the check both go by: the table of the records, and the range of the settings.
 
 pub mod table; // table.rt: marks, body lengths and starts of the records
-pub mod header_bytes; // header_bytes.rt: the header read and written, the beginning of a record, and cleared bytes
+pub mod header_bytes; // header_bytes.rt: settings judged, the header read and written, the beginning of a record, and cleared bytes
 pub mod codes; // codes.rt: an answer as one number, and settings as one number
 
 // The version of the format whose images have a thirteenth record, LV: the first node of each level.

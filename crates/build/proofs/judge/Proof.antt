@@ -8,13 +8,13 @@ use Rattle.build.proofs.JudgeLaws.{out-of-range, list-refused, list-acc
 use Rattle.build.proofs.judge.Statement.{statement}
 use Rattle.build.proofs.judge.Tie as tie
 
-is-in-range-requires : tie.Need-is-in-range-requires
-is-in-range-requires c κs = search needs
+settings-in-range-requires : tie.Need-settings-in-range-requires
+settings-in-range-requires c κs = search needs
 
 returns : tie.Need-returns
 returns c =
     let a = c .before .before .before .args in
-    out-of-range (a .list .now) (asked (a .settings)) (sym (c .before .is-in-range .ensures) ∙ not-true _ (c .if1 .taken))
+    out-of-range (a .list .now) (asked (a .settings)) (sym (c .before .settings-in-range .ensures) ∙ not-true _ (c .if1 .taken))
 
 judge-list-requires : tie.Need-judge-list-requires
 judge-list-requires c κs = search needs
@@ -30,7 +30,7 @@ returns-2 c =
     let if1 = c .before .before .before .before .if1 in
     let judge-list = c .before .before .before .judge-list in
     let a = c .before .before .before .before .before .before .before .args in
-    let ranged = sym (c .before .before .before .before .before .is-in-range .ensures) ∙ not-false _ (if1 .left) in
+    let ranged = sym (c .before .before .before .before .before .settings-in-range .ensures) ∙ not-false _ (if1 .left) in
     list-refused (a .list .now) (asked (a .settings)) ranged _ (sym (c .before .keys .given .1) ∙ judge-list .ensures)
 
 returns-3 : tie.Need-returns-3
@@ -38,7 +38,7 @@ returns-3 c =
     let if1 = c .before .before .before .before .if1 in
     let judge-list = c .before .before .before .judge-list in
     let a = c .before .before .before .before .before .before .before .args in
-    let ranged = sym (c .before .before .before .before .before .is-in-range .ensures) ∙ not-false _ (if1 .left) in
+    let ranged = sym (c .before .before .before .before .before .settings-in-range .ensures) ∙ not-false _ (if1 .left) in
     let shared-slice-known = c .before .before .before .before .before .before .shared-slice-known in
     list-accepted (a .list .now) (asked (a .settings)) ranged _ (small-of (a .list .now) (λ i. shared-slice-known .given i .fits)) (sym (c .before .keys2 .given .1) ∙ judge-list .ensures)
 
@@ -46,7 +46,7 @@ pub judge-spec : {M : Type 1} → statement M
 judge-spec =
     tie.close
     (tie.spec
-    is-in-range-requires
+    settings-in-range-requires
     returns
     judge-list-requires
     enum-known-keys
