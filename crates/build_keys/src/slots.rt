@@ -2,11 +2,11 @@
 ghost use mathlib.Core.Path.{_≡_};
 ghost use mathlib.Core.List.{[], _∷_};
 ghost use Prim.Native.Nat.{_+_, _*_, _/_, _%_, _≤_, _<_};
-ghost use lib.ListN.{length, getD};
+ghost use lib.ListN.{length};
 ghost use Rattle.spec.specs.Bytes.{low-first};
-ghost use Rattle.spec.specs.Leaves.{bits-behind, hash-bits, suffix-bits};
+ghost use Rattle.spec.specs.Leaves.{suffix-bits};
 ghost use Rattle.spec.specs.Image.{positions};
-ghost use Rattle.bits.specs.Bits.{key, with-number};
+ghost use Rattle.bits.specs.Bits.{with-number};
 ghost use Rattle.build_laws.specs.BytePass.{byte-state, one-step};
 ghost use Rattle.build_laws.specs.BodyLaws.{slot-at};
 ghost use Rattle.build_laws.specs.SlotWidths.{width-of};
@@ -19,12 +19,12 @@ use super::numbers::one_less;
 use bits::numbers::wide32;
 use bits::parts::part;
 use bits::ranks::set_number;
-use bits::reverse::reversed;
 use build_laws::Key;
 use build_laws::SlotBits;
-use fnv::hash;
 use image::BitPos;
 use image::ValuePos;
+use image::suffix::hash_number;
+use image::suffix::real_number;
 
 // 2^16: a number that is set at once is below it.
 const NUMBER_LIMIT: usize = 65536;
@@ -32,46 +32,14 @@ const NUMBER_LIMIT: usize = 65536;
 // How many bits a number below that has at most.
 const NUMBER_BITS: usize = 16;
 
-// Byte i of a key, 0 where the key has ended.
-fn byte_or_zero(s: &[u8], k: Key, i: usize) -> u8
-    requires { ⌜ k .at + k .len ≤ length (now s) ⌝ }
-    ensures { λ r. ⌜ r ≡ getD (key-bytes (now (s .entry)) k) i 0 ⌝ }
-{
-    if k.len <= i {
-        return 0;
-    }
-    let at = k.at + i;
-    s[at]
-}
-
-// The n bits of a key behind its cut as a number, the first bit lowest, zeros where the key has ended. The high bit of each byte comes first.
-fn real_number(s: &[u8], k: Key, cut: usize, n: usize) -> usize
-    requires { ⌜ (k .at + k .len ≤ length (now s)) × (cut ≤ k .len) × (n ≤ 16) ⌝ }
-    ensures { λ r. ⌜ r ≡ low-first (bits-behind n cut (key-bytes (now (s .entry)) k)) ⌝ }
-{
-    let first = reversed(byte_or_zero(s, k, cut));
-    let second = reversed(byte_or_zero(s, k, cut + 1));
-    (first + 256 * second) % (1usize << n)
-}
-
-// The h low bits of the hash of so many bytes of s from an offset, as a number. The hash is taken only if there are any.
-fn hash_number(s: &[u8], at: usize, len: usize, h: usize) -> usize
-    requires { ⌜ (at + len ≤ length (now s)) × (h ≤ 16) ⌝ }
-    ensures { λ r. ⌜ r ≡ low-first (hash-bits h (key (now (s .entry)) at len)) ⌝ }
-{
-    if h == 0 {
-        return 0;
-    }
-    (hash(part(s, at, len)) % (1u64 << h)) as usize
-}
-
 // The suffix of a key that is an open leaf, as a number, the first bit lowest: hash bits of the whole key, and behind them real bits from its cut on.
 fn suffix_number(s: &[u8], k: Key, cut: usize, slot: SlotBits) -> usize
     requires { ⌜ (k .at + k .len ≤ length (now s)) × (cut ≤ k .len) × (slot .hash ≤ 16) × (slot .real ≤ 16) ⌝ }
     ensures { λ r. ⌜ r ≡ low-first (suffix-bits (slot .hash) (slot .real) cut (key-bytes (now (s .entry)) k)) ⌝ }
 {
-    let hash = hash_number(s, k.at, k.len, slot.hash);
-    let real = real_number(s, k, cut, slot.real);
+    let key = part(s, k.at, k.len);
+    let hash = hash_number(key, slot.hash);
+    let real = real_number(key, cut, slot.real);
     hash + (real << slot.hash)
 }
 

@@ -1,7 +1,8 @@
-// An image: the three kinds of positions, what a header says, the frame, the answers of the calls that read one and of those that write, a leaf by value; and what the builder and the check both go by: the table of the records, and the range of the settings.
+// An image: the three kinds of positions, what a header says, the frame, the answers of the calls that read one and of those that write, a leaf by value; and what the builder shares with the check and the questions: the table of the records, the range of the settings, and a key's suffix bits as a number.
 
 pub mod table; // table.rt: marks, body lengths and starts of the records
 pub mod header_bytes; // header_bytes.rt: settings judged, the header read and written, the beginning of a record, and cleared bytes
+pub mod suffix; // suffix.rt: a key's suffix bits as a number
 pub mod codes; // codes.rt: an answer as one number, and settings as one number
 
 // The version of the format whose images have a thirteenth record, LV: the first node of each level.

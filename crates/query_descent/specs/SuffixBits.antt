@@ -1,6 +1,6 @@
--- Whether the rest of a key has a slot's suffix, by two numbers: the slot's bits, and the key's next two bytes, each in the other order.
-use Prim.Native.Nat.{ℕ, suc, _+_, _*_, _/_, _%_, _^_, _<_, _≤_}
-use mathlib.Core.Path.{_≡_, refl, sym, ap, ap₂, _∙_}
+-- Whether a key has a slot's bits, by two numbers: that of the slot's bits, and that of the key's.
+use Prim.Native.Nat.{ℕ, suc, _+_, _*_, _/_, _%_, _^_, _<_}
+use mathlib.Core.Path.{_≡_, refl, sym, ap, _∙_}
 use mathlib.Core.Bool.{Bool, true, false, _&&_, Bool·beq}
 use mathlib.Core.List.{[], _∷_}
 use native.Mathlib.Omega.{arith}
@@ -9,13 +9,10 @@ use lib.ListN.{length, getD, drop}
 use lib.Dec.{eqb}
 use lib.Pow.{mod-pow-add}
 use borrow.Author.Tests.{eq-eqb, ne-eqb, eqb-true, eqb-false}
-use Rattle.spec.specs.Bytes.{Bytes, Bits, bit, low-first, low-bits, same-bits}
-use Rattle.spec.specs.Fnv.{hash}
+use Rattle.spec.specs.Bytes.{Bytes, Bits, bit, low-first, same-bits}
 use Rattle.spec.specs.Leaves.{hash-bits, bits-behind}
-use Rattle.bits.specs.Bits.{reversed}
 use Rattle.bits.specs.CoverLaws.{half-bit}
-use Rattle.bits.specs.UnpackLaws.{low-number, length-low-bits}
-use Rattle.image.specs.SuffixNumbers.{length-behind, suffix-number}
+use Rattle.image.specs.SuffixNumbers.{length-behind}
 use Rattle.query_descent.specs.Root.{has-suffix}
 
 -- bits are the same exactly if their numbers are
@@ -54,12 +51,11 @@ eqb-turned m n = go (eqb m n) refl
     go true p = sym (eq-eqb n m (sym (eqb-true m n p)))
     go false p = sym (ne-eqb n m (λ r. eqb-false m n p (sym r)))
 
--- A key has the hash bits exactly if its hash and the slot's number agree in their lowest bits, as many as there are hash bits.
-pub hash-same : (s : Bits) (h x : ℕ) (k : Bytes) → length s ≡ h → ((j : ℕ) → j < h → x / 2 ^ j % 2 ≡ bit (getD s j false)) → eqb (x % 2 ^ h) (hash k % 2 ^ h) ≡ same-bits (hash-bits h k) s
-unfolding hash-bits
-hash-same s h x k l j =
-    let u : x % 2 ^ h ≡ low-first s = rw l at (low-digits s x (λ i g. j i (omega arith))) in
-    ap₂ eqb u (sym (low-number h (hash k))) ∙ eqb-turned (low-first s) (low-first (low-bits h (hash k))) ∙ sym (same-numbers (low-bits h (hash k)) s (length-low-bits h (hash k) ∙ sym l))
+-- Bits are the slot's exactly if their number is that of the lowest digits of the slot's, as many as it has bits.
+pub number-same : (s b : Bits) (w x : ℕ) → length s ≡ w → length b ≡ w → ((j : ℕ) → j < w → x / 2 ^ j % 2 ≡ bit (getD s j false)) → eqb (x % 2 ^ w) (low-first b) ≡ same-bits b s
+number-same s b w x l m j =
+    let u : x % 2 ^ w ≡ low-first s = rw l at (low-digits s x (λ i g. j i (omega arith))) in
+    ap (λ (n : ℕ). eqb n (low-first b)) u ∙ eqb-turned (low-first s) (low-first b) ∙ sym (same-numbers b s (m ∙ sym l))
 
 -- Bits of which there are none are the same.
 pub hash-none : (s : Bits) (h : ℕ) (k : Bytes) → length s ≡ 0 → h ≡ 0 → same-bits (hash-bits h k) s ≡ true
@@ -67,14 +63,10 @@ unfolding same-bits hash-bits
 hash-none [] h k l e = rw e
 hash-none (b ∷ s) h k l e = absurd (omega arith)
 
--- The key's rest behind its first d bytes has the suffix exactly if the numbers agree in their lowest bits, as many as the suffix has.
-pub suffix-same : (s : Bits) (w d x a b : ℕ) (k : Bytes) → length s ≡ w → w ≤ 16 → ((j : ℕ) → j < w → x / 2 ^ j % 2 ≡ bit (getD s j false)) → a ≡ reversed (getD k d 0) → b ≡ reversed (getD k (d + 1) 0)
-    → eqb (x % 2 ^ w) ((a + 256 * b) % 2 ^ w) ≡ has-suffix s (drop d k)
+-- The key's rest behind its first d bytes has the suffix exactly if the number of its bits there is that of the lowest digits.
+pub suffix-same : (s : Bits) (w d x : ℕ) (k : Bytes) → length s ≡ w → ((j : ℕ) → j < w → x / 2 ^ j % 2 ≡ bit (getD s j false)) → eqb (x % 2 ^ w) (low-first (bits-behind w d k)) ≡ has-suffix s (drop d k)
 unfolding has-suffix bits-behind
-suffix-same s w d x a b k l h j p q =
-    let u : x % 2 ^ w ≡ low-first s = rw l at (low-digits s x (λ i g. j i (omega arith))) in
-    let v : (a + 256 * b) % 2 ^ w ≡ low-first (bits-behind w d k) = suffix-number w d a b k h p q in
-    ap₂ eqb u v ∙ eqb-turned (low-first s) (low-first (bits-behind w d k)) ∙ sym (same-numbers (bits-behind w d k) s (length-behind w d k ∙ sym l)) ∙ ap (λ (n : ℕ). same-bits (bits-behind n d k) s) (sym l)
+suffix-same s w d x k l j = number-same s (bits-behind w d k) w x l (length-behind w d k) j ∙ ap (λ (n : ℕ). same-bits (bits-behind n d k) s) (sym l)
 
 -- A suffix of no bits is in every key.
 pub suffix-none : (s : Bits) (r : Bytes) → length s ≡ 0 → has-suffix s r ≡ true

@@ -14,9 +14,11 @@ use bits::numbers::read_from;
 use bits::numbers::smaller;
 use bits::numbers::wide;
 use bits::reverse::reversed;
-use fnv::hash;
 use image::Frame;
 use image::ValuePos;
+use image::suffix::byte_or_zero;
+use image::suffix::hash_number;
+use image::suffix::real_number;
 
 // The n highest bits of a byte, and the filling below them.
 fn filled_below(x: usize, n: usize, ones: bool) -> usize
@@ -56,17 +58,7 @@ pub fn real_byte(image: &[u8], f: Frame, slot: ValuePos, i: usize, ones: bool) -
     filled_below(reversed((x % 256) as u8), smaller(n - first, 8), ones)
 }
 
-// Byte i of a key, zero where it has ended.
-fn key_byte(key: &[u8], i: usize) -> u8
-    ensures { λ r. ⌜ r ≡ getD (now (key .entry)) i 0 ⌝ }
-{
-    if i < key.len() {
-        return key[i];
-    }
-    0
-}
-
-// Whether a key has the leaf's real bits behind its first d bytes, which are the cut key: the lowest bits of two numbers, the slot's and that of the key's next two bytes, the first bit lowest.
+// Whether a key has the leaf's real bits behind its first d bytes, which are the cut key: the lowest bits of the slot's number are the number of the key's bits there.
 pub fn real_equals(image: &[u8], f: Frame, slot: ValuePos, key: &[u8], d: usize) -> bool
     requires { ⌜ Accepted (now image) f × (slot .0 < f .leaves) × (d ≤ length (now key)) ⌝ }
     ensures { λ r. ⌜ r ≡ has-suffix (real-slot (now (image .entry)) f (slot .0)) (drop d (now (key .entry))) ⌝ }
@@ -75,13 +67,10 @@ pub fn real_equals(image: &[u8], f: Frame, slot: ValuePos, key: &[u8], d: usize)
         return true;
     }
     let x = slot_bits(image, f, slot, f.hash) as usize;
-    let first = reversed(key_byte(key, d));
-    let second = reversed(key_byte(key, d + 1));
-    let unit = 1usize << f.real;
-    x % unit == (first + 256 * second) % unit
+    x % (1usize << f.real) == real_number(key, d, f.real)
 }
 
-// Whether a key has the leaf's hash bits: the lowest bits of two numbers, the slot's and the hash of the whole key.
+// Whether a key has the leaf's hash bits: the lowest bits of the slot's number are the number of the key's hash bits.
 pub fn hash_equals(image: &[u8], f: Frame, slot: ValuePos, key: &[u8]) -> bool
     requires { ⌜ Accepted (now image) f × (slot .0 < f .leaves) ⌝ }
     ensures { λ r. ⌜ r ≡ same-bits (hash-bits (f .hash) (now (key .entry))) (hash-slot (now (image .entry)) f (slot .0)) ⌝ }
@@ -89,8 +78,8 @@ pub fn hash_equals(image: &[u8], f: Frame, slot: ValuePos, key: &[u8]) -> bool
     if f.hash == 0 {
         return true;
     }
-    let unit = 1u64 << f.hash;
-    slot_bits(image, f, slot, 0) % unit == hash(key) % unit
+    let x = slot_bits(image, f, slot, 0) as usize;
+    x % (1usize << f.hash) == hash_number(key, f.hash)
 }
 
 // Whether the leaf's highest key lies below the key, whose first d bytes are the cut key.
@@ -125,7 +114,7 @@ pub fn low_above(image: &[u8], f: Frame, slot: ValuePos, key: &[u8], d: usize) -
             return false;
         }
         let x = real_byte(image, f, slot, i - d, false);
-        let y = wide(key_byte(key, i));
+        let y = wide(byte_or_zero(key, i));
         if y < x {
             return true;
         }

@@ -3,6 +3,7 @@ use mathlib.Core.Path.{_≡_, sym, ap, ap₂, _∙_}
 use Prim.Native.Nat.{ℕ, _+_, _*_, _%_, _^_, _≤_, _<_}
 use native.Mathlib.Omega.{arith}
 use borrow.Author.Needs.{needs}
+use lib.ListN.{length-take, length-drop}
 use lib.Pow.{shl-exact}
 use Rattle.spec.specs.Bytes.{Bytes, low-first}
 use Rattle.spec.specs.Leaves.{bits-behind, hash-bits, suffix-bits}
@@ -17,28 +18,43 @@ suffix-is h n c x y k a b e f =
     let small : y < 65536 = omega (arith, suffix-small n c k b) in
     ap (λ (z : ℕ). x + z) (shl-exact 16 h 64 small (omega arith)) ∙ ap₂ (λ (u v : ℕ). u + v * 2 ^ h) e f ∙ sym (whole-number h n c k)
 
+part-requires : tie.Need-part-requires
+part-requires c κs = search needs
+
 hash-number-requires : tie.Need-hash-number-requires
 hash-number-requires c κs = search needs
 
 real-number-requires : tie.Need-real-number-requires
-real-number-requires c κs = search needs
+real-number-requires c κs =
+    let start = c .before .before .before in
+    (rw (c .before .part .ensures) (simp (length-take, length-drop) (omega arith)), start .pre .3)
 
 shl-result : tie.Need-shl-result
 shl-result c = search needs
 
 returns : tie.Need-returns
 returns c =
-    let start = c .before .before .before .before in
+    let start = c .before .before .before .before .before in
     let a = start .args in
     let k : Bytes = key (a .s .now) (a .k .at) (a .k .len) in
-    suffix-is (a .slot .hash) (a .slot .real) (a .cut) _ _ k (start .pre .2) (start .pre .3) (c .before .before .hash-number .ensures) (c .before .real-number .ensures)
+    let e = c .before .before .before .part .ensures in
+    suffix-is (a .slot .hash) (a .slot .real) (a .cut) _ _ k (start .pre .2) (start .pre .3)
+    (c .before .before .hash-number .ensures ∙ ap (λ (x : Bytes). low-first (hash-bits (a .slot .hash) x)) e)
+    (c .before .real-number .ensures ∙ ap (λ (x : Bytes). low-first (bits-behind (a .slot .real) (a .cut) x)) e)
 
 add-result : tie.Need-add-result
 add-result c =
-    let start = c .before .before .before .before in
+    let start = c .before .before .before .before .before in
     let a = start .args in
     omega (arith, returns c, whole-small (a .slot .hash) (a .slot .real) (a .cut) (key (a .s .now) (a .k .at) (a .k .len)) (start .pre .2) (start .pre .3))
 
 pub suffix-number-spec : {M : Type 1} → statement M
 suffix-number-spec =
-    tie.close (tie.spec hash-number-requires real-number-requires shl-result add-result returns)
+    tie.close
+    (tie.spec
+    part-requires
+    hash-number-requires
+    real-number-requires
+    shl-result
+    add-result
+    returns)

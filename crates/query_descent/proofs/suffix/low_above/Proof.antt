@@ -46,8 +46,8 @@ real-byte-requires : tie.Need-real-byte-requires Inv-loop μ-loop
 real-byte-requires c κs =
     (c .before .before .before .before .before .pre .0, c .before .before .before .before .before .pre .1, omega arith)
 
-key-byte-requires : tie.Need-key-byte-requires Inv-loop μ-loop
-key-byte-requires c κs =
+byte-or-zero-requires : tie.Need-byte-or-zero-requires Inv-loop μ-loop
+byte-or-zero-requires c κs =
     search needs
 
 wide-requires : tie.Need-wide-requires Inv-loop μ-loop
@@ -57,13 +57,13 @@ returns-2 : tie.Need-returns-2 Inv-loop μ-loop
 returns-2 c =
     let a = c .before .before .before .before .before .before .before .before .before .args in
     let l = c .before .before .before .before .before .before .loop in
-    l .inv .2 ∙ ap not (low-byte-less (real-slot (a .image .now) (a .f) (a .slot .0)) (a .key .now) (a .d) (l .i) (l .inv .0) (omega arith) (omega (arith, c .before .before .before .real-byte .ensures .0, c .before .before .key-byte .ensures, c .before .wide .ensures .0)))
+    l .inv .2 ∙ ap not (low-byte-less (real-slot (a .image .now) (a .f) (a .slot .0)) (a .key .now) (a .d) (l .i) (l .inv .0) (omega arith) (omega (arith, c .before .before .before .real-byte .ensures .0, c .before .before .byte-or-zero .ensures, c .before .wide .ensures .0)))
 
 returns-3 : tie.Need-returns-3 Inv-loop μ-loop
 returns-3 c =
     let a = c .before .before .before .before .before .before .before .before .before .before .args in
     let l = c .before .before .before .before .before .before .before .loop in
-    l .inv .2 ∙ ap not (low-byte-more (real-slot (a .image .now) (a .f) (a .slot .0)) (a .key .now) (a .d) (l .i) (l .inv .0) (omega arith) (omega (arith, c .before .before .before .before .real-byte .ensures .0, c .before .before .before .key-byte .ensures, c .before .before .wide .ensures .0)))
+    l .inv .2 ∙ ap not (low-byte-more (real-slot (a .image .now) (a .f) (a .slot .0)) (a .key .now) (a .d) (l .i) (l .inv .0) (omega arith) (omega (arith, c .before .before .before .before .real-byte .ensures .0, c .before .before .before .byte-or-zero .ensures, c .before .before .wide .ensures .0)))
 
 add-i : tie.Need-add-i Inv-loop μ-loop
 add-i c =
@@ -77,7 +77,7 @@ loop-again : tie.Need-loop-again Inv-loop μ-loop
 loop-again c =
     let a = c .before .before .before .before .before .before .before .before .before .before .args in
     let l = c .before .before .before .before .before .before .before .loop in
-    (omega arith, omega arith, l .inv .2 ∙ ap not (low-byte-same (real-slot (a .image .now) (a .f) (a .slot .0)) (a .key .now) (a .d) (l .i) (l .inv .0) (omega arith) (omega (arith, c .before .before .before .before .real-byte .ensures .0, c .before .before .before .key-byte .ensures, c .before .before .wide .ensures .0))))
+    (omega arith, omega arith, l .inv .2 ∙ ap not (low-byte-same (real-slot (a .image .now) (a .f) (a .slot .0)) (a .key .now) (a .d) (l .i) (l .inv .0) (omega arith) (omega (arith, c .before .before .before .before .real-byte .ensures .0, c .before .before .before .byte-or-zero .ensures, c .before .before .wide .ensures .0))))
 
 returns-4 : tie.Need-returns-4 Inv-loop μ-loop
 returns-4 c =
@@ -97,7 +97,7 @@ low-above-spec =
     returns
     sub-real-byte
     real-byte-requires
-    key-byte-requires
+    byte-or-zero-requires
     wide-requires
     returns-2
     returns-3

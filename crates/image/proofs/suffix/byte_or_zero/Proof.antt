@@ -1,9 +1,10 @@
+-- By cases of the key's end.
 use lib.ListN.{List·getD-eq-default}
 use native.Mathlib.Omega.{arith}
 use mathlib.Core.Path.{sym}
 use borrow.Author.Needs.{needs}
-use Rattle.query_descent.proofs.suffix.key_byte.Statement.{statement}
-use Rattle.query_descent.proofs.suffix.key_byte.Tie as tie
+use Rattle.image.proofs.suffix.byte_or_zero.Statement.{statement}
+use Rattle.image.proofs.suffix.byte_or_zero.Tie as tie
 
 shared-slice-read-result : tie.Need-shared-slice-read-result
 shared-slice-read-result c = search needs
@@ -14,5 +15,5 @@ returns c = search needs
 returns-2 : tie.Need-returns-2
 returns-2 c = sym (List·getD-eq-default (c .before .args .key .now) 0 (omega arith))
 
-pub key-byte-spec : {M : Type 1} → statement M
-key-byte-spec = tie.close (tie.spec shared-slice-read-result returns returns-2)
+pub byte-or-zero-spec : {M : Type 1} → statement M
+byte-or-zero-spec = tie.close (tie.spec shared-slice-read-result returns returns-2)

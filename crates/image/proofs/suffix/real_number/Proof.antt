@@ -3,11 +3,11 @@ use mathlib.Core.Path.{ap, _∙_}
 use native.Mathlib.Omega.{arith}
 use borrow.Author.Needs.{needs}
 use lib.Pow.{pow-pos}
-use Rattle.bits.specs.Bits.{key, reversed}
+use Rattle.bits.specs.Bits.{reversed}
 use Rattle.bits.specs.RankLaws.{one-shl}
 use Rattle.image.specs.SuffixNumbers.{suffix-number}
-use Rattle.build_keys.proofs.slots.real_number.Statement.{statement}
-use Rattle.build_keys.proofs.slots.real_number.Tie as tie
+use Rattle.image.proofs.suffix.real_number.Statement.{statement}
+use Rattle.image.proofs.suffix.real_number.Tie as tie
 
 byte-or-zero-requires : tie.Need-byte-or-zero-requires
 byte-or-zero-requires c κs = search needs
@@ -43,7 +43,7 @@ returns c =
     let start = c .before .before .before .before .before in
     let a = start .args in
     rw (one-shl 64 (a .n) (omega arith))
-    (suffix-number (a .n) (a .cut) _ _ (key (a .s .now) (a .k .at) (a .k .len)) (start .pre .2)
+    (suffix-number (a .n) (a .cut) _ _ (a .key .now) (start .pre .1)
     (c .before .before .reversed .ensures .0 ∙ ap reversed (c .before .before .before .byte-or-zero .ensures)) (c .reversed2 .ensures .0 ∙ ap reversed (c .before .byte-or-zero2 .ensures)))
 
 pub real-number-spec : {M : Type 1} → statement M
