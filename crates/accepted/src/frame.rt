@@ -12,10 +12,8 @@ use bits::ranks::ones_word;
 use check_frame::frame_at;
 use image::DenseTotals;
 use image::Frame;
+use image::ROW_WORDS;
 use image::header_bytes::read_header;
-
-// The words of a dense node's row in D-HasChild, each of which has a rank.
-const ROW_WORDS: usize = 4;
 
 // The bytes of a rank.
 const RANK_BYTES: usize = 4;

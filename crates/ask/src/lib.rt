@@ -11,12 +11,10 @@ use check_image::accept;
 use image::Frame;
 use image::Framed;
 use image::Written;
+use image::refusals::REPLY_BUFFER_TOO_SHORT;
 use lengths::replies_fit;
 
 pub mod lengths; // lengths.rt: whether all replies fit into the buffer
-
-// The number of a reply buffer that is too short for the replies.
-const REPLIES_TOO_LONG: u32 = 25;
 
 // Replies to a question file over an accepted image: by question 24, 21, 22, 23; then 25, the replies are longer than the buffer.
 fn ask_accepted(image: &[u8], f: Frame, questions: &[u8], replies: &mut [u8]) -> Written
@@ -27,7 +25,7 @@ fn ask_accepted(image: &[u8], f: Frame, questions: &[u8], replies: &mut [u8]) ->
         QuestionFile::Refused(r) => Written::Refused(r),
         QuestionFile::Questions(count) => {
             if !replies_fit(image, f, questions, count, replies.len()) {
-                return Written::Refused(REPLIES_TOO_LONG);
+                return Written::Refused(REPLY_BUFFER_TOO_SHORT);
             }
             let n = write_replies(image, f, questions, replies);
             Written::Bytes(n)

@@ -8,21 +8,13 @@ ghost use Rattle.ask_files.specs.FileLaws.{Taken-from};
 ghost use Rattle.ask_files.specs.AskedAt.{Key-part};
 ghost use Rattle.ask_files.specs.Questions.{Reads-key, Reads-upper, Reads-bounds, Asks, Reads-question, question-file, Located};
 use bits::numbers::wide;
+use image::refusals::BOUNDS_REVERSED;
+use image::refusals::KEY_TOO_LONG;
+use image::refusals::QUESTION_MALFORMED;
+use image::refusals::TOO_MANY_QUESTIONS;
 use keys::MAX_KEY_BYTES;
 use keys::compare::Order;
 use keys::compare::compare;
-
-// The number of a file that has a wrong mark or too few bytes.
-const MALFORMED: u32 = 21;
-
-// The number of a file that has a key over 64 bytes.
-pub const KEY_TOO_LONG: u32 = 22;
-
-// The number of a file that has a lower bound above its upper bound.
-pub const BOUNDS_REVERSED: u32 = 23;
-
-// The number of a file that has more questions than MAX_QUESTIONS.
-const TOO_MANY_QUESTIONS: u32 = 24;
 
 // No file has more questions.
 const MAX_QUESTIONS: usize = 1024;
@@ -66,14 +58,14 @@ fn read_key(s: &[u8], at: usize) -> Read
     ensures { λ r. ⌜ Reads-key (now (s .entry)) at r ⌝ }
 {
     if s.len() <= at {
-        return Read::Refused(MALFORMED);
+        return Read::Refused(QUESTION_MALFORMED);
     }
     let n = wide(s[at]);
     if MAX_KEY_BYTES < n {
         return Read::Refused(KEY_TOO_LONG);
     }
     if s.len() - (at + 1) < n {
-        return Read::Refused(MALFORMED);
+        return Read::Refused(QUESTION_MALFORMED);
     }
     Read::End(at + 1 + n)
 }
@@ -137,16 +129,16 @@ fn judge_question(s: &[u8], at: usize) -> Read
     ensures { λ r. ⌜ Reads-question (now (s .entry)) at r ⌝ }
 {
     if s.len() - at < 2 {
-        return Read::Refused(MALFORMED);
+        return Read::Refused(QUESTION_MALFORMED);
     }
     if s[at] != b'Q' {
-        return Read::Refused(MALFORMED);
+        return Read::Refused(QUESTION_MALFORMED);
     }
     let keys = keys_asked(s[at + 1]);
     match keys {
         Keys::One => read_key(s, at + 2),
         Keys::Two => read_bounds(s, at + 2),
-        Keys::Wrong => Read::Refused(MALFORMED),
+        Keys::Wrong => Read::Refused(QUESTION_MALFORMED),
     }
 }
 

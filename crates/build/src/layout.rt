@@ -25,14 +25,10 @@ use image::Settings;
 use image::Sparse;
 use image::Written;
 use image::header_bytes::write_header;
+use image::refusals::OUTPUT_TOO_SHORT;
+use image::refusals::STATED_LENGTH_WRONG;
 use image::table::RECORDS;
 use image::table::record_starts;
-
-// The number of a stated length that is not the image's.
-const LENGTH_NOT_STATED: u32 = 8;
-
-// The number of an output that is too short for the image.
-const IMAGE_TOO_LONG: u32 = 7;
 
 // The plan of an accepted list of so many keys: each level's entries, nodes and leaves are counted from zero in one pass, and give the header's counts and the records' starts.
 fn lay_out(
@@ -118,10 +114,10 @@ pub fn build_image(list: &[u8], st: Settings, count: usize, stated: u64, out: &m
     let plan = lay_out(&mut entries, &mut nodes, &mut leaves, list, st, count);
     let end = image_end(plan, &nodes);
     if stated != (end as u64) {
-        return Written::Refused(LENGTH_NOT_STATED);
+        return Written::Refused(STATED_LENGTH_WRONG);
     }
     if out.len() < end {
-        return Written::Refused(IMAGE_TOO_LONG);
+        return Written::Refused(OUTPUT_TOO_SHORT);
     }
     write_image(out, list, plan, &entries, &nodes, &leaves);
     Written::Bytes(end)

@@ -9,13 +9,11 @@ use build_list::judge::judge_list;
 use image::Settings;
 use image::Written;
 use image::header_bytes::settings_in_range;
+use image::refusals::SETTING_OUT_OF_RANGE;
 use layout::build_image;
 use layout::measure_image;
 
 pub mod layout; // layout.rt: the plan of an image, its length, its header and its records
-
-// The number of a setting out of range.
-const SETTING_OUT_OF_RANGE: u32 = 5;
 
 // The length of an image: so many bytes, or a refusal's number.
 pub enum Length {

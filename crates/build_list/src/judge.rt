@@ -9,21 +9,13 @@ use super::BEFORE_KEY;
 use super::KeyList;
 use super::Record;
 use bits::numbers::wide;
+use image::refusals::KEY_LENGTH_WRONG;
+use image::refusals::KEYS_UNORDERED;
+use image::refusals::LIST_MALFORMED;
+use image::refusals::TOO_MANY_KEYS;
 use keys::MAX_KEY_BYTES;
 use keys::compare::Order;
 use keys::compare::compare_fronts;
-
-// The number of a list that has a wrong mark or too few bytes.
-const MALFORMED: u32 = 1;
-
-// The number of a list that has an empty key or a key over 64 bytes.
-const KEY_LENGTH_WRONG: u32 = 2;
-
-// The number of a list that has a key not above the one before it.
-const KEYS_UNORDERED: u32 = 3;
-
-// The number of a list that has more keys than MAX_KEYS.
-const TOO_MANY_KEYS: u32 = 4;
 
 // No list has more keys.
 const MAX_KEYS: usize = 65535;
@@ -37,13 +29,13 @@ fn read_record(s: &[u8], at: usize, done: usize) -> Record
         return Record::Refused(TOO_MANY_KEYS);
     }
     if s.len() - at < BEFORE_KEY {
-        return Record::Refused(MALFORMED);
+        return Record::Refused(LIST_MALFORMED);
     }
     if s[at] != b'K' {
-        return Record::Refused(MALFORMED);
+        return Record::Refused(LIST_MALFORMED);
     }
     if s[at + 1] != b'Y' {
-        return Record::Refused(MALFORMED);
+        return Record::Refused(LIST_MALFORMED);
     }
     let n = wide(s[at + 2]);
     if n == 0 {
@@ -53,7 +45,7 @@ fn read_record(s: &[u8], at: usize, done: usize) -> Record
         return Record::Refused(KEY_LENGTH_WRONG);
     }
     if s.len() - (at + BEFORE_KEY) < n {
-        return Record::Refused(MALFORMED);
+        return Record::Refused(LIST_MALFORMED);
     }
     Record::Key(n)
 }

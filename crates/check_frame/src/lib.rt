@@ -25,6 +25,8 @@ use image::header_bytes::MAX_LEAVES;
 use image::header_bytes::VERSION_AT;
 use image::header_bytes::read_header;
 use image::header_bytes::settings_in_range;
+use image::refusals::FRAME_WRONG;
+use image::refusals::HEADER_WRONG;
 use image::table::BEFORE_BODY;
 use image::table::HEADER;
 use image::table::MARK_BYTES;
@@ -32,12 +34,6 @@ use image::table::RECORDS;
 use image::table::body_size;
 use image::table::mark;
 use image::table::record_starts;
-
-// The number of an image whose header or records do not stand.
-const FRAME_MISSING: u32 = 11;
-
-// The number of an image whose header or whose lengths are wrong.
-const HEADER_WRONG: u32 = 12;
 
 // Where the record at an offset ends, or that no such record stands there.
 pub enum RecordEnd {
@@ -235,19 +231,19 @@ pub fn read_frame(image: &[u8]) -> FrameRead
     ensures { λ r. ⌜ Read-as (now (image .entry)) r ⌝ }
 {
     if image.len() < HEADER {
-        return FrameRead::Refused(FRAME_MISSING);
+        return FrameRead::Refused(FRAME_WRONG);
     }
     if image[0] != b'H' {
-        return FrameRead::Refused(FRAME_MISSING);
+        return FrameRead::Refused(FRAME_WRONG);
     }
     if image[1] != b'D' {
-        return FrameRead::Refused(FRAME_MISSING);
+        return FrameRead::Refused(FRAME_WRONG);
     }
     let RecordEnd::At(end) = last_end(image) else {
-        return FrameRead::Refused(FRAME_MISSING);
+        return FrameRead::Refused(FRAME_WRONG);
     };
     if end != image.len() {
-        return FrameRead::Refused(FRAME_MISSING);
+        return FrameRead::Refused(FRAME_WRONG);
     }
     let h = read_header(image);
     if !settings_valid(h) {

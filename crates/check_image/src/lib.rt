@@ -12,15 +12,10 @@ use check_tables::judge::count_sparse;
 use check_tables::spare::spare_clear;
 use check_trie::trie::trie_valid;
 use image::Framed;
-
-// The numbers of the stages behind the frame: a spare bit is set; the bits are not a builder's trie; a rank, a sample or LV is wrong; a slot has a bit that must be clear.
-const SPARE_SET: u32 = 13;
-
-const NO_TRIE: u32 = 14;
-
-const TABLE_WRONG: u32 = 15;
-
-const SLOT_SET: u32 = 16;
+use image::refusals::SLOT_WRONG;
+use image::refusals::SPARE_BIT_SET;
+use image::refusals::TABLE_WRONG;
+use image::refusals::TRIE_WRONG;
 
 // What check says of an image: accepted, or refused with the first of 11 to 16 that applies.
 pub enum Checked {
@@ -35,11 +30,11 @@ fn judge(image: &[u8], read: RankedFrame) -> Framed
 {
     let f = read.frame;
     if !spare_clear(image, f) {
-        return Framed::Refused(SPARE_SET);
+        return Framed::Refused(SPARE_BIT_SET);
     }
     let counts = count_sparse(image, f);
     if !trie_valid(image, f, counts) {
-        return Framed::Refused(NO_TRIE);
+        return Framed::Refused(TRIE_WRONG);
     }
     if !(read.agrees & counts.agrees) {
         return Framed::Refused(TABLE_WRONG);
@@ -48,7 +43,7 @@ fn judge(image: &[u8], read: RankedFrame) -> Framed
         return Framed::Refused(TABLE_WRONG);
     }
     if !slots_valid(image, f) {
-        return Framed::Refused(SLOT_SET);
+        return Framed::Refused(SLOT_WRONG);
     }
     Framed::At(f)
 }

@@ -9,7 +9,6 @@ ghost use Rattle.bits.specs.Bits.{rank};
 ghost use Rattle.check_levels.specs.DenseNodes.{dense-nodes-valid};
 ghost use Rattle.check_levels.specs.Positions.{bits};
 ghost use Rattle.check_trie.specs.DensePositions.{Dense-sized, row-valid};
-use super::ROW_WORDS;
 use super::cover::covered;
 use bits::numbers::read64;
 use bits::parts::part;
@@ -17,6 +16,7 @@ use bits::ranks::bit_at;
 use bits::ranks::ones_of;
 use image::ROW_BITS;
 use image::ROW_BYTES;
+use image::ROW_WORDS;
 
 // Whether a bit of a row is set.
 fn some_set(row: &[u8]) -> bool

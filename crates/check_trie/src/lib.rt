@@ -7,6 +7,3 @@ pub mod label_masks; // label_masks.rt: masks of 64 labels
 pub mod label_order; // label_order.rt: labels that descend, against bits of S-LOUDS
 pub mod sparse; // sparse.rt: the sparse entries, by words
 pub mod trie; // trie.rt: all tests together
-
-// The words of a dense node's row.
-const ROW_WORDS: usize = 4;

@@ -3,6 +3,7 @@
 pub mod table; // table.rt: marks, body lengths and starts of the records
 pub mod header_bytes; // header_bytes.rt: settings judged, the header read and written, the beginning of a record, and cleared bytes
 pub mod suffix; // suffix.rt: a key's suffix bits as a number
+pub mod refusals; // refusals.rt: the numbers of refusals
 pub mod codes; // codes.rt: an answer as one number, and settings as one number
 
 // The version of the format whose images have a thirteenth record, LV: the first node of each level.
@@ -19,6 +20,9 @@ pub const ROW_BITS: usize = 256;
 
 // The bytes of a dense node's row.
 pub const ROW_BYTES: usize = 32;
+
+// The 64-bit words of a dense node's row.
+pub const ROW_WORDS: usize = 4;
 
 // The extra label of a sparse node that is an exact leaf: it stands before the node's other labels.
 pub const EXTRA_LABEL: u8 = 255;

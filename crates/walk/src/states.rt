@@ -11,15 +11,13 @@ use image::Frame;
 use image::Framed;
 use image::Leaf;
 use image::Sparse;
+use image::refusals::PLACE_OUT_OF_RANGE;
 use walk_cursor::Cursor;
 use walk_cursor::at_no_leaf;
 use walk_cursor::leaf_at;
 use walk_cursor::locate::cursor_at;
 use walk_cursor::step;
 use walk_cursor::values::padded;
-
-// The number of a refusal: the place handed in is neither a leaf of the image nor done.
-const PLACE_REFUSED: u32 = 17;
 
 // What a walk says at a place: a refusal's number, a leaf, or done.
 pub enum Stand {
@@ -110,7 +108,7 @@ pub fn open_accepted(image: &[u8], f: Frame, place: usize) -> State
     ensures { λ r. ⌜ Opens (now (image .entry)) place r ⌝ }
 {
     if f.leaves < place {
-        return refused(PLACE_REFUSED, place);
+        return refused(PLACE_OUT_OF_RANGE, place);
     }
     State {
         status: Status::Opened,
