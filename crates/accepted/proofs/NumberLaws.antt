@@ -18,7 +18,7 @@ use Rattle.theory.specs.LengthBounds.{leaves-are}
 use Rattle.theory.specs.OneQuestionLaws.{one-refused, one-replied}
 use Rattle.image.specs.declared.Frame.{Frame}
 use Rattle.nav_nodes.specs.Accepted.{Accepted}
-use Rattle.bits.specs.Bits.{placed}
+use Rattle.bits.specs.Bits.{overlaid}
 use Rattle.ask_files.specs.ReplyLaws.{point-reply}
 use Rattle.accepted.specs.declared.Number.the-variants.{Of, Refused}
 use Rattle.accepted.specs.Numbers.{numbered-of}
@@ -39,17 +39,17 @@ module _ (s : Bytes) (q : Question) where
   -- a question that is taken
   module _ (e : question-refusal q ≡ 0) (f : Frame) (a : Accepted s f) where
     -- by the hash bits that the frame says
-    answered : ask-one s q ≡ replied (reply (f .hash) (read-leaves s) q)
+    answered : ask-one s q ≡ replied (reply (f .«hash_width») (read-leaves s) q)
     answered = one-replied s q e ∙ ap (λ (h : ℕ). replied (reply h (read-leaves s) q)) (a .hash-is)
 
-    pub replied-number : (x : ℕ) → x ≡ reply (f .hash) (read-leaves s) q .number → numbered-of (Of x) ≡ reply-number (ask-one s q)
+    pub replied-number : (x : ℕ) → x ≡ reply (f .«hash_width») (read-leaves s) q .number → numbered-of (Of x) ≡ reply-number (ask-one s q)
     replied-number x h = ap number h ∙ sym (ap reply-number answered)
 
     -- the length of the reply's key and the key stand at the front of the buffer
-    pub replied-key : (out key : Bytes) (n : ℕ) → take n key ≡ reply (f .hash) (read-leaves s) q .key → n ≡ length (take n key) → 0 < length out
-        → placed (set out 0 n) 1 (take n key) ≡ key-written (ask-one s q) out
+    pub replied-key : (out key : Bytes) (n : ℕ) → take n key ≡ reply (f .«hash_width») (read-leaves s) q .key → n ≡ length (take n key) → 0 < length out
+        → overlaid (set out 0 n) 1 (take n key) ≡ key-written (ask-one s q) out
     replied-key (x ∷ out) key n k size h =
-        let same : n ∷ (take n key ++ drop (length (take n key)) out) ≡ key-written (replied (reply (f .hash) (read-leaves s) q)) (x ∷ out) = ap₂ {C = Bytes} (λ (m : ℕ) (z : Bytes). m ∷ (z ++ drop (length z) out)) (size ∙ ap length k) k in
+        let same : n ∷ (take n key ++ drop (length (take n key)) out) ≡ key-written (replied (reply (f .«hash_width») (read-leaves s) q)) (x ∷ out) = ap₂ {C = Bytes} (λ (m : ℕ) (z : Bytes). m ∷ (z ++ drop (length z) out)) (size ∙ ap length k) k in
         let one : 1 + length (take n key) ≡ suc (length (take n key)) = omega arith in
         rw one (same ∙ sym (ap (λ (r : Answered). key-written r (x ∷ out)) answered))
     replied-key [] key n k size h = absurd (omega arith)

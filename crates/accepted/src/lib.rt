@@ -22,7 +22,7 @@ use query_point::Rule;
 use query_point::point::descend;
 use query_point::point::rule_number;
 use query_point::point::rule_says;
-use query_sums::levels::level_starts;
+use query_sums::levels::empty_key_sum;
 
 pub mod frame; // frame.rt: the frame of an accepted image, read again
 pub mod records; // records.rt: the leaves from a place on as records
@@ -129,7 +129,7 @@ pub fn seek(image: &[u8], start: &[u8], found: &mut [u8; FOUND_BYTES]) -> Number
     }
     let f = accepted_frame(image);
     let mut key = [0u8; MAX_KEY_BYTES];
-    let a = seek_reply(image, f, level_starts(image, f), start, &mut key);
+    let a = seek_reply(image, f, empty_key_sum(image, f), start, &mut key);
     let n = a.n;
     found[0] = n as u8;
     write_bytes(found, 1, &key[..n]);

@@ -10,7 +10,7 @@ use Rattle.spec.specs.Rules.{rule, rule-number, rule-says}
 use Rattle.spec.specs.Questions.{QP, QS, Reply, point, begins-with, range, counted, reply, reply-bytes, replies, questions-of}
 use Rattle.theory.specs.LeafLists.{Realizable, All-well-sized}
 use Rattle.theory.specs.Rules.{point-rule}
-use Rattle.bits.specs.Bits.{placed}
+use Rattle.bits.specs.Bits.{overlaid}
 use Rattle.bits.specs.Bits.{key}
 use Rattle.ask_files.specs.AskedAt.{Followed}
 use Rattle.ask_files.specs.ReplyLaws.{answer, point-reply, begins-reply, range-reply, count-reply, Replied, replied-room, replied-more}
@@ -19,7 +19,7 @@ use Rattle.ask_files.specs.ReplyContracts.{Sized, reply-of}
 use Rattle.ask_files.specs.declared.questions.QuestionAt.{QuestionAt}
 use Rattle.ask_files.specs.declared.questions.QuestionAt.the-variants.{Point, Seek, Begins, Range, Count}
 use Rattle.ask_files.specs.declared.reply_bytes.Answered.{Answered}
-use Rattle.ask_files.proofs.PlacedLaws.{key-length}
+use Rattle.ask_files.proofs.OverlaidLaws.{key-length}
 
 -- what is known of a question, after a match
 pub inside-matched : (file : Bytes) {q x : QuestionAt} → q ≡ x → Inside file q → Inside file x
@@ -97,9 +97,9 @@ module _ (H : ℕ) (ls : List Leaf) (file out : Bytes) (room : length (replies H
   pub answered-room : to + 8 + a .n ≤ length new
   answered-room = omega (arith, reply-key H ls file a buffer q s e, replied-room H ls file out room at to new p next (question-of file q) w)
 
-  pub answered-more : (end : ℕ) (written : Bytes) → end ≡ to + 8 + a .n → written ≡ placed new to (reply-bytes (reply-of a buffer)) → Replied H ls file out next end written
+  pub answered-more : (end : ℕ) (written : Bytes) → end ≡ to + 8 + a .n → written ≡ overlaid new to (reply-bytes (reply-of a buffer)) → Replied H ls file out next end written
   answered-more end written f g =
       let h : to + 8 + length (reply H ls (question-of file q) .key) ≡ end = ap (λ (k : ℕ). to + 8 + k) (sym (reply-key H ls file a buffer q s e)) ∙ sym f in
-      let i : placed new to (reply-bytes (reply H ls (question-of file q))) ≡ written = ap (λ (r : Reply). placed new to (reply-bytes r)) (sym e) ∙ sym g in
+      let i : overlaid new to (reply-bytes (reply H ls (question-of file q))) ≡ written = ap (λ (r : Reply). overlaid new to (reply-bytes r)) (sym e) ∙ sym g in
       subst (λ (z : Bytes). Replied H ls file out next end z) i
-      (subst (λ (k : ℕ). Replied H ls file out next k (placed new to (reply-bytes (reply H ls (question-of file q))))) h (replied-more H ls file out room at to new p next (question-of file q) w))
+      (subst (λ (k : ℕ). Replied H ls file out next k (overlaid new to (reply-bytes (reply H ls (question-of file q))))) h (replied-more H ls file out room at to new p next (question-of file q) w))

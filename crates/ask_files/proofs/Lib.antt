@@ -1,4 +1,4 @@
 pub mod AnswerLaws
 pub mod JudgeLaws
-pub mod PlacedLaws
+pub mod OverlaidLaws
 pub mod ReadLaws

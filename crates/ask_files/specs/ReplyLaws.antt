@@ -9,7 +9,7 @@ use Rattle.spec.specs.Bytes.{Bytes, concat, le32}
 use Rattle.spec.specs.Leaves.{Leaf, reals}
 use Rattle.spec.specs.Rules.{rule, rule-number}
 use Rattle.spec.specs.Questions.{Question, QP, QS, QB, QR, QC, Reply, keyless, sought, none, found, point, seek, begins-with, range, counted, reply, reply-bytes, replies, taken, parse-questions, questions-of}
-use Rattle.bits.specs.Bits.{placed}
+use Rattle.bits.specs.Bits.{overlaid}
 use Rattle.ask_files.specs.FileLaws.{questions-from, Taken-from, taken-start, taken-end, few-questions, questions-are}
 use Rattle.ask_files.specs.AskedAt.{Followed}
 
@@ -106,14 +106,14 @@ pub record Replied (H : ℕ) (ls : List Leaf) (file out : Bytes) (at to : ℕ) (
 -- the first bytes of r over those of out, and b behind them
 module _ (r out b rest : Bytes) (to : ℕ) (left : drop to r ≡ b ++ rest) (inside : to ≤ length r) where
   -- b's last byte is one of r
-  pub placed-inside : to + length b ≤ length r
-  placed-inside = omega (arith, length-drop to r, ap length left, length-append b rest)
+  pub overlaid-inside : to + length b ≤ length r
+  overlaid-inside = omega (arith, length-drop to r, ap length left, length-append b rest)
 
-  pub placed-left : drop (to + length b) r ≡ rest
-  placed-left = sym (drop-drop (length b) to r) ∙ ap (drop (length b)) left ∙ drop-append-seam b rest
+  pub overlaid-left : drop (to + length b) r ≡ rest
+  overlaid-left = sym (drop-drop (length b) to r) ∙ ap (drop (length b)) left ∙ drop-append-seam b rest
 
-  pub placed-bytes : length r ≤ length out → placed (take to r ++ drop to out) to b ≡ take (to + length b) r ++ drop (to + length b) out
-  placed-bytes room =
+  pub overlaid-bytes : length r ≤ length out → overlaid (take to r ++ drop to out) to b ≡ take (to + length b) r ++ drop (to + length b) out
+  overlaid-bytes room =
       let size : length (take to r) ≡ to = length-take-le to r inside in
       let front : take to (take to r ++ drop to out) ≡ take to r = take-at (take to r) (drop to out) to size in
       let back : drop (to + length b) (take to r ++ drop to out) ≡ drop (to + length b) out =
@@ -140,11 +140,11 @@ module _ (H : ℕ) (ls : List Leaf) (file out : Bytes) where
       -- the buffer has room for the next reply
       pub replied-room : to + 8 + length (reply H ls q .key) ≤ length new
       replied-room =
-          let e = placed-inside (replies H ls (questions-of file)) out (reply-bytes (reply H ls q)) (replies H ls (questions-from file next)) to split (p .inside) in
+          let e = overlaid-inside (replies H ls (questions-of file)) out (reply-bytes (reply H ls q)) (replies H ls (questions-from file next)) to split (p .inside) in
           omega (arith, e, reply-length (reply H ls q), replied-length)
 
       -- one reply more
-      pub replied-more : Replied H ls file out next (to + 8 + length (reply H ls q .key)) (placed new to (reply-bytes (reply H ls q)))
+      pub replied-more : Replied H ls file out next (to + 8 + length (reply H ls q .key)) (overlaid new to (reply-bytes (reply H ls q)))
       replied-more =
           let r : Bytes = replies H ls (questions-of file) in
           let b : Bytes = reply-bytes (reply H ls q) in
@@ -152,9 +152,9 @@ module _ (H : ℕ) (ls : List Leaf) (file out : Bytes) where
           let e : to + length b ≡ to + 8 + length (reply H ls q .key) = omega (arith, reply-length (reply H ls q)) in
           rw (← e) (record {
             taken-here = w .taken-next;
-            inside = placed-inside r out b rest to split (p .inside);
-            left = placed-left r out b rest to split (p .inside);
-            bytes = ap (λ (x : Bytes). placed x to b) (p .bytes) ∙ placed-bytes r out b rest to split (p .inside) room;
+            inside = overlaid-inside r out b rest to split (p .inside);
+            left = overlaid-left r out b rest to split (p .inside);
+            bytes = ap (λ (x : Bytes). overlaid x to b) (p .bytes) ∙ overlaid-bytes r out b rest to split (p .inside) room;
           })
 
   -- behind the last question: all replies are written

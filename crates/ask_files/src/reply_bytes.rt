@@ -4,7 +4,7 @@ ghost use mathlib.Core.List.{[]};
 ghost use Prim.Native.Nat.{_+_, _≤_};
 ghost use lib.ListN.{length};
 ghost use Rattle.spec.specs.Questions.{reply-bytes};
-ghost use Rattle.bits.specs.Bits.{placed};
+ghost use Rattle.bits.specs.Bits.{overlaid};
 ghost use Rattle.ask_files.specs.ReplyLaws.{answer};
 ghost use Rattle.ask_files.specs.ReplyContracts.{reply-mark, reply-head, reply-of, Sized};
 use bits::copy::write_bytes;
@@ -23,7 +23,7 @@ pub struct Answered {
 // A reply's mark and letter go to out from at, and all else stays.
 fn write_mark(out: &mut [u8], at: usize, letter: u8)
     requires { ⌜ at + 3 ≤ length (now out) ⌝ }
-    ensures { λ _. ⌜ now (out .exit) ≡ placed (now (out .entry)) at (reply-mark letter) ⌝ }
+    ensures { λ _. ⌜ now (out .exit) ≡ overlaid (now (out .entry)) at (reply-mark letter) ⌝ }
 {
     out[at] = b'A';
     out[at + 1] = b'N';
@@ -33,7 +33,7 @@ fn write_mark(out: &mut [u8], at: usize, letter: u8)
 // A reply's first eight bytes go to out from at, and all else stays: the mark, the letter, the number, and the length of a key of n bytes.
 fn write_head(out: &mut [u8], at: usize, letter: u8, number: usize, n: usize)
     requires { ⌜ (at + 8 ≤ length (now out)) × (n ≤ 64) ⌝ }
-    ensures { λ _. ⌜ now (out .exit) ≡ placed (now (out .entry)) at (reply-head letter number n) ⌝ }
+    ensures { λ _. ⌜ now (out .exit) ≡ overlaid (now (out .entry)) at (reply-head letter number n) ⌝ }
 {
     write_mark(out, at, letter);
     write32(out, at + 3, number);
@@ -43,7 +43,7 @@ fn write_head(out: &mut [u8], at: usize, letter: u8, number: usize, n: usize)
 // A reply's bytes go to out from at, and all else stays; the offset behind them.
 pub fn write_reply(out: &mut [u8], at: usize, letter: u8, number: usize, key: &[u8]) -> usize
     requires { ⌜ (at + 8 + length (now key) ≤ length (now out)) × (length (now key) ≤ 64) ⌝ }
-    ensures { λ r. ⌜ (r ≡ at + 8 + length (now (key .entry))) × (now (out .exit) ≡ placed (now (out .entry)) at (reply-bytes (answer letter number (now (key .entry))))) ⌝ }
+    ensures { λ r. ⌜ (r ≡ at + 8 + length (now (key .entry))) × (now (out .exit) ≡ overlaid (now (out .entry)) at (reply-bytes (answer letter number (now (key .entry))))) ⌝ }
 {
     write_head(out, at, letter, number, key.len());
     write_bytes(out, at + REPLY_HEAD, key);
@@ -64,7 +64,7 @@ pub fn keyless(letter: u8, number: usize) -> Answered
 // The bytes of a reply by value go to out from at, and all else stays; the offset behind them.
 pub fn write_answered(out: &mut [u8], at: usize, a: Answered, key: &[u8]) -> usize
     requires { ⌜ Sized a (now key) × (at + 8 + a .n ≤ length (now out)) ⌝ }
-    ensures { λ r. ⌜ (r ≡ at + 8 + a .n) × (now (out .exit) ≡ placed (now (out .entry)) at (reply-bytes (reply-of a (now (key .entry))))) ⌝ }
+    ensures { λ r. ⌜ (r ≡ at + 8 + a .n) × (now (out .exit) ≡ overlaid (now (out .entry)) at (reply-bytes (reply-of a (now (key .entry))))) ⌝ }
 {
     write_reply(out, at, a.letter, a.number, &key[..a.n])
 }

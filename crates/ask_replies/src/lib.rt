@@ -5,7 +5,7 @@ ghost use lib.ListN.{length};
 ghost use Rattle.spec.specs.Nodes.{read-leaves};
 ghost use Rattle.spec.specs.Questions.{QP, QS, reply};
 ghost use Rattle.nav_nodes.specs.Accepted.{Accepted};
-ghost use Rattle.query_descent.specs.Summed.{level-starts};
+ghost use Rattle.query_descent.specs.Summed.{empty-key-sum};
 ghost use Rattle.ask_files.specs.FileLaws.{Taken-from};
 ghost use Rattle.ask_files.specs.Questions.{Inside, question-of};
 ghost use Rattle.ask_files.specs.ReplyContracts.{Sized, reply-of};
@@ -26,7 +26,7 @@ use query_point::stem::begins_with;
 use query_range::range::range;
 use query_seek::SoughtLeaf;
 use query_seek::seek::seek;
-use query_sums::levels::level_starts;
+use query_sums::levels::empty_key_sum;
 
 // The bytes of the key in a point's reply: the number of the rule behind it.
 pub const POINT_KEY: usize = 1;
@@ -34,7 +34,7 @@ pub const POINT_KEY: usize = 1;
 // The reply to a point: the number that the rule behind it says, and the rule's own number as its key.
 fn point_reply(image: &[u8], f: Frame, point: &[u8], key: &mut [u8]) -> Answered
     requires { ⌜ Accepted (now image) f × (length (now point) ≤ 64) × (length (now key) ≡ 64) ⌝ }
-    ensures { λ r. ⌜ Sized r (now (key .exit)) × (reply-of r (now (key .exit)) ≡ reply (f .hash) (read-leaves (now (image .entry))) (QP (now (point .entry)))) ⌝ }
+    ensures { λ r. ⌜ Sized r (now (key .exit)) × (reply-of r (now (key .exit)) ≡ reply (f .«hash_width») (read-leaves (now (image .entry))) (QP (now (point .entry)))) ⌝ }
 {
     let rule = descend(image, f, point);
     key[0] = rule_number(rule);
@@ -48,12 +48,12 @@ fn point_reply(image: &[u8], f: Frame, point: &[u8], key: &mut [u8]) -> Answered
 // The number in the reply to a seek that finds no leaf.
 const NO_LEAF: usize = 0xFFFFFFFF;
 
-// The reply to a seek: the leaf's number and key, or none, FFFFFFFF without a key. `starts` is the sum of slot numbers for the empty key.
-pub fn seek_reply(image: &[u8], f: Frame, starts: usize, start: &[u8], key: &mut [u8]) -> Answered
-    requires { ⌜ Accepted (now image) f × (starts ≡ level-starts (now image) f) × (length (now start) ≤ 64) × (length (now key) ≡ 64) ⌝ }
-    ensures { λ r. ⌜ Sized r (now (key .exit)) × (reply-of r (now (key .exit)) ≡ reply (f .hash) (read-leaves (now (image .entry))) (QS (now (start .entry)))) ⌝ }
+// The reply to a seek: the leaf's number and key, or none, FFFFFFFF without a key. `base` is the sum of slot numbers for the empty key.
+pub fn seek_reply(image: &[u8], f: Frame, base: usize, start: &[u8], key: &mut [u8]) -> Answered
+    requires { ⌜ Accepted (now image) f × (base ≡ empty-key-sum (now image) f) × (length (now start) ≤ 64) × (length (now key) ≡ 64) ⌝ }
+    ensures { λ r. ⌜ Sized r (now (key .exit)) × (reply-of r (now (key .exit)) ≡ reply (f .«hash_width») (read-leaves (now (image .entry))) (QS (now (start .entry)))) ⌝ }
 {
-    let s = seek(image, f, starts, start, key);
+    let s = seek(image, f, base, start, key);
     let leaf = s.leaf;
     match leaf {
         SoughtLeaf::None => keyless(b'S', NO_LEAF),
@@ -65,21 +65,21 @@ pub fn seek_reply(image: &[u8], f: Frame, starts: usize, start: &[u8], key: &mut
     }
 }
 
-// The reply to a question of the file, its key in a buffer. `starts`, for a seek, is the sum of slot numbers for the empty key.
+// The reply to a question of the file, its key in a buffer. `base`, for a seek, is the sum of slot numbers for the empty key.
 fn reply_to(
     image: &[u8],
     f: Frame,
-    starts: usize,
+    base: usize,
     file: &[u8],
     question: QuestionAt,
     key: &mut [u8],
 ) -> Answered
-    requires { ⌜ Accepted (now image) f × (starts ≡ level-starts (now image) f) × Inside (now file) question × (length (now key) ≡ 64) ⌝ }
-    ensures { λ r. ⌜ Sized r (now (key .exit)) × (reply-of r (now (key .exit)) ≡ reply (f .hash) (read-leaves (now (image .entry))) (question-of (now (file .entry)) question)) ⌝ }
+    requires { ⌜ Accepted (now image) f × (base ≡ empty-key-sum (now image) f) × Inside (now file) question × (length (now key) ≡ 64) ⌝ }
+    ensures { λ r. ⌜ Sized r (now (key .exit)) × (reply-of r (now (key .exit)) ≡ reply (f .«hash_width») (read-leaves (now (image .entry))) (question-of (now (file .entry)) question)) ⌝ }
 {
     match question {
         QuestionAt::Point(at, n) => point_reply(image, f, key_at(file, at, n), key),
-        QuestionAt::Seek(at, n) => seek_reply(image, f, starts, key_at(file, at, n), key),
+        QuestionAt::Seek(at, n) => seek_reply(image, f, base, key_at(file, at, n), key),
         QuestionAt::Begins(at, n) => {
             let number = begins_with(image, f, key_at(file, at, n));
             keyless(b'B', number)
@@ -97,17 +97,17 @@ fn reply_to(
 
 // The replies to all questions of a file that is taken go to the start of out, one behind the other, and all else stays; their length.
 pub fn write_replies(image: &[u8], f: Frame, file: &[u8], out: &mut [u8]) -> usize
-    requires { ⌜ Accepted (now image) f × Taken-from (now file) 0 × (length (file-replies (f .hash) (now image) (now file)) ≤ length (now out)) ⌝ }
-    ensures { λ r. ⌜ Replies-written (f .hash) (now (image .entry)) (now (file .entry)) (now (out .entry)) (now (out .exit)) r ⌝ }
+    requires { ⌜ Accepted (now image) f × Taken-from (now file) 0 × (length (file-replies (f .«hash_width») (now image) (now file)) ≤ length (now out)) ⌝ }
+    ensures { λ r. ⌜ Replies-written (f .«hash_width») (now (image .entry)) (now (file .entry)) (now (out .entry)) (now (out .exit)) r ⌝ }
 {
-    let starts = level_starts(image, f);
+    let base = empty_key_sum(image, f);
     let mut key = [0u8; MAX_KEY_BYTES];
     let mut at = 0usize;
     let mut to = 0usize;
     while at < file.len() {
         let asked = question_at(file, at);
         let question = asked.question;
-        let a = reply_to(image, f, starts, file, question, &mut key);
+        let a = reply_to(image, f, base, file, question, &mut key);
         to = write_answered(out, to, a, &key);
         at = asked.next;
     }

@@ -23,8 +23,8 @@ select s zero m = zero
 select s (suc n) m = cond (leb (rank s (suc n)) m) (suc n) (select s n m)
 
 -- the position of the one in byte b that has j ones below it, or 8 where there is no such one
-abbrev pub place : ℕ → ℕ → ℕ
-place b j = select (b ∷ []) 8 j
+abbrev pub select-in-byte : ℕ → ℕ → ℕ
+select-in-byte b j = select (b ∷ []) 8 j
 
 -- the number whose bytes are s, the low byte first
 unfoldable pub value : Bytes → ℕ
@@ -64,8 +64,8 @@ abbrev pub key : Bytes → ℕ → ℕ → Bytes
 key s a n = take n (drop a s)
 
 -- the bytes xs stand in `out` from `at` on, and all else stays
-abbrev pub placed : Bytes → ℕ → Bytes → Bytes
-placed out at xs = take at out ++ xs ++ drop (at + length xs) out
+abbrev pub overlaid : Bytes → ℕ → Bytes → Bytes
+overlaid out at xs = take at out ++ xs ++ drop (at + length xs) out
 
 -- every bit that is set among the first k of xs is set in ys
 abbrev pub Covers : Bytes → Bytes → ℕ → Type 0

@@ -110,7 +110,7 @@ low-drop (suc m) (b ∷ bs) =
     let w : 1 + m ≡ suc m = omega arith in
     low-drop m bs ∙ ap (λ (k : ℕ). k / 2 ^ m) (sym d) ∙ shr-shr (bit b + 2 * low-first bs) 1 m ∙ ap (λ (k : ℕ). (bit b + 2 * low-first bs) / 2 ^ k) w
 
--- the number of two runs of bits
+-- the number of two lists of bits
 pub low-append : (a b : Bits) → low-first (a ++ b) ≡ low-first a + 2 ^ length a * low-first b
 unfolding low-first
 low-append [] b = omega arith
@@ -125,7 +125,7 @@ mod-shifted j k x = mod-pow-add (x * 2 ^ k) j k ∙ ap₂ (λ (a b : ℕ). a % 2
 one-more : (y p : ℕ) → y * (2 * p) + p ≡ (1 + 2 * y) * p
 one-more y p = omega (arith, add-mul 1 (2 * y) p, one-mul p, mul-assoc 2 y p, mul-left-comm y 2 p)
 
--- the ones of a bit at place r of a byte, and of the bits behind it
+-- the ones of a bit at position r of a byte, and of the bits behind it
 pub or-bits : (r x : ℕ) → r < 8 → bitOr (2 ^ r) (x * 2 ^ suc r % 2 ^ 8) ≡ (1 + 2 * x) * 2 ^ r % 2 ^ 8
 or-bits r x h =
     let j : ℕ = 7 - r in

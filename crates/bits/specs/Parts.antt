@@ -1,4 +1,4 @@
--- Parts of a byte string: what stands in one after bytes were placed, a part of a part, and a part to the end. Laws for every function that reads or lends a part of a buffer.
+-- Parts of a byte string: what stands in one after bytes were written, a part of a part, and a part to the end. Laws for every function that reads or lends a part of a buffer.
 use Prim.Native.Nat.{ℕ, _+_, _-_, _≤_}
 use mathlib.Core.Path.{_≡_, sym, ap, _∙_}
 use mathlib.Core.List.{_++_, append-assoc}
@@ -7,8 +7,8 @@ use borrow.Rule.Slice.PartMut.{midOf}
 use lib.ListN.{length, take, drop, length-drop}
 use lib.Seq.{take-all, take-at, take-take, take-add, drop-at, drop-drop, length-take-le}
 use Rattle.spec.specs.Bytes.{Bytes}
-use Rattle.bits.specs.Bits.{part, placed}
-use Rattle.bits.specs.Placing.{length-placed, take-placed}
+use Rattle.bits.specs.Bits.{part, overlaid}
+use Rattle.bits.specs.Overlaying.{length-overlaid, take-overlaid}
 
 -- a part by the bytes up to its end
 part-take : (s : Bytes) (from m : ℕ) → from ≤ length s → part s from m ≡ drop from (take (from + m) s)
@@ -18,14 +18,14 @@ part-take s from m h = sym (ap (drop from) (take-add from m s) ∙ drop-at (take
 pub length-part : (s : Bytes) (from m : ℕ) → from + m ≤ length s → length (part s from m) ≡ m
 length-part s from m h = length-take-le m (drop from s) (omega (arith, length-drop from s))
 
--- what stands before a place is kept
-pub part-kept : (out xs : Bytes) (from m at : ℕ) → from + m ≤ at → at + length xs ≤ length out → part (placed out at xs) from m ≡ part out from m
+-- what stands before an offset is kept
+pub part-kept : (out xs : Bytes) (from m at : ℕ) → from + m ≤ at → at + length xs ≤ length out → part (overlaid out at xs) from m ≡ part out from m
 part-kept out xs from m at h l =
-    part-take (placed out at xs) from m (omega (arith, length-placed out at xs l)) ∙ ap (drop from) (take-placed out xs (from + m) at h (omega arith)) ∙ sym (part-take out from m (omega arith))
+    part-take (overlaid out at xs) from m (omega (arith, length-overlaid out at xs l)) ∙ ap (drop from) (take-overlaid out xs (from + m) at h (omega arith)) ∙ sym (part-take out from m (omega arith))
 
--- what was placed stands there
-pub part-placed : (out xs : Bytes) (at m : ℕ) → at ≤ length out → m ≡ length xs → part (placed out at xs) at m ≡ xs
-part-placed out xs at m h e =
+-- what was written stands there
+pub part-overlaid : (out xs : Bytes) (at m : ℕ) → at ≤ length out → m ≡ length xs → part (overlaid out at xs) at m ≡ xs
+part-overlaid out xs at m h e =
     ap (λ (z : Bytes). take m z) (ap (drop at) (append-assoc (take at out) xs (drop (at + length xs) out)) ∙ drop-at (take at out) (xs ++ drop (at + length xs) out) at (length-take-le at out h))
     ∙ take-at xs (drop (at + length xs) out) m (sym e)
 

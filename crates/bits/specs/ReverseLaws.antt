@@ -10,7 +10,7 @@ use Rattle.spec.specs.Bytes.{low-first, high-first}
 use Rattle.bits.specs.Bits.{reversed}
 use Rattle.bits.specs.NumberLaws.{low-lt}
 
--- Five copies of the byte, of which the mask keeps each bit where the remainder by 2^10 - 1 adds it at its new place.
+-- Five copies of the byte, of which the mask keeps each bit where the remainder by 2^10 - 1 adds it at its new position.
 abbrev pub mirror : ℕ → ℕ
 mirror b = bitAnd (b * 8623620610) 1136090292240 % 1023
 

@@ -3,7 +3,7 @@ ghost use mathlib.Core.Path.{_≡_};
 ghost use Prim.Native.Nat.{_+_, _*_, _^_, _≤_, _<_, min, max};
 ghost use lib.ListN.{length, drop};
 ghost use Rattle.spec.specs.Bytes.{bit, blocks, from32, le32};
-ghost use Rattle.bits.specs.Bits.{word, placed};
+ghost use Rattle.bits.specs.Bits.{word, overlaid};
 
 // 2^32: a number of four bytes is below it, and four bytes hold a larger number modulo it.
 pub const MODULUS_32: usize = 4294967296;
@@ -76,7 +76,7 @@ pub fn read32(s: &[u8], at: usize) -> usize
 // The low four bytes of v go to s from at, and all else stays.
 pub fn write32(s: &mut [u8], at: usize, v: usize)
     requires { ⌜ at + 4 ≤ length (now s) ⌝ }
-    ensures { λ _. ⌜ now (s .exit) ≡ placed (now (s .entry)) at (le32 v) ⌝ }
+    ensures { λ _. ⌜ now (s .exit) ≡ overlaid (now (s .entry)) at (le32 v) ⌝ }
 {
     s[at] = (v % 256) as u8;
     s[at + 1] = (v / 256 % 256) as u8;

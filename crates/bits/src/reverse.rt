@@ -7,7 +7,7 @@ use super::numbers::wide;
 // Five copies of a byte, each one bit higher than ten bits behind the one before.
 const COPIES: usize = 0x0202020202;
 
-// Each bit of the byte in one of the copies: the one from which the remainder by 2^10 - 1 takes it to its new place.
+// Each bit of the byte in one of the copies: the one from which the remainder by 2^10 - 1 takes it to its new position.
 const KEPT: usize = 0x010884422010;
 
 // The bits of a byte in the other order: bit 7 becomes bit 0.

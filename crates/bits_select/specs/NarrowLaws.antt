@@ -1,4 +1,4 @@
--- Select inside a word: the field that holds the one is halved by the counts of all fields, down to a pair of bits, where its place is that of the table.
+-- Select inside a word: the field that holds the one is halved by the counts of all fields, down to a pair of bits, where its position is that of the table.
 use mathlib.Core.Path.{_≡_, refl, sym, ap, _∙_}
 use mathlib.Core.Bool.{Bool, true, false}
 use mathlib.Core.List.{[], _∷_}
@@ -10,7 +10,7 @@ use borrow.Author.Tests.{ltb-true, ltb-false}
 use lib.Count.{ones}
 use lib.Dec.{ltb}
 use lib.Pow.{shr-shr, mod-mod-pow}
-use Rattle.bits.specs.Bits.{rank, place, value}
+use Rattle.bits.specs.Bits.{rank, select-in-byte, value}
 use Rattle.bits.specs.ValueLaws.{Small}
 use Rattle.bits.specs.RankLaws.{ones-behind, rank-ones, rank-up}
 use Rattle.bits_select.specs.SelectLaws.{select-is}
@@ -64,26 +64,26 @@ rank-byte h l k = let e : value (h ∷ []) ≡ h = omega arith in rank-ones (h �
     small zero = l
     small (suc i) = omega arith
 
--- the place in a pair of bits
-two-bits : (h j : ℕ) → h < 4 → j < ones h → (place h j < 2) × (ones (h % 2 ^ place h j) ≤ j) × (j < ones (h % 2 ^ (place h j + 1)))
+-- the position in a pair of bits
+two-bits : (h j : ℕ) → h < 4 → j < ones h → (select-in-byte h j < 2) × (ones (h % 2 ^ select-in-byte h j) ≤ j) × (j < ones (h % 2 ^ (select-in-byte h j + 1)))
 two-bits h j l g =
     let r = rank-byte h (omega arith) in
     let is = select-is (h ∷ []) 8 j in
     let two : rank (h ∷ []) 2 ≡ ones h = r 2 ∙ ap ones (mod-eq-of-lt l) in
-    let below : place h j < 2 = go (ltb (place h j) 2) refl two is in
-    (below, omega (arith, is .1, r (place h j)), omega (arith, is .2 (omega arith), r (place h j + 1)))
+    let below : select-in-byte h j < 2 = go (ltb (select-in-byte h j) 2) refl two is in
+    (below, omega (arith, is .1, r (select-in-byte h j)), omega (arith, is .2 (omega arith), r (select-in-byte h j + 1)))
   where
-    go : (b : Bool) → ltb (place h j) 2 ≡ b → rank (h ∷ []) 2 ≡ ones h
-        → (place h j ≤ 8) × (rank (h ∷ []) (place h j) ≤ j) × (place h j < 8 → j < rank (h ∷ []) (place h j + 1)) → place h j < 2
-    go true e two is = ltb-true (place h j) 2 e
-    go false e two is = absurd (omega (arith, rank-up (h ∷ []) 2 (place h j) (ltb-false (place h j) 2 e)))
+    go : (b : Bool) → ltb (select-in-byte h j) 2 ≡ b → rank (h ∷ []) 2 ≡ ones h
+        → (select-in-byte h j ≤ 8) × (rank (h ∷ []) (select-in-byte h j) ≤ j) × (select-in-byte h j < 8 → j < rank (h ∷ []) (select-in-byte h j + 1)) → select-in-byte h j < 2
+    go true e two is = ltb-true (select-in-byte h j) 2 e
+    go false e two is = absurd (omega (arith, rank-up (h ∷ []) 2 (select-in-byte h j) (ltb-false (select-in-byte h j) 2 e)))
 
--- the place in the word
-pub narrowed-place : (x m at left : ℕ) → Narrowed x m 2 32 at left
-    → (ones (x % 2 ^ (at + place (x / 2 ^ at % 4) left)) ≤ m) × (m < ones (x % 2 ^ (at + place (x / 2 ^ at % 4) left + 1))) × (at + place (x / 2 ^ at % 4) left < 64)
-narrowed-place x m at left p =
+-- the position in the word
+pub narrowed-select : (x m at left : ℕ) → Narrowed x m 2 32 at left
+    → (ones (x % 2 ^ (at + select-in-byte (x / 2 ^ at % 4) left)) ≤ m) × (m < ones (x % 2 ^ (at + select-in-byte (x / 2 ^ at % 4) left + 1))) × (at + select-in-byte (x / 2 ^ at % 4) left < 64)
+narrowed-select x m at left p =
     let h : ℕ = x / 2 ^ at % 4 in
-    let t : ℕ = place h left in
+    let t : ℕ = select-in-byte h left in
     let f = two-bits h left (omega arith) (p .held) in
     let w : 2 - t + t ≡ 2 = omega arith in
     let v : 2 - (t + 1) + (t + 1) ≡ 2 = omega arith in

@@ -43,10 +43,10 @@ lowest (suc k) x p h = go (x % 2) refl (λ q. lowest k (x / 2) q (omega (arith, 
     go (suc d) e rest = (ones-none x, omega (arith, ones-low x 0), omega arith)
 
 -- the ones of the lowest digits below the lowest zero: where the number y has the other digits of x, each of them is a one
-pub lowest-run : (k x y m : ℕ) → x + y + 1 ≡ 2 ^ k → m < trailingZeros k y → ones (x % 2 ^ (m + 1)) ≡ m + 1
+pub lowest-ones : (k x y m : ℕ) → x + y + 1 ≡ 2 ^ k → m < trailingZeros k y → ones (x % 2 ^ (m + 1)) ≡ m + 1
 unfolding trailingZeros
-lowest-run zero x y m e h = absurd (omega arith)
-lowest-run (suc k) x y m e h = go (y % 2) refl m h (λ i. lowest-run k (x / 2) (y / 2) i (omega (arith, e, pow-succ' 2 k)))
+lowest-ones zero x y m e h = absurd (omega arith)
+lowest-ones (suc k) x y m e h = go (y % 2) refl m h (λ i. lowest-ones k (x / 2) (y / 2) i (omega (arith, e, pow-succ' 2 k)))
   where
     go : (d : ℕ) → y % 2 ≡ d → (m : ℕ) → m < under d (trailingZeros k (y / 2)) → ((i : ℕ) → i < trailingZeros k (y / 2) → ones (x / 2 % 2 ^ (i + 1)) ≡ i + 1)
         → ones (x % 2 ^ (m + 1)) ≡ m + 1

@@ -1,10 +1,10 @@
-// The position of a one inside a word: the field that holds it is halved by the counts of ones in all fields, which are found at once, down to a pair of bits, whose places are in the table. A one among ones that stand side by side from the lowest bit on is at its number.
+// The position of a one inside a word: the field that holds it is halved by the counts of ones in all fields, which are found at once, down to a pair of bits, whose positions are in the table. A one among ones that stand side by side from the lowest bit on is at its number.
 ghost use mathlib.Core.Path.{_≡_};
 ghost use Prim.Native.Nat.{ℕ, _+_, _%_, _^_, _≤_, _<_};
 ghost use lib.Count.{ones};
 ghost use Rattle.bits_select.specs.CountLaws.{Counts, Field-counts, paired};
 ghost use Rattle.bits_select.specs.NarrowLaws.{Narrowed};
-use super::byte_ones::place_in_pair;
+use super::byte_ones::select_in_pair;
 use bits::numbers::wide;
 
 // Masks of a word, each with every other field from the first on. Every other bit.
@@ -95,23 +95,23 @@ fn pair_of(x: u64, m: usize) -> Field
 const ALL_ONES: u64 = 0xffffffffffffffff;
 
 // How many ones stand side by side from the lowest bit of a word on.
-fn lowest_run(x: u64) -> usize
+fn lowest_ones(x: u64) -> usize
     ensures { λ r. ⌜ ((m : ℕ) → m < r → ones (x % 2 ^ (m + 1)) ≡ m + 1) × (r ≤ 64) ⌝ }
 {
     u64::trailing_zeros(ALL_ONES - x) as usize
 }
 
-// The position of the m-th set bit, counted from 0, of a word that has more than m. In a word of S-LOUDS a run of ones is common: nodes with one entry each.
+// The position of the m-th set bit, counted from 0, of a word that has more than m. In a word of S-LOUDS ones often stand side by side: nodes with one entry each.
 pub fn select_in_word(x: u64, m: usize) -> usize
     requires { ⌜ m < ones x ⌝ }
     ensures { λ r. ⌜ (ones (x % 2 ^ r) ≤ m) × (m < ones (x % 2 ^ (r + 1))) × (r < 64) ⌝ }
 {
-    if m < lowest_run(x) {
+    if m < lowest_ones(x) {
         return m;
     }
     let field = pair_of(x, m);
     let bits = ((x >> field.at) % 4) as usize;
-    field.at + wide(place_in_pair(bits, field.left))
+    field.at + wide(select_in_pair(bits, field.left))
 }
 
 // The same with no table: the pair of bits is halved as well. Its frame is small.

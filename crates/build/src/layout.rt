@@ -13,7 +13,7 @@ ghost use Rattle.build.specs.Image.{image-of};
 use build_keys::COUNTERS;
 use build_keys::Counters;
 use build_passes::count::count_levels;
-use build_passes::starts::total;
+use build_passes::offsets::total;
 use build_records::Plan;
 use build_records::levels::levels_size;
 use build_records::levels::write_levels;
@@ -45,16 +45,16 @@ fn lay_out(
     count_levels(entries, nodes, leaves, list);
     let h = Header {
         version: st.version,
-        real: st.real,
-        hash: st.hash,
+        real_width: st.real_width,
+        hash_width: st.hash_width,
         leaves: count,
         dense: Dense {
-            levels: st.levels,
-            nodes: total(nodes, 0, st.levels),
+            levels: st.dense_levels,
+            nodes: total(nodes, 0, st.dense_levels),
         },
         sparse: Sparse {
-            nodes: total(nodes, st.levels, MAX_LEVELS),
-            entries: total(entries, st.levels, MAX_LEVELS),
+            nodes: total(nodes, st.dense_levels, MAX_LEVELS),
+            entries: total(entries, st.dense_levels, MAX_LEVELS),
         },
     };
     Plan {

@@ -48,7 +48,7 @@ set-all-bits inc ones-at top (emission d x ∷ es) z r =
 
 -- ---- entries by their kind
 
--- labels are placed
+-- labels are written
 pub labels-put : (es : List (Emission Entry)) (z : Byte-state) → write-entries SL es z ≡ put-bytes (map-emissions (λ (e : Entry). e .label) es) z
 unfolding write-entries put-bytes map-emissions
 labels-put [] z = refl

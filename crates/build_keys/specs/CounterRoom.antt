@@ -1,4 +1,4 @@
--- The counters of the counting pass stay small: there is room in them for every key list, and for the sums of the levels. Used by the counting pass and by the level starts.
+-- The counters of the counting pass stay small: there is room in them for every key list, and for the sums of the levels. Used by the counting pass and by the level offsets.
 use Prim.Native.Nat.{ℕ, zero, suc, _+_, _*_, _<_, _≤_}
 use mathlib.Core.Path.{_≡_, refl, sym, ap, _∙_}
 use mathlib.Core.Bool.{Bool, true, false, cond, true≢false}

@@ -16,7 +16,7 @@ use Rattle.build_laws.specs.declared.Entry.{Entry}
 use Rattle.build_laws.specs.declared.Kind.{Kind}
 use Rattle.build_laws.specs.declared.Kind.the-variants.{DL, DC, DP, SL, SC, SB}
 use Rattle.build_laws.specs.declared.Key.{Key}
-use Rattle.build_laws.specs.declared.Levels.{Levels}
+use Rattle.build_laws.specs.declared.LevelRange.{LevelRange}
 use Rattle.build_laws.specs.KeyEntries.{entry-at, exact-entry}
 use Rattle.build_laws.specs.KeyLaws.{key-length}
 use Rattle.build_laws.specs.Passes.{key-bytes, Listed-key, listed-entries, key-exact, kind-step, Entries-room, write-entry, write-entries}
@@ -58,19 +58,19 @@ abbrev pub key-branch : Bytes → Key → ℕ → Entry
 key-branch s k d = entry-at (k .first) (k .next) (key-bytes s k) d
 
 -- what is left of the entries of a key of the list, from level d to below `end`, and for its exact leaf
-unfoldable pub entry-rest : Bytes → Key → Levels → ℕ → ℕ → List (Emission Entry)
+unfoldable pub entry-rest : Bytes → Key → LevelRange → ℕ → ℕ → List (Emission Entry)
 unfolding key-rest
 entry-rest s k l d end = key-rest (entry-at (k .first) (k .next) (key-bytes s k)) exact-entry (k .next) (length (key-bytes s k)) (l .lo) (l .hi) d end
 
 -- the levels of a key's branches among some levels: from the one where it leaves the key before it to the last one of its cut key
-pub record Branch-levels (k : Key) (l b : Levels) : Type 0 where
+pub record Branch-levels (k : Key) (l b : LevelRange) : Type 0 where
   pub lo-is : b .lo ≡ max (pred (k .first)) (l .lo)
   pub hi-is : b .hi ≡ min (cut-length (pred (k .first)) (k .next) (k .len)) (l .hi)
   pub within : b .hi ≤ k .len
 
-module _ (s : Bytes) (k : Key) (l : Levels) (h : k .at + k .len ≤ length s) where
+module _ (s : Bytes) (k : Key) (l : LevelRange) (h : k .at + k .len ≤ length s) where
   -- from the first of these levels on it is all
-  entries-all : (b : Levels) → Branch-levels k l b → entry-rest s k l (b .lo) (b .hi) ≡ listed-entries l k (key-bytes s k)
+  entries-all : (b : LevelRange) → Branch-levels k l b → entry-rest s k l (b .lo) (b .hi) ≡ listed-entries l k (key-bytes s k)
   unfolding entry-rest
   entries-all b e =
       rest-start (entry-at (k .first) (k .next) (key-bytes s k)) exact-entry (k .next) (length (key-bytes s k)) (l .lo) (l .hi) (pred (k .first)) (b .lo) (b .hi) (e .lo-is)
@@ -112,15 +112,15 @@ entry-cursors SC d e s = refl
 entry-cursors SB d e s = refl
 
 -- What holds at a level d of the key's branches, b, once those before it are written: what is left gives what all entries give, and there is room for it.
-pub record Left (kind : Kind) (s : Bytes) (k : Key) (l b : Levels) (out₀ : Bytes) (cur₀ : List ℕ) (out : Bytes) (cur : List ℕ) (d : ℕ) : Type 0 where
+pub record Left (kind : Kind) (s : Bytes) (k : Key) (l b : LevelRange) (out₀ : Bytes) (cur₀ : List ℕ) (out : Bytes) (cur : List ℕ) (d : ℕ) : Type 0 where
   pub listed : Listed-key s k
   pub levels : Branch-levels k l b
   pub size : length out ≡ length out₀
-  pub run : write-entries kind (entry-rest s k l d (b .hi)) (byte-state out cur) ≡ write-entries kind (listed-entries l k (key-bytes s k)) (byte-state out₀ cur₀)
+  pub final-is : write-entries kind (entry-rest s k l d (b .hi)) (byte-state out cur) ≡ write-entries kind (listed-entries l k (key-bytes s k)) (byte-state out₀ cur₀)
   pub room : Entries-room kind (entry-rest s k l d (b .hi)) (length out) cur
 
 -- at the first level nothing is written
-pub left-all : {kind : Kind} {s : Bytes} {k : Key} {l b : Levels} {out : Bytes} {cur : List ℕ} → Listed-key s k → Branch-levels k l b
+pub left-all : {kind : Kind} {s : Bytes} {k : Key} {l b : LevelRange} {out : Bytes} {cur : List ℕ} → Listed-key s k → Branch-levels k l b
     → Entries-room kind (listed-entries l k (key-bytes s k)) (length out) cur → Left kind s k l b out cur out cur (b .lo)
 left-all {kind} {s} {k} {l} {b} {out} {cur} h v r =
     let e = entries-all s k l (h .within) b v in
@@ -128,14 +128,14 @@ left-all {kind} {s} {k} {l} {b} {out} {cur} h v r =
       listed = h;
       levels = v;
       size = refl;
-      run = ap (λ (es : List (Emission Entry)). write-entries kind es (byte-state out cur)) e;
+      final-is = ap (λ (es : List (Emission Entry)). write-entries kind es (byte-state out cur)) e;
       room = subst (λ (es : List (Emission Entry)). Entries-room kind es (length out) cur) (sym e) r;
     }
 
-module _ {kind : Kind} {s : Bytes} {k : Key} {l b : Levels} {out₀ : Bytes} {cur₀ : List ℕ} {out : Bytes} {cur : List ℕ} {d : ℕ} (left : Left kind s k l b out₀ cur₀ out cur d) where
+module _ {kind : Kind} {s : Bytes} {k : Key} {l b : LevelRange} {out₀ : Bytes} {cur₀ : List ℕ} {out : Bytes} {cur : List ℕ} {d : ℕ} (left : Left kind s k l b out₀ cur₀ out cur d) where
   -- what is left is a list of entries
   left-run : (es : List (Emission Entry)) → entry-rest s k l d (b .hi) ≡ es → write-entries kind es (byte-state out cur) ≡ write-entries kind (listed-entries l k (key-bytes s k)) (byte-state out₀ cur₀)
-  left-run es e = ap (λ (fs : List (Emission Entry)). write-entries kind fs (byte-state out cur)) (sym e) ∙ left .run
+  left-run es e = ap (λ (fs : List (Emission Entry)). write-entries kind fs (byte-state out cur)) (sym e) ∙ left .final-is
 
   left-fits : (es : List (Emission Entry)) → entry-rest s k l d (b .hi) ≡ es → Entries-room kind es (length out) cur
   left-fits es e = subst (λ (fs : List (Emission Entry)). Entries-room kind fs (length out) cur) e (left .room)
@@ -156,7 +156,7 @@ module _ {kind : Kind} {s : Bytes} {k : Key} {l b : Levels} {out₀ : Bytes} {cu
         listed = left .listed;
         levels = left .levels;
         size = n ∙ left .size;
-        run = ap (write-entries kind rest) w ∙ left-run _ e;
+        final-is = ap (write-entries kind rest) w ∙ left-run _ e;
         room = subst (λ (m : ℕ). Entries-room kind rest m cur′) (sym n) (subst (λ (z : List ℕ). Entries-room kind rest (length out) z) c (left-fits _ e .3));
       }
 
@@ -179,15 +179,15 @@ module _ {kind : Kind} {s : Bytes} {k : Key} {l b : Levels} {out₀ : Bytes} {cu
 
 -- what holds between the levels of a counter
 pub record To-count {A : Type 0} (inc : A → ℕ) (rest : List (Emission A)) (c final : List ℕ) : Type 0 where
-  pub run : counts inc rest c ≡ final
+  pub final-is : counts inc rest c ≡ final
   pub room : Counter-room inc rest c
 
 -- one emission is counted
 pub count-next : {A : Type 0} (inc : A → ℕ) (d : ℕ) (x : A) (es : List (Emission A)) (c c′ final : List ℕ) → c′ ≡ set c d (getD c d 0 + inc x) → To-count inc (emission d x ∷ es) c final → To-count inc es c′ final
 unfolding counts
-count-next inc d x es c c′ final e l = record { run = ap (counts inc es) e ∙ l .run; room = subst (λ (y : List ℕ). Counter-room inc es y) (sym e) (l .room .3) }
+count-next inc d x es c c′ final e l = record { final-is = ap (counts inc es) e ∙ l .final-is; room = subst (λ (y : List ℕ). Counter-room inc es y) (sym e) (l .room .3) }
 
 -- all is counted
 pub count-done : {A : Type 0} (inc : A → ℕ) (c final : List ℕ) → To-count inc [] c final → c ≡ final
 unfolding counts
-count-done inc c final l = l .run
+count-done inc c final l = l .final-is

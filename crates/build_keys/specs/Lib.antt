@@ -3,7 +3,7 @@ pub mod CountPass
 pub mod CounterRoom
 pub mod CursorWrites
 pub mod EntryLaws
-pub mod KeyMarks
+pub mod KeySparseBits
 pub mod RowCells
 pub mod SlotLaws
 pub mod SmallCounters

@@ -16,7 +16,7 @@ use Rattle.build_laws.specs.PassEmissions.{leaf-level}
 use Rattle.build_laws.specs.declared.Cell.{Cell}
 use Rattle.build_laws.specs.declared.Entry.{Entry}
 use Rattle.build_laws.specs.declared.Key.{Key}
-use Rattle.build_laws.specs.declared.Levels.{Levels}
+use Rattle.build_laws.specs.declared.LevelRange.{LevelRange}
 use Rattle.build_laws.specs.declared.Kind.{Kind}
 use Rattle.build_laws.specs.declared.Kind.the-variants.{DL, DC}
 use Rattle.build_laws.specs.KeyEntries.{continues-at, exact-entry}
@@ -24,7 +24,7 @@ use Rattle.build_laws.specs.KeyLaws.{key-byte, key-length}
 use Rattle.build_laws.specs.Passes.{Listed-key, Entries-room, set-at-cursor, write-entry}
 use Rattle.build_laws.specs.Limits.{counter-max}
 use Rattle.build_keys.specs.EntryLaws.{Branch-levels, key-branch}
-use Rattle.build_keys.specs.KeyMarks.{continues-above}
+use Rattle.build_keys.specs.KeySparseBits.{continues-above}
 
 -- the body with the bits of all branches, or of those that continue
 abbrev pub row-kind : Bool → Kind
@@ -51,7 +51,7 @@ branch-cell true e x y f g h = rw (f, h)
 branch-cell false e x y f g h = rw (g, h)
 
 -- the cell of a branch, whose bit is set for all branches or for those above the level of the leaf
-pub row-branch : {s : Bytes} {k : Key} {l b : Levels} (all : Bool) (d leaf x : ℕ) → Listed-key s k → Branch-levels k l b → d < b .hi → leaf ≡ leaf-level (pred (k .first)) (k .next) (k .len) → x ≡ getD s (k .at + d) 0
+pub row-branch : {s : Bytes} {k : Key} {l b : LevelRange} (all : Bool) (d leaf x : ℕ) → Listed-key s k → Branch-levels k l b → d < b .hi → leaf ≡ leaf-level (pred (k .first)) (k .next) (k .len) → x ≡ getD s (k .at + d) 0
     → cell (leb (k .first) d) (all || ltb d leaf) x ≡ row-cell all (key-branch s k d)
 row-branch {s} {k} {l} {b} all d leaf x i v h e f =
     branch-cell all (key-branch s k d) (ltb d leaf) x refl

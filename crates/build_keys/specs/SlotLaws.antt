@@ -24,9 +24,9 @@ no-ones zero base = refl
 no-ones (suc n) base = no-ones n (suc base)
 
 -- an open leaf's slot has its key's suffix
-pub slot-open : (w : SlotBits) (p q m : ℕ) (k : Bytes) → length k ≡ m → (q ≡ m → ⊥) → suffix-bits (w .hash) (w .real) (cut-length p q m) k ≡ key-slot w p q k
+pub slot-open : (w : SlotBits) (p q m : ℕ) (k : Bytes) → length k ≡ m → (q ≡ m → ⊥) → suffix-bits (w .«hash_width») (w .«real_width») (cut-length p q m) k ≡ key-slot w p q k
 unfolding key-slot
-slot-open w p q m k e h = sym (rw (ne-eqb q (length k) (λ z. h (z ∙ e))) (ap (λ (i : ℕ). suffix-bits (w .hash) (w .real) (cut-length p q i) k) e))
+slot-open w p q m k e h = sym (rw (ne-eqb q (length k) (λ z. h (z ∙ e))) (ap (λ (i : ℕ). suffix-bits (w .«hash_width») (w .«real_width») (cut-length p q i) k) e))
 
 -- an exact leaf's slot sets no bit
 pub slot-exact : (w : SlotBits) (p q m base : ℕ) (k out : Bytes) → length k ≡ m → q ≡ m → out ≡ with-bits (positions base (key-slot w p q k)) out

@@ -16,7 +16,7 @@ use Rattle.bits.specs.Bits.{with-bit, with-ones, with-number}
 use Rattle.bits.specs.NumberLaws.{with-ones-none, with-ones-twice, with-bit-ones, number-set, or-bits, shifted-high, low-drop, low-padded}
 use Rattle.build_laws.specs.Passes.{with-bits}
 
--- a bit that is set at place r of byte q, and the byte's share of the bits behind it
+-- a bit that is set at position r of byte q, and the byte's share of the bits behind it
 share-one : (q r : ℕ) (bs : Bits) (s : Bytes) → r < 8 → with-ones (with-bit s (8 * q + r)) q (low-first bs * 2 ^ suc r % 2 ^ 8) ≡ with-ones s q (low-first (true ∷ bs) * 2 ^ r % 2 ^ 8)
 unfolding low-first
 share-one q r bs s h =
@@ -31,7 +31,7 @@ share-zero q r bs s =
     let e : l * 2 ^ suc r ≡ (0 + 2 * l) * 2 ^ r = ap (λ (p : ℕ). l * p) (pow-succ' 2 r) ∙ omega (arith, mul-left-comm l 2 (2 ^ r), mul-assoc 2 l (2 ^ r)) in
     ap (λ (n : ℕ). with-ones s q (n % 2 ^ 8)) e
 
--- the share of byte q in bits from its place r on
+-- the share of byte q in bits from its position r on
 byte-share : (q r : ℕ) (bs : Bits) (s : Bytes) → r ≤ 8 → with-bits (positions (8 * q + r) bs) s ≡ with-bits (positions (8 * (q + 1)) (drop (8 - r) bs)) (with-ones s q (low-first bs * 2 ^ r % 2 ^ 8))
 unfolding low-first with-bits positions
 byte-share q r [] s h = rw (drop-nil {A = Bool} (8 - r), zero-mul (2 ^ r)) (sym (with-ones-none s q))

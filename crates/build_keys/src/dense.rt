@@ -15,11 +15,11 @@ use super::put::put_cell;
 use bits::numbers::wide;
 use build_laws::Cell;
 use build_laws::Key;
-use build_laws::Levels;
+use build_laws::LevelRange;
 use image::ROW_BITS;
 
 // A key's cells in rows that have a bit for each label: its label on each level, set on all of them or only where the branch continues; an exact leaf starts a row and sets no bit.
-fn write_row_cells(out: &mut [u8], cur: &mut Counters, s: &[u8], k: Key, l: Levels, all: bool)
+fn write_row_cells(out: &mut [u8], cur: &mut Counters, s: &[u8], k: Key, l: LevelRange, all: bool)
     requires { ⌜ Listed-key (now s) k × (length (now cur) ≡ counters) × Entries-room (row-kind all) (listed-entries l k (key-bytes (now s) k)) (length (now out)) (now cur) ⌝ }
     ensures { λ _. ⌜ byte-state (now (out .exit)) (now (cur .exit)) ≡ write-entries (row-kind all) (listed-entries l k (key-bytes (now (s .entry)) k)) (byte-state (now (out .entry)) (now (cur .entry))) ⌝ }
 {
@@ -47,7 +47,7 @@ fn write_row_cells(out: &mut [u8], cur: &mut Counters, s: &[u8], k: Key, l: Leve
 }
 
 // A key's cells in D-Labels: its label on each level.
-pub fn write_label_cells(out: &mut [u8], cur: &mut Counters, s: &[u8], k: Key, l: Levels)
+pub fn write_label_cells(out: &mut [u8], cur: &mut Counters, s: &[u8], k: Key, l: LevelRange)
     requires { ⌜ Listed-key (now s) k × (length (now cur) ≡ counters) × Entries-room DL (listed-entries l k (key-bytes (now s) k)) (length (now out)) (now cur) ⌝ }
     ensures { λ _. ⌜ byte-state (now (out .exit)) (now (cur .exit)) ≡ write-entries DL (listed-entries l k (key-bytes (now (s .entry)) k)) (byte-state (now (out .entry)) (now (cur .entry))) ⌝ }
 {
@@ -55,7 +55,7 @@ pub fn write_label_cells(out: &mut [u8], cur: &mut Counters, s: &[u8], k: Key, l
 }
 
 // A key's cells in D-HasChild: its label on each level from which it continues.
-pub fn write_child_cells(out: &mut [u8], cur: &mut Counters, s: &[u8], k: Key, l: Levels)
+pub fn write_child_cells(out: &mut [u8], cur: &mut Counters, s: &[u8], k: Key, l: LevelRange)
     requires { ⌜ Listed-key (now s) k × (length (now cur) ≡ counters) × Entries-room DC (listed-entries l k (key-bytes (now s) k)) (length (now out)) (now cur) ⌝ }
     ensures { λ _. ⌜ byte-state (now (out .exit)) (now (cur .exit)) ≡ write-entries DC (listed-entries l k (key-bytes (now (s .entry)) k)) (byte-state (now (out .entry)) (now (cur .entry))) ⌝ }
 {
@@ -63,7 +63,7 @@ pub fn write_child_cells(out: &mut [u8], cur: &mut Counters, s: &[u8], k: Key, l
 }
 
 // A key's cells in D-IsPrefixKey, whose rows have one bit: only an exact leaf sets it.
-pub fn write_exact_cells(out: &mut [u8], cur: &mut Counters, s: &[u8], k: Key, l: Levels)
+pub fn write_exact_cells(out: &mut [u8], cur: &mut Counters, s: &[u8], k: Key, l: LevelRange)
     requires { ⌜ Listed-key (now s) k × (length (now cur) ≡ counters) × Entries-room DP (listed-entries l k (key-bytes (now s) k)) (length (now out)) (now cur) ⌝ }
     ensures { λ _. ⌜ byte-state (now (out .exit)) (now (cur .exit)) ≡ write-entries DP (listed-entries l k (key-bytes (now (s .entry)) k)) (byte-state (now (out .entry)) (now (cur .entry))) ⌝ }
 {

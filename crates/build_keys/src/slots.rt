@@ -34,13 +34,13 @@ const NUMBER_BITS: usize = 16;
 
 // The suffix of a key that is an open leaf, as a number, the first bit lowest: hash bits of the whole key, and behind them real bits from its cut on.
 fn suffix_number(s: &[u8], k: Key, cut: usize, slot: SlotBits) -> usize
-    requires { ⌜ (k .at + k .len ≤ length (now s)) × (cut ≤ k .len) × (slot .hash ≤ 16) × (slot .real ≤ 16) ⌝ }
-    ensures { λ r. ⌜ r ≡ low-first (suffix-bits (slot .hash) (slot .real) cut (key-bytes (now (s .entry)) k)) ⌝ }
+    requires { ⌜ (k .at + k .len ≤ length (now s)) × (cut ≤ k .len) × (slot .«hash_width» ≤ 16) × (slot .«real_width» ≤ 16) ⌝ }
+    ensures { λ r. ⌜ r ≡ low-first (suffix-bits (slot .«hash_width») (slot .«real_width») cut (key-bytes (now (s .entry)) k)) ⌝ }
 {
     let key = part(s, k.at, k.len);
-    let hash = hash_number(key, slot.hash);
-    let real = real_number(key, cut, slot.real);
-    hash + (real << slot.hash)
+    let hash = hash_number(key, slot.hash_width);
+    let real = real_number(key, cut, slot.real_width);
+    hash + (real << slot.hash_width)
 }
 
 // The first bit of a suffix slot, by the width of a slot.
@@ -65,8 +65,8 @@ fn set_wide_number(out: &mut [u8], i: usize, v: usize)
 
 // The suffix of a key that is an open leaf goes to the bits of out from `base`, which are zero.
 fn write_suffix(out: &mut [u8], base: BitPos, s: &[u8], k: Key, cut: usize, slot: SlotBits)
-    requires { ⌜ (k .at + k .len ≤ length (now s)) × (cut ≤ k .len) × (slot .hash ≤ 16) × (slot .real ≤ 16) × (base .0 ≤ 32 * counter-max) ⌝ }
-    ensures { λ _. ⌜ now (out .exit) ≡ with-bits (positions (base .0) (suffix-bits (slot .hash) (slot .real) cut (key-bytes (now (s .entry)) k))) (now (out .entry)) ⌝ }
+    requires { ⌜ (k .at + k .len ≤ length (now s)) × (cut ≤ k .len) × (slot .«hash_width» ≤ 16) × (slot .«real_width» ≤ 16) × (base .0 ≤ 32 * counter-max) ⌝ }
+    ensures { λ _. ⌜ now (out .exit) ≡ with-bits (positions (base .0) (suffix-bits (slot .«hash_width») (slot .«real_width») cut (key-bytes (now (s .entry)) k))) (now (out .entry)) ⌝ }
 {
     let v = suffix_number(s, k, cut, slot);
     set_wide_number(out, base.0, v);
@@ -74,7 +74,7 @@ fn write_suffix(out: &mut [u8], base: BitPos, s: &[u8], k: Key, cut: usize, slot
 
 // The slot of a key's leaf is written at the cursor of the leaf's level, which moves on by one. An exact leaf's slot is zero.
 pub fn write_slot(out: &mut [u8], cur: &mut Counters, s: &[u8], k: Key, slot: SlotBits)
-    requires { ⌜ Listed-key (now s) k × (slot .hash ≤ 16) × (slot .real ≤ 16) × Slots-room slot (listed-slot slot k (key-bytes (now s) k) ∷ []) (length (now out)) (now cur) ⌝ }
+    requires { ⌜ Listed-key (now s) k × (slot .«hash_width» ≤ 16) × (slot .«real_width» ≤ 16) × Slots-room slot (listed-slot slot k (key-bytes (now s) k) ∷ []) (length (now out)) (now cur) ⌝ }
     ensures { λ _. ⌜ byte-state (now (out .exit)) (now (cur .exit)) ≡ set-at-cursor one-step (slot-at (width-of slot)) (listed-slot slot k (key-bytes (now (s .entry)) k)) (byte-state (now (out .entry)) (now (cur .entry))) ⌝ }
 {
     let b = one_less(k.first);
@@ -83,7 +83,7 @@ pub fn write_slot(out: &mut [u8], cur: &mut Counters, s: &[u8], k: Key, slot: Sl
     let v = cur[d];
     cur[d] = v + 1;
     if k.next != k.len {
-        let base = slot_bit(slot.hash + slot.real, ValuePos(wide32(v)));
+        let base = slot_bit(slot.hash_width + slot.real_width, ValuePos(wide32(v)));
         write_suffix(out, base, s, k, cut, slot);
     }
 }

@@ -8,7 +8,7 @@ ghost use Rattle.build_laws.specs.BytePass.{byte-state, one-step};
 ghost use Rattle.build_laws.specs.BodyLaws.{bit-at};
 ghost use Rattle.build_laws.specs.PassEmissions.{Key-numbers};
 ghost use Rattle.build_keys.specs.CountPass.{Counter-room};
-ghost use Rattle.build_keys.specs.KeyMarks.{blank, among};
+ghost use Rattle.build_keys.specs.KeySparseBits.{blank, among};
 ghost use Rattle.build_laws.specs.Passes.{set-all, listed-leaves, listed-later, Bits-room};
 use super::Counters;
 use super::numbers::leaf_level;
@@ -17,10 +17,10 @@ use super::put::put_bit;
 use bits::numbers::larger;
 use bits::numbers::smaller;
 use build_laws::Key;
-use build_laws::Levels;
+use build_laws::LevelRange;
 
 // Whether d is one of the levels.
-fn is_among(l: Levels, d: usize) -> bool
+fn is_among(l: LevelRange, d: usize) -> bool
     ensures { λ r. ⌜ r ≡ among l d ⌝ }
 {
     l.lo <= d && d < l.hi
@@ -39,7 +39,7 @@ fn move_on(cur: &mut Counters, from: usize, to: usize)
 }
 
 // A key's bits in S-HasChild: one, on the level of its leaf.
-pub fn write_leaf(out: &mut [u8], cur: &mut Counters, k: Key, l: Levels)
+pub fn write_leaf(out: &mut [u8], cur: &mut Counters, k: Key, l: LevelRange)
     requires { ⌜ Key-numbers (pred (k .first)) (k .next) (k .len) × Bits-room (listed-leaves l k) (length (now out)) (now cur) ⌝ }
     ensures { λ _. ⌜ byte-state (now (out .exit)) (now (cur .exit)) ≡ set-all one-step bit-at (listed-leaves l k) (byte-state (now (out .entry)) (now (cur .entry))) ⌝ }
 {
@@ -52,7 +52,7 @@ pub fn write_leaf(out: &mut [u8], cur: &mut Counters, k: Key, l: Levels)
 }
 
 // A key's bits in S-LOUDS: one, on the level where it leaves the key before it; the first key has none.
-pub fn write_later(out: &mut [u8], cur: &mut Counters, k: Key, l: Levels)
+pub fn write_later(out: &mut [u8], cur: &mut Counters, k: Key, l: LevelRange)
     requires { ⌜ Key-numbers (pred (k .first)) (k .next) (k .len) × Bits-room (listed-later l k) (length (now out)) (now cur) ⌝ }
     ensures { λ _. ⌜ byte-state (now (out .exit)) (now (cur .exit)) ≡ set-all one-step bit-at (listed-later l k) (byte-state (now (out .entry)) (now (cur .entry))) ⌝ }
 {

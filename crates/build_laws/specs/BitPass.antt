@@ -15,7 +15,7 @@ use Rattle.spec.specs.Bytes.{Bits, any, concat}
 use Rattle.spec.specs.Image.{has, positions}
 use Rattle.theory.specs.Terms.{All}
 use Rattle.build_laws.specs.Emissions.{Emission, emission, level-values, values-below, Levels-below, level-none, level-here, level-else}
-use Rattle.build_laws.specs.Cursors.{sum-of, counts, level-start, start-sum}
+use Rattle.build_laws.specs.Cursors.{sum-of, counts, level-offset, offset-sum}
 use Rattle.build_laws.specs.SetBits.{set-bits, set-none, set-append, has-append, has-nil, positions-append}
 
 -- the bits of the output, and a cursor for each level
@@ -122,7 +122,7 @@ module _ {A : Type 0} (inc : A → ℕ) (ones-at : ℕ → A → List ℕ) where
       ∙ ap (λ (k : ℕ). has (ones-at (getD c e 0) x) j || has (cursor-ones k (level-values e es)) j) (sym (getD-set-same c e (getD c e 0 + inc x) 0 (omega (arith, l .0)))))
       (λ d n. ap₂ (λ (k : ℕ) (xs : List A). has (cursor-ones k xs) j) (sym (getD-set-other c e d (getD c e 0 + inc x) 0 n)) (level-else d e x es n)))
 
-  -- the positions that two runs of values set
+  -- the positions that two lists of values set
   pub cursor-append : (c : ℕ) (a b : List A) → cursor-ones c (a ++ b) ≡ cursor-ones c a ++ cursor-ones (c + sum-of inc a) b
   unfolding cursor-ones sum-of
   cursor-append c [] b = let w : c ≡ c + 0 = omega arith in ap (λ (k : ℕ). cursor-ones k b) w
@@ -131,30 +131,30 @@ module _ {A : Type 0} (inc : A → ℕ) (ones-at : ℕ → A → List ℕ) where
       ap (λ (z : List ℕ). ones-at c x ++ z) (cursor-append (c + inc x) a b ∙ ap (λ (k : ℕ). cursor-ones (c + inc x) a ++ cursor-ones k b) w)
       ∙ sym (append-assoc (ones-at c x) (cursor-ones (c + inc x) a) (cursor-ones (c + (inc x + sum-of inc a)) b))
 
-  below-levels : (es : List (Emission A)) (j m : ℕ) → has (cursor-ones 0 (values-below es m)) j ≡ some-level m (λ d. has (cursor-ones (level-start inc es d) (level-values d es)) j)
+  below-levels : (es : List (Emission A)) (j m : ℕ) → has (cursor-ones 0 (values-below es m)) j ≡ some-level m (λ d. has (cursor-ones (level-offset inc es d) (level-values d es)) j)
   unfolding values-below some-level cursor-ones
   below-levels es j zero = has-nil j
   below-levels es j (suc m) =
       ap (λ (is : List ℕ). has is j) (cursor-append 0 (values-below es m) (level-values m es)) ∙ has-append (cursor-ones 0 (values-below es m)) (cursor-ones (0 + sum-of inc (values-below es m)) (level-values m es)) j
       ∙ ap₂ (λ (a : Bool) (k : ℕ). a || has (cursor-ones k (level-values m es)) j) (below-levels es j m) (start m)
     where
-      start : (m : ℕ) → 0 + sum-of inc (values-below es m) ≡ level-start inc es m
-      start m = let e = start-sum inc es m in omega (arith, e)
+      start : (m : ℕ) → 0 + sum-of inc (values-below es m) ≡ level-offset inc es m
+      start m = let e = offset-sum inc es m in omega (arith, e)
 
   -- each level that has values has its cursor at its start
   abbrev pub Started : List (Emission A) → List ℕ → Type 0
-  Started es c = (d : ℕ) → d < 64 → (level-values d es ≡ []) ⊎ (getD c d 0 ≡ level-start inc es d)
+  Started es c = (d : ℕ) → d < 64 → (level-values d es ≡ []) ⊎ (getD c d 0 ≡ level-offset inc es d)
 
   -- The positions that emissions set are those of their values level by level.
   pub ones-by-level : (es : List (Emission A)) (c : List ℕ) → 64 ≤ length c → Levels-below 64 es → Started es c → (j : ℕ) → has (emitted-ones es c) j ≡ has (cursor-ones 0 (values-below es 64)) j
   unfolding level-ones cursor-ones
   ones-by-level es c h l s j =
       ones-levels es c j h l
-      ∙ some-same 64 (level-ones es c j) (λ d. has (cursor-ones (level-start inc es d) (level-values d es)) j)
+      ∙ some-same 64 (level-ones es c j) (λ d. has (cursor-ones (level-offset inc es d) (level-values d es)) j)
       (λ d k. ⊎-elim (λ e. none d e) (λ e. ap (λ (n : ℕ). has (cursor-ones n (level-values d es)) j) e) (s d k))
       ∙ sym (below-levels es j 64)
     where
-      none : (d : ℕ) → level-values d es ≡ [] → has (cursor-ones (getD c d 0) (level-values d es)) j ≡ has (cursor-ones (level-start inc es d) (level-values d es)) j
+      none : (d : ℕ) → level-values d es ≡ [] → has (cursor-ones (getD c d 0) (level-values d es)) j ≡ has (cursor-ones (level-offset inc es d) (level-values d es)) j
       none d e = rw e refl
 
   -- ---- room for what is to be written
@@ -164,7 +164,7 @@ module _ {A : Type 0} (inc : A → ℕ) (ones-at : ℕ → A → List ℕ) where
   Room n top [] c = Unit
   Room n top (emission d x ∷ es) c = (d < 64) × (getD c d 0 + inc x ≤ top) × Positions-below n (ones-at (getD c d 0) x) × Room n top es (set c d (getD c d 0 + inc x))
 
-  -- room for two runs is room for the first, and then for the second
+  -- room for two lists is room for the first, and then for the second
   pub room-append : (n top : ℕ) (a b : List (Emission A)) (c : List ℕ) → Room n top (a ++ b) c → Room n top a c × Room n top b (counts inc a c)
   unfolding counts
   room-append n top [] b c r = (tt, r)

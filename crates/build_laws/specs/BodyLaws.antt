@@ -15,7 +15,7 @@ use Rattle.spec.specs.Trie.{leaf-count}
 use Rattle.build_laws.specs.SlotWidths.{slot-bits}
 use Rattle.build_laws.specs.TrieEntries.{Slotted, slotted-of}
 use Rattle.build_laws.specs.Emissions.{Emission, values-below, Levels-below}
-use Rattle.build_laws.specs.Cursors.{sum-of, sums, level-start, start-sum, start-grows}
+use Rattle.build_laws.specs.Cursors.{sum-of, sums, level-offset, offset-sum, offset-grows}
 use Rattle.build_laws.specs.SetBits.{positions-below}
 use Rattle.build_laws.specs.BitPass.{Bit-state, bit-state, write-all-bits, write-all-is, emitted-ones, cursor-ones, Started, ones-by-level, ones-of-bits, every, Room, room-of}
 use Rattle.build_laws.specs.NodeBodies.{leaves-slotted, labels-slotted, children-slotted, starts-slotted, slots-slotted, slotted-wide}
@@ -63,10 +63,10 @@ module _ {A : Type 0} (inc : A → ℕ) (ones-at : ℕ → A → List ℕ) (es :
   pass-filled m k o rest p q e = pass-body o rest p q (e ∙ ap (λ (i : ℕ). write-all-bits inc ones-at es (bit-state (unpack (replicate i 0 ++ rest)) cur) .bits) (k ∙ length-pack bs))
 
   -- there is room for what it writes
-  pass-room : Room inc ones-at (length bs) (level-start inc es 64) es cur
+  pass-room : Room inc ones-at (length bs) (level-offset inc es 64) es cur
   pass-room =
-      room-of inc ones-at (length bs) (level-start inc es 64) es cur (omega arith) l
-      (λ d h. ⊎-elim (λ z. inl z) (λ z. inr (omega (arith, z, start-grows inc es d 64 h))) (s d h)) (λ j h. positions-below bs j (sym (ones-are j) ∙ h))
+      room-of inc ones-at (length bs) (level-offset inc es 64) es cur (omega arith) l
+      (λ d h. ⊎-elim (λ z. inl z) (λ z. inr (omega (arith, z, offset-grows inc es d 64 h))) (s d h)) (λ j h. positions-below bs j (sym (ones-are j) ∙ h))
 
 singles : (bs : Bits) → concat (map (λ (b : Bool). b ∷ []) bs) ≡ bs
 unfolding concat
@@ -104,7 +104,7 @@ module _ (st : Settings) (ks : List Bytes) (b : Built-from st ks) where
   unfolding label-emissions
   labels-below = emissions-below (st .dense-levels) 64 (λ p q k d. getD k d 0) 255 0 ks (first-longer ks (b .keys)) (b .keys) (b .up)
 
-  -- SL: labels placed at entry cursors
+  -- SL: labels written at entry cursors
   pub SL-filled : (cur out o : List ℕ) → length cur ≡ counters → Cursors-at (entry-counts ks) (st .dense-levels) cur → length (key-bodies st ks .SL) ≤ length out
       → o ≡ put-bytes (label-emissions (st .dense-levels) 0 ks) (byte-state out cur) .bytes
       → o ≡ key-bodies st ks .SL ++ drop (length (key-bodies st ks .SL)) out
@@ -113,7 +113,7 @@ module _ (st : Settings) (ks : List Bytes) (b : Built-from st ks) where
       (sparse-starts-at (slot-bits st) ks (some st ks b) (b .up) (st .dense-levels) (omega (arith, b .dense-range)) (λ (i : Slotted). i .entry .label) (label-emissions (st .dense-levels) 0 ks) (label-of-slotted (slot-bits st) (st .dense-levels) ks) cur c)
       (omega (arith, ap length SL-values)) ∙ ap (λ (z : List ℕ). z ++ drop (length z) out) SL-values
 
-  -- SL: there is room for what is placed
+  -- SL: there is room for what is written
   pub SL-room : (cur : List ℕ) → length cur ≡ counters → Cursors-at (entry-counts ks) (st .dense-levels) cur → Room one-step at-cursor (sums (entry-counts ks) (st .dense-levels) 64) (sums (entry-counts ks) (st .dense-levels) 64) (label-emissions (st .dense-levels) 0 ks) cur
   SL-room cur w c =
       byte-room (label-emissions (st .dense-levels) 0 ks) cur (sums (entry-counts ks) (st .dense-levels) 64) w labels-below
@@ -192,10 +192,10 @@ module _ (st : Settings) (ks : List Bytes) (b : Built-from st ks) where
       ∙ ap (λ (is : List ℕ). has is j) (slots-ones (slot-width st) (leaf-slots (slotted-of N)) (t .1))
       ∙ ap₂ (λ (k : ℕ) (bs : Bits). has (positions k bs) j) z (t .0 ∙ sym (slots-slotted N) ∙ ap (λ (ns : List Node). concat (map slots ns)) (sym (nodes-both st (key-leaves st ks))))
 
-  slots-top : level-start one-step (slot-emissions (slot-bits st) 0 ks) 64 ≡ length ks
+  slots-top : level-offset one-step (slot-emissions (slot-bits st) 0 ks) 64 ≡ length ks
   slots-top =
       let N : List Node = concat (trie (key-leaves st ks)) in
-      sym (start-sum one-step (slot-emissions (slot-bits st) 0 ks) 64)
+      sym (offset-sum one-step (slot-emissions (slot-bits st) 0 ks) 64)
       ∙ ap (sum-of one-step) (values-slots (slot-bits st) ks 64 (omega arith) ∙ ap leaf-slots (all-values st ks b))
       ∙ sum-slots (slotted-of N) ∙ leaves-slotted N ∙ ap leaf-count (sym (nodes-both st (key-leaves st ks))) ∙ facts st ks b .leaf-total ∙ leaves-length (st .hash-width) (st .real-width) ks
 

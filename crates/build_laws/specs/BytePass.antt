@@ -14,7 +14,7 @@ use borrow.Author.Tests.{ltb-true, ltb-false, eqb-true, eqb-false}
 use Rattle.spec.specs.Bytes.{concat}
 use Rattle.spec.specs.Image.{has, positions}
 use Rattle.build_laws.specs.Emissions.{Emission, emission, level-values, values-below, Levels-below, level-append, level-none, level-here, level-else}
-use Rattle.build_laws.specs.Cursors.{sum-of, level-start, start-sum, start-grows}
+use Rattle.build_laws.specs.Cursors.{sum-of, level-offset, offset-sum, offset-grows}
 use Rattle.build_laws.specs.SetBits.{positions-below}
 use Rattle.build_laws.specs.BitPass.{Room, room-of, ones-by-level, ones-of-bits, every, cursor-ones}
 use Rattle.build_laws.specs.Limits.{counters}
@@ -37,7 +37,7 @@ unfoldable pub put-bytes : List (Emission ℕ) → Byte-state → Byte-state
 put-bytes [] s = s
 put-bytes (e ∷ es) s = put-bytes es (put-byte e s)
 
--- ---- what was placed so far
+-- ---- what was written so far
 
 below-next : (es : List (Emission ℕ)) (d k : ℕ) → length (values-below es d) + length (level-values d es) ≤ length (values-below es (suc d + k))
 unfolding values-below
@@ -54,7 +54,7 @@ record Put (all done : List (Emission ℕ)) (was : List ℕ) (s : Byte-state) : 
   width : length (s .cursors) ≡ counters
   same : length (s .bytes) ≡ length was
   cursor : (d : ℕ) → d < 64 → getD (s .cursors) d 0 ≡ length (values-below all d) + length (level-values d done)
-  placed : (d j : ℕ) → d < 64 → j < length (level-values d done) → getD (s .bytes) (length (values-below all d) + j) 0 ≡ getD (level-values d done) j 0
+  overlaid : (d j : ℕ) → d < 64 → j < length (level-values d done) → getD (s .bytes) (length (values-below all d) + j) 0 ≡ getD (level-values d done) j 0
   kept : (i : ℕ) → length (values-below all 64) ≤ i → getD (s .bytes) i 0 ≡ getD was i 0
 
 level-split : (all done todo : List (Emission ℕ)) (d : ℕ) → done ++ todo ≡ all → length (level-values d all) ≡ length (level-values d done) + length (level-values d todo)
@@ -88,7 +88,7 @@ module _ (all done todo : List (Emission ℕ)) (was : List ℕ) (s : Byte-state)
   step-put i j l k = go (eqb i d) refl
     where
       old : (i : ℕ) → i < 64 → j < length (level-values i done) → (length (values-below all i) + j ≡ getD (s .cursors) d 0 → ⊥) → getD (set (s .bytes) (getD (s .cursors) d 0) x) (length (values-below all i) + j) 0 ≡ getD (level-values i done) j 0
-      old i l k n = getD-set-other (s .bytes) (getD (s .cursors) d 0) (length (values-below all i) + j) x 0 n ∙ w .placed i j l k
+      old i l k n = getD-set-other (s .bytes) (getD (s .cursors) d 0) (length (values-below all i) + j) x 0 n ∙ w .overlaid i j l k
 
       inside : j < length (level-values d (done ++ (emission d x ∷ []))) → (b : Bool) → ltb j (length (level-values d done)) ≡ b → getD (set (s .bytes) (getD (s .cursors) d 0) x) (length (values-below all d) + j) 0 ≡ getD (level-values d done ++ (x ∷ [])) j 0
       inside k true q =
@@ -121,7 +121,7 @@ module _ (all done todo : List (Emission ℕ)) (was : List ℕ) (s : Byte-state)
     width = length-set (s .cursors) d (getD (s .cursors) d 0 + 1) ∙ w .width;
     same = length-set (s .bytes) (getD (s .cursors) d 0) x ∙ w .same;
     cursor = step-cursor;
-    placed = step-put;
+    overlaid = step-put;
     kept = λ i l. getD-set-other (s .bytes) (getD (s .cursors) d 0) i x 0 (λ z. omega (arith, spot)) ∙ w .kept i l;
   }
 
@@ -145,7 +145,7 @@ put-values all was s w (suc m) i h l = go (ltb i (length (values-below all m))) 
         let k = ltb-false i (length (values-below all m)) q in
         let j : ℕ = i - length (values-below all m) in
         let e : i ≡ length (values-below all m) + j = omega arith in
-        let u : getD (s .bytes) (length (values-below all m) + j) 0 ≡ getD (level-values m all) j 0 = w .placed m j (omega arith) (omega (arith, length-append (values-below all m) (level-values m all))) in
+        let u : getD (s .bytes) (length (values-below all m) + j) 0 ≡ getD (level-values m all) j 0 = w .overlaid m j (omega arith) (omega (arith, length-append (values-below all m) (level-values m all))) in
         ap (λ (z : ℕ). getD (s .bytes) z 0) e ∙ u ∙ sym (ap (λ (z : ℕ). getD (values-below all m ++ level-values m all) z 0) e ∙ getD-append-add (values-below all m) (level-values m all) j 0)
 
 put-done : (all : List (Emission ℕ)) (was : List ℕ) (s : Byte-state) → length (values-below all 64) ≤ length was → Put all all was s → s .bytes ≡ values-below all 64 ++ drop (length (values-below all 64)) was
@@ -165,7 +165,7 @@ put-start all out cur l c = record {
   width = l;
   same = refl;
   cursor = λ d h. c d h ∙ omega (arith, ap length (level-none {A = ℕ} d));
-  placed = λ d j h k. absurd (omega (arith, ap length (level-none {A = ℕ} d)));
+  overlaid = λ d j h k. absurd (omega (arith, ap length (level-none {A = ℕ} d)));
   kept = λ i h. refl;
 }
 
@@ -186,15 +186,15 @@ sum-length [] = refl
 sum-length (x ∷ xs) = omega (arith, sum-length xs)
 
 -- as many values on the levels below d as the position at which d starts
-pub start-length : {A : Type 0} (es : List (Emission A)) (d : ℕ) → level-start one-step es d ≡ length (values-below es d)
-start-length es d = sym (start-sum one-step es d) ∙ sum-length (values-below es d)
+pub offset-length : {A : Type 0} (es : List (Emission A)) (d : ℕ) → level-offset one-step es d ≡ length (values-below es d)
+offset-length es d = sym (offset-sum one-step es d) ∙ sum-length (values-below es d)
 
 -- Bytes written by emissions of levels below 64, from cursors at the levels' starts: the values level by level, and then what was there.
-pub put-bytes-is : (es : List (Emission ℕ)) (out cur : List ℕ) → length cur ≡ counters → Levels-below 64 es → ((d : ℕ) → d < 64 → getD cur d 0 ≡ level-start one-step es d) → length (values-below es 64) ≤ length out
+pub put-bytes-is : (es : List (Emission ℕ)) (out cur : List ℕ) → length cur ≡ counters → Levels-below 64 es → ((d : ℕ) → d < 64 → getD cur d 0 ≡ level-offset one-step es d) → length (values-below es 64) ≤ length out
     → put-bytes es (byte-state out cur) .bytes ≡ values-below es 64 ++ drop (length (values-below es 64)) out
 put-bytes-is es out cur w l c f =
     put-done es out (put-bytes es (byte-state out cur)) f
-    (put-all es [] es [] out (byte-state out cur) (append-nil es) l f (put-start es out cur w (λ d h. c d h ∙ start-length es d)))
+    (put-all es [] es [] out (byte-state out cur) (append-nil es) l f (put-start es out cur w (λ d h. c d h ∙ offset-length es d)))
 
 single : (k : ℕ) → positions k (true ∷ []) ≡ k ∷ []
 unfolding positions
@@ -212,10 +212,10 @@ length-true [] = refl
 length-true (x ∷ xs) = ap suc (length-true xs)
 
 -- There is room for all of them in n bytes, if there are no more values than that.
-pub byte-room : (es : List (Emission ℕ)) (cur : List ℕ) (n : ℕ) → length cur ≡ counters → Levels-below 64 es → ((d : ℕ) → d < 64 → getD cur d 0 ≡ level-start one-step es d) → length (values-below es 64) ≤ n
+pub byte-room : (es : List (Emission ℕ)) (cur : List ℕ) (n : ℕ) → length cur ≡ counters → Levels-below 64 es → ((d : ℕ) → d < 64 → getD cur d 0 ≡ level-offset one-step es d) → length (values-below es 64) ≤ n
     → Room one-step at-cursor n n es cur
 byte-room es cur n w l c f =
-    room-of one-step at-cursor n n es cur (omega arith) l (λ d h. inr (omega (arith, c d h, start-grows one-step es d 64 h, start-length es 64)))
+    room-of one-step at-cursor n n es cur (omega arith) l (λ d h. inr (omega (arith, c d h, offset-grows one-step es d 64 h, offset-length es 64)))
     (λ j q. bound j (sym (ones-by-level one-step at-cursor es cur (omega arith) l (λ d h. inr (c d h)) j ∙ ap (λ (is : List ℕ). has is j) (ones-true (values-below es 64) 0)) ∙ q))
   where
     bound : (j : ℕ) → has (positions 0 (concat (map (λ (x : ℕ). true ∷ []) (values-below es 64)))) j ≡ true → j < n

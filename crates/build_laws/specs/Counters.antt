@@ -1,4 +1,4 @@
--- The counting pass: entries, nodes and leaves of each level, where the levels start, and the totals. Used by the laws of the bodies and by the builder.
+-- The counting pass: entries, nodes and leaves of each level, the offsets of the levels, and the totals. Used by the laws of the bodies and by the builder.
 use Prim.Native.Nat.{ℕ, zero, suc, _+_, _-_, _<_, _≤_}
 use mathlib.Core.Path.{_≡_, refl, sym, ap, ap₂, _∙_}
 use mathlib.Core.Bool.{Bool, true, false}
@@ -17,7 +17,7 @@ use Rattle.build_laws.specs.TrieEntries.{Slotted, slotted-between}
 use Rattle.theory.specs.Neighbours.{Nonempty, next-shared}
 use Rattle.build_laws.specs.Emissions.{Emission, level-values, values-below, map-emissions, level-map}
 use Rattle.build_laws.specs.KeyEntries.{slotted-emissions, level-emitted, values-emitted, slotted-low, slotted-high}
-use Rattle.build_laws.specs.Cursors.{sum-of, counts, level-start, sums, counts-at, start-sum, start-sums}
+use Rattle.build_laws.specs.Cursors.{sum-of, counts, level-offset, sums, counts-at, offset-sum, offset-sums}
 use Rattle.build_laws.specs.BitPass.{Started}
 use Rattle.build_laws.specs.BytePass.{one-step, sum-length}
 use Rattle.build_laws.specs.NodeBodies.{node-step}
@@ -58,11 +58,11 @@ zeros-at d h = getD-replicate counters d 0 0 h
 counted : {A : Type 0} (inc : A → ℕ) (es : List (Emission A)) (d : ℕ) → d < 64 → getD (counts inc es (replicate counters 0)) d 0 ≡ sum-of inc (level-values d es)
 counted inc es d h = counts-at inc es (replicate counters 0) d (omega (arith, length-replicate {A = ℕ} counters 0)) ∙ omega (arith, zeros-at d (omega arith))
 
--- levels with no value do not move the start
-start-still : {A : Type 0} (inc : A → ℕ) (es : List (Emission A)) (hi : ℕ) → ((d : ℕ) → hi ≤ d → level-values d es ≡ []) → (k : ℕ) → level-start inc es (hi + k) ≡ level-start inc es hi
-unfolding level-start sum-of
-start-still inc es hi h zero = ap (level-start inc es) (add-zero hi)
-start-still inc es hi h (suc k) = ap (level-start inc es) (add-suc hi k) ∙ ap₂ _+_ (start-still inc es hi h k) (ap (sum-of inc) (h (hi + k) (omega arith))) ∙ add-zero (level-start inc es hi)
+-- levels with no value do not move the offset
+offset-still : {A : Type 0} (inc : A → ℕ) (es : List (Emission A)) (hi : ℕ) → ((d : ℕ) → hi ≤ d → level-values d es ≡ []) → (k : ℕ) → level-offset inc es (hi + k) ≡ level-offset inc es hi
+unfolding level-offset sum-of
+offset-still inc es hi h zero = ap (level-offset inc es) (add-zero hi)
+offset-still inc es hi h (suc k) = ap (level-offset inc es) (add-suc hi k) ∙ ap₂ _+_ (offset-still inc es hi h k) (ap (sum-of inc) (h (hi + k) (omega arith))) ∙ add-zero (level-offset inc es hi)
 
 -- ---- by counters of all levels
 
@@ -85,37 +85,37 @@ module _ (w : SlotBits) (ks : List Bytes) (s : Nonempty ks) (a : Ascending ks) w
       ∙ ap (sum-of bit) (level-map (λ (i : Slotted). i .entry .start) d (slotted-emissions 0 64 w ks)) ∙ sum-map (λ (i : Slotted). i .entry .start) bit node-step (λ i. refl) (level-values d (slotted-emissions 0 64 w ks))
 
   module _ (step : Slotted → ℕ) (c : List ℕ) (k : Counts step c) (lo hi : ℕ) (h : lo ≤ hi) (g : hi ≤ 64) where
-    start-slotted : (d : ℕ) → d ≤ hi → level-start step (slotted-emissions lo hi w ks) d ≡ sums c lo d
-    start-slotted = start-sums step (slotted-emissions lo hi w ks) c lo hi (λ d l. slotted-low w lo hi d ks l) (λ d l r. k d (omega arith) ∙ ap (sum-of step) (sym (same-level lo hi d l r (omega arith))))
+    offset-slotted : (d : ℕ) → d ≤ hi → level-offset step (slotted-emissions lo hi w ks) d ≡ sums c lo d
+    offset-slotted = offset-sums step (slotted-emissions lo hi w ks) c lo hi (λ d l. slotted-low w lo hi d ks l) (λ d l r. k d (omega arith) ∙ ap (sum-of step) (sym (same-level lo hi d l r (omega arith))))
 
     -- the total of the levels from lo to below hi
-    total-slotted : sum-of step (slotted-between lo (hi - lo) (leaves (w .hash) (w .real) ks)) ≡ sums c lo hi
+    total-slotted : sum-of step (slotted-between lo (hi - lo) (leaves (w .«hash_width») (w .«real_width») ks)) ≡ sums c lo hi
     total-slotted =
         let u : hi + (64 - hi) ≡ 64 = omega arith in
-        ap (sum-of step) (sym (values-emitted w lo hi ks h g s a)) ∙ start-sum step (slotted-emissions lo hi w ks) 64
-        ∙ ap (level-start step (slotted-emissions lo hi w ks)) (sym u) ∙ start-still step (slotted-emissions lo hi w ks) hi (λ d l. slotted-high w lo hi d ks l) (64 - hi) ∙ start-slotted hi (omega arith)
+        ap (sum-of step) (sym (values-emitted w lo hi ks h g s a)) ∙ offset-sum step (slotted-emissions lo hi w ks) 64
+        ∙ ap (level-offset step (slotted-emissions lo hi w ks)) (sym u) ∙ offset-still step (slotted-emissions lo hi w ks) hi (λ d l. slotted-high w lo hi d ks l) (64 - hi) ∙ offset-slotted hi (omega arith)
 
     -- where the levels of a function of the entries start
-    start-mapped : {B : Type 0} (f : Slotted → B) (inc : B → ℕ) → ((i : Slotted) → inc (f i) ≡ step i) → (es : List (Emission B)) → es ≡ map-emissions f (slotted-emissions lo hi w ks) → (d : ℕ) → d ≤ hi → level-start inc es d ≡ sums c lo d
-    start-mapped f inc q es e d l = ap (λ (z : List (Emission _)). level-start inc z d) e ∙ mapped d ∙ start-slotted d l
+    offset-mapped : {B : Type 0} (f : Slotted → B) (inc : B → ℕ) → ((i : Slotted) → inc (f i) ≡ step i) → (es : List (Emission B)) → es ≡ map-emissions f (slotted-emissions lo hi w ks) → (d : ℕ) → d ≤ hi → level-offset inc es d ≡ sums c lo d
+    offset-mapped f inc q es e d l = ap (λ (z : List (Emission _)). level-offset inc z d) e ∙ mapped d ∙ offset-slotted d l
       where
-        mapped : (d : ℕ) → level-start inc (map-emissions f (slotted-emissions lo hi w ks)) d ≡ level-start step (slotted-emissions lo hi w ks) d
+        mapped : (d : ℕ) → level-offset inc (map-emissions f (slotted-emissions lo hi w ks)) d ≡ level-offset step (slotted-emissions lo hi w ks) d
         mapped d =
-            sym (start-sum inc (map-emissions f (slotted-emissions lo hi w ks)) d) ∙ ap (sum-of inc) (values-map f (slotted-emissions lo hi w ks) d)
-            ∙ sum-map f inc step q (values-below (slotted-emissions lo hi w ks) d) ∙ start-sum step (slotted-emissions lo hi w ks) d
+            sym (offset-sum inc (map-emissions f (slotted-emissions lo hi w ks)) d) ∙ ap (sum-of inc) (values-map f (slotted-emissions lo hi w ks) d)
+            ∙ sum-map f inc step q (values-below (slotted-emissions lo hi w ks) d) ∙ offset-sum step (slotted-emissions lo hi w ks) d
 
     -- the cursors of such a pass stand at its levels' starts
     started-mapped : {B : Type 0} (f : Slotted → B) (inc : B → ℕ) (ones-at : ℕ → B → List ℕ) → ((i : Slotted) → inc (f i) ≡ step i) → (es : List (Emission B)) → es ≡ map-emissions f (slotted-emissions lo hi w ks) → (cur : List ℕ) → Cursors-at c lo cur → Started inc ones-at es cur
     started-mapped {B} f inc ones-at q es e cur u d l = go (ltb d hi) refl
       where
-        go : (b : Bool) → ltb d hi ≡ b → (level-values d es ≡ []) ⊎ (getD cur d 0 ≡ level-start inc es d)
-        go true z = let y : d < hi = ltb-true d hi z in inr (u d (omega arith) ∙ sym (start-mapped f inc q es e d (omega arith)))
+        go : (b : Bool) → ltb d hi ≡ b → (level-values d es ≡ []) ⊎ (getD cur d 0 ≡ level-offset inc es d)
+        go true z = let y : d < hi = ltb-true d hi z in inr (u d (omega arith) ∙ sym (offset-mapped f inc q es e d (omega arith)))
         go false z = inl (ap (λ (xs : List (Emission B)). level-values d xs) e ∙ level-map f d (slotted-emissions lo hi w ks) ∙ ap (map f) (slotted-high w lo hi d ks (ltb-false d hi z)))
 
   -- Where the sparse levels of entries start.
   pub sparse-starts-at : (lo : ℕ) → lo ≤ 64 → {B : Type 0} (f : Slotted → B) (es : List (Emission B)) → es ≡ map-emissions f (slotted-emissions lo 64 w ks) → (cur : List ℕ) → Cursors-at (entry-counts ks) lo cur
-      → (d : ℕ) → d < 64 → getD cur d 0 ≡ level-start one-step es d
-  sparse-starts-at lo h f es e cur u d l = u d (omega arith) ∙ sym (start-mapped one-step (entry-counts ks) entries-counted lo 64 h (omega arith) f one-step (λ i. refl) es e d (omega arith))
+      → (d : ℕ) → d < 64 → getD cur d 0 ≡ level-offset one-step es d
+  sparse-starts-at lo h f es e cur u d l = u d (omega arith) ∙ sym (offset-mapped one-step (entry-counts ks) entries-counted lo 64 h (omega arith) f one-step (λ i. refl) es e d (omega arith))
 
   -- The node cursors stand at the starts of the dense levels.
   pub dense-started : (hi : ℕ) → hi ≤ 64 → {B : Type 0} (f : Slotted → B) (inc : B → ℕ) (ones-at : ℕ → B → List ℕ) → ((i : Slotted) → inc (f i) ≡ node-step i) → (es : List (Emission B)) → es ≡ map-emissions f (slotted-emissions 0 hi w ks)
@@ -123,23 +123,23 @@ module _ (w : SlotBits) (ks : List Bytes) (s : Nonempty ks) (a : Ascending ks) w
   dense-started hi h f inc ones-at q es e cur u = started-mapped node-step (node-counts ks) nodes-counted 0 hi (omega arith) h f inc ones-at q es e cur u
 
   -- Where the sparse entries end.
-  pub sparse-top : (lo : ℕ) → lo ≤ 64 → {B : Type 0} (f : Slotted → B) (es : List (Emission B)) → es ≡ map-emissions f (slotted-emissions lo 64 w ks) → level-start one-step es 64 ≡ sums (entry-counts ks) lo 64
-  sparse-top lo h f es e = start-mapped one-step (entry-counts ks) entries-counted lo 64 h (omega arith) f one-step (λ i. refl) es e 64 (omega arith)
+  pub sparse-top : (lo : ℕ) → lo ≤ 64 → {B : Type 0} (f : Slotted → B) (es : List (Emission B)) → es ≡ map-emissions f (slotted-emissions lo 64 w ks) → level-offset one-step es 64 ≡ sums (entry-counts ks) lo 64
+  sparse-top lo h f es e = offset-mapped one-step (entry-counts ks) entries-counted lo 64 h (omega arith) f one-step (λ i. refl) es e 64 (omega arith)
 
   -- Where the dense nodes end.
-  pub dense-top : (hi : ℕ) → hi ≤ 64 → {B : Type 0} (f : Slotted → B) (inc : B → ℕ) → ((i : Slotted) → inc (f i) ≡ node-step i) → (es : List (Emission B)) → es ≡ map-emissions f (slotted-emissions 0 hi w ks) → level-start inc es 64 ≡ sums (node-counts ks) 0 hi
+  pub dense-top : (hi : ℕ) → hi ≤ 64 → {B : Type 0} (f : Slotted → B) (inc : B → ℕ) → ((i : Slotted) → inc (f i) ≡ node-step i) → (es : List (Emission B)) → es ≡ map-emissions f (slotted-emissions 0 hi w ks) → level-offset inc es 64 ≡ sums (node-counts ks) 0 hi
   dense-top hi h {B} f inc q es e =
       let u : 64 ≡ hi + (64 - hi) = omega arith in
-      ap (level-start inc es) u
-      ∙ start-still inc es hi (λ d l. ap (λ (xs : List (Emission B)). level-values d xs) e ∙ level-map f d (slotted-emissions 0 hi w ks) ∙ ap (map f) (slotted-high w 0 hi d ks l)) (64 - hi)
-      ∙ start-mapped node-step (node-counts ks) nodes-counted 0 hi (omega arith) h f inc q es e hi (omega arith)
+      ap (level-offset inc es) u
+      ∙ offset-still inc es hi (λ d l. ap (λ (xs : List (Emission B)). level-values d xs) e ∙ level-map f d (slotted-emissions 0 hi w ks) ∙ ap (map f) (slotted-high w 0 hi d ks l)) (64 - hi)
+      ∙ offset-mapped node-step (node-counts ks) nodes-counted 0 hi (omega arith) h f inc q es e hi (omega arith)
 
   -- so many entries on the levels from lo
-  pub entries-total : (lo : ℕ) → lo ≤ 64 → length (slotted-between lo (64 - lo) (leaves (w .hash) (w .real) ks)) ≡ sums (entry-counts ks) lo 64
-  entries-total lo h = sym (sum-length (slotted-between lo (64 - lo) (leaves (w .hash) (w .real) ks))) ∙ total-slotted one-step (entry-counts ks) entries-counted lo 64 h (omega arith)
+  pub entries-total : (lo : ℕ) → lo ≤ 64 → length (slotted-between lo (64 - lo) (leaves (w .«hash_width») (w .«real_width») ks)) ≡ sums (entry-counts ks) lo 64
+  entries-total lo h = sym (sum-length (slotted-between lo (64 - lo) (leaves (w .«hash_width») (w .«real_width») ks))) ∙ total-slotted one-step (entry-counts ks) entries-counted lo 64 h (omega arith)
 
   -- so many nodes on the levels from lo to below hi
-  pub nodes-total : (lo hi : ℕ) → lo ≤ hi → hi ≤ 64 → sum-of node-step (slotted-between lo (hi - lo) (leaves (w .hash) (w .real) ks)) ≡ sums (node-counts ks) lo hi
+  pub nodes-total : (lo hi : ℕ) → lo ≤ hi → hi ≤ 64 → sum-of node-step (slotted-between lo (hi - lo) (leaves (w .«hash_width») (w .«real_width») ks)) ≡ sums (node-counts ks) lo hi
   nodes-total lo hi h g = total-slotted node-step (node-counts ks) nodes-counted lo hi h g
 
 -- ---- leaves
@@ -153,7 +153,7 @@ leaves-counted : (w : SlotBits) (ks : List Bytes) (d : ℕ) → d < 64 → getD 
 unfolding leaf-counts
 leaves-counted w ks d h = ap (λ (c : List ℕ). getD c d 0) (same-counts no-bits w 0 ks (replicate counters 0)) ∙ counted one-step (slot-emissions w 0 ks) d h
 
--- The leaf cursors stand at the starts of the levels of leaves.
-pub leaf-starts-at : (w : SlotBits) (ks : List Bytes) (cur : List ℕ) → Cursors-at (leaf-counts ks) 0 cur → (d : ℕ) → d < 64 → getD cur d 0 ≡ level-start one-step (slot-emissions w 0 ks) d
+-- The leaf cursors stand at the offsets of the levels of leaves.
+pub leaf-starts-at : (w : SlotBits) (ks : List Bytes) (cur : List ℕ) → Cursors-at (leaf-counts ks) 0 cur → (d : ℕ) → d < 64 → getD cur d 0 ≡ level-offset one-step (slot-emissions w 0 ks) d
 leaf-starts-at w ks cur u d l =
-    u d (omega arith) ∙ sym (start-sums one-step (slot-emissions w 0 ks) (leaf-counts ks) 0 64 (λ e h. absurd (omega arith)) (λ e h g. leaves-counted w ks e g) d (omega arith))
+    u d (omega arith) ∙ sym (offset-sums one-step (slot-emissions w 0 ks) (leaf-counts ks) 0 64 (λ e h. absurd (omega arith)) (λ e h g. leaves-counted w ks e g) d (omega arith))

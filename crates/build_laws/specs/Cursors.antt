@@ -1,4 +1,4 @@
--- Counters of one number a level: what they are after emissions have been counted, and the position at which each level starts. Used by every pass over the keys.
+-- Counters of one number a level: what they are after emissions have been counted, and the offset of each level. Used by every pass over the keys.
 use Prim.Native.Nat.{ℕ, zero, suc, _+_, _<_, _≤_}
 use mathlib.Core.Path.{_≡_, refl, sym, ap, ap₂, _∙_}
 use mathlib.Core.Bool.{Bool, true, false, cond}
@@ -21,19 +21,19 @@ module _ {A : Type 0} (inc : A → ℕ) where
   counts [] c = c
   counts (emission d x ∷ es) c = counts es (set c d (getD c d 0 + inc x))
 
-  -- the sum of the increments on the levels below d: where level d starts
-  unfoldable pub level-start : List (Emission A) → ℕ → ℕ
+  -- the sum of the increments on the levels below d: the offset of level d
+  unfoldable pub level-offset : List (Emission A) → ℕ → ℕ
   unfolding sum-of level-values
-  level-start es zero = 0
-  level-start es (suc d) = level-start es d + sum-of (level-values d es)
+  level-offset es zero = 0
+  level-offset es (suc d) = level-offset es d + sum-of (level-values d es)
 
-  -- two runs
+  -- two lists
   pub sum-append : (a b : List A) → sum-of (a ++ b) ≡ sum-of a + sum-of b
   unfolding sum-of
   sum-append [] b = omega arith
   sum-append (x ∷ a) b = omega (arith, sum-append a b)
 
-  -- two runs of emissions
+  -- two lists of emissions
   pub counts-append : (a b : List (Emission A)) (c : List ℕ) → counts (a ++ b) c ≡ counts b (counts a c)
   unfolding counts
   counts-append [] b c = refl
@@ -63,25 +63,25 @@ module _ {A : Type 0} (inc : A → ℕ) where
           omega (arith, ih, getD-set-other c e d (getD c e 0 + inc x) 0 r, ap sum-of (level-else d e x es r))
 
   -- the levels below d, one behind the other
-  pub start-sum : (es : List (Emission A)) (d : ℕ) → sum-of (values-below es d) ≡ level-start es d
-  unfolding level-start values-below sum-of
-  start-sum es zero = refl
-  start-sum es (suc d) = sum-append (values-below es d) (level-values d es) ∙ ap (λ (n : ℕ). n + sum-of (level-values d es)) (start-sum es d)
+  pub offset-sum : (es : List (Emission A)) (d : ℕ) → sum-of (values-below es d) ≡ level-offset es d
+  unfolding level-offset values-below sum-of
+  offset-sum es zero = refl
+  offset-sum es (suc d) = sum-append (values-below es d) (level-values d es) ∙ ap (λ (n : ℕ). n + sum-of (level-values d es)) (offset-sum es d)
 
-  -- a later level starts no earlier, and behind the level
-  pub start-grows : (es : List (Emission A)) (d e : ℕ) → d < e → level-start es d + sum-of (level-values d es) ≤ level-start es e
-  unfolding level-start
-  start-grows es d zero h = absurd (omega arith)
-  start-grows es d (suc e) h = go (eqb d e) refl (λ l. start-grows es d e l)
+  -- a later level has no smaller offset, and lies behind the level
+  pub offset-grows : (es : List (Emission A)) (d e : ℕ) → d < e → level-offset es d + sum-of (level-values d es) ≤ level-offset es e
+  unfolding level-offset
+  offset-grows es d zero h = absurd (omega arith)
+  offset-grows es d (suc e) h = go (eqb d e) refl (λ l. offset-grows es d e l)
     where
-      go : (b : Bool) → eqb d e ≡ b → (d < e → level-start es d + sum-of (level-values d es) ≤ level-start es e) → level-start es d + sum-of (level-values d es) ≤ level-start es e + sum-of (level-values e es)
+      go : (b : Bool) → eqb d e ≡ b → (d < e → level-offset es d + sum-of (level-values d es) ≤ level-offset es e) → level-offset es d + sum-of (level-values d es) ≤ level-offset es e + sum-of (level-values e es)
       go true q f = let r : d ≡ e = eqb-true d e q in rw r (omega arith)
       go false q f = let r : d ≡ e → ⊥ = eqb-false d e q in omega (arith, f (less r))
         where
           less : (d ≡ e → ⊥) → d < e
           less r = omega arith
 
--- ---- the starts from the counters
+-- ---- the offsets from the counters
 
 -- the sum of the counters of the levels from lo to below d
 unfoldable pub sums : List ℕ → ℕ → ℕ → ℕ
@@ -98,12 +98,12 @@ pub sums-none : (c : List ℕ) (lo : ℕ) → sums c lo 0 ≡ 0
 unfolding sums
 sums-none c lo = refl
 
--- Where the levels from lo to below hi start, by counters of all levels.
-pub start-sums : {A : Type 0} (inc : A → ℕ) (es : List (Emission A)) (c : List ℕ) (lo hi : ℕ) → ((d : ℕ) → d < lo → level-values d es ≡ [])
-    → ((d : ℕ) → lo ≤ d → d < hi → getD c d 0 ≡ sum-of inc (level-values d es)) → (d : ℕ) → d ≤ hi → level-start inc es d ≡ sums c lo d
-unfolding level-start sums sum-of
-start-sums inc es c lo hi low mid zero h = refl
-start-sums inc es c lo hi low mid (suc d) h = ap₂ _+_ (start-sums inc es c lo hi low mid d (omega arith)) (go (leb lo d) refl)
+-- The offsets of the levels from lo to below hi, by counters of all levels.
+pub offset-sums : {A : Type 0} (inc : A → ℕ) (es : List (Emission A)) (c : List ℕ) (lo hi : ℕ) → ((d : ℕ) → d < lo → level-values d es ≡ [])
+    → ((d : ℕ) → lo ≤ d → d < hi → getD c d 0 ≡ sum-of inc (level-values d es)) → (d : ℕ) → d ≤ hi → level-offset inc es d ≡ sums c lo d
+unfolding level-offset sums sum-of
+offset-sums inc es c lo hi low mid zero h = refl
+offset-sums inc es c lo hi low mid (suc d) h = ap₂ _+_ (offset-sums inc es c lo hi low mid d (omega arith)) (go (leb lo d) refl)
   where
     go : (b : Bool) → leb lo d ≡ b → sum-of inc (level-values d es) ≡ cond b (getD c d 0) 0
     go true e = sym (mid d (leb-true lo d e) (omega arith))

@@ -59,7 +59,7 @@ emissions lo hi F t p (k ∷ ks) = key-emissions lo hi (F p (next-shared k ks) k
 -- ---- levels
 
 module _ {A : Type 0} where
-  -- the values of two runs of emissions
+  -- the values of two lists of emissions
   pub level-append : (d : ℕ) (a b : List (Emission A)) → level-values d (a ++ b) ≡ level-values d a ++ level-values d b
   unfolding level-values
   level-append d [] b = refl
@@ -84,7 +84,7 @@ module _ {A : Type 0} where
   unfolding level-values
   level-else d e x es n = rw (ne-eqb d e n)
 
-  -- two runs of emissions on levels below b
+  -- two lists of emissions on levels below b
   pub below-append : (b : ℕ) (u v : List (Emission A)) → Levels-below b u → Levels-below b v → Levels-below b (u ++ v)
   below-append b [] v p q = q
   below-append b (emission d x ∷ u) v p q = (p .0, below-append b u v (p .1) q)

@@ -11,10 +11,10 @@ use Rattle.spec.specs.Image.{Settings, slot-width, Bodies}
 use Rattle.spec.specs.Image as Literal
 use Rattle.spec.specs.Nodes.{is-exact}
 use Rattle.build_laws.specs.SlotWidths.{slot-bits}
-use Rattle.build_laws.specs.LevelEntries.{Chain}
+use Rattle.build_laws.specs.LevelEntries.{All-follow}
 use Rattle.build_laws.specs.TrieEntries.{Slotted, Rooted, slotted-of, slotted-between, slotted-first, slotted-rest}
 use Rattle.theory.specs.Neighbours.{Nonempty}
-use Rattle.build_laws.specs.NeighbourLeaves.{leaves-chain}
+use Rattle.build_laws.specs.NeighbourLeaves.{leaves-follow}
 use Rattle.build_laws.specs.Emissions.{Emission, values-below, map-emissions}
 use Rattle.build_laws.specs.KeyEntries.{slotted-emissions, values-emitted}
 use Rattle.build_laws.specs.PassEmissions.{values-map, keys-nonempty}
@@ -46,15 +46,15 @@ module _ (st : Settings) (ks : List Bytes) (b : Built-from st ks) where
   facts = trie-facts st (key-leaves st ks) fits
 
   -- each leaf follows the one before
-  pub chain : Chain (key-leaves st ks) × Rooted (key-leaves st ks)
-  chain = leaves-chain (slot-bits st) ks some (b .up)
+  pub all-follow : All-follow (key-leaves st ks) × Rooted (key-leaves st ks)
+  all-follow = leaves-follow (slot-bits st) ks some (b .up)
 
   -- the entries that the keys emit on the sparse levels are those of the sparse nodes
   pub sparse-values : values-below (slotted-emissions (st .dense-levels) 64 (slot-bits st) ks) 64 ≡ slotted-of (sparse-nodes st (key-leaves st ks))
   unfolding sparse-nodes
   sparse-values =
       values-emitted (slot-bits st) (st .dense-levels) 64 ks (omega (arith, b .dense-range)) (omega arith) some (b .up)
-      ∙ sym (slotted-rest (st .dense-levels) (key-leaves st ks) (omega (arith, b .dense-range)) (chain .0) (chain .1))
+      ∙ sym (slotted-rest (st .dense-levels) (key-leaves st ks) (omega (arith, b .dense-range)) (all-follow .0) (all-follow .1))
 
   -- those on the dense levels are those of the dense nodes
   pub dense-values : values-below (slotted-emissions 0 (st .dense-levels) (slot-bits st) ks) 64 ≡ slotted-of (dense-nodes st (key-leaves st ks))
@@ -62,11 +62,11 @@ module _ (st : Settings) (ks : List Bytes) (b : Built-from st ks) where
   dense-values =
       values-emitted (slot-bits st) 0 (st .dense-levels) ks (omega arith) (omega (arith, b .dense-range)) some (b .up)
       ∙ ap (λ (k : ℕ). slotted-between 0 k (key-leaves st ks)) (sub-zero (st .dense-levels))
-      ∙ sym (slotted-first (st .dense-levels) (key-leaves st ks) (omega (arith, b .dense-range)) (chain .0) (chain .1))
+      ∙ sym (slotted-first (st .dense-levels) (key-leaves st ks) (omega (arith, b .dense-range)) (all-follow .0) (all-follow .1))
 
   -- those on all levels are those of all nodes
   pub all-values : values-below (slotted-emissions 0 64 (slot-bits st) ks) 64 ≡ slotted-of (concat (trie (key-leaves st ks)))
-  all-values = values-emitted (slot-bits st) 0 64 ks (omega arith) (omega arith) some (b .up) ∙ sym (slotted-rest 0 (key-leaves st ks) (omega arith) (chain .0) (chain .1))
+  all-values = values-emitted (slot-bits st) 0 64 ks (omega arith) (omega arith) some (b .up) ∙ sym (slotted-rest 0 (key-leaves st ks) (omega arith) (all-follow .0) (all-follow .1))
 
   -- a function of the entries that the keys emit
   pub mapped-values : {B : Type 0} (f : Slotted → B) (lo hi : ℕ) (es : List (Emission B)) (xs : List Slotted) → es ≡ map-emissions f (slotted-emissions lo hi (slot-bits st) ks) → values-below (slotted-emissions lo hi (slot-bits st) ks) 64 ≡ xs → values-below es 64 ≡ map f xs

@@ -15,7 +15,7 @@ use Rattle.build_laws.specs.Cursors.{sum-of, sums}
 use Rattle.build_laws.specs.NodeBodies.{labels-slotted, nodes-entries, node-step}
 use Rattle.build_laws.specs.TrieFacts.{dense-nodes, sparse-nodes, dense-count, sparse-count}
 use Rattle.build_laws.specs.Counters.{entry-counts, node-counts, entries-total, nodes-total}
-use Rattle.build_laws.specs.KeyBits.{key-leaves, key-bodies, bodies-are, some, fits, facts, chain, DL-bits, DC-bits, DP-bits, SC-bits, SB-bits, SV-bits}
+use Rattle.build_laws.specs.KeyBits.{key-leaves, key-bodies, bodies-are, some, fits, facts, all-follow, DL-bits, DC-bits, DP-bits, SC-bits, SB-bits, SV-bits}
 use Rattle.theory.specs.BuildLaws.{Built-from}
 use Rattle.theory.specs.NodeBits.{sparse-labels, length-sv}
 use Rattle.theory.specs.SparseBits.{length-sc, length-sb, louds-ones}
@@ -38,21 +38,21 @@ module _ (st : Settings) (ks : List Bytes) (b : Built-from st ks) where
   unfolding dense-nodes
   nodes-dense =
       sym (nodes-entries (dense-nodes st (key-leaves st ks)) (facts st ks b .dense-fit))
-      ∙ ap (sum-of node-step) (slotted-first (st .dense-levels) (key-leaves st ks) (omega (arith, b .dense-range)) (chain st ks b .0) (chain st ks b .1) ∙ ap (λ (k : ℕ). slotted-between 0 k (key-leaves st ks)) (sym (sub-zero (st .dense-levels))))
+      ∙ ap (sum-of node-step) (slotted-first (st .dense-levels) (key-leaves st ks) (omega (arith, b .dense-range)) (all-follow st ks b .0) (all-follow st ks b .1) ∙ ap (λ (k : ℕ). slotted-between 0 k (key-leaves st ks)) (sym (sub-zero (st .dense-levels))))
       ∙ nodes-total (slot-bits st) ks (some st ks b) (b .up) 0 (st .dense-levels) (omega arith) (omega (arith, b .dense-range))
 
   nodes-sparse : length (sparse-nodes st (key-leaves st ks)) ≡ sums (node-counts ks) (st .dense-levels) 64
   unfolding sparse-nodes
   nodes-sparse =
       sym (nodes-entries (sparse-nodes st (key-leaves st ks)) (facts st ks b .sparse-fit))
-      ∙ ap (sum-of node-step) (slotted-rest (st .dense-levels) (key-leaves st ks) (omega (arith, b .dense-range)) (chain st ks b .0) (chain st ks b .1))
+      ∙ ap (sum-of node-step) (slotted-rest (st .dense-levels) (key-leaves st ks) (omega (arith, b .dense-range)) (all-follow st ks b .0) (all-follow st ks b .1))
       ∙ nodes-total (slot-bits st) ks (some st ks b) (b .up) (st .dense-levels) 64 (omega (arith, b .dense-range)) (omega arith)
 
   entries-sparse : length (concat (map sparse-labels (sparse-nodes st (key-leaves st ks)))) ≡ sums (entry-counts ks) (st .dense-levels) 64
   unfolding sparse-nodes
   entries-sparse =
       ap length (labels-slotted (sparse-nodes st (key-leaves st ks))) ∙ length-map (slotted-of (sparse-nodes st (key-leaves st ks))) (λ (i : Slotted). i .entry .label)
-      ∙ ap length (slotted-rest (st .dense-levels) (key-leaves st ks) (omega (arith, b .dense-range)) (chain st ks b .0) (chain st ks b .1))
+      ∙ ap length (slotted-rest (st .dense-levels) (key-leaves st ks) (omega (arith, b .dense-range)) (all-follow st ks b .0) (all-follow st ks b .1))
       ∙ entries-total (slot-bits st) ks (some st ks b) (b .up) (st .dense-levels) (omega (arith, b .dense-range))
 
   -- the header's count of dense nodes

@@ -76,9 +76,9 @@ Follows-by l [] = l .exact ≡ false
 Follows-by l (m ∷ ms) = Follows (l .exact) (l .cut) (m .cut)
 
 -- each leaf follows the one before
-abbrev pub Chain : Group → Type 0
-Chain [] = Unit
-Chain (l ∷ ls) = Follows-by l ls × Chain ls
+abbrev pub All-follow : Group → Type 0
+All-follow [] = Unit
+All-follow (l ∷ ls) = Follows-by l ls × All-follow ls
 
 -- the cut key starts with another byte
 abbrev Away : ℕ → Bytes → Type 0
@@ -93,7 +93,7 @@ Apart x (l ∷ ls) = Away x (l .cut)
 -- a group divided by first bytes into subtrees
 data Divided : Group → List Subtree → Type 0 where
   empty : Divided [] []
-  division : {x : ℕ} {m : Leaf} {u rest : Group} {bs : List Subtree} → Chain (m ∷ u) → Apart x rest → Divided rest bs → Divided (map (prefix x) (m ∷ u) ++ rest) (subtree x (m ∷ u) ∷ bs)
+  division : {x : ℕ} {m : Leaf} {u rest : Group} {bs : List Subtree} → All-follow (m ∷ u) → Apart x rest → Divided rest bs → Divided (map (prefix x) (m ∷ u) ++ rest) (subtree x (m ∷ u) ∷ bs)
 
 put-divided : (x : ℕ) (l : Leaf) {ls : Group} {bs : List Subtree} → Follows-by (prefix x l) ls → Divided ls bs → Divided (prefix x l ∷ ls) (insert x l bs)
 unfolding insert
@@ -133,7 +133,7 @@ unfolding subtrees insert-cut
 divided-cons [] e s ls j w r = absurd w
 divided-cons (x ∷ k) e s ls j w r = put-divided x (record { cut = k; exact = e; suffix = s }) j r
 
-divided : (g : Group) → Chain g → Some-bytes g → Divided g (subtrees g)
+divided : (g : Group) → All-follow g → Some-bytes g → Divided g (subtrees g)
 unfolding subtrees
 divided [] c h = empty
 divided (l ∷ ls) c h = divided-cons (l .cut) (l .exact) (l .suffix) ls (c .0) (h .0) (divided ls (c .1) (h .1))
@@ -145,9 +145,9 @@ next-some e [] (y ∷ d) n = tt
 next-some e (x ∷ c) [] n = n
 next-some e (x ∷ c) (y ∷ d) n = tt
 
-chain-some : (l : Leaf) (ls : Group) → Chain (l ∷ ls) → Some-bytes ls
-chain-some l [] c = tt
-chain-some l (m ∷ ms) c = (next-some (l .exact) (l .cut) (m .cut) (c .0), chain-some m ms (c .1))
+follow-some : (l : Leaf) (ls : Group) → All-follow (l ∷ ls) → Some-bytes ls
+follow-some l [] c = tt
+follow-some l (m ∷ ms) c = (next-some (l .exact) (l .cut) (m .cut) (c .0), follow-some m ms (c .1))
 
 -- ---- one level down
 
@@ -173,13 +173,13 @@ next-apart d x l (r ∷ rest) a = ap (λ (p : ℕ). level-entries (suc d) p (r �
     away : (c : Bytes) → Away x c → shared (x ∷ l .cut) c ≡ 0
     away c a = away-shared x (l .cut) c a
 
-run-entries : (d x : ℕ) (m : Leaf) (u rest : Group) (p : ℕ) → Apart x rest
+prefixed-entries : (d x : ℕ) (m : Leaf) (u rest : Group) (p : ℕ) → Apart x rest
     → level-entries (suc d) p (map (prefix x) (m ∷ u) ++ rest) ≡ level-entries d (pred p) (m ∷ u) ++ level-entries (suc d) 1 rest
 unfolding level-entries next-new
-run-entries d x m [] rest p a =
+prefixed-entries d x m [] rest p a =
     ap₂ _++_ (leaf-prefix d p x m) (next-apart d x m rest a) ∙ ap (λ (z : List Tagged). z ++ level-entries (suc d) 1 rest) (sym (append-nil (leaf-entries d (pred p) m)))
-run-entries d x m (n ∷ u) rest p a =
-    ap₂ _++_ (leaf-prefix d p x m) (ap (λ (q : ℕ). level-entries (suc d) q (map (prefix x) (n ∷ u) ++ rest)) (next-same x m n (map (prefix x) u ++ rest)) ∙ run-entries d x n u rest (suc (suc (shared (m .cut) (n .cut)))) a)
+prefixed-entries d x m (n ∷ u) rest p a =
+    ap₂ _++_ (leaf-prefix d p x m) (ap (λ (q : ℕ). level-entries (suc d) q (map (prefix x) (n ∷ u) ++ rest)) (next-same x m n (map (prefix x) u ++ rest)) ∙ prefixed-entries d x n u rest (suc (suc (shared (m .cut) (n .cut)))) a)
     ∙ sym (append-assoc (leaf-entries d (pred p) m) (level-entries d (suc (shared (m .cut) (n .cut))) (n ∷ u)) (level-entries (suc d) 1 rest))
 
 -- ---- a node's own level
@@ -218,17 +218,17 @@ entry-first x [] e s (n ∷ u) j = go (n .cut) j
 entry-first x (y ∷ k) e s [] j = rw (leb·suc-suc 1 (suc (length k)), leb·suc-suc 0 (length k), leb·zero (length k), or-true e)
 entry-first x (y ∷ k) e s (n ∷ u) j = rw (leb·suc-suc 1 (suc (length k)), leb·suc-suc 0 (length k), leb·zero (length k), or-true e)
 
-zero-run : (p x : ℕ) (m : Leaf) (u rest : Group) → p ≤ 1 → Chain (m ∷ u) → Apart x rest
+prefixed-first : (p x : ℕ) (m : Leaf) (u rest : Group) → p ≤ 1 → All-follow (m ∷ u) → Apart x rest
     → level-entries 0 p (map (prefix x) (m ∷ u) ++ rest) ≡ tagged (leb p 0) false (branch-of (subtree x (m ∷ u))) ∷ level-entries 0 1 rest
 unfolding level-entries
-zero-run p x m [] rest h c a = ap₂ _++_ (leaf-first p x m h ∙ ap (λ (e : Branch). tagged (leb p 0) false e ∷ []) (entry-first x (m .cut) (m .exact) (m .suffix) [] (c .0))) (zero-apart x m rest a)
-zero-run p x m (n ∷ u) rest h c a = ap₂ _++_ (leaf-first p x m h ∙ ap (λ (e : Branch). tagged (leb p 0) false e ∷ []) (entry-first x (m .cut) (m .exact) (m .suffix) (n ∷ u) (c .0)))
+prefixed-first p x m [] rest h c a = ap₂ _++_ (leaf-first p x m h ∙ ap (λ (e : Branch). tagged (leb p 0) false e ∷ []) (entry-first x (m .cut) (m .exact) (m .suffix) [] (c .0))) (zero-apart x m rest a)
+prefixed-first p x m (n ∷ u) rest h c a = ap₂ _++_ (leaf-first p x m h ∙ ap (λ (e : Branch). tagged (leb p 0) false e ∷ []) (entry-first x (m .cut) (m .exact) (m .suffix) (n ∷ u) (c .0)))
     (ap (λ (q : ℕ). level-entries 0 q (map (prefix x) (n ∷ u) ++ rest)) (next-same x m n (map (prefix x) u ++ rest)) ∙ zero-rest (shared (m .cut) (n .cut)) x n u rest a)
 
 first-divided : {g : Group} {bs : List Subtree} (p : ℕ) → p ≤ 1 → Divided g bs → level-entries 0 p g ≡ tag-first (leb p 0) (map branch-of bs)
 unfolding level-entries tag-first
 first-divided p h empty = refl
-first-divided p h (division {x = x} {m = m} {u = u} {rest = rest} c a r) = zero-run p x m u rest h c a ∙ ap (λ (z : List Tagged). tagged (leb p 0) false (branch-of (subtree x (m ∷ u))) ∷ z) (first-divided 1 (omega arith) r)
+first-divided p h (division {x = x} {m = m} {u = u} {rest = rest} c a r) = prefixed-first p x m u rest h c a ∙ ap (λ (z : List Tagged). tagged (leb p 0) false (branch-of (subtree x (m ∷ u))) ∷ z) (first-divided 1 (omega arith) r)
 
 -- ---- a node, and the levels below it
 
@@ -238,9 +238,9 @@ Node-leaf e [] = e ≡ true
 Node-leaf e (x ∷ c) = Unit
 
 Below : ℕ → Type 0
-Below d = (l : Leaf) (ls : Group) → Chain (l ∷ ls) → Node-leaf (l .exact) (l .cut) → level-entries d 0 (l ∷ ls) ≡ entries-below d (l ∷ ls)
+Below d = (l : Leaf) (ls : Group) → All-follow (l ∷ ls) → Node-leaf (l .exact) (l .cut) → level-entries d 0 (l ∷ ls) ≡ entries-below d (l ∷ ls)
 
-sub-entries : (d : ℕ) → Below d → (x : ℕ) (k : Bytes) (e : Bool) (s : Bits) (u : Group) → Chain (record { cut = k; exact = e; suffix = s } ∷ u)
+sub-entries : (d : ℕ) → Below d → (x : ℕ) (k : Bytes) (e : Bool) (s : Bits) (u : Group) → All-follow (record { cut = k; exact = e; suffix = s } ∷ u)
     → level-entries d 0 (record { cut = k; exact = e; suffix = s } ∷ u) ≡ concat (map (entries-below d) (child-group (subtree x (record { cut = k; exact = e; suffix = s } ∷ u))))
 unfolding Below child-group concat level-entries leaf-entries
 sub-entries d b x [] e s [] c = rw (c .0, leb·zero (suc d), leb·suc-zero d)
@@ -256,7 +256,7 @@ deeper-divided : {g : Group} {bs : List Subtree} (d p : ℕ) → pred p ≡ 0 �
 unfolding level-entries concat
 deeper-divided d p h b empty = refl
 deeper-divided d p h b (division {x = x} {m = m} {u = u} {rest = rest} {bs = bs} c a r) =
-    run-entries d x m u rest p a
+    prefixed-entries d x m u rest p a
     ∙ ap₂ _++_ (ap (λ (q : ℕ). level-entries d q (m ∷ u)) h ∙ sub-entries d b x (m .cut) (m .exact) (m .suffix) u c) (deeper-divided d 1 refl b r)
     ∙ sym (ap concat (map-append (entries-below d) (child-group (subtree x (m ∷ u))) (concat (map child-group bs))) ∙ concat-append (map (entries-below d) (child-group (subtree x (m ∷ u)))) (map (entries-below d) (concat (map child-group bs))))
 
@@ -265,26 +265,26 @@ unfolding next-new shared
 exact-next e s [] q j = absurd (true≢false (sym q ∙ j))
 exact-next e s (m ∷ ms) q j = refl
 
-exact-first : (e : Bool) (s : Bits) (ls : Group) → Chain (record { cut = []; exact = e; suffix = s } ∷ ls) → e ≡ true
+exact-first : (e : Bool) (s : Bits) (ls : Group) → All-follow (record { cut = []; exact = e; suffix = s } ∷ ls) → e ≡ true
     → level-entries 0 0 (record { cut = []; exact = e; suffix = s } ∷ ls) ≡ entries-below 0 (record { cut = []; exact = e; suffix = s } ∷ ls)
 unfolding entries-below node-entries node-of exact-of child-groups level-entries leaf-entries subtrees insert-cut
-exact-first e s ls c n = rw (exact-next e s ls n (c .0), n) (ap (λ (z : List Tagged). tagged true true (to-leaf 255 s) ∷ z) (first-divided 1 (omega arith) (divided ls (c .1) (chain-some _ ls c))))
+exact-first e s ls c n = rw (exact-next e s ls n (c .0), n) (ap (λ (z : List Tagged). tagged true true (to-leaf 255 s) ∷ z) (first-divided 1 (omega arith) (divided ls (c .1) (follow-some _ ls c))))
 
-exact-deeper : (d : ℕ) → Below d → (e : Bool) (s : Bits) (ls : Group) → Chain (record { cut = []; exact = e; suffix = s } ∷ ls) → e ≡ true
+exact-deeper : (d : ℕ) → Below d → (e : Bool) (s : Bits) (ls : Group) → All-follow (record { cut = []; exact = e; suffix = s } ∷ ls) → e ≡ true
     → level-entries (suc d) 0 (record { cut = []; exact = e; suffix = s } ∷ ls) ≡ entries-below (suc d) (record { cut = []; exact = e; suffix = s } ∷ ls)
 unfolding entries-below child-groups level-entries leaf-entries subtrees insert-cut
-exact-deeper d b e s ls c n = rw (exact-next e s ls n (c .0), n, leb·zero (suc (suc d)), leb·suc-zero (suc d), eqb·suc-zero d) (deeper-divided d 1 refl b (divided ls (c .1) (chain-some _ ls c)))
+exact-deeper d b e s ls c n = rw (exact-next e s ls n (c .0), n, leb·zero (suc (suc d)), leb·suc-zero (suc d), eqb·suc-zero d) (deeper-divided d 1 refl b (divided ls (c .1) (follow-some _ ls c)))
 
-level : (d : ℕ) → ((k : ℕ) → suc k ≡ d → Below k) → (k : Bytes) (e : Bool) (s : Bits) (ls : Group) → Chain (record { cut = k; exact = e; suffix = s } ∷ ls) → Node-leaf e k
+level : (d : ℕ) → ((k : ℕ) → suc k ≡ d → Below k) → (k : Bytes) (e : Bool) (s : Bits) (ls : Group) → All-follow (record { cut = k; exact = e; suffix = s } ∷ ls) → Node-leaf e k
     → level-entries d 0 (record { cut = k; exact = e; suffix = s } ∷ ls) ≡ entries-below d (record { cut = k; exact = e; suffix = s } ∷ ls)
 unfolding entries-below node-entries node-of exact-of child-groups
-level zero f (x ∷ k) e s ls c n = first-divided 0 (omega arith) (divided (record { cut = x ∷ k; exact = e; suffix = s } ∷ ls) c (tt, chain-some _ ls c))
-level (suc d) f (x ∷ k) e s ls c n = deeper-divided d 0 refl (f d refl) (divided (record { cut = x ∷ k; exact = e; suffix = s } ∷ ls) c (tt, chain-some _ ls c))
+level zero f (x ∷ k) e s ls c n = first-divided 0 (omega arith) (divided (record { cut = x ∷ k; exact = e; suffix = s } ∷ ls) c (tt, follow-some _ ls c))
+level (suc d) f (x ∷ k) e s ls c n = deeper-divided d 0 refl (f d refl) (divided (record { cut = x ∷ k; exact = e; suffix = s } ∷ ls) c (tt, follow-some _ ls c))
 level zero f [] e s ls c n = exact-first e s ls c n
 level (suc d) f [] e s ls c n = exact-deeper d (f d refl) e s ls c n
 
 -- The entries of the level d below a node are those that its leaves add.
-pub level-entries-below : (d : ℕ) (l : Leaf) (ls : Group) → Chain (l ∷ ls) → Node-leaf (l .exact) (l .cut) → level-entries d 0 (l ∷ ls) ≡ entries-below d (l ∷ ls)
+pub level-entries-below : (d : ℕ) (l : Leaf) (ls : Group) → All-follow (l ∷ ls) → Node-leaf (l .exact) (l .cut) → level-entries d 0 (l ∷ ls) ≡ entries-below d (l ∷ ls)
 unfolding Below
 level-entries-below zero l ls c n = level zero (λ k e. absurd (omega arith)) (l .cut) (l .exact) (l .suffix) ls c n
 level-entries-below (suc d) l ls c n = level (suc d) (λ k e. let q : d ≡ k = omega arith in rw (← q) (λ m ms c n. level-entries-below d m ms c n)) (l .cut) (l .exact) (l .suffix) ls c n

@@ -15,7 +15,7 @@ use Rattle.spec.specs.Leaves.{Leaf, leaves, suffix-bits}
 use Rattle.theory.specs.Terms.{Ascending}
 use Rattle.theory.specs.Order.{shared-comm, below-cons, shared-eq, shared-ne, above-short, shared-le}
 use Rattle.build_laws.specs.SlotWidths.{width-of}
-use Rattle.build_laws.specs.LevelEntries.{Follows, Chain, Node-leaf}
+use Rattle.build_laws.specs.LevelEntries.{Follows, All-follow, Node-leaf}
 use Rattle.build_laws.specs.TrieEntries.{Rooted}
 use Rattle.theory.specs.Neighbours.{next-shared, neighbour-leaf, neighbour-leaves, next-shared-le, Nonempty, leaves-by-neighbours}
 use Rattle.build_laws.specs.declared.SlotBits.{SlotBits}
@@ -50,21 +50,21 @@ unfoldable pub taken : ℕ → ℕ → ℕ → ℕ
 taken p q n = cond (eqb q n) (suc n) (suc (max p q))
 
 -- the cut key
-pub neighbour-cut : (w : SlotBits) (p q : ℕ) (k : Bytes) → neighbour-leaf (w .hash) (w .real) p q k .cut ≡ take (taken p q (length k)) k
+pub neighbour-cut : (w : SlotBits) (p q : ℕ) (k : Bytes) → neighbour-leaf (w .«hash_width») (w .«real_width») p q k .cut ≡ take (taken p q (length k)) k
 unfolding neighbour-leaf taken
 neighbour-cut w p q k = go (eqb q (length k))
   where
-    go : (b : Bool) → cond {A = Leaf} b (record { cut = k; exact = true; suffix = replicate (width-of w) false }) (record { cut = take (suc (max p q)) k; exact = false; suffix = suffix-bits (w .hash) (w .real) (suc (max p q)) k }) .cut
+    go : (b : Bool) → cond {A = Leaf} b (record { cut = k; exact = true; suffix = replicate (width-of w) false }) (record { cut = take (suc (max p q)) k; exact = false; suffix = suffix-bits (w .«hash_width») (w .«real_width») (suc (max p q)) k }) .cut
         ≡ take (cond b (suc (length k)) (suc (max p q))) k
     go true = sym (take-all (suc (length k)) k (omega arith))
     go false = refl
 
 -- the kind
-pub neighbour-exact : (w : SlotBits) (p q : ℕ) (k : Bytes) → neighbour-leaf (w .hash) (w .real) p q k .exact ≡ eqb q (length k)
+pub neighbour-exact : (w : SlotBits) (p q : ℕ) (k : Bytes) → neighbour-leaf (w .«hash_width») (w .«real_width») p q k .exact ≡ eqb q (length k)
 unfolding neighbour-leaf
 neighbour-exact w p q k = go (eqb q (length k))
   where
-    go : (b : Bool) → cond {A = Leaf} b (record { cut = k; exact = true; suffix = replicate (width-of w) false }) (record { cut = take (suc (max p q)) k; exact = false; suffix = suffix-bits (w .hash) (w .real) (suc (max p q)) k }) .exact ≡ b
+    go : (b : Bool) → cond {A = Leaf} b (record { cut = k; exact = true; suffix = replicate (width-of w) false }) (record { cut = take (suc (max p q)) k; exact = false; suffix = suffix-bits (w .«hash_width») (w .«real_width») (suc (max p q)) k }) .exact ≡ b
     go true = refl
     go false = refl
 
@@ -114,29 +114,29 @@ shared-take (x ∷ a) (y ∷ b) (suc u) (suc v) p q = go (eqb x y) p q (λ h k. 
 
 -- a key and its next: p and q shared before and behind the key, r behind the next
 module _ (w : SlotBits) (p r : ℕ) (k m : Bytes) (h : below k m ≡ true) (l : p < length k) (s : r ≤ length m) where
-  neighbours-follow : Follows (neighbour-leaf (w .hash) (w .real) p (shared k m) k .exact) (neighbour-leaf (w .hash) (w .real) p (shared k m) k .cut) (neighbour-leaf (w .hash) (w .real) (shared k m) r m .cut)
+  neighbours-follow : Follows (neighbour-leaf (w .«hash_width») (w .«real_width») p (shared k m) k .exact) (neighbour-leaf (w .«hash_width») (w .«real_width») p (shared k m) k .cut) (neighbour-leaf (w .«hash_width») (w .«real_width») (shared k m) r m .cut)
   neighbours-follow = rw (neighbour-cut w p (shared k m) k, neighbour-cut w (shared k m) r m)
       (cuts-follow _ k m (taken p (shared k m) (length k)) (taken (shared k m) r (length m)) h
       (taken-behind p (shared k m) (length k) (shared-le k m)) (taken-before (shared k m) r (length m) (omega (arith, above-short k m h, shared-comm k m))) (neighbour-exact w p (shared k m) k))
 
   -- the cut keys of neighbours share what the keys share
-  pub neighbours-shared : shared (neighbour-leaf (w .hash) (w .real) p (shared k m) k .cut) (neighbour-leaf (w .hash) (w .real) (shared k m) r m .cut) ≡ shared k m
+  pub neighbours-shared : shared (neighbour-leaf (w .«hash_width») (w .«real_width») p (shared k m) k .cut) (neighbour-leaf (w .«hash_width») (w .«real_width») (shared k m) r m .cut) ≡ shared k m
   neighbours-shared = rw (neighbour-cut w p (shared k m) k, neighbour-cut w (shared k m) r m)
       (shared-take k m (taken p (shared k m) (length k)) (taken (shared k m) r (length m))
       (taken-behind p (shared k m) (length k) (shared-le k m)) (taken-before (shared k m) r (length m) (omega (arith, above-short k m h, shared-comm k m))))
 
-neighbours-chain : (w : SlotBits) (p : ℕ) (k : Bytes) (ks : List Bytes) → p < length k → Ascending (k ∷ ks) → Chain (neighbour-leaves (w .hash) (w .real) p (k ∷ ks))
+all-neighbours-follow : (w : SlotBits) (p : ℕ) (k : Bytes) (ks : List Bytes) → p < length k → Ascending (k ∷ ks) → All-follow (neighbour-leaves (w .«hash_width») (w .«real_width») p (k ∷ ks))
 unfolding neighbour-leaves next-shared
-neighbours-chain w p k [] l a = (neighbour-exact w p 0 k ∙ ne-eqb 0 (length k) (λ z. omega arith), tt)
-neighbours-chain w p k (m ∷ ms) l a = (neighbours-follow w p (next-shared m ms) k m (a .0 .0) l (next-shared-le m ms), neighbours-chain w (shared k m) m ms (omega (arith, above-short k m (a .0 .0), shared-comm k m)) (a .1))
+all-neighbours-follow w p k [] l a = (neighbour-exact w p 0 k ∙ ne-eqb 0 (length k) (λ z. omega arith), tt)
+all-neighbours-follow w p k (m ∷ ms) l a = (neighbours-follow w p (next-shared m ms) k m (a .0 .0) l (next-shared-le m ms), all-neighbours-follow w (shared k m) m ms (omega (arith, above-short k m (a .0 .0), shared-comm k m)) (a .1))
 
 -- ---- one key's entries
-pub neighbour-length : (w : SlotBits) (p q : ℕ) (k : Bytes) → p < length k → q ≤ length k → length (neighbour-leaf (w .hash) (w .real) p q k .cut) ≡ cut-length p q (length k)
+pub neighbour-length : (w : SlotBits) (p q : ℕ) (k : Bytes) → p < length k → q ≤ length k → length (neighbour-leaf (w .«hash_width») (w .«real_width») p q k .cut) ≡ cut-length p q (length k)
 unfolding neighbour-leaf cut-length
 neighbour-length w p q k h l = go (eqb q (length k)) refl
   where
     go : (b : Bool) → eqb q (length k) ≡ b
-        → length (cond {A = Leaf} b (record { cut = k; exact = true; suffix = replicate (width-of w) false }) (record { cut = take (suc (max p q)) k; exact = false; suffix = suffix-bits (w .hash) (w .real) (suc (max p q)) k }) .cut)
+        → length (cond {A = Leaf} b (record { cut = k; exact = true; suffix = replicate (width-of w) false }) (record { cut = take (suc (max p q)) k; exact = false; suffix = suffix-bits (w .«hash_width») (w .«real_width») (suc (max p q)) k }) .cut)
         ≡ cond b (length k) (suc (max p q))
     go true e = refl
     go false e =
@@ -156,12 +156,12 @@ cut-taken p q n = go (eqb q n)
     go false = omega arith
 
 -- an open leaf's suffix stands behind its cut key
-pub neighbour-suffix : (w : SlotBits) (p q : ℕ) (k : Bytes) → (q ≡ length k → ⊥) → neighbour-leaf (w .hash) (w .real) p q k .suffix ≡ suffix-bits (w .hash) (w .real) (cut-length p q (length k)) k
+pub neighbour-suffix : (w : SlotBits) (p q : ℕ) (k : Bytes) → (q ≡ length k → ⊥) → neighbour-leaf (w .«hash_width») (w .«real_width») p q k .suffix ≡ suffix-bits (w .«hash_width») (w .«real_width») (cut-length p q (length k)) k
 unfolding neighbour-leaf cut-length
 neighbour-suffix w p q k e = rw (ne-eqb q (length k) e)
 
 -- an exact leaf's slot is zero
-pub neighbour-slot : (w : SlotBits) (p q : ℕ) (k : Bytes) → q ≡ length k → neighbour-leaf (w .hash) (w .real) p q k .suffix ≡ replicate (width-of w) false
+pub neighbour-slot : (w : SlotBits) (p q : ℕ) (k : Bytes) → q ≡ length k → neighbour-leaf (w .«hash_width») (w .«real_width») p q k .suffix ≡ replicate (width-of w) false
 unfolding neighbour-leaf
 neighbour-slot w p q k e = rw (eq-eqb q (length k) e)
 
@@ -173,15 +173,15 @@ cut-some p q n h e = go (eqb q n) e
     go true e = omega arith
     go false e = omega arith
 
-rooted : (w : SlotBits) (ks : List Bytes) → Nonempty ks → Ascending ks → Chain (neighbour-leaves (w .hash) (w .real) 0 ks) × Rooted (neighbour-leaves (w .hash) (w .real) 0 ks)
+rooted : (w : SlotBits) (ks : List Bytes) → Nonempty ks → Ascending ks → All-follow (neighbour-leaves (w .«hash_width») (w .«real_width») 0 ks) × Rooted (neighbour-leaves (w .«hash_width») (w .«real_width») 0 ks)
 unfolding neighbour-leaves
 rooted w [] s a = (tt, tt)
-rooted w (k ∷ ks) s a = (neighbours-chain w 0 k ks (s .0) a, go (neighbour-leaf (w .hash) (w .real) 0 (next-shared k ks) k .cut) (neighbour-length w 0 (next-shared k ks) k (s .0) (next-shared-le k ks)))
+rooted w (k ∷ ks) s a = (all-neighbours-follow w 0 k ks (s .0) a, go (neighbour-leaf (w .«hash_width») (w .«real_width») 0 (next-shared k ks) k .cut) (neighbour-length w 0 (next-shared k ks) k (s .0) (next-shared-le k ks)))
   where
-    go : (c : Bytes) → length c ≡ cut-length 0 (next-shared k ks) (length k) → Node-leaf (neighbour-leaf (w .hash) (w .real) 0 (next-shared k ks) k .exact) c
+    go : (c : Bytes) → length c ≡ cut-length 0 (next-shared k ks) (length k) → Node-leaf (neighbour-leaf (w .«hash_width») (w .«real_width») 0 (next-shared k ks) k .exact) c
     go [] e = absurd (cut-some 0 (next-shared k ks) (length k) (s .0) e)
     go (x ∷ c) e = tt
 
 -- so are the leaves as document 01 has them
-pub leaves-chain : (w : SlotBits) (ks : List Bytes) → Nonempty ks → Ascending ks → Chain (leaves (w .hash) (w .real) ks) × Rooted (leaves (w .hash) (w .real) ks)
-leaves-chain w ks s a = let e = leaves-by-neighbours (w .hash) (w .real) ks s a in rw e (rooted w ks s a)
+pub leaves-follow : (w : SlotBits) (ks : List Bytes) → Nonempty ks → Ascending ks → All-follow (leaves (w .«hash_width») (w .«real_width») ks) × Rooted (leaves (w .«hash_width») (w .«real_width») ks)
+leaves-follow w ks s a = let e = leaves-by-neighbours (w .«hash_width») (w .«real_width») ks s a in rw e (rooted w ks s a)

@@ -19,7 +19,7 @@ pub small-of : (s : Bytes) → ((i : ℕ) → getD s i 0 < 256) → Is-bytes s
 small-of [] f = tt
 small-of (x ∷ s) f = (f 0, small-of s (λ i. f (suc i)))
 
--- the bits of two runs of bytes
+-- the bits of two lists of bytes
 pub unpack-append : (a b : Bytes) → unpack (a ++ b) ≡ unpack a ++ unpack b
 unfolding unpack
 unpack-append [] b = refl

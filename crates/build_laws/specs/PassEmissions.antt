@@ -114,7 +114,7 @@ leaf-level p q n = cond (eqb q n) n (max p q)
 
 -- the slot of a key's leaf: of an open leaf hash bits and the bits behind its cut, of an exact one zeros
 unfoldable pub key-slot : SlotBits → ℕ → ℕ → Bytes → Bits
-key-slot w p q k = cond (eqb q (length k)) (replicate (width-of w) false) (suffix-bits (w .hash) (w .real) (cut-length p q (length k)) k)
+key-slot w p q k = cond (eqb q (length k)) (replicate (width-of w) false) (suffix-bits (w .«hash_width») (w .«real_width») (cut-length p q (length k)) k)
 
 -- the slots of keys, each on its leaf's level
 unfoldable pub slot-emissions : SlotBits → ℕ → List Bytes → List (Emission Bits)

@@ -24,7 +24,7 @@ use Rattle.build_laws.specs.Limits.{counter-max}
 use Rattle.build_laws.specs.declared.Key.{Key}
 use Rattle.build_laws.specs.declared.Pass.{Pass}
 use Rattle.build_laws.specs.declared.SlotBits.{SlotBits}
-use Rattle.build_laws.specs.declared.Levels.{Levels}
+use Rattle.build_laws.specs.declared.LevelRange.{LevelRange}
 
 -- the bits at these positions set, one after the other
 unfoldable pub with-bits : List ℕ → Bytes → Bytes
@@ -120,15 +120,15 @@ pub record Listed-key (s : Bytes) (k : Key) : Type 0 where
   pub numbers : Key-numbers (pred (k .first)) (k .next) (k .len)
 
 -- the entries of a key of these bytes on some levels
-abbrev pub listed-entries : Levels → Key → Bytes → List (Emission Entry)
+abbrev pub listed-entries : LevelRange → Key → Bytes → List (Emission Entry)
 listed-entries l k b = key-entries (l .lo) (l .hi) (k .first) (k .next) b
 
 -- for each entry of a key on some levels, whether it is a leaf
-abbrev pub listed-leaves : Levels → Key → List (Emission Bool)
+abbrev pub listed-leaves : LevelRange → Key → List (Emission Bool)
 listed-leaves l k = key-emissions (l .lo) (l .hi) (λ d. not (continues-at (k .first) (k .next) (k .len) d)) true (pred (k .first)) (k .next) (k .len)
 
 -- for each, whether it is not the first of its node
-abbrev pub listed-later : Levels → Key → List (Emission Bool)
+abbrev pub listed-later : LevelRange → Key → List (Emission Bool)
 listed-later l k = key-emissions (l .lo) (l .hi) (λ d. not (leb (k .first) d)) false (pred (k .first)) (k .next) (k .len)
 
 -- there is room in so many bytes for the bits of entries
@@ -164,7 +164,7 @@ Keys-room Slots lo hi w p ks size c = Room one-step (slot-at (width-of w)) (8 * 
 -- ---- passes
 
 -- the pass of a body of entries on some levels
-abbrev pub entries-pass : Kind → Levels → Pass
+abbrev pub entries-pass : Kind → LevelRange → Pass
 entries-pass kind l = record { body = Entries kind; levels = l; slot = no-bits }
 
 -- the pass of the slots

@@ -21,7 +21,7 @@ pub set-none : (bs : Bits) → set-bits [] bs ≡ bs
 unfolding set-bits
 set-none bs = refl
 
--- two runs of positions
+-- two lists of positions
 pub set-append : (is js : List ℕ) (bs : Bits) → set-bits (is ++ js) bs ≡ set-bits js (set-bits is bs)
 unfolding set-bits
 set-append [] js bs = refl
@@ -35,7 +35,7 @@ length-set-bits (i ∷ is) bs = length-set-bits is (set bs i true) ∙ length-se
 
 -- ---- which positions
 
--- a position among two runs
+-- a position among two lists
 pub has-append : (xs ys : List ℕ) (j : ℕ) → has (xs ++ ys) j ≡ has xs j || has ys j
 unfolding has any
 has-append [] ys j = refl
@@ -66,7 +66,7 @@ set-bits-at (i ∷ is) bs j h = set-bits-at is (set bs i true) j (omega (arith, 
 
 -- ---- the positions of ones
 
--- the positions of two runs of bits
+-- the positions of two lists of bits
 pub positions-append : (i : ℕ) (a b : Bits) → positions i (a ++ b) ≡ positions i a ++ positions (i + length a) b
 unfolding positions
 positions-append i [] b = let w : i ≡ i + 0 = omega arith in ap (λ (k : ℕ). positions k b) w

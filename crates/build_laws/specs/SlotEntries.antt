@@ -69,11 +69,11 @@ module _ (w : SlotBits) (p q : ℕ) (k : Bytes) (d : ℕ) where
   child-open z = ap₂ (λ (b : Bool) (c : ℕ). b || ltb (suc d) c) (ne-eqb q (length k) z) (cut-open (pred p) q (length k) z)
 
   open-first : (q ≡ length k → ⊥) → leaf-slots (cond (leb (pred p) d && ltb d (cut-length (pred p) q (length k))) (slotted-at w p q k d ∷ []) [])
-      ≡ cond (eqb d (max (pred p) q)) (suffix-bits (w .hash) (w .real) (cut-length (pred p) q (length k)) k ∷ []) []
+      ≡ cond (eqb d (max (pred p) q)) (suffix-bits (w .«hash_width») (w .«real_width») (cut-length (pred p) q (length k)) k ∷ []) []
   open-first z = ap (λ (c : ℕ). leaf-slots (cond (leb (pred p) d && ltb d c) (slotted-at w p q k d ∷ []) [])) (cut-open (pred p) q (length k) z) ∙ go (eqb d (max (pred p) q)) refl
     where
-      slot-is : continues-at p q (length k) d ≡ false → slotted-at w p q k d .slot ≡ suffix-bits (w .hash) (w .real) (cut-length (pred p) q (length k)) k
-      slot-is e = ap (λ (b : Bool). cond b [] (suffix-bits (w .hash) (w .real) (cut-length (pred p) q (length k)) k)) e
+      slot-is : continues-at p q (length k) d ≡ false → slotted-at w p q k d .slot ≡ suffix-bits (w .«hash_width») (w .«real_width») (cut-length (pred p) q (length k)) k
+      slot-is e = ap (λ (b : Bool). cond b [] (suffix-bits (w .«hash_width») (w .«real_width») (cut-length (pred p) q (length k)) k)) e
 
       inner : (a b : Bool) → ltb d (suc (max (pred p) q)) ≡ b → (d ≡ max (pred p) q → ⊥) → leaf-slots (cond (a && b) (slotted-at w p q k d ∷ []) []) ≡ []
       inner true true e n = left-out (slotted-at w p q k d) (child-open z ∙ lt-ltb (suc d) (suc (max (pred p) q)) (near (ltb-true d (suc (max (pred p) q)) e) n))
@@ -83,7 +83,7 @@ module _ (w : SlotBits) (p q : ℕ) (k : Bytes) (d : ℕ) where
       inner true false e n = leaf-slots-none
       inner false b e n = leaf-slots-none
 
-      go : (b : Bool) → eqb d (max (pred p) q) ≡ b → leaf-slots (cond (leb (pred p) d && ltb d (suc (max (pred p) q))) (slotted-at w p q k d ∷ []) []) ≡ cond b (suffix-bits (w .hash) (w .real) (cut-length (pred p) q (length k)) k ∷ []) []
+      go : (b : Bool) → eqb d (max (pred p) q) ≡ b → leaf-slots (cond (leb (pred p) d && ltb d (suc (max (pred p) q))) (slotted-at w p q k d ∷ []) []) ≡ cond b (suffix-bits (w .«hash_width») (w .«real_width») (cut-length (pred p) q (length k)) k ∷ []) []
       go true e =
           let h : d ≡ max (pred p) q = eqb-true d (max (pred p) q) e in
           let c : continues-at p q (length k) d ≡ false = child-open z ∙ le-ltb (suc d) (suc (max (pred p) q)) (omega arith) in
@@ -100,10 +100,10 @@ module _ (w : SlotBits) (p q : ℕ) (k : Bytes) (d : ℕ) where
       ∙ leaf-slots-append (cond (leb (pred p) d && ltb d (cut-length (pred p) q (length k))) (slotted-at w p q k d ∷ []) []) (cond (eqb q (length k) && eqb d (length k)) (exact-slotted w ∷ []) []))
     where
       go : (b : Bool) → eqb q (length k) ≡ b
-          → cond (eqb d (cond b (length k) (max (pred p) q))) (cond b (replicate (width-of w) false) (suffix-bits (w .hash) (w .real) (cut-length (pred p) q (length k)) k) ∷ []) []
+          → cond (eqb d (cond b (length k) (max (pred p) q))) (cond b (replicate (width-of w) false) (suffix-bits (w .«hash_width») (w .«real_width») (cut-length (pred p) q (length k)) k) ∷ []) []
           ≡ leaf-slots (cond (leb (pred p) d && ltb d (cut-length (pred p) q (length k))) (slotted-at w p q k d ∷ []) []) ++ leaf-slots (cond (b && eqb d (length k)) (exact-slotted w ∷ []) [])
       go true e = sym (ap₂ _++_ (exact-first (eqb-true q (length k) e) (leb (pred p) d && ltb d (cut-length (pred p) q (length k)))) (exact-last (eqb d (length k))))
-      go false e = sym (ap₂ _++_ (open-first (eqb-false q (length k) e)) leaf-slots-none ∙ append-nil (cond (eqb d (max (pred p) q)) (suffix-bits (w .hash) (w .real) (cut-length (pred p) q (length k)) k ∷ []) []))
+      go false e = sym (ap₂ _++_ (open-first (eqb-false q (length k) e)) leaf-slots-none ∙ append-nil (cond (eqb d (max (pred p) q)) (suffix-bits (w .«hash_width») (w .«real_width») (cut-length (pred p) q (length k)) k ∷ []) []))
 
 -- ---- all keys
 

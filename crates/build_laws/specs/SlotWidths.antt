@@ -5,12 +5,12 @@ use Rattle.build_laws.specs.declared.SlotBits.{SlotBits}
 
 -- the bits of a slot together
 abbrev pub width-of : SlotBits → ℕ
-width-of w = w .hash + w .real
+width-of w = w .«hash_width» + w .«real_width»
 
 -- those that settings say
 abbrev pub slot-bits : Settings → SlotBits
-slot-bits st = record { hash = st .hash-width; real = st .real-width }
+slot-bits st = record { «hash_width» = st .hash-width; «real_width» = st .real-width }
 
 -- a slot of no bits
 abbrev pub no-bits : SlotBits
-no-bits = record { hash = 0; real = 0 }
+no-bits = record { «hash_width» = 0; «real_width» = 0 }

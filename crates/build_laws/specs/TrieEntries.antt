@@ -11,7 +11,7 @@ use borrow.Author.Tests.{ltb-true, ltb-false}
 use Rattle.spec.specs.Bytes.{Bits, concat, iota}
 use Rattle.spec.specs.Leaves.{Leaf}
 use Rattle.spec.specs.Nodes.{Group, Node, label-of, has-child, slot}
-use Rattle.build_laws.specs.LevelEntries.{Tagged, tagged, level-entries, node-entries, entries-below, Chain, Node-leaf, level-entries-below}
+use Rattle.build_laws.specs.LevelEntries.{Tagged, tagged, level-entries, node-entries, entries-below, All-follow, Node-leaf, level-entries-below}
 use Rattle.build_laws.specs.declared.Entry.{Entry}
 use Rattle.theory.specs.Lists.{concat-append}
 use Rattle.theory.specs.LevelTrie.{child-groups, trie-levels, node-of, trie}
@@ -101,7 +101,7 @@ no-slotted : (d : ℕ) → level-entries d 0 [] ≡ []
 unfolding level-entries
 no-slotted d = refl
 
-trie-level : (d : ℕ) (ls : Group) → d < 64 → Chain ls → Rooted ls → concat (map node-entries (getD (trie ls) d [])) ≡ level-entries d 0 ls
+trie-level : (d : ℕ) (ls : Group) → d < 64 → All-follow ls → Rooted ls → concat (map node-entries (getD (trie ls) d [])) ≡ level-entries d 0 ls
 unfolding trie concat
 trie-level d [] h c r = sym (no-slotted d)
 trie-level d (l ∷ ls) h c r = coded-slotted 64 d ((l ∷ ls) ∷ []) h ∙ append-nil (entries-below d (l ∷ ls)) ∙ sym (level-entries-below d l ls c r)
@@ -111,24 +111,24 @@ unfolding concat
 map-concat f [] = refl
 map-concat f (x ∷ xs) = map-append f x (concat xs) ∙ ap (λ z. map f x ++ z) (map-concat f xs)
 
-level-of : (d : ℕ) (ls : Group) → d < 64 → Chain ls → Rooted ls → slotted-of (getD (trie ls) d []) ≡ map to-slotted (level-entries d 0 ls)
+level-of : (d : ℕ) (ls : Group) → d < 64 → All-follow ls → Rooted ls → slotted-of (getD (trie ls) d []) ≡ map to-slotted (level-entries d 0 ls)
 unfolding slotted-of
 level-of d ls h c r =
     ap concat (sym (map-map (map to-slotted) node-entries (getD (trie ls) d []))) ∙ sym (map-concat to-slotted (map node-entries (getD (trie ls) d []))) ∙ ap (map to-slotted) (trie-level d ls h c r)
 
 -- the entries of the levels from a, k of them
-trie-slotted : (a k : ℕ) (ls : Group) → a + k ≤ 64 → Chain ls → Rooted ls → slotted-of (concat (take k (drop a (trie ls)))) ≡ slotted-between a k ls
+trie-slotted : (a k : ℕ) (ls : Group) → a + k ≤ 64 → All-follow ls → Rooted ls → slotted-of (concat (take k (drop a (trie ls)))) ≡ slotted-between a k ls
 unfolding slotted-between
 trie-slotted a k ls h c r =
     ap slotted-of (levels-from k a (trie ls)) ∙ slotted-levels (λ d. getD (trie ls) d []) k a
     ∙ levels-same (λ d. slotted-of (getD (trie ls) d [])) (λ d. map to-slotted (level-entries d 0 ls)) 64 (λ d l. level-of d ls l c r) k a h
 
 -- the entries of the levels below a
-pub slotted-first : (a : ℕ) (ls : Group) → a ≤ 64 → Chain ls → Rooted ls → slotted-of (concat (take a (trie ls))) ≡ slotted-between 0 a ls
+pub slotted-first : (a : ℕ) (ls : Group) → a ≤ 64 → All-follow ls → Rooted ls → slotted-of (concat (take a (trie ls))) ≡ slotted-between 0 a ls
 slotted-first a ls h c r = trie-slotted 0 a ls (omega arith) c r
 
 -- the entries of the levels from a on
-pub slotted-rest : (a : ℕ) (ls : Group) → a ≤ 64 → Chain ls → Rooted ls → slotted-of (concat (drop a (trie ls))) ≡ slotted-between a (64 - a) ls
+pub slotted-rest : (a : ℕ) (ls : Group) → a ≤ 64 → All-follow ls → Rooted ls → slotted-of (concat (drop a (trie ls))) ≡ slotted-between a (64 - a) ls
 slotted-rest a ls h c r =
     ap (λ (z : List (List Node)). slotted-of (concat z)) (sym (take-all (64 - a) (drop a (trie ls)) (omega (arith, length-drop a (trie ls), trie-short ls))))
     ∙ trie-slotted a (64 - a) ls (omega arith) c r

@@ -33,7 +33,7 @@ pub enum Body {
 }
 
 // The levels from lo to below hi.
-pub struct Levels {
+pub struct LevelRange {
     pub lo: usize,
     pub hi: usize,
 }
@@ -47,13 +47,13 @@ pub struct Cell {
 
 // How many hash bits and how many real bits a suffix slot has. Its width is both together.
 pub struct SlotBits {
-    pub hash: usize,
-    pub real: usize,
+    pub hash_width: usize,
+    pub real_width: usize,
 }
 
 // A pass over the keys: the body that it fills, the levels that it goes over, and the bits of a suffix slot.
 pub struct Pass {
     pub body: Body,
-    pub levels: Levels,
+    pub levels: LevelRange,
     pub slot: SlotBits,
 }

@@ -6,8 +6,8 @@ use lib.ListN.{length, drop}
 use Rattle.spec.specs.Bytes.{Bytes}
 use Rattle.spec.specs.Keys.{below, Parsed-keys, refused, keys, with-key, parse-records}
 use Rattle.bits.specs.Bits.{key}
-use Rattle.build_list.specs.declared.Record.{Record}
-use Rattle.build_list.specs.declared.Record.the-variants.{Key, Refused as Record-refused}
+use Rattle.build_list.specs.declared.KeyRecord.{KeyRecord}
+use Rattle.build_list.specs.declared.KeyRecord.the-variants.{Key, Refused as Record-refused}
 use Rattle.build_list.specs.declared.KeyList.{KeyList}
 use Rattle.build_list.specs.declared.KeyList.the-variants.{Keys, Refused}
 
@@ -30,7 +30,7 @@ pub record Key-read (s : Bytes) (at done n : ℕ) : Type 0 where
       → parse-records (suc f) done last (drop at s) ≡ with-key (key s (at + 3) n) (parse-records f (suc done) (key s (at + 3) n) (drop (at + 3 + n) s))  -- a key above it is taken, and the records behind decide
 
 -- what reading the record at an offset, behind `done` others, tells: the number that turns the list down whatever key stood last, or its key
-abbrev pub Record-read : Bytes → ℕ → ℕ → Record → Type 0
+abbrev pub Record-read : Bytes → ℕ → ℕ → KeyRecord → Type 0
 Record-read s at done (Record-refused r) = (f : ℕ) (last : Bytes) → parse-records (suc f) done last (drop at s) ≡ refused r
 Record-read s at done (Key n) = Key-read s at done n
 
@@ -41,6 +41,6 @@ pub record Key-taken (s : Bytes) (at done : ℕ) (last : Bytes) (n : ℕ) : Type
   pub high : (f : ℕ) → parse-records (suc f) done last (drop at s) ≡ with-key (key s (at + 3) n) (parse-records f (suc done) (key s (at + 3) n) (drop (at + 3 + n) s))  -- the records behind decide
 
 -- what judging the record at an offset, behind `done` others, the last of them with the key `last`, tells: the number that turns the list down, or its key
-abbrev pub Record-judged : Bytes → ℕ → ℕ → Bytes → Record → Type 0
+abbrev pub Record-judged : Bytes → ℕ → ℕ → Bytes → KeyRecord → Type 0
 Record-judged s at done last (Record-refused r) = (f : ℕ) → parse-records (suc f) done last (drop at s) ≡ refused r
 Record-judged s at done last (Key n) = Key-taken s at done last n

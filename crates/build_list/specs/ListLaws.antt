@@ -8,7 +8,7 @@ use Rattle.spec.specs.Bytes.{Bytes}
 use Rattle.spec.specs.Keys.{Parsed-keys, refused, keys, with-key, parse-records, parse-keys}
 use Rattle.bits.specs.Bits.{key}
 use Rattle.build_list.specs.KeyList.{Record-judged, counted, key-list}
-use Rattle.build_list.specs.declared.Record.the-variants.{Key, Refused as Record-refused}
+use Rattle.build_list.specs.declared.KeyRecord.the-variants.{Key, Refused as Record-refused}
 use Rattle.build_list.specs.declared.KeyList.the-variants.{Keys, Refused}
 
 -- the whole list, before its first record

@@ -20,7 +20,7 @@ use Rattle.build_laws.specs.KeyRecords.{key-size, record-end, Records, Accepted
 use Rattle.build_laws.specs.KeyLaws.{key-length}
 use Rattle.build_laws.specs.Passes.{with-bits, write-entry, write-entries, key-entries, all-entries, entries-pass, pass-keys}
 use Rattle.build_laws.specs.declared.Entry.{Entry}
-use Rattle.build_laws.specs.declared.Levels.{Levels}
+use Rattle.build_laws.specs.declared.LevelRange.{LevelRange}
 use Rattle.build_laws.specs.declared.Kind.the-variants.{DP}
 
 -- every key has at least n bytes
@@ -73,7 +73,7 @@ none-set [] s h = refl
 none-set (emission d e ∷ es) s h = none-set es (write-entry DP (emission d e) s) (h .1) ∙ rw (h .0)
 
 -- The pass of D-IsPrefixKey over keys that reach over its levels leaves the bytes as they are.
-pub long-unset : (l : Levels) (ks : List Bytes) (s : Byte-state) → all-long (l .hi) ks ≡ true → pass-keys (entries-pass DP l) 0 ks s .bytes ≡ s .bytes
+pub long-unset : (l : LevelRange) (ks : List Bytes) (s : Byte-state) → all-long (l .hi) ks ≡ true → pass-keys (entries-pass DP l) 0 ks s .bytes ≡ s .bytes
 long-unset l ks s h = none-set (all-entries (l .lo) (l .hi) 0 ks) s (none-keys (l .lo) (l .hi) 0 ks h)
 
 -- ---- the lengths of a list's keys, record by record

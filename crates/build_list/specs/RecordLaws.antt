@@ -12,7 +12,7 @@ use Rattle.spec.specs.Bytes.{Bytes}
 use Rattle.spec.specs.Keys.{below, refused, with-key, parse-records}
 use Rattle.bits.specs.Bits.{key}
 use Rattle.build_list.specs.KeyList.{Record-read}
-use Rattle.build_list.specs.declared.Record.the-variants.{Key, Refused as Record-refused}
+use Rattle.build_list.specs.declared.KeyRecord.the-variants.{Key, Refused as Record-refused}
 
 -- by the bytes: b, and t behind it
 module _ (f done : ℕ) (last : Bytes) (b : ℕ) (t : Bytes) where

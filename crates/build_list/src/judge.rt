@@ -7,7 +7,7 @@ ghost use Rattle.bits.specs.Bits.{key};
 ghost use Rattle.build_list.specs.KeyList.{Record-read, Record-judged, key-list};
 use super::BEFORE_KEY;
 use super::KeyList;
-use super::Record;
+use super::KeyRecord;
 use bits::numbers::wide;
 use image::refusals::KEY_LENGTH_WRONG;
 use image::refusals::KEYS_UNORDERED;
@@ -21,50 +21,50 @@ use keys::compare::compare_fronts;
 const MAX_KEYS: usize = 65535;
 
 // The record at `at`, behind `done` others: 4, a record follows 65,535 others; 1, fewer than three bytes or a wrong mark; 2, length 0 or over 64; 1, key bytes missing.
-fn read_record(s: &[u8], at: usize, done: usize) -> Record
+fn read_record(s: &[u8], at: usize, done: usize) -> KeyRecord
     requires { ⌜ (at < length (now s)) × (done ≤ 65535) ⌝ }
     ensures { λ r. ⌜ Record-read (now (s .entry)) at done r ⌝ }
 {
     if done == MAX_KEYS {
-        return Record::Refused(TOO_MANY_KEYS);
+        return KeyRecord::Refused(TOO_MANY_KEYS);
     }
     if s.len() - at < BEFORE_KEY {
-        return Record::Refused(LIST_MALFORMED);
+        return KeyRecord::Refused(LIST_MALFORMED);
     }
     if s[at] != b'K' {
-        return Record::Refused(LIST_MALFORMED);
+        return KeyRecord::Refused(LIST_MALFORMED);
     }
     if s[at + 1] != b'Y' {
-        return Record::Refused(LIST_MALFORMED);
+        return KeyRecord::Refused(LIST_MALFORMED);
     }
     let n = wide(s[at + 2]);
     if n == 0 {
-        return Record::Refused(KEY_LENGTH_WRONG);
+        return KeyRecord::Refused(KEY_LENGTH_WRONG);
     }
     if MAX_KEY_BYTES < n {
-        return Record::Refused(KEY_LENGTH_WRONG);
+        return KeyRecord::Refused(KEY_LENGTH_WRONG);
     }
     if s.len() - (at + BEFORE_KEY) < n {
-        return Record::Refused(LIST_MALFORMED);
+        return KeyRecord::Refused(LIST_MALFORMED);
     }
-    Record::Key(n)
+    KeyRecord::Key(n)
 }
 
 // The record at `at`, behind `done` others, the last of them with its key of m bytes from `last`: the numbers of the record itself; then 3, key not above the last.
-fn judge_record(s: &[u8], at: usize, done: usize, last: usize, m: usize) -> Record
+fn judge_record(s: &[u8], at: usize, done: usize, last: usize, m: usize) -> KeyRecord
     requires { ⌜ (at < length (now s)) × (done ≤ 65535) × (last + m ≤ at) ⌝ }
     ensures { λ r. ⌜ Record-judged (now (s .entry)) at done (key (now (s .entry)) last m) r ⌝ }
 {
     let found = read_record(s, at, done);
     match found {
-        Record::Refused(r) => Record::Refused(r),
-        Record::Key(n) => {
+        KeyRecord::Refused(r) => KeyRecord::Refused(r),
+        KeyRecord::Key(n) => {
             let start = at + BEFORE_KEY;
             let o = compare_fronts(&s[last..], m, &s[start..], n);
             match o {
-                Order::Below => Record::Key(n),
-                Order::Equal => Record::Refused(KEYS_UNORDERED),
-                Order::Above => Record::Refused(KEYS_UNORDERED),
+                Order::Below => KeyRecord::Key(n),
+                Order::Equal => KeyRecord::Refused(KEYS_UNORDERED),
+                Order::Above => KeyRecord::Refused(KEYS_UNORDERED),
             }
         }
     }
@@ -81,10 +81,10 @@ pub fn judge_list(s: &[u8]) -> KeyList
     while at < s.len() {
         let found = judge_record(s, at, count, last, m);
         match found {
-            Record::Refused(r) => {
+            KeyRecord::Refused(r) => {
                 return KeyList::Refused(r);
             }
-            Record::Key(n) => {
+            KeyRecord::Key(n) => {
                 last = at + BEFORE_KEY;
                 m = n;
                 at = at + BEFORE_KEY + n;

@@ -7,7 +7,7 @@ pub mod read; // read.rt: the key of a record, what it shares with the next, and
 const BEFORE_KEY: usize = 3;
 
 // A record of a key list: a key of so many bytes, or the number that turns the list down.
-pub enum Record {
+pub enum KeyRecord {
     Key(usize),
     Refused(u32),
 }

@@ -130,7 +130,7 @@ no-keys Slots lo hi w p s = refl
 pub record Filling (p : Pass) (s : Bytes) (size at first : ℕ) (z final : Byte-state) : Type 0 where
   pub ks : List Bytes
   pub left : Keys-left s at first ks  -- these keys are left
-  pub run : pass-keys p first ks z ≡ final  -- what they do
+  pub final-is : pass-keys p first ks z ≡ final  -- what they do
   pub room : Pass-room p first ks size (z .cursors)  -- there is room for it
   pub width : length (z .cursors) ≡ counters  -- a cursor for each level
 
@@ -163,9 +163,9 @@ module _ (p : Pass) (s : Bytes) (size at first : ℕ) (z final : Byte-state) whe
             behind = record {
               ks = t .ks;
               left = t .behind;
-              run = ap (λ (i : ℕ). pass-keys p i (t .ks) o) (sym w)
+              final-is = ap (λ (i : ℕ). pass-keys p i (t .ks) o) (sym w)
                   ∙ sym (ap (λ (i : ℕ). pass-keys p (suc i) (t .ks) (write-key (p .body) (p .levels .lo) (p .levels .hi) (p .slot) first i b z)) e)
-                  ∙ sym (keys-next (p .body) (p .levels .lo) (p .levels .hi) (p .slot) first b (t .ks) z) ∙ sym (ap (λ (l : List Bytes). pass-keys p first l z) (t .is)) ∙ f .run;
+                  ∙ sym (keys-next (p .body) (p .levels .lo) (p .levels .hi) (p .slot) first b (t .ks) z) ∙ sym (ap (λ (l : List Bytes). pass-keys p first l z) (t .is)) ∙ f .final-is;
               room = subst (λ (i : ℕ). Pass-room p i (t .ks) size (o .cursors)) w
                   (subst (λ (i : ℕ). Pass-room p (suc i) (t .ks) size (write-key (p .body) (p .levels .lo) (p .levels .hi) (p .slot) first i b z .cursors)) e (r .1));
               width = cursors-width (p .body) (p .levels .lo) (p .levels .hi) (p .slot) first q b z ∙ f .width;
@@ -178,11 +178,11 @@ module _ (p : Pass) (s : Bytes) (size at first : ℕ) (z final : Byte-state) whe
 
   -- the end of the list
   pub fill-done : length s ≤ at → Filling p s size at first z final → z ≡ final
-  fill-done h f = sym (no-keys (p .body) (p .levels .lo) (p .levels .hi) (p .slot) first z) ∙ sym (ap (λ (l : List Bytes). pass-keys p first l z) (at-end s at first (f .ks) h (f .left))) ∙ f .run
+  fill-done h f = sym (no-keys (p .body) (p .levels .lo) (p .levels .hi) (p .slot) first z) ∙ sym (ap (λ (l : List Bytes). pass-keys p first l z) (at-end s at first (f .ks) h (f .left))) ∙ f .final-is
 
 -- the start of a pass
 pub fill-start : (p : Pass) (s : Bytes) (size : ℕ) (z : Byte-state) → Accepted-list s → length (z .cursors) ≡ counters → Pass-room p 0 (keys-of s) size (z .cursors) → Filling p s size 0 0 z (pass-keys p 0 (keys-of s) z)
-fill-start p s size z a w r = record { ks = keys-of s; left = at-start s a; run = refl; room = r; width = w }
+fill-start p s size z a w r = record { ks = keys-of s; left = at-start s a; final-is = refl; room = r; width = w }
 
 -- ---- counting
 

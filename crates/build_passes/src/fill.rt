@@ -18,14 +18,14 @@ use build_keys::sparse::write_later;
 use build_keys::sparse::write_leaf;
 use build_laws::Body;
 use build_laws::Kind;
-use build_laws::Levels;
+use build_laws::LevelRange;
 use build_laws::Pass;
 use build_laws::SlotBits;
 use build_list::read::all_long;
 use build_list::read::read_key;
 
-// The labels of all keys' entries on the levels go to the body, from cursors at the starts of the levels.
-fn fill_labels(out: &mut [u8], cur: &mut Counters, s: &[u8], l: Levels)
+// The labels of all keys' entries on the levels go to the body, from cursors at the offsets of the levels.
+fn fill_labels(out: &mut [u8], cur: &mut Counters, s: &[u8], l: LevelRange)
     requires { ⌜ Accepted-list (now s) × (length (now cur) ≡ counters) ⌝ }
     requires { ⌜ Pass-room (entries-pass SL l) 0 (keys-of (now s)) (length (now out)) (now cur) ⌝ }
     ensures { λ _. ⌜ byte-state (now (out .exit)) (now (cur .exit)) ≡ pass-keys (entries-pass SL l) 0 (keys-of (now (s .entry))) (byte-state (now (out .entry)) (now (cur .entry))) ⌝ }
@@ -40,8 +40,8 @@ fn fill_labels(out: &mut [u8], cur: &mut Counters, s: &[u8], l: Levels)
     }
 }
 
-// S-HasChild of all keys' entries on the levels, its bits flipped, goes to the body, from cursors at the starts of the levels.
-fn fill_leaves(out: &mut [u8], cur: &mut Counters, s: &[u8], l: Levels)
+// S-HasChild of all keys' entries on the levels, its bits flipped, goes to the body, from cursors at the offsets of the levels.
+fn fill_leaves(out: &mut [u8], cur: &mut Counters, s: &[u8], l: LevelRange)
     requires { ⌜ Accepted-list (now s) × (length (now cur) ≡ counters) ⌝ }
     requires { ⌜ Pass-room (entries-pass SC l) 0 (keys-of (now s)) (length (now out)) (now cur) ⌝ }
     ensures { λ _. ⌜ byte-state (now (out .exit)) (now (cur .exit)) ≡ pass-keys (entries-pass SC l) 0 (keys-of (now (s .entry))) (byte-state (now (out .entry)) (now (cur .entry))) ⌝ }
@@ -56,8 +56,8 @@ fn fill_leaves(out: &mut [u8], cur: &mut Counters, s: &[u8], l: Levels)
     }
 }
 
-// S-LOUDS of all keys' entries on the levels, its bits flipped, goes to the body, from cursors at the starts of the levels.
-fn fill_later(out: &mut [u8], cur: &mut Counters, s: &[u8], l: Levels)
+// S-LOUDS of all keys' entries on the levels, its bits flipped, goes to the body, from cursors at the offsets of the levels.
+fn fill_later(out: &mut [u8], cur: &mut Counters, s: &[u8], l: LevelRange)
     requires { ⌜ Accepted-list (now s) × (length (now cur) ≡ counters) ⌝ }
     requires { ⌜ Pass-room (entries-pass SB l) 0 (keys-of (now s)) (length (now out)) (now cur) ⌝ }
     ensures { λ _. ⌜ byte-state (now (out .exit)) (now (cur .exit)) ≡ pass-keys (entries-pass SB l) 0 (keys-of (now (s .entry))) (byte-state (now (out .entry)) (now (cur .entry))) ⌝ }
@@ -72,8 +72,8 @@ fn fill_later(out: &mut [u8], cur: &mut Counters, s: &[u8], l: Levels)
     }
 }
 
-// D-Labels of all keys' entries on the levels goes to the body, from cursors at the starts of the levels.
-fn fill_label_cells(out: &mut [u8], cur: &mut Counters, s: &[u8], l: Levels)
+// D-Labels of all keys' entries on the levels goes to the body, from cursors at the offsets of the levels.
+fn fill_label_cells(out: &mut [u8], cur: &mut Counters, s: &[u8], l: LevelRange)
     requires { ⌜ Accepted-list (now s) × (length (now cur) ≡ counters) ⌝ }
     requires { ⌜ Pass-room (entries-pass DL l) 0 (keys-of (now s)) (length (now out)) (now cur) ⌝ }
     ensures { λ _. ⌜ byte-state (now (out .exit)) (now (cur .exit)) ≡ pass-keys (entries-pass DL l) 0 (keys-of (now (s .entry))) (byte-state (now (out .entry)) (now (cur .entry))) ⌝ }
@@ -88,8 +88,8 @@ fn fill_label_cells(out: &mut [u8], cur: &mut Counters, s: &[u8], l: Levels)
     }
 }
 
-// D-HasChild of all keys' entries on the levels goes to the body, from cursors at the starts of the levels.
-fn fill_child_cells(out: &mut [u8], cur: &mut Counters, s: &[u8], l: Levels)
+// D-HasChild of all keys' entries on the levels goes to the body, from cursors at the offsets of the levels.
+fn fill_child_cells(out: &mut [u8], cur: &mut Counters, s: &[u8], l: LevelRange)
     requires { ⌜ Accepted-list (now s) × (length (now cur) ≡ counters) ⌝ }
     requires { ⌜ Pass-room (entries-pass DC l) 0 (keys-of (now s)) (length (now out)) (now cur) ⌝ }
     ensures { λ _. ⌜ byte-state (now (out .exit)) (now (cur .exit)) ≡ pass-keys (entries-pass DC l) 0 (keys-of (now (s .entry))) (byte-state (now (out .entry)) (now (cur .entry))) ⌝ }
@@ -104,8 +104,8 @@ fn fill_child_cells(out: &mut [u8], cur: &mut Counters, s: &[u8], l: Levels)
     }
 }
 
-// D-IsPrefixKey of all keys' entries on the levels goes to the body, from cursors at the starts of the levels.
-fn fill_exact_cells(out: &mut [u8], cur: &mut Counters, s: &[u8], l: Levels)
+// D-IsPrefixKey of all keys' entries on the levels goes to the body, from cursors at the offsets of the levels.
+fn fill_exact_cells(out: &mut [u8], cur: &mut Counters, s: &[u8], l: LevelRange)
     requires { ⌜ Accepted-list (now s) × (length (now cur) ≡ counters) ⌝ }
     requires { ⌜ Pass-room (entries-pass DP l) 0 (keys-of (now s)) (length (now out)) (now cur) ⌝ }
     ensures { λ _. ⌜ byte-state (now (out .exit)) (now (cur .exit)) ≡ pass-keys (entries-pass DP l) 0 (keys-of (now (s .entry))) (byte-state (now (out .entry)) (now (cur .entry))) ⌝ }
@@ -121,7 +121,7 @@ fn fill_exact_cells(out: &mut [u8], cur: &mut Counters, s: &[u8], l: Levels)
 }
 
 // D-IsPrefixKey of all keys' entries on the levels goes to the body. Where every key reaches over the levels none is an exact leaf there: the body stays as it is, and no pass is made.
-fn fill_exact(out: &mut [u8], cur: &mut Counters, s: &[u8], l: Levels)
+fn fill_exact(out: &mut [u8], cur: &mut Counters, s: &[u8], l: LevelRange)
     requires { ⌜ Accepted-list (now s) × (length (now cur) ≡ counters) ⌝ }
     requires { ⌜ Pass-room (entries-pass DP l) 0 (keys-of (now s)) (length (now out)) (now cur) ⌝ }
     ensures { λ _. ⌜ now (out .exit) ≡ pass-keys (entries-pass DP l) 0 (keys-of (now (s .entry))) (byte-state (now (out .entry)) (now (cur .entry))) .bytes ⌝ }
@@ -132,9 +132,9 @@ fn fill_exact(out: &mut [u8], cur: &mut Counters, s: &[u8], l: Levels)
     fill_exact_cells(out, cur, s, l);
 }
 
-// The slots of all keys' leaves go to the body, from cursors at the starts of the levels.
+// The slots of all keys' leaves go to the body, from cursors at the offsets of the levels.
 fn fill_slots(out: &mut [u8], cur: &mut Counters, s: &[u8], slot: SlotBits)
-    requires { ⌜ Accepted-list (now s) × (length (now cur) ≡ counters) × (slot .hash ≤ 16) × (slot .real ≤ 16) ⌝ }
+    requires { ⌜ Accepted-list (now s) × (length (now cur) ≡ counters) × (slot .«hash_width» ≤ 16) × (slot .«real_width» ≤ 16) ⌝ }
     requires { ⌜ Pass-room (slots-pass slot) 0 (keys-of (now s)) (length (now out)) (now cur) ⌝ }
     ensures { λ _. ⌜ byte-state (now (out .exit)) (now (cur .exit)) ≡ pass-keys (slots-pass slot) 0 (keys-of (now (s .entry))) (byte-state (now (out .entry)) (now (cur .entry))) ⌝ }
 {
@@ -148,9 +148,9 @@ fn fill_slots(out: &mut [u8], cur: &mut Counters, s: &[u8], slot: SlotBits)
     }
 }
 
-// What a pass has to write of all keys of the list goes to the body, from cursors at the starts of the levels.
+// What a pass has to write of all keys of the list goes to the body, from cursors at the offsets of the levels.
 pub fn write_keys(out: &mut [u8], cur: &mut Counters, s: &[u8], pass: Pass)
-    requires { ⌜ Accepted-list (now s) × (length (now cur) ≡ counters) × (pass .slot .hash ≤ 16) × (pass .slot .real ≤ 16) ⌝ }
+    requires { ⌜ Accepted-list (now s) × (length (now cur) ≡ counters) × (pass .slot .«hash_width» ≤ 16) × (pass .slot .«real_width» ≤ 16) ⌝ }
     requires { ⌜ Pass-room pass 0 (keys-of (now s)) (length (now out)) (now cur) ⌝ }
     ensures { λ _. ⌜ now (out .exit) ≡ pass-keys pass 0 (keys-of (now (s .entry))) (byte-state (now (out .entry)) (now (cur .entry))) .bytes ⌝ }
 {

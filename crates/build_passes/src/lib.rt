@@ -3,4 +3,4 @@
 pub mod flip; // flip.rt: a body's bits flipped
 pub mod fill; // fill.rt: a body from all keys
 pub mod count; // count.rt: entries, nodes and leaves of each level
-pub mod starts; // starts.rt: level starts and totals from the counters
+pub mod offsets; // offsets.rt: level offsets and totals from the counters

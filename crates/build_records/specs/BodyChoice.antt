@@ -1,4 +1,4 @@
--- The bodies that a pass fills: which of document 01's bodies each is, over which levels its pass goes, and which counters say where its levels start.
+-- The bodies that a pass fills: which of document 01's bodies each is, over which levels its pass goes, and which counters give the offsets of its levels.
 use Prim.Native.Nat.{ℕ}
 use mathlib.Core.List.{List}
 use Rattle.spec.specs.Bytes.{Bytes}
@@ -7,7 +7,7 @@ use Rattle.build_laws.specs.Counters.{entry-counts, node-counts, leaf-counts}
 use Rattle.build_laws.specs.declared.Kind.the-variants.{DL, DC, DP, SL, SC, SB}
 use Rattle.build_laws.specs.declared.Body.{Body}
 use Rattle.build_laws.specs.declared.Body.the-variants.{Entries, Slots}
-use Rattle.build_laws.specs.declared.Levels.{Levels}
+use Rattle.build_laws.specs.declared.LevelRange.{LevelRange}
 
 -- the body of document 01
 abbrev pub body-of : Body → Bodies → Bytes
@@ -30,11 +30,11 @@ counters-of (Entries SB) ks = entry-counts ks
 counters-of Slots ks = leaf-counts ks
 
 -- the levels: the dense ones, the sparse ones, or all
-abbrev pub levels-of : Body → ℕ → Levels
-levels-of (Entries DL) dense = record { lo = 0; hi = dense }
-levels-of (Entries DC) dense = record { lo = 0; hi = dense }
-levels-of (Entries DP) dense = record { lo = 0; hi = dense }
-levels-of (Entries SL) dense = record { lo = dense; hi = 64 }
-levels-of (Entries SC) dense = record { lo = dense; hi = 64 }
-levels-of (Entries SB) dense = record { lo = dense; hi = 64 }
-levels-of Slots dense = record { lo = 0; hi = 64 }
+abbrev pub level-range : Body → ℕ → LevelRange
+level-range (Entries DL) dense = record { lo = 0; hi = dense }
+level-range (Entries DC) dense = record { lo = 0; hi = dense }
+level-range (Entries DP) dense = record { lo = 0; hi = dense }
+level-range (Entries SL) dense = record { lo = dense; hi = 64 }
+level-range (Entries SC) dense = record { lo = dense; hi = 64 }
+level-range (Entries SB) dense = record { lo = dense; hi = 64 }
+level-range Slots dense = record { lo = 0; hi = 64 }

@@ -26,7 +26,7 @@ use Rattle.build_laws.specs.declared.Kind.the-variants.{DL, DC, DP, SL, SC, SB}
 use Rattle.build_laws.specs.declared.Body.{Body}
 use Rattle.build_laws.specs.declared.Body.the-variants.{Entries, Slots}
 use Rattle.build_laws.specs.Passes.{all-entries, set-all, write-keys}
-use Rattle.build_records.specs.BodyChoice.{body-of, counters-of, levels-of}
+use Rattle.build_records.specs.BodyChoice.{body-of, counters-of, level-range}
 use Rattle.build_keys.specs.ByteLevel.{set-all-bits, labels-put, leaves-set, later-set, label-cells-set, child-cells-set, exact-cells-set}
 use Rattle.build_records.specs.BodyRoom.{labels-map, leaves-map, later-map, label-cells-map, child-cells-map, exact-cells-map, room-SC, room-SB, room-SV, room-DL, room-DC, room-DP}
 use Rattle.build_laws.specs.Limits.{counters, counter-max}
@@ -55,8 +55,8 @@ module _ (st : Settings) (ks : List Bytes) (b : Built-from st ks) (cur : List �
   size-ok m = omega (arith, length-append (replicate m 0) rest, length-replicate {A = ℕ} m 0)
 
   -- The pass of a body leaves just that, and what lies behind as it was.
-  pub body-filled : (body : Body) → Cursors-at (counters-of body ks) (levels-of body (st .dense-levels) .lo) cur
-      → byte-state o c′ ≡ write-keys body (levels-of body (st .dense-levels) .lo) (levels-of body (st .dense-levels) .hi) (slot-bits st) 0 ks (byte-state (replicate (length (body-of body (key-bodies st ks))) 0 ++ rest) cur)
+  pub body-filled : (body : Body) → Cursors-at (counters-of body ks) (level-range body (st .dense-levels) .lo) cur
+      → byte-state o c′ ≡ write-keys body (level-range body (st .dense-levels) .lo) (level-range body (st .dense-levels) .hi) (slot-bits st) 0 ks (byte-state (replicate (length (body-of body (key-bodies st ks))) 0 ++ rest) cur)
       → o ≡ left-body st ks b body ++ rest
   body-filled (Entries SL) c e =
       let m : ℕ = length (key-bodies st ks .SL) in

@@ -27,7 +27,7 @@ use Rattle.build_laws.specs.declared.Kind.the-variants.{DL, DC, DP, SL, SC, SB}
 use Rattle.build_laws.specs.declared.Body.{Body}
 use Rattle.build_laws.specs.declared.Body.the-variants.{Entries, Slots}
 use Rattle.build_laws.specs.Passes.{all-entries, Keys-room}
-use Rattle.build_records.specs.BodyChoice.{body-of, counters-of, levels-of}
+use Rattle.build_records.specs.BodyChoice.{body-of, counters-of, level-range}
 use Rattle.build_laws.specs.Limits.{counters, counter-max}
 
 -- ---- more room
@@ -129,8 +129,8 @@ module _ (st : Settings) (ks : List Bytes) (b : Built-from st ks) (cur : List �
   room-SV c h = room-more one-step (slot-at (slot-width st)) _ (8 * size) _ counter-max (slot-emissions (slot-bits st) 0 ks) cur (eight _ size (omega (arith, length-SV st ks b))) (omega (arith, b .few)) (SV-room st ks b cur w c)
 
   -- A body's bytes have room for what its pass writes.
-  pub body-room : (body : Body) → Cursors-at (counters-of body ks) (levels-of body (st .dense-levels) .lo) cur → length (body-of body (key-bodies st ks)) ≤ size
-      → Keys-room body (levels-of body (st .dense-levels) .lo) (levels-of body (st .dense-levels) .hi) (slot-bits st) 0 ks size cur
+  pub body-room : (body : Body) → Cursors-at (counters-of body ks) (level-range body (st .dense-levels) .lo) cur → length (body-of body (key-bodies st ks)) ≤ size
+      → Keys-room body (level-range body (st .dense-levels) .lo) (level-range body (st .dense-levels) .hi) (slot-bits st) 0 ks size cur
   body-room (Entries SL) c h = room-map (λ (e : Entry). e .label) one-step at-cursor size counter-max (all-entries (st .dense-levels) 64 0 ks) cur (rw (labels-map (st .dense-levels) ks) at (room-SL c h))
   body-room (Entries SC) c h = room-map (λ (e : Entry). not (e .child)) one-step bit-at (8 * size) counter-max (all-entries (st .dense-levels) 64 0 ks) cur (rw (leaves-map (st .dense-levels) ks) at (room-SC c h))
   body-room (Entries SB) c h = room-map (λ (e : Entry). not (e .start)) one-step bit-at (8 * size) counter-max (all-entries (st .dense-levels) 64 0 ks) cur (rw (later-map (st .dense-levels) ks) at (room-SB c h))

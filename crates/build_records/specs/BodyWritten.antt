@@ -10,10 +10,10 @@ use Rattle.spec.specs.Bytes.{Bytes, blocks}
 use Rattle.spec.specs.Keys.{keys-of}
 use Rattle.spec.specs.Image.{Counts}
 use Rattle.theory.specs.Terms.{Is-bytes}
-use Rattle.bits.specs.Bits.{placed, rank}
-use Rattle.bits.specs.Placing.{lent-front}
+use Rattle.bits.specs.Bits.{overlaid, rank}
+use Rattle.bits.specs.Overlaying.{lent-front}
 use Rattle.bits.specs.Parts.{mid-is}
-use Rattle.rank_tables.specs.Entries.{rank-entries, sample-entries}
+use Rattle.rank_tables.specs.TableEntries.{rank-table, sample-table}
 use Rattle.rank_tables.specs.Tables.{spanned, Ranks-room, Samples-room}
 use Rattle.rank_tables.specs.declared.Span.{Span}
 use Rattle.build_laws.specs.SlotWidths.{slot-bits}
@@ -24,13 +24,13 @@ use Rattle.build_laws.specs.BytePass.{Byte-state, byte-state}
 use Rattle.build_laws.specs.KeyRecords.{Accepted-list}
 use Rattle.build_keys.specs.CountPass.{list-counts}
 use Rattle.build_laws.specs.Passes.{pass-keys, Pass-room}
-use Rattle.build_records.specs.BodyChoice.{counters-of, levels-of}
+use Rattle.build_records.specs.BodyChoice.{counters-of, level-range}
 use Rattle.build_records.specs.BodyRoom.{counters-few, body-room}
 use Rattle.build_records.specs.BodyFilled.{left-body, body-filled, left-flipped, flipped-fits, flipped-again, left-whole}
 use Rattle.build_passes.specs.FlippedBits.{flipped}
 use Rattle.build_records.specs.Plan.{Planned, plan-settings, source-at, source-counters, keys-counters, counters-at, list-body, body-at, size-at, start-at, span-at, body-size, ends-before, plan-short, entries-few, Laid-out, Body-room, Ranks-of, Samples-of, Gives, Writing, record-room}
 use Rattle.build_laws.specs.declared.Body.{Body}
-use Rattle.build_laws.specs.declared.Levels.{Levels}
+use Rattle.build_laws.specs.declared.LevelRange.{LevelRange}
 use Rattle.build_laws.specs.declared.Pass.{Pass}
 use Rattle.build_records.specs.declared.Plan.{Plan}
 use Rattle.build_records.specs.declared.Source.the-variants.{Keys}
@@ -46,22 +46,22 @@ pub empty-body : (body out : Bytes) → length body ≡ 0 → out ≡ body ++ dr
 empty-body [] out e = refl
 empty-body (x ∷ body) out e = absurd (omega arith)
 
-module _ (list : Bytes) (p : Plan) (w : Planned list p) (b : Body) (cnt : List ℕ) (k : cnt ≡ counters-of b (keys-of list)) (l : Levels) (e : l ≡ levels-of b (p .header .dense .levels)) where
+module _ (list : Bytes) (p : Plan) (w : Planned list p) (b : Body) (cnt : List ℕ) (k : cnt ≡ counters-of b (keys-of list)) (l : LevelRange) (e : l ≡ level-range b (p .header .dense .levels)) where
   -- the counters' sums are small
   pub sums-small : sums cnt (l .lo) counters ≤ counter-max
   sums-small = subst (λ (c : List ℕ). sums c (l .lo) counters ≤ counter-max) (sym k) (counters-few b (keys-of list) (l .lo) counters (w .ready .built .few) (omega arith))
 
   -- the pass that fills the body
-  abbrev body-pass : Levels → Pass
+  abbrev body-pass : LevelRange → Pass
   body-pass i = record { body = b; levels = i; slot = slot-bits (plan-settings p) }
 
   module _ (cur : List ℕ) (wide : length cur ≡ counters) (c : Cursors-at cnt (l .lo) cur) where
-    starts : Cursors-at (counters-of b (keys-of list)) (levels-of b (p .header .dense .levels) .lo) cur
-    starts = subst (λ (i : Levels). Cursors-at (counters-of b (keys-of list)) (i .lo) cur) e (subst (λ (x : List ℕ). Cursors-at x (l .lo) cur) k c)
+    starts : Cursors-at (counters-of b (keys-of list)) (level-range b (p .header .dense .levels) .lo) cur
+    starts = subst (λ (i : LevelRange). Cursors-at (counters-of b (keys-of list)) (i .lo) cur) e (subst (λ (x : List ℕ). Cursors-at x (l .lo) cur) k c)
 
     -- its bytes have room for what the pass writes
     pub pass-room : (size : ℕ) → length (list-body list p b) ≤ size → Pass-room (body-pass l) 0 (keys-of list) size cur
-    pass-room size h = subst (λ (i : Levels). Pass-room (body-pass i) 0 (keys-of list) size cur) (sym e) (body-room (plan-settings p) (keys-of list) (w .ready .built) cur wide size b starts h)
+    pass-room size h = subst (λ (i : LevelRange). Pass-room (body-pass i) 0 (keys-of list) size cur) (sym e) (body-room (plan-settings p) (keys-of list) (w .ready .built) cur wide size b starts h)
 
     -- what the pass leaves in bytes that were zero
     pub pass-leaves : (len : ℕ) (rest o z : Bytes) → len ≡ length (list-body list p b) → Is-bytes o → Is-bytes rest → z ≡ replicate len 0 ++ rest
@@ -69,8 +69,8 @@ module _ (list : Bytes) (p : Plan) (w : Planned list p) (b : Body) (cnt : List �
     pass-leaves len rest o z n x y q f =
         let r : Byte-state = pass-keys (body-pass l) 0 (keys-of list) (byte-state z cur) in
         body-filled (plan-settings p) (keys-of list) (w .ready .built) cur wide rest o (r .cursors) x y b starts
-        (ap (λ (i : Bytes). byte-state i (r .cursors)) f ∙ ap (λ (i : Levels). pass-keys (body-pass i) 0 (keys-of list) (byte-state z cur)) e
-        ∙ ap (λ (s : Bytes). pass-keys (body-pass (levels-of b (p .header .dense .levels))) 0 (keys-of list) (byte-state s cur)) (q ∙ ap (λ (i : ℕ). replicate i 0 ++ rest) n))
+        (ap (λ (i : Bytes). byte-state i (r .cursors)) f ∙ ap (λ (i : LevelRange). pass-keys (body-pass i) 0 (keys-of list) (byte-state z cur)) e
+        ∙ ap (λ (s : Bytes). pass-keys (body-pass (level-range b (p .header .dense .levels))) 0 (keys-of list) (byte-state s cur)) (q ∙ ap (λ (i : ℕ). replicate i 0 ++ rest) n))
 
 -- a body that is left with its bits flipped has room for a bit of each entry
 pub flip-room : (list : Bytes) (p : Plan) (w : Planned list p) (b : Body) (size : ℕ) → left-flipped b ≡ true → length (list-body list p b) ≤ size → p .header .sparse .entries ≤ 8 * size
@@ -127,9 +127,9 @@ module _ (list : Bytes) (p : Plan) (i : ℕ) (out : Bytes) (w : Writing list p i
 
     -- what a pass leaves
     pub keys-leave : (b : Body) → Gives list p i (Keys b) → (ys : Bytes) → ys ≡ list-body list p b ++ drop (s .len) (midOf (s .at) (length out - s .at) out)
-        → putMid (s .at) (length out - s .at) out ys ≡ placed out (start-at p i + 6) (body-at list p i)
+        → putMid (s .at) (length out - s .at) out ys ≡ overlaid out (start-at p i + 6) (body-at list p i)
     keys-leave b g ys f =
-        lent-front out ys (list-body list p b) (s .at) (s .len) (keys-size b g) span-within f ∙ ap₂ (λ (n : ℕ) (x : Bytes). placed out n x) at-is g
+        lent-front out ys (list-body list p b) (s .at) (s .len) (keys-size b g) span-within f ∙ ap₂ (λ (n : ℕ) (x : Bytes). overlaid out n x) at-is g
 
     module _ (j : ℕ) (t : Span) (f : t ≡ span-at p j) where
       -- the counted body is an earlier record's
@@ -151,10 +151,10 @@ module _ (list : Bytes) (p : Plan) (i : ℕ) (out : Bytes) (w : Writing list p i
           }
 
       -- what ranks leave
-      pub ranks-leave : (words : ℕ) → Ranks-of list p i j words → (o : Bytes) → o ≡ placed out (s .at) (rank-entries (64 * words) (spanned out t) (s .len / 4)) → o ≡ placed out (start-at p i + 6) (body-at list p i)
+      pub ranks-leave : (words : ℕ) → Ranks-of list p i j words → (o : Bytes) → o ≡ overlaid out (s .at) (rank-table (64 * words) (spanned out t) (s .len / 4)) → o ≡ overlaid out (start-at p i + 6) (body-at list p i)
       ranks-leave words g o z =
-          z ∙ ap₂ (λ (n m : ℕ). placed out n (rank-entries (64 * words) (spanned out t) (m / 4))) at-is len-is
-          ∙ ap (λ (x : Bytes). placed out (start-at p i + 6) (rank-entries (64 * words) x (size-at p i / 4))) (counted (g .before)) ∙ ap (placed out (start-at p i + 6)) (g .table)
+          z ∙ ap₂ (λ (n m : ℕ). overlaid out n (rank-table (64 * words) (spanned out t) (m / 4))) at-is len-is
+          ∙ ap (λ (x : Bytes). overlaid out (start-at p i + 6) (rank-table (64 * words) x (size-at p i / 4))) (counted (g .before)) ∙ ap (overlaid out (start-at p i + 6)) (g .table)
 
       -- what samples ask
       pub samples-ask : Samples-of list p i j → Samples-room out t (p .header .sparse .entries) (s .at)
@@ -166,8 +166,8 @@ module _ (list : Bytes) (p : Plan) (i : ℕ) (out : Bytes) (w : Writing list p i
       }
 
       -- what samples leave
-      pub samples-leave : Samples-of list p i j → (o : Bytes) → o ≡ placed out (s .at) (sample-entries (spanned out t) (p .header .sparse .entries) (blocks 64 (rank (spanned out t) (p .header .sparse .entries))))
-          → o ≡ placed out (start-at p i + 6) (body-at list p i)
+      pub samples-leave : Samples-of list p i j → (o : Bytes) → o ≡ overlaid out (s .at) (sample-table (spanned out t) (p .header .sparse .entries) (blocks 64 (rank (spanned out t) (p .header .sparse .entries))))
+          → o ≡ overlaid out (start-at p i + 6) (body-at list p i)
       samples-leave g o z =
-          z ∙ ap₂ (λ (n : ℕ) (x : Bytes). placed out n (sample-entries x (p .header .sparse .entries) (blocks 64 (rank x (p .header .sparse .entries))))) at-is (counted (g .before))
-          ∙ ap (placed out (start-at p i + 6)) (g .table)
+          z ∙ ap₂ (λ (n : ℕ) (x : Bytes). overlaid out n (sample-table x (p .header .sparse .entries) (blocks 64 (rank x (p .header .sparse .entries))))) at-is (counted (g .before))
+          ∙ ap (overlaid out (start-at p i + 6)) (g .table)

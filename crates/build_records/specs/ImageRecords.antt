@@ -26,8 +26,8 @@ key-counts st ks = record {
   sparse-nodes = sums (node-counts ks) (st .dense-levels) 64;
 }
 
-row-entries : (n : ℕ) → 16 * n ≡ 4 * blocks 64 (256 * n)
-row-entries n = omega arith
+row-blocks : (n : ℕ) → 16 * n ≡ 4 * blocks 64 (256 * n)
+row-blocks n = omega arith
 
 module _ (st : Settings) (ks : List Bytes) (b : Built-from st ks) where
   -- The counts of the leaf list are those of the counters.
@@ -54,4 +54,4 @@ module _ (st : Settings) (ks : List Bytes) (b : Built-from st ks) where
   -- Each body has the length that its row gives by the counters.
   pub body-sizes : map length (in-order (key-bodies st ks)) ≡ sizes st (key-counts st ks)
   unfolding sizes rows
-  body-sizes = rw (length-DL st ks b, length-DC st ks b, length-DP st ks b, length-SL st ks b, length-SC st ks b, length-SB st ks b, length-SV st ks b, length-RL st ks b, length-RC st ks b, length-RP st ks b, length-RS st ks b, length-TS st ks b, row-entries (sums (node-counts ks) 0 (st .dense-levels)))
+  body-sizes = rw (length-DL st ks b, length-DC st ks b, length-DP st ks b, length-SL st ks b, length-SC st ks b, length-SB st ks b, length-SV st ks b, length-RL st ks b, length-RC st ks b, length-RP st ks b, length-RS st ks b, length-TS st ks b, row-blocks (sums (node-counts ks) 0 (st .dense-levels)))

@@ -11,7 +11,7 @@ use lib.Dec.{ltb}
 use borrow.Author.Tests.{ltb-true, ltb-false, lt-ltb, le-ltb, eq-eqb, ne-eqb}
 use Rattle.spec.specs.Bytes.{Bytes, concat, iota, filter, le32}
 use Rattle.spec.specs.Image.{first-nodes, level-starts, level-rows, level-bodies, write-records}
-use Rattle.bits.specs.Placing.{length-le32}
+use Rattle.bits.specs.Overlaying.{length-le32}
 use Rattle.image.specs.Records.{row-at, length-marked}
 use Rattle.build_laws.specs.Cursors.{sums, sums-none}
 use Rattle.build_passes.specs.CounterSums.{sums-in}

@@ -16,7 +16,7 @@ use Rattle.theory.specs.TrieGroups.{well-sized-depth}
 use Rattle.theory.specs.PrefixNodes.{node-at}
 use Rattle.theory.specs.LiteralImage.{prefix-nodes}
 use Rattle.theory.specs.BuildLaws.{Built-from}
-use Rattle.rank_tables.specs.Entries.{iota-snoc}
+use Rattle.rank_tables.specs.TableEntries.{iota-snoc}
 use Rattle.build_laws.specs.SlotWidths.{slot-bits}
 use Rattle.build_laws.specs.TrieEntries.{slotted-between, slotted-first}
 use Rattle.build_laws.specs.Cursors.{sum-of, sums}
@@ -24,7 +24,7 @@ use Rattle.build_passes.specs.CounterSums.{sums-in}
 use Rattle.build_laws.specs.NodeBodies.{nodes-entries, node-step}
 use Rattle.build_laws.specs.TrieFacts.{dense-nodes, sparse-nodes, all-split, nodes-both}
 use Rattle.build_laws.specs.Counters.{node-counts, nodes-total}
-use Rattle.build_laws.specs.KeyBits.{key-leaves, some, fits, facts, chain}
+use Rattle.build_laws.specs.KeyBits.{key-leaves, some, fits, facts, all-follow}
 
 -- the counters of the 64 levels
 unfoldable pub widths : List ℕ → List ℕ
@@ -52,7 +52,7 @@ module _ (st : Settings) (ks : List Bytes) (b : Built-from st ks) where
   nodes-below d h =
       sym (length-map (nodes ls 0 d) (node-at ls)) ∙ ap length (prefix-nodes d ls h (fits st ks b .realizable) (well-sized-depth (slot-width st) ls (fits st ks b .well-sized)) .first)
       ∙ sym (nodes-entries (trie-dense d ls) (labelled d))
-      ∙ ap (sum-of node-step) (slotted-first d ls h (chain st ks b .0) (chain st ks b .1) ∙ ap (λ (k : ℕ). slotted-between 0 k ls) (sym (sub-zero d)))
+      ∙ ap (sum-of node-step) (slotted-first d ls h (all-follow st ks b .0) (all-follow st ks b .1) ∙ ap (λ (k : ℕ). slotted-between 0 k ls) (sym (sub-zero d)))
       ∙ nodes-total (slot-bits st) ks (some st ks b) (b .up) 0 d (omega arith) h
 
   -- those on one level

@@ -12,13 +12,13 @@ use Rattle.spec.specs.Bytes.{Bytes, blocks, le32}
 use Rattle.spec.specs.Keys.{keys-of}
 use Rattle.spec.specs.Image.{Settings, Counts, Row, rows, sizes, in-order, marked, write-records, header, image}
 use Rattle.theory.specs.BuildLaws.{Built-from}
-use Rattle.bits.specs.Bits.{part, placed, rank}
-use Rattle.bits.specs.Placing.{length-placed, placed-nil, placed-behind}
-use Rattle.bits.specs.Parts.{part-kept, part-placed, part-part}
+use Rattle.bits.specs.Bits.{part, overlaid, rank}
+use Rattle.bits.specs.Overlaying.{length-overlaid, overlaid-nil, overlaid-behind}
+use Rattle.bits.specs.Parts.{part-kept, part-overlaid, part-part}
 use Rattle.image.specs.Header.{settings-of, counts-of, Short-fields}
 use Rattle.image.specs.Records.{row-at, starts, length-marked}
 use Rattle.image.specs.declared.Header.{Header}
-use Rattle.rank_tables.specs.Entries.{rank-entries, sample-entries}
+use Rattle.rank_tables.specs.TableEntries.{rank-table, sample-table}
 use Rattle.build_laws.specs.Limits.{counters, counter-max}
 use Rattle.build_laws.specs.Cursors.{sums}
 use Rattle.build_laws.specs.KeyRecords.{Records}
@@ -29,7 +29,7 @@ use Rattle.build_records.specs.BodyRoom.{counters-few}
 use Rattle.theory.specs.ImageBytes.{known-few}
 use Rattle.build_records.specs.LevelRecord.{level-bytes}
 use Rattle.build_records.specs.ImageRecords.{key-counts, image-is, body-sizes}
-use Rattle.build_records.specs.TableBodies.{RL-entries, RC-entries, RP-entries, RS-entries, SB-rank, TS-entries}
+use Rattle.build_records.specs.TableBodies.{RL-table, RC-table, RP-table, RS-table, SB-rank, TS-table}
 use Rattle.build_records.specs.RecordsWritten.{start-of, start-first, start-after, first-records, record-bytes, first-none, first-more, first-all, first-length}
 use Rattle.build_laws.specs.declared.Kind.the-variants.{DL, DC, DP, SL, SC, SB}
 use Rattle.build_laws.specs.declared.Body.{Body}
@@ -104,9 +104,9 @@ module _ (list : Bytes) (p : Plan) (w : Planned list p) where
   pub plan-short : Short-fields (p .header)
   plan-short = record {
     version = omega (arith, known-few (p .header .version) (w .ready .built .version-known));
-    levels = omega (arith, w .ready .built .dense-range);
-    real = omega (arith, w .ready .built .real-range);
-    hash = omega (arith, w .ready .built .hash-range);
+    dense-range = omega (arith, w .ready .built .dense-range);
+    real-range = omega (arith, w .ready .built .real-range);
+    hash-range = omega (arith, w .ready .built .hash-range);
     leaves = omega (arith, ap (λ (c : Counts). c .leaves) (w .counts), w .ready .built .few);
     dense-nodes = omega (arith, nodes-few);
     sparse-entries = omega (arith, entries-few);
@@ -138,8 +138,8 @@ module _ (list : Bytes) (p : Plan) (w : Planned list p) where
 abbrev pub header-with : Settings → ℕ → ℕ → ℕ → ℕ → Header
 header-with st leaves dense nodes entries = record {
   version = st .version;
-  real = st .real-width;
-  hash = st .hash-width;
+  «real_width» = st .real-width;
+  «hash_width» = st .hash-width;
   leaves = leaves;
   dense = record { levels = st .dense-levels; nodes = dense };
   sparse = record { nodes = nodes; entries = entries };
@@ -163,9 +163,9 @@ module _ (list : Bytes) (st : Settings) (r : Ready list st) (c : Level-counts) (
     pub header-short : Short-fields (header-with st count dense nodes entries)
     header-short = record {
       version = omega (arith, known-few (st .version) (r .built .version-known));
-      levels = omega (arith, r .built .dense-range);
-      real = omega (arith, r .built .real-range);
-      hash = omega (arith, r .built .hash-range);
+      dense-range = omega (arith, r .built .dense-range);
+      real-range = omega (arith, r .built .real-range);
+      hash-range = omega (arith, r .built .hash-range);
       leaves = omega (arith, r .built .few);
       dense-nodes = omega (arith, node-sums 0 (st .dense-levels) (omega (arith, r .built .dense-range)));
       sparse-entries = omega (arith, entry-sums (st .dense-levels) 64 (omega arith));
@@ -218,7 +218,7 @@ sources =
 abbrev pub source-at : ℕ → Source
 source-at i = getD sources i (Samples 5)
 
--- the counters that say where the levels of a body start: nodes on dense levels, entries on sparse ones, or leaves; those of a body that no pass fills do not matter
+-- the counters that give the offsets of the levels of a body: nodes on dense levels, entries on sparse ones, or leaves; those of a body that no pass fills do not matter
 abbrev pub source-counters : Level-counts → Source → List ℕ
 source-counters c (Keys (Entries DL)) = c .nodes
 source-counters c (Keys (Entries DC)) = c .nodes
@@ -247,7 +247,7 @@ counters-at list i = source-counters (list-counts (keys-of list)) (source-at i)
 -- record i has the ranks of record j's body, for blocks of so many words
 pub record Ranks-of (list : Bytes) (p : Plan) (i j words : ℕ) : Type 0 where
   pub before : j < i  -- record j is an earlier one
-  pub table : rank-entries (64 * words) (body-at list p j) (size-at p i / 4) ≡ body-at list p i
+  pub table : rank-table (64 * words) (body-at list p j) (size-at p i / 4) ≡ body-at list p i
   pub starts : (b : ℕ) → b < size-at p i / 4 → 64 * (words * b) ≤ 8 * size-at p j  -- each block starts within record j's body
   pub whole : 4 * (size-at p i / 4) ≡ size-at p i  -- entries of four bytes
   pub short : size-at p j < 4294967296  -- no rank is longer than 32 bits
@@ -256,7 +256,7 @@ pub record Ranks-of (list : Bytes) (p : Plan) (i j words : ℕ) : Type 0 where
 pub record Samples-of (list : Bytes) (p : Plan) (i j : ℕ) : Type 0 where
   pub before : j < i  -- record j is an earlier one
   pub within : p .header .sparse .entries ≤ 8 * size-at p j  -- the bits are in its body
-  pub table : sample-entries (body-at list p j) (p .header .sparse .entries) (blocks 64 (rank (body-at list p j) (p .header .sparse .entries))) ≡ body-at list p i
+  pub table : sample-table (body-at list p j) (p .header .sparse .entries) (blocks 64 (rank (body-at list p j) (p .header .sparse .entries))) ≡ body-at list p i
   pub sized : 4 * blocks 64 (rank (body-at list p j) (p .header .sparse .entries)) ≡ size-at p i  -- entries of four bytes
 
 -- a source gives the body of record i
@@ -289,7 +289,7 @@ module _ (list : Bytes) (p : Plan) (w : Planned list p) where
   unfolding row-at rows
   gives-7 = record {
     before = omega arith;
-    table = ap (rank-entries 64 (body-at list p 0)) (four (blocks 64 (256 * p .header .dense .nodes))) ∙ ap (λ (c : Counts). rank-entries 64 (body-at list p 0) (blocks 64 (256 * c .dense-nodes))) (w .counts) ∙ RL-entries (plan-settings p) (keys-of list) (w .ready .built);
+    table = ap (rank-table 64 (body-at list p 0)) (four (blocks 64 (256 * p .header .dense .nodes))) ∙ ap (λ (c : Counts). rank-table 64 (body-at list p 0) (blocks 64 (256 * c .dense-nodes))) (w .counts) ∙ RL-table (plan-settings p) (keys-of list) (w .ready .built);
     starts = λ b l. omega arith;
     whole = omega arith;
     short = omega (arith, nodes-few list p w, entries-few list p w);
@@ -299,7 +299,7 @@ module _ (list : Bytes) (p : Plan) (w : Planned list p) where
   unfolding row-at rows
   gives-8 = record {
     before = omega arith;
-    table = ap (rank-entries 64 (body-at list p 1)) (four (blocks 64 (256 * p .header .dense .nodes))) ∙ ap (λ (c : Counts). rank-entries 64 (body-at list p 1) (blocks 64 (256 * c .dense-nodes))) (w .counts) ∙ RC-entries (plan-settings p) (keys-of list) (w .ready .built);
+    table = ap (rank-table 64 (body-at list p 1)) (four (blocks 64 (256 * p .header .dense .nodes))) ∙ ap (λ (c : Counts). rank-table 64 (body-at list p 1) (blocks 64 (256 * c .dense-nodes))) (w .counts) ∙ RC-table (plan-settings p) (keys-of list) (w .ready .built);
     starts = λ b l. omega arith;
     whole = omega arith;
     short = omega (arith, nodes-few list p w, entries-few list p w);
@@ -309,7 +309,7 @@ module _ (list : Bytes) (p : Plan) (w : Planned list p) where
   unfolding row-at rows
   gives-9 = record {
     before = omega arith;
-    table = ap (rank-entries 64 (body-at list p 2)) (four (blocks 64 (p .header .dense .nodes))) ∙ ap (λ (c : Counts). rank-entries 64 (body-at list p 2) (blocks 64 (c .dense-nodes))) (w .counts) ∙ RP-entries (plan-settings p) (keys-of list) (w .ready .built);
+    table = ap (rank-table 64 (body-at list p 2)) (four (blocks 64 (p .header .dense .nodes))) ∙ ap (λ (c : Counts). rank-table 64 (body-at list p 2) (blocks 64 (c .dense-nodes))) (w .counts) ∙ RP-table (plan-settings p) (keys-of list) (w .ready .built);
     starts = λ b l. omega arith;
     whole = omega arith;
     short = omega (arith, nodes-few list p w, entries-few list p w);
@@ -319,7 +319,7 @@ module _ (list : Bytes) (p : Plan) (w : Planned list p) where
   unfolding row-at rows
   gives-10 = record {
     before = omega arith;
-    table = ap (rank-entries 512 (body-at list p 4)) (four (blocks 512 (p .header .sparse .entries))) ∙ ap (λ (c : Counts). rank-entries 512 (body-at list p 4) (blocks 512 (c .sparse-entries))) (w .counts) ∙ RS-entries (plan-settings p) (keys-of list) (w .ready .built);
+    table = ap (rank-table 512 (body-at list p 4)) (four (blocks 512 (p .header .sparse .entries))) ∙ ap (λ (c : Counts). rank-table 512 (body-at list p 4) (blocks 512 (c .sparse-entries))) (w .counts) ∙ RS-table (plan-settings p) (keys-of list) (w .ready .built);
     starts = λ b l. omega arith;
     whole = omega arith;
     short = omega (arith, nodes-few list p w, entries-few list p w);
@@ -330,7 +330,7 @@ module _ (list : Bytes) (p : Plan) (w : Planned list p) where
   gives-11 = record {
     before = omega arith;
     within = omega arith;
-    table = ap (λ (c : Counts). sample-entries (body-at list p 5) (c .sparse-entries) (blocks 64 (rank (body-at list p 5) (c .sparse-entries)))) (w .counts) ∙ TS-entries (plan-settings p) (keys-of list) (w .ready .built);
+    table = ap (λ (c : Counts). sample-table (body-at list p 5) (c .sparse-entries) (blocks 64 (rank (body-at list p 5) (c .sparse-entries)))) (w .counts) ∙ TS-table (plan-settings p) (keys-of list) (w .ready .built);
     sized = ap (λ (c : Counts). 4 * blocks 64 (rank (body-at list p 5) (c .sparse-entries))) (w .counts) ∙ ap (λ (n : ℕ). 4 * blocks 64 n) (SB-rank (plan-settings p) (keys-of list) (w .ready .built) ∙ sym (ap (λ (c : Counts). c .sparse-nodes) (w .counts)));
   }
 
@@ -356,17 +356,17 @@ module _ (list : Bytes) (p : Plan) (i : ℕ) (out : Bytes) (w : Writing list p i
   pub record-room : start-at p i + 6 + size-at p i ≤ length out
   record-room = omega (arith, ends-before list p (w .planned) i 12 (w .below) (omega arith), w .room)
 
-  -- the bodies before still stand when bytes were placed in record i
-  pub still-stand : (xs : Bytes) → length xs ≤ 6 + size-at p i → Stand list p i (placed out (start-at p i) xs)
+  -- the bodies before still stand when bytes were written in record i
+  pub still-stand : (xs : Bytes) → length xs ≤ 6 + size-at p i → Stand list p i (overlaid out (start-at p i) xs)
   still-stand xs h j l =
       part-kept out xs (start-at p j + 6) (size-at p j) (start-at p i) (ends-before list p (w .planned) j i l (omega (arith, w .below))) (omega (arith, record-room)) ∙ w .stand j l
 
   -- record i has its mark and its length
-  pub record-begun : (xs : Bytes) → length xs ≡ 6 → Writing list p i (placed out (start-at p i) xs)
+  pub record-begun : (xs : Bytes) → length xs ≡ 6 → Writing list p i (overlaid out (start-at p i) xs)
   record-begun xs h = record {
     planned = w .planned;
     below = w .below;
-    room = omega (arith, w .room, length-placed out (start-at p i) xs (omega (arith, record-room)));
+    room = omega (arith, w .room, length-overlaid out (start-at p i) xs (omega (arith, record-room)));
     stand = still-stand xs (omega arith);
   }
 
@@ -378,28 +378,28 @@ marked-body a b body = take-all (length body) body (omega arith)
 -- what stands when the first i records were written
 pub record Written (list : Bytes) (p : Plan) (was : Bytes) (i : ℕ) (out : Bytes) : Type 0 where
   pub size : length out ≡ length was  -- no byte more or less
-  pub text : out ≡ placed was 22 (first-records i (plan-bodies list p))  -- the records stand behind the header, and all else stays
+  pub text : out ≡ overlaid was 22 (first-records i (plan-bodies list p))  -- the records stand behind the header, and all else stays
   pub stand : Stand list p i out  -- their bodies stand as the plan says
 
 module _ (list : Bytes) (p : Plan) (w : Planned list p) (was : Bytes) (room : start-at p 12 ≤ length was) where
   -- no record yet
   pub written-none : Written list p was 0 was
-  written-none = record { size = refl; text = placed-nil was 22 ∙ ap (placed was 22) (sym (first-none (plan-bodies list p))); stand = λ j l. absurd (omega arith) }
+  written-none = record { size = refl; text = overlaid-nil was 22 ∙ ap (overlaid was 22) (sym (first-none (plan-bodies list p))); stand = λ j l. absurd (omega arith) }
 
   -- what record i asks
   pub written-asks : (i : ℕ) (out : Bytes) → i < 12 → Written list p was i out → Writing list p i out
   written-asks i out h v = record { planned = w; below = h; room = omega (arith, room, v .size); stand = v .stand }
 
   -- one record more
-  pub written-more : (i : ℕ) (out o : Bytes) → i < 12 → Written list p was i out → o ≡ placed out (start-at p i) (record-bytes i (body-at list p i)) → Written list p was (i + 1) o
+  pub written-more : (i : ℕ) (out o : Bytes) → i < 12 → Written list p was i out → o ≡ overlaid out (start-at p i) (record-bytes i (body-at list p i)) → Written list p was (i + 1) o
   written-more i out o h v e =
       let q : 22 + length (first-records i (plan-bodies list p)) ≡ start-of (plan-settings p) (plan-counts p) i = first-length (plan-settings p) (plan-counts p) (plan-bodies list p) refl (λ j l. body-size list p w j) i (omega arith) in
       let r = record-room list p i out a in
-      let size : length o ≡ length out = ap length e ∙ length-placed out (start-at p i) (record-bytes i b) (omega (arith, m)) in
+      let size : length o ≡ length out = ap length e ∙ length-overlaid out (start-at p i) (record-bytes i b) (omega (arith, m)) in
       record {
         size = size ∙ v .size;
-        text = placed-behind was out o (first-records i (plan-bodies list p)) (record-bytes i b) 22 (start-at p i) (start-is list p w i ∙ sym q) (omega (arith, m, v .size)) (v .text) e
-            ∙ ap (placed was 22) (sym (first-more i (plan-bodies list p) h refl));
+        text = overlaid-behind was out o (first-records i (plan-bodies list p)) (record-bytes i b) 22 (start-at p i) (start-is list p w i ∙ sym q) (omega (arith, m, v .size)) (v .text) e
+            ∙ ap (overlaid was 22) (sym (first-more i (plan-bodies list p) h refl));
         stand = λ j l. go j l (ltb j i) refl;
       }
     where
@@ -412,11 +412,11 @@ module _ (list : Bytes) (p : Plan) (w : Planned list p) (was : Bytes) (room : st
       m : length (record-bytes i b) ≡ 6 + size-at p i
       m = length-marked (row-at i .first) (row-at i .second) b ∙ ap (λ (n : ℕ). 6 + n) (body-size list p w i)
 
-      own : part (placed out (start-at p i) (record-bytes i b)) (start-at p i + 6) (size-at p i) ≡ b
+      own : part (overlaid out (start-at p i) (record-bytes i b)) (start-at p i + 6) (size-at p i) ≡ b
       own =
-          part-part (placed out (start-at p i) (record-bytes i b)) (record-bytes i b) (start-at p i) (length (record-bytes i b)) 6 (size-at p i)
-          (omega (arith, m, record-room list p i out a, length-placed out (start-at p i) (record-bytes i b) (omega (arith, m, record-room list p i out a))))
-          (part-placed out (record-bytes i b) (start-at p i) (length (record-bytes i b)) (omega (arith, record-room list p i out a)) refl) (omega (arith, m))
+          part-part (overlaid out (start-at p i) (record-bytes i b)) (record-bytes i b) (start-at p i) (length (record-bytes i b)) 6 (size-at p i)
+          (omega (arith, m, record-room list p i out a, length-overlaid out (start-at p i) (record-bytes i b) (omega (arith, m, record-room list p i out a))))
+          (part-overlaid out (record-bytes i b) (start-at p i) (length (record-bytes i b)) (omega (arith, record-room list p i out a)) refl) (omega (arith, m))
           ∙ ap (part (record-bytes i b) 6) (sym (body-size list p w i)) ∙ marked-body (row-at i .first) (row-at i .second) b
 
       go : (j : ℕ) → j < i + 1 → (t : Bool) → ltb j i ≡ t → part o (start-at p j + 6) (size-at p j) ≡ body-at list p j
@@ -426,8 +426,8 @@ module _ (list : Bytes) (p : Plan) (w : Planned list p) (was : Bytes) (room : st
           rw z (ap (λ (z : Bytes). part z (start-at p i + 6) (size-at p i)) e ∙ own)
 
   -- all records
-  pub written-all : (out : Bytes) → Written list p was 12 out → out ≡ placed was 22 (write-records rows (plan-bodies list p))
-  written-all out v = v .text ∙ ap (placed was 22) (first-all (plan-bodies list p) refl)
+  pub written-all : (out : Bytes) → Written list p was 12 out → out ≡ overlaid was 22 (write-records rows (plan-bodies list p))
+  written-all out v = v .text ∙ ap (overlaid was 22) (first-all (plan-bodies list p) refl)
 
 -- ---- the image
 
@@ -480,11 +480,11 @@ module _ (list : Bytes) (p : Plan) (w : Planned list p) (c : Level-counts) (e : 
   plan-fits = omega (arith, plan-end, image-short (plan-settings p) (keys-of list) (w .ready .built))
 
   -- the header written at the front, the twelve records behind it, and those of the version behind them, are the image
-  pub image-written : (out o q r : Bytes) → length (plan-image list p) ≤ length out → o ≡ placed out 0 the-header → q ≡ placed o 22 twelve → r ≡ placed q (start-at p 12) (plan-levels p (c .nodes))
+  pub image-written : (out o q r : Bytes) → length (plan-image list p) ≤ length out → o ≡ overlaid out 0 the-header → q ≡ overlaid o 22 twelve → r ≡ overlaid q (start-at p 12) (plan-levels p (c .nodes))
       → r ≡ plan-image list p ++ drop (length (plan-image list p)) out
   image-written out o q r h f g k =
       let z : 0 + length (plan-image list p) ≡ length (plan-image list p) = omega arith in
       let front : length (the-header ++ twelve) ≡ start-at p 12 = omega (arith, twelve-end, length-append the-header twelve, header-length (plan-settings p) (plan-counts p)) in
-      placed-behind out q r (the-header ++ twelve) (plan-levels p (c .nodes)) 0 (start-at p 12) (omega (arith, front)) (omega (arith, plan-end))
-      (placed-behind out o q the-header twelve 0 22 (omega (arith, header-length (plan-settings p) (plan-counts p))) (omega (arith, plan-end, twelve-end)) f g) k
-      ∙ ap (placed out 0) (sym image-text) ∙ ap (λ (n : ℕ). plan-image list p ++ drop n out) z
+      overlaid-behind out q r (the-header ++ twelve) (plan-levels p (c .nodes)) 0 (start-at p 12) (omega (arith, front)) (omega (arith, plan-end))
+      (overlaid-behind out o q the-header twelve 0 22 (omega (arith, header-length (plan-settings p) (plan-counts p))) (omega (arith, plan-end, twelve-end)) f g) k
+      ∙ ap (overlaid out 0) (sym image-text) ∙ ap (λ (n : ℕ). plan-image list p ++ drop n out) z

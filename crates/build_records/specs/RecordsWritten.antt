@@ -7,8 +7,8 @@ use lib.ListN.{length, getD, take, drop, length-append}
 use lib.Seq.{getD-drop, drop-drop, drop-cons, take-all}
 use Rattle.spec.specs.Bytes.{Bytes, le32}
 use Rattle.spec.specs.Image.{Settings, Counts, Row, rows, marked, write-records}
-use Rattle.bits.specs.Bits.{placed}
-use Rattle.bits.specs.Placing.{placed-behind, length-le32}
+use Rattle.bits.specs.Bits.{overlaid}
+use Rattle.bits.specs.Overlaying.{overlaid-behind, length-le32}
 use Rattle.image.specs.Header.{mark-bytes}
 use Rattle.image.specs.Records.{row-at, row-mark, twelve-rows, rows-from, starts, length-marked}
 
@@ -118,9 +118,9 @@ pub length-begin : (m : Bytes) (n : ℕ) → length (mark-bytes m ++ le32 n) ≡
 length-begin m n = omega (arith, length-append (mark-bytes m) (le32 n), length-le32 n)
 
 -- a mark, a length and a body, one behind the other, are a record
-pub record-done : (out o p : Bytes) (i at : ℕ) (m body : Bytes) (len : ℕ) → m ≡ row-mark i → len ≡ length body → at + 6 + length body ≤ length out → o ≡ placed out at (mark-bytes m ++ le32 len) → p ≡ placed o (at + 6) body
-    → p ≡ placed out at (record-bytes i body)
+pub record-done : (out o p : Bytes) (i at : ℕ) (m body : Bytes) (len : ℕ) → m ≡ row-mark i → len ≡ length body → at + 6 + length body ≤ length out → o ≡ overlaid out at (mark-bytes m ++ le32 len) → p ≡ overlaid o (at + 6) body
+    → p ≡ overlaid out at (record-bytes i body)
 unfolding marked
 record-done out o p i at m body len e f h g k =
-    placed-behind out o p (mark-bytes m ++ le32 len) body at (at + 6) (omega (arith, length-begin m len)) (omega arith) g k
-    ∙ ap₂ (λ (x : Bytes) (n : ℕ). placed out at ((mark-bytes x ++ le32 n) ++ body)) e f
+    overlaid-behind out o p (mark-bytes m ++ le32 len) body at (at + 6) (omega (arith, length-begin m len)) (omega arith) g k
+    ∙ ap₂ (λ (x : Bytes) (n : ℕ). overlaid out at ((mark-bytes x ++ le32 n) ++ body)) e f

@@ -3,8 +3,8 @@ ghost use mathlib.Core.Path.{_≡_};
 ghost use mathlib.Core.List.{_++_};
 ghost use Prim.Native.Nat.{_+_, _<_};
 ghost use lib.ListN.{drop};
-ghost use Rattle.bits.specs.Bits.{placed};
-ghost use Rattle.build_records.specs.BodyChoice.{levels-of};
+ghost use Rattle.bits.specs.Bits.{overlaid};
+ghost use Rattle.build_records.specs.BodyChoice.{level-range};
 ghost use Rattle.build_records.specs.BodyFilled.{left-flipped};
 ghost use Rattle.build_keys.specs.CountPass.{level-counts};
 ghost use Rattle.build_records.specs.Plan.{source-at, source-counters, counters-at, list-body, Body-room, Laid-out, span-at, body-at, start-at, Writing};
@@ -14,12 +14,12 @@ use build_keys::COUNTERS;
 use build_keys::Counters;
 use build_laws::Body;
 use build_laws::Kind;
-use build_laws::Levels;
+use build_laws::LevelRange;
 use build_laws::Pass;
 use build_laws::SlotBits;
 use build_passes::fill::write_keys;
 use build_passes::flip::flip;
-use build_passes::starts::start_levels;
+use build_passes::offsets::set_offsets;
 use image::DENSE_BLOCK_WORDS;
 use image::MAX_LEVELS;
 use image::SPARSE_BLOCK_WORDS;
@@ -52,27 +52,27 @@ pub fn source_of(i: usize) -> Source
 }
 
 // The levels that a body's pass goes over.
-fn levels_of(body: Body, dense: usize) -> Levels
-    ensures { λ r. ⌜ r ≡ levels-of body dense ⌝ }
+fn level_range(body: Body, dense: usize) -> LevelRange
+    ensures { λ r. ⌜ r ≡ level-range body dense ⌝ }
 {
     match body {
-        Body::Slots => Levels {
+        Body::Slots => LevelRange {
             lo: 0,
             hi: MAX_LEVELS,
         },
         Body::Entries(kind) => match kind {
-            Kind::DL => Levels { lo: 0, hi: dense },
-            Kind::DC => Levels { lo: 0, hi: dense },
-            Kind::DP => Levels { lo: 0, hi: dense },
-            Kind::SL => Levels {
+            Kind::DL => LevelRange { lo: 0, hi: dense },
+            Kind::DC => LevelRange { lo: 0, hi: dense },
+            Kind::DP => LevelRange { lo: 0, hi: dense },
+            Kind::SL => LevelRange {
                 lo: dense,
                 hi: MAX_LEVELS,
             },
-            Kind::SC => Levels {
+            Kind::SC => LevelRange {
                 lo: dense,
                 hi: MAX_LEVELS,
             },
-            Kind::SB => Levels {
+            Kind::SB => LevelRange {
                 lo: dense,
                 hi: MAX_LEVELS,
             },
@@ -132,15 +132,15 @@ fn fill_from_keys(out: &mut [u8], len: usize, list: &[u8], plan: Plan, cnt: &Cou
         return;
     }
     clear(out, len);
-    let levels = levels_of(body, plan.header.dense.levels);
+    let levels = level_range(body, plan.header.dense.levels);
     let mut cur = [0u32; COUNTERS];
-    start_levels(&mut cur, cnt, levels.lo);
+    set_offsets(&mut cur, cnt, levels.lo);
     let pass = Pass {
         body: body,
         levels: levels,
         slot: SlotBits {
-            hash: plan.header.hash,
-            real: plan.header.real,
+            hash_width: plan.header.hash_width,
+            real_width: plan.header.real_width,
         },
     };
     write_keys(out, &mut cur, list, pass);
@@ -162,10 +162,10 @@ fn body_span(plan: Plan, i: usize) -> Span
     }
 }
 
-// The body of record i goes to its place in out, and all else stays. The bodies of the records before it are finished.
+// The body of record i goes to its part of out, and all else stays. The bodies of the records before it are finished.
 pub fn fill_body(out: &mut [u8], list: &[u8], plan: Plan, cnt: &Counters, i: usize)
     requires { ⌜ Writing (now list) plan i (now out) × (now cnt ≡ counters-at (now list) i) ⌝ }
-    ensures { λ _. ⌜ now (out .exit) ≡ placed (now (out .entry)) (start-at plan i + 6) (body-at (now (list .entry)) plan i) ⌝ }
+    ensures { λ _. ⌜ now (out .exit) ≡ overlaid (now (out .entry)) (start-at plan i + 6) (body-at (now (list .entry)) plan i) ⌝ }
 {
     let span = body_span(plan, i);
     let start = span.at;

@@ -2,7 +2,7 @@
 ghost use mathlib.Core.Path.{_≡_};
 ghost use Prim.Native.Nat.{_+_, _≤_};
 ghost use lib.ListN.{length};
-ghost use Rattle.bits.specs.Bits.{placed};
+ghost use Rattle.bits.specs.Bits.{overlaid};
 ghost use Rattle.build_laws.specs.Cursors.{sums};
 ghost use Rattle.build_records.specs.LevelRecord.{start-bytes, start-size, starts-below, level-bytes};
 ghost use Rattle.build_laws.specs.Limits.{counters, counter-max};
@@ -30,7 +30,7 @@ fn start_size(count: u32) -> usize
 // The first node of a level of so many nodes goes to out from at, and all else stays; nothing goes there where the level has no node.
 fn write_start(out: &mut [u8], at: usize, first: usize, count: u32)
     requires { ⌜ at + start-size count ≤ length (now out) ⌝ }
-    ensures { λ _. ⌜ now (out .exit) ≡ placed (now (out .entry)) at (start-bytes count first) ⌝ }
+    ensures { λ _. ⌜ now (out .exit) ≡ overlaid (now (out .entry)) at (start-bytes count first) ⌝ }
 {
     if count == 0 {
         return;
@@ -54,7 +54,7 @@ fn starts_size(nodes: &Counters) -> usize
 // LV's body goes to the front of out, and all else stays: a level with nodes has as its first node the sum of the nodes on the levels before it.
 fn fill_starts(out: &mut [u8], nodes: &Counters)
     requires { ⌜ (sums (now nodes) 0 counters ≤ counter-max) × (length (starts-below (now nodes) 64) ≤ length (now out)) ⌝ }
-    ensures { λ _. ⌜ now (out .exit) ≡ placed (now (out .entry)) 0 (starts-below (now (nodes .entry)) 64) ⌝ }
+    ensures { λ _. ⌜ now (out .exit) ≡ overlaid (now (out .entry)) 0 (starts-below (now (nodes .entry)) 64) ⌝ }
 {
     let mut first = 0u32;
     let mut at = 0usize;
@@ -82,7 +82,7 @@ pub fn levels_size(version: usize, nodes: &Counters) -> usize
 // The records behind the twelve, of a version, go to out from at, and all else stays.
 pub fn write_levels(out: &mut [u8], at: usize, version: usize, nodes: &Counters)
     requires { ⌜ (sums (now nodes) 0 counters ≤ counter-max) × (at + length (level-bytes version (now nodes)) ≤ length (now out)) ⌝ }
-    ensures { λ _. ⌜ now (out .exit) ≡ placed (now (out .entry)) at (level-bytes version (now (nodes .entry))) ⌝ }
+    ensures { λ _. ⌜ now (out .exit) ≡ overlaid (now (out .entry)) at (level-bytes version (now (nodes .entry))) ⌝ }
 {
     if version != LEVELED_VERSION {
         return;

@@ -4,7 +4,7 @@ ghost use Prim.Native.Nat.{_≤_};
 ghost use lib.ListN.{length};
 ghost use Rattle.spec.specs.Keys.{keys-of};
 ghost use Rattle.spec.specs.Image.{rows, write-records};
-ghost use Rattle.bits.specs.Bits.{placed};
+ghost use Rattle.bits.specs.Bits.{overlaid};
 ghost use Rattle.build_keys.specs.CountPass.{level-counts, list-counts};
 ghost use Rattle.build_records.specs.RecordsWritten.{record-bytes};
 ghost use Rattle.build_records.specs.Plan.{Planned, plan-bodies, counters-at, body-at, start-at, Writing};
@@ -18,10 +18,10 @@ use image::table::RECORDS;
 use image::table::body_size;
 use image::table::mark;
 
-// Record i goes to its place in out: its mark, the length of its body, and its body.
+// Record i goes to its part of out: its mark, the length of its body, and its body.
 fn write_record(out: &mut [u8], list: &[u8], plan: Plan, cnt: &Counters, i: usize)
     requires { ⌜ Writing (now list) plan i (now out) × (now cnt ≡ counters-at (now list) i) ⌝ }
-    ensures { λ _. ⌜ now (out .exit) ≡ placed (now (out .entry)) (start-at plan i) (record-bytes i (body-at (now (list .entry)) plan i)) ⌝ }
+    ensures { λ _. ⌜ now (out .exit) ≡ overlaid (now (out .entry)) (start-at plan i) (record-bytes i (body-at (now (list .entry)) plan i)) ⌝ }
 {
     let starts = plan.starts;
     let h = plan.header;
@@ -40,7 +40,7 @@ pub fn write_records(
     leaves: &Counters,
 )
     requires { ⌜ Planned (now list) plan × (start-at plan 12 ≤ length (now out)) × (level-counts (now entries) (now nodes) (now leaves) ≡ list-counts (keys-of (now list))) ⌝ }
-    ensures { λ _. ⌜ now (out .exit) ≡ placed (now (out .entry)) 22 (write-records rows (plan-bodies (now (list .entry)) plan)) ⌝ }
+    ensures { λ _. ⌜ now (out .exit) ≡ overlaid (now (out .entry)) 22 (write-records rows (plan-bodies (now (list .entry)) plan)) ⌝ }
 {
     let mut i = 0usize;
     while i < RECORDS {

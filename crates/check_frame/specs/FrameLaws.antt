@@ -23,7 +23,7 @@ use Rattle.theory.specs.CheckStages.{verdict-passes}
 use Rattle.bits.specs.Bits.{rank}
 use Rattle.image.specs.Header.{settings-of, counts-of, Short-fields, slots-short, Reads-header}
 use Rattle.image.specs.Records.{row-at, stands, twelve-rows, tail-part, body-length, record-end, record-within, records-end, first-stands, end-more, ends-behind, end-append, bodies-at, bodies-append, bodies-count, whole, read-is, lengths-agree, starts, rows-end-at, laid-bodies, sized-is, bodies-laid}
-use Rattle.image.specs.FrameOf.{twelve-bodies, level-gap, frame-bodies, frame-parts, Chained, FrameOf, Within, within}
+use Rattle.image.specs.FrameOf.{twelve-bodies, level-gap, frame-bodies, frame-parts, Contiguous, FrameOf, Within, within}
 use Rattle.image.specs.declared.Header.{Header}
 use Rattle.image.specs.declared.DenseTotals.{DenseTotals}
 use Rattle.image.specs.declared.Frame.{Frame}
@@ -56,7 +56,7 @@ settings-valid h = in-range (settings-of h) && leb (h .leaves) 65535
 
 -- ---- the records
 
--- what a place holds is one
+-- options that are equal hold one number
 some-same : {a b : ℕ} → _≡_ {A = Option ℕ} (some a) (some b) → a ≡ b
 some-same e = cc
 
@@ -149,7 +149,7 @@ tests-12 : (s : Bytes) (h : Header) → Frame-stands s h → header-valid (parts
 unfolding header-valid in-range parts sizes
 tests-12 s h p =
     rw (← p .reads .settings, ← p .reads .counts, bodies-first s (p .records), sized-is (settings-of h) (counts-of h) rows s 22 (p .records .middle) (p .records .long) (p .records .twelve))
-    (regroup (known-version (h .version)) (leb (h .dense .levels) 4) (leb (h .real) 16) (leb (h .hash) 16) (leb (h .leaves) 65535) (lengths-agree (settings-of h) (counts-of h) rows s 22))
+    (regroup (known-version (h .version)) (leb (h .dense .levels) 4) (leb (h .«real_width») 16) (leb (h .«hash_width») 16) (leb (h .leaves) 65535) (lengths-agree (settings-of h) (counts-of h) rows s 22))
 
 -- 11 does not apply
 stands-passes : (s : Bytes) (h : Header) → Frame-stands s h → Passes-11 s (bodies-of s)
@@ -173,9 +173,9 @@ module _ (s : Bytes) (h : Header) (p : Frame-stands s h) where
 abbrev pub frame-at : Header → List ℕ → DenseTotals → Frame
 frame-at h a t = record {
   version = h .version;
-  real = h .real;
-  hash = h .hash;
-  width = h .hash + h .real;
+  «real_width» = h .«real_width»;
+  «hash_width» = h .«hash_width»;
+  width = h .«hash_width» + h .«real_width»;
   leaves = h .leaves;
   dense = h .dense;
   sparse = h .sparse;
@@ -267,9 +267,9 @@ level-part s v m l e = go (eqb v 2) e
         (ap (λ (k : ℕ). take k (drop (m + 6) s) ∷ []) n ∙ ap (λ (x : Bytes). x ∷ []) (tail-part s (m + 6)), w .0)
     go false e = (refl, omega (arith, some-same e))
 
-chained-starts : (h : Header) (t : DenseTotals) → Chained (frame-at h (header-starts h) t)
+contiguous-starts : (h : Header) (t : DenseTotals) → Contiguous (frame-at h (header-starts h) t)
 unfolding starts rows
-chained-starts h t = record { lv = refl; dl = refl; dc = refl; dp = refl; sl = refl; sc = refl; sb = refl; sv = refl; rl = refl; rc = refl; rp = refl; rs = refl; ts = refl }
+contiguous-starts h t = record { lv = refl; dl = refl; dc = refl; dp = refl; sl = refl; sc = refl; sb = refl; sv = refl; rl = refl; rc = refl; rp = refl; rs = refl; ts = refl }
 
 -- the version that is read
 version-read : (s : Bytes) (h : Header) → Reads-header s h → getD s 2 0 ≡ h .version
@@ -305,7 +305,7 @@ frame-laid s h t o n =
       dense = p .reads .short .dense-nodes;
       entries = p .reads .short .sparse-entries;
       sparse = p .reads .short .sparse-nodes;
-      chained = chained-starts h t;
+      contiguous = contiguous-starts h t;
       end = rw at at (lv .1);
       children = n .children;
       dense-entries = n .entries;
@@ -327,7 +327,7 @@ pub laid-within : (s : Bytes) (h : Header) → Laid-out s h → Within s (frame-
 laid-within s h o = within s (frame-at h (header-starts h) (laid-totals s h)) (laid-frame s h o)
 
 -- the dense nodes' bodies and their tables lie within the image
-pub record Dense-placed (s : Bytes) (f : Frame) : Type 0 where
+pub record Dense-inside (s : Bytes) (f : Frame) : Type 0 where
   pub few : f .dense .nodes < 4294967296
   pub dl : f .dl + 32 * f .dense .nodes ≤ length s
   pub dc : f .dc + 32 * f .dense .nodes ≤ length s
@@ -337,7 +337,7 @@ pub record Dense-placed (s : Bytes) (f : Frame) : Type 0 where
   pub rp : f .rp + 4 * blocks 64 (f .dense .nodes) ≤ length s
 
 -- A laid-out image has them there, whatever the totals are.
-pub dense-laid : (s : Bytes) (h : Header) (t : DenseTotals) → Laid-out s h → Dense-placed s (frame-at h (header-starts h) t)
+pub dense-laid : (s : Bytes) (h : Header) (t : DenseTotals) → Laid-out s h → Dense-inside s (frame-at h (header-starts h) t)
 dense-laid s h t o =
     let w = laid-within s h o in
     record { few = o .stands .reads .short .dense-nodes; dl = w .dl; dc = w .dc; dp = w .dp; rl = w .rl; rc = w .rc; rp = w .rp }

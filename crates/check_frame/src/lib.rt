@@ -8,7 +8,7 @@ ghost use Rattle.spec.specs.Frame.{rows-of};
 ghost use Rattle.image.specs.FrameOf.{level-gap};
 ghost use Rattle.image.specs.Header.{settings-of, counts-of, Short-fields};
 ghost use Rattle.image.specs.Records.{records-end, lengths-agree};
-ghost use Rattle.check_frame.specs.FrameLaws.{settings-valid, Records-stand, Laid-out, frame-at, header-starts, uncounted, Dense-placed, Totals};
+ghost use Rattle.check_frame.specs.FrameLaws.{settings-valid, Records-stand, Laid-out, frame-at, header-starts, uncounted, Dense-inside, Totals};
 ghost use Rattle.check_tables.specs.Tables.{dense-agrees};
 ghost use Rattle.check_frame.specs.Found.{Record-found, Twelve-found, end-found, Ranked-frame, Read-as};
 use bits::numbers::read32;
@@ -102,8 +102,8 @@ fn settings_valid(h: Header) -> bool
     let settings = Settings {
         version: h.version,
         levels: h.dense.levels,
-        real: h.real,
-        hash: h.hash,
+        real_width: h.real_width,
+        hash_width: h.hash_width,
     };
     settings_in_range(settings) & (h.leaves <= MAX_LEAVES)
 }
@@ -134,7 +134,7 @@ pub struct DenseCounts {
 
 // The continuing branches and the entries of the dense nodes of a frame, and whether RL, RC and RP hold the ranks of DL, DC and DP.
 fn count_dense(image: &[u8], f: Frame) -> DenseCounts
-    requires { ⌜ Dense-placed (now image) f ⌝ }
+    requires { ⌜ Dense-inside (now image) f ⌝ }
     ensures { λ r. ⌜ Totals (now (image .entry)) (f .dl) (f .dc) (f .dp) (f .dense .nodes) (r .totals) × (r .agrees ≡ dense-agrees (now (image .entry)) f) ⌝ }
 {
     let n = f.dense.nodes;
@@ -173,14 +173,14 @@ pub fn frame_at(h: Header) -> Frame
     requires { ⌜ Short-fields h ⌝ }
     ensures { λ r. ⌜ r ≡ frame-at h (header-starts h) uncounted ⌝ }
 {
-    let width = h.hash + h.real;
+    let width = h.hash_width + h.real_width;
     let starts = record_starts(h);
     let dense = h.dense;
     let sparse = h.sparse;
     Frame {
         version: h.version,
-        real: h.real,
-        hash: h.hash,
+        real_width: h.real_width,
+        hash_width: h.hash_width,
         width,
         leaves: h.leaves,
         dense,

@@ -75,7 +75,7 @@ module _ (s : Bytes) (f : Frame) (o : FrameOf s f) where
         sl = z .sl;
         sc = length-bits (sc-body s f) (f .sparse .entries) (bits-room (f .sparse .entries) (sc-body s f) (z .sc));
         sb = length-bits (sb-body s f) (f .sparse .entries) (bits-room (f .sparse .entries) (sb-body s f) (z .sb));
-        dense = o .levels;
+        dense = o .dense-range;
       }
 
   -- the frame's count of the continuing branches of dense nodes

@@ -40,7 +40,7 @@ first-bit sb (suc n) h =
     first-is (bits sb (suc n)) (is-set sb 0) (drop 1 (bits sb (suc n))) (bits-from sb (suc n) 0 h (omega arith))
     ∙ ap (λ (t : Bool). t || is-set sb 0) (sym (ne-eqb (suc n) 0 (λ q. omega arith)))
 
--- S-LOUDS marks the first entry and as many as there are sparse nodes
+-- S-LOUDS has a one at the first entry and as many ones as there are sparse nodes
 abbrev pub louds-test : Bytes → Frame → Bool
 louds-test s f = first-set (bits (sb-body s f) (f .sparse .entries)) && eqb (rank (sb-body s f) (f .sparse .entries)) (f .sparse .nodes)
 

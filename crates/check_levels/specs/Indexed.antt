@@ -13,7 +13,7 @@ use Rattle.bits.specs.ValueLaws.{Small}
 use Rattle.image.specs.FrameOf.{within}
 use Rattle.image.specs.declared.Frame.{Frame}
 use Rattle.rank_tables.specs.Reading.{Rank-table, Sample-table}
-use Rattle.check_tables.specs.Tables.{Ranks-placed, sparse-agrees, holds-ranks, holds-samples, stored-rank, stored-sample}
+use Rattle.check_tables.specs.Tables.{Ranks-inside, sparse-agrees, holds-ranks, holds-samples, stored-rank, stored-sample}
 use Rattle.check_levels.specs.Bodies.{sc-body, sb-body, bodies-sized}
 use Rattle.check_levels.specs.Levels.{Louds-valid}
 
@@ -32,7 +32,7 @@ module _ (s : Bytes) (f : Frame) (h : Indexed s f) where
       let o = h .louds .frame in
       let w = within s f o in
       let z = length-part s (f .rs) (4 * blocks 512 (f .sparse .entries)) (w .rs) in
-      let p : Ranks-placed s (f .sc) (f .sparse .entries) (f .rs) 8 = record { some = omega arith; few = omega arith; short = omega (arith, o .entries); body = w .sc; ranks = w .rs } in (
+      let p : Ranks-inside s (f .sc) (f .sparse .entries) (f .rs) 8 = record { some = omega arith; few = omega arith; short = omega (arith, o .entries); body = w .sc; ranks = w .rs } in (
         bits-room (f .sparse .entries) (sc-body s f) (bodies-sized s f o .sc),
         λ b k. (omega arith, stored-rank s (f .sc) (f .sparse .entries) (f .rs) 8 b small p (both .0) (o .entries) k),
       )

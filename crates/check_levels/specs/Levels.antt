@@ -37,7 +37,7 @@ first-entry s f i = select (sb-body s f) (f .sparse .entries) (i - f .dense .nod
 abbrev pub levels-valid : Bytes → Frame → Bool
 levels-valid s f = ends-valid (branches-before s f) (node-count f) (f .dense .levels) (f .dense .nodes)
 
--- S-LOUDS marks the first entry, and as many entries as there are sparse nodes
+-- S-LOUDS has a one at the first entry, and as many ones as there are sparse nodes
 pub record Louds-valid (s : Bytes) (f : Frame) : Type 0 where
   -- the image has this frame
   pub frame : FrameOf s f
@@ -129,8 +129,8 @@ module _ (s : Bytes) (f : Frame) (v : Louds-valid s f) where
     entry-within = omega (arith, o .entry, select-le (sb-body s f) (f .sparse .entries) (l .node .0 - f .dense .nodes))
 
     -- the sparse nodes before the level
-    pub level-starts : l .node .0 - f .dense .nodes ≡ rank (sb-body s f) (l .entry .0)
-    level-starts = sym (ap (rank (sb-body s f)) (o .entry) ∙ starts-before (l .node .0) (o .within))
+    pub level-nodes : l .node .0 - f .dense .nodes ≡ rank (sb-body s f) (l .entry .0)
+    level-nodes = sym (ap (rank (sb-body s f)) (o .entry) ∙ starts-before (l .node .0) (o .within))
 
     -- the sparse entries that continue before the level
     pub level-children : l .branches - f .totals .children ≡ rank (sc-body s f) (l .entry .0)

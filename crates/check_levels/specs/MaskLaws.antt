@@ -60,7 +60,7 @@ pub digit-even : (x : ℕ) → digit (x % 2) 0 ≡ digit x 0
 unfolding digit
 digit-even x = let e : x % 2 / 2 ^ 0 % 2 ≡ x / 2 ^ 0 % 2 = omega arith in ap (λ (n : ℕ). eqb n 1) e
 
--- a number shifted up: its digits stand k places higher
+-- a number shifted up: its digits stand k positions higher
 pub digit-shl : (a k : ℕ) → digit (a * 2 ^ k) k ≡ digit a 0
 unfolding digit
 digit-shl a k = let e : a / 2 ^ 0 ≡ a = omega arith in ap (λ (n : ℕ). eqb (n % 2) 1) (shl-shr a k ∙ sym e)

@@ -116,5 +116,5 @@ module _ (s : Bytes) (f : Frame) (j : Passed-to-15 s f) (some : 0 < f .leaves) w
       let w : level-slot s f 63 ≡ f .leaves = ap (leaves-to s f) a ∙ v in
       let z : level-slot s f 63 - level-slot s f 62 ≡ 0 = omega arith in
       let y : f .leaves - level-slot s f 63 ≡ 0 = omega arith in
-      ap₂ _&&_ (ap (all-from (clear-at s f (f .hash + 8)) (level-slot s f 62)) z ∙ from-none (clear-at s f (f .hash + 8)) (level-slot s f 62))
-      (ap (all-from (clear-at s f (f .hash)) (level-slot s f 63)) y ∙ from-none (clear-at s f (f .hash)) (level-slot s f 63))
+      ap₂ _&&_ (ap (all-from (clear-at s f (f .«hash_width» + 8)) (level-slot s f 62)) z ∙ from-none (clear-at s f (f .«hash_width» + 8)) (level-slot s f 62))
+      (ap (all-from (clear-at s f (f .«hash_width»)) (level-slot s f 63)) y ∙ from-none (clear-at s f (f .«hash_width»)) (level-slot s f 63))

@@ -32,7 +32,7 @@ pub record Passed-to-15 (s : Bytes) (f : Frame) : Type 0 where
 
 -- what number 14 says of the bits
 pub record Bits-valid (s : Bytes) (f : Frame) : Type 0 where
-  -- S-LOUDS starts with a node, and marks as many as there are
+  -- S-LOUDS starts with a node, and has a one for as many as there are
   pub louds : Louds-valid s f
   -- what continues in a dense node is a label of it
   pub within : covered (bits (dc-body s f) (256 * f .dense .nodes)) (bits (dl-body s f) (256 * f .dense .nodes)) ≡ true
@@ -63,6 +63,6 @@ module _ (s : Bytes) (f : Frame) (j : Passed-to-15 s f) where
       }
 
   -- number 16 over the frame's parts
-  pub slots-parts : slots-pass s f ≡ slots-valid (f .hash) 0 (levels-of (nodes-of (frame-parts s f)))
+  pub slots-parts : slots-pass s f ≡ slots-valid (f .«hash_width») 0 (levels-of (nodes-of (frame-parts s f)))
   unfolding parts
   slots-parts = ap (λ (p : Parts). slots-valid (p .settings .hash-width) 0 (levels-of (nodes-of p))) (j .frame .parts-are)

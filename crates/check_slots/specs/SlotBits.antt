@@ -1,4 +1,4 @@
--- Runs of zero bits by counts of ones: a slot, and slots in a row.
+-- Zero bits in a row by counts of ones: a slot, and slots in a row.
 use Prim.Native.Nat.{ℕ, zero, suc, _+_, _-_, _*_, _<_, _≤_}
 use mathlib.Core.Path.{_≡_, refl, sym, ap, ap₂, _∙_}
 use mathlib.Core.Bool.{Bool, true, false, _&&_}
@@ -67,7 +67,7 @@ module _ (s : Bytes) (n w : ℕ) where
   pub slot-within : (m v : ℕ) → w ≤ m → slot-clear m w (bits s n) v ≡ true
   slot-within m v h = clear-short w m (drop (v * w) (bits s n)) h
 
--- a run in two parts
+-- bits in a row in two parts
 pub bits-parts : (s : Bytes) (a b c : ℕ) → a ≤ b → b ≤ c → bits-clear s a b && bits-clear s b c ≡ bits-clear s a c
 bits-parts s a b c h l = go (eqb (rank s a) (rank s b)) refl
   where
@@ -75,7 +75,7 @@ bits-parts s a b c h l = go (eqb (rank s a) (rank s b)) refl
     go true e = ap (λ (k : ℕ). eqb k (rank s c)) (sym (eqb-true (rank s a) (rank s b) e))
     go false e = sym (ne-eqb (rank s a) (rank s c) (λ q. eqb-false (rank s a) (rank s b) e (omega (arith, rank-up s a b h, rank-up s b c l))))
 
--- slots in a row are a run
+-- slots in a row are bits in a row
 pub slots-bits : (s : Bytes) (n w k v : ℕ) → (v + k) * w ≤ n → all-from (slot-clear 0 w (bits s n)) v k ≡ bits-clear s (v * w) ((v + k) * w)
 slots-bits s n w zero v h = let e : v + 0 ≡ v = omega arith in from-none (slot-clear 0 w (bits s n)) v ∙ sym (rw e (eq-eqb (rank s (v * w)) (rank s (v * w)) refl))
 slots-bits s n w (suc k) v h =
@@ -100,8 +100,8 @@ slot-fits leaves w v h l k =
     (omega (arith, mul-le-mul-right {m = suc v} {n = leaves} w h), omega (arith, mul-le-mul {n₁ = leaves} {m₁ = w} {n₂ = 65535} {m₂ = 32} l k))
 
 -- so are those from one to another, among so many
-pub slots-run : (s : Bytes) (leaves w a b : ℕ) → a ≤ b → b ≤ leaves → bits-clear s (a * w) (b * w) ≡ all-from (slot-clear 0 w (bits s (leaves * w))) a (b - a)
-slots-run s leaves w a b h l =
+pub slots-in-row : (s : Bytes) (leaves w a b : ℕ) → a ≤ b → b ≤ leaves → bits-clear s (a * w) (b * w) ≡ all-from (slot-clear 0 w (bits s (leaves * w))) a (b - a)
+slots-in-row s leaves w a b h l =
     let e : a + (b - a) ≡ b = omega arith in
     sym (slots-bits s (leaves * w) w (b - a) a (rw e (mul-le-mul-right {m = b} {n = leaves} w l)) ∙ ap (λ (k : ℕ). bits-clear s (a * w) (k * w)) e)
 

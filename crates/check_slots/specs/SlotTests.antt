@@ -34,7 +34,7 @@ clear-at s f m v = slot-clear m (f .width) (bits (sv-body s f) (f .leaves * f .w
 
 -- the slots of an image have the length that the counts give
 pub slots-sized : (s : Bytes) (f : Frame) → FrameOf s f → Slots-sized (sv-body s f) (f .leaves) (f .width)
-slots-sized s f o = record { few-leaves = o .leaves; narrow = omega (arith, o .width, o .real, o .hash); room = bits-room (f .leaves * f .width) (sv-body s f) (bodies-sized s f o .sv) }
+slots-sized s f o = record { few-leaves = o .leaves; narrow = omega (arith, o .width, o .real-range, o .hash-range); room = bits-room (f .leaves * f .width) (sv-body s f) (bodies-sized s f o .sv) }
 
 -- the slots of the exact leaves among the dense nodes are clear
 abbrev pub dense-clear : Bytes → Frame → Bool
@@ -55,8 +55,8 @@ level-slot s f t = leaves-to s f (level-start s f t)
 -- the slots on level 62 are clear behind their hash bits and a byte, and those on level 63 behind their hash bits
 abbrev pub last-levels-clear : Bytes → Frame → Bool
 last-levels-clear s f =
-    all-from (clear-at s f (f .hash + 8)) (level-slot s f 62) (level-slot s f 63 - level-slot s f 62)
-    && all-from (clear-at s f (f .hash)) (level-slot s f 63) (f .leaves - level-slot s f 63)
+    all-from (clear-at s f (f .«hash_width» + 8)) (level-slot s f 62) (level-slot s f 63 - level-slot s f 62)
+    && all-from (clear-at s f (f .«hash_width»)) (level-slot s f 63) (f .leaves - level-slot s f 63)
 
 module _ (s : Bytes) (f : Frame) (j : Passed-to-15 s f) (some : 0 < f .leaves) where
   abbrev p : Parts
@@ -108,7 +108,7 @@ module _ (s : Bytes) (f : Frame) (j : Passed-to-15 s f) (some : 0 < f .leaves) w
       ∙ ap₂ (all-from (clear-at s f m)) x y
 
   levels-few : f .dense .levels ≤ 62
-  levels-few = omega (arith, j .frame .levels)
+  levels-few = omega (arith, j .frame .dense-range)
 
   -- the leaves before level 62 are at most those before level 63
   pub slots-up : level-slot s f 62 ≤ level-slot s f 63
@@ -125,10 +125,10 @@ module _ (s : Bytes) (f : Frame) (j : Passed-to-15 s f) (some : 0 < f .leaves) w
       let z = start-last s f j some in
       omega (arith, leaves-before s f j some (level-start s f 63) low, leaves-before s f j some (node-count f) (omega arith), between-total (level-start s f 63) (node-count f) (omega arith), leaves-last s f j some)
 
-  level-63 : all-from (clear-at s f (f .hash)) (level-slot s f 63) (level-slot s f 64 - level-slot s f 63) ≡ all-from (clear-at s f (f .hash)) (level-slot s f 63) (f .leaves - level-slot s f 63)
+  level-63 : all-from (clear-at s f (f .«hash_width»)) (level-slot s f 63) (level-slot s f 64 - level-slot s f 63) ≡ all-from (clear-at s f (f .«hash_width»)) (level-slot s f 63) (f .leaves - level-slot s f 63)
   level-63 =
       let last : level-slot s f 64 ≡ f .leaves = ap (leaves-to s f) (start-last s f j some) ∙ leaves-last s f j some in
-      ap (λ (k : ℕ). all-from (clear-at s f (f .hash)) (level-slot s f 63) (k - level-slot s f 63)) last
+      ap (λ (k : ℕ). all-from (clear-at s f (f .«hash_width»)) (level-slot s f 63) (k - level-slot s f 63)) last
 
   -- Number 16 is judged by positions as document 01 says it of the nodes.
   pub number-16 : slots-pass s f ≡ dense-clear s f && sparse-clear s f && last-levels-clear s f
@@ -140,21 +140,21 @@ module _ (s : Bytes) (f : Frame) (j : Passed-to-15 s f) (some : 0 < f .leaves) w
       let e63 = start-is s f j some 63 (omega arith) in
       let e64 = start-is s f j some 64 (omega arith) in
       slots-parts s f j
-      ∙ levels-slots (f .hash) (levels-of (nodes-of p)) (nodes-of p) (q .0) (q .1) short
+      ∙ levels-slots (f .«hash_width») (levels-of (nodes-of p)) (nodes-of p) (q .0) (q .1) short
       ∙ ap₂ _&&_ exacts
       (ap₂ _&&_
-      (ap₂ (λ (a b : ℕ). between-clear (f .hash + 8) a b (nodes-of p)) e62 e63 ∙ between-slots (f .hash + 8) (level-start s f 62) (level-start s f 63) (low 62 (omega arith) (omega arith)) (start-up s f j some 62 (omega arith)))
-      (ap₂ (λ (a b : ℕ). between-clear (f .hash) a b (nodes-of p)) e63 e64 ∙ between-slots (f .hash) (level-start s f 63) (level-start s f 64) (low 63 (omega arith) (omega arith)) (start-up s f j some 63 (omega arith)) ∙ level-63))
+      (ap₂ (λ (a b : ℕ). between-clear (f .«hash_width» + 8) a b (nodes-of p)) e62 e63 ∙ between-slots (f .«hash_width» + 8) (level-start s f 62) (level-start s f 63) (low 62 (omega arith) (omega arith)) (start-up s f j some 62 (omega arith)))
+      (ap₂ (λ (a b : ℕ). between-clear (f .«hash_width») a b (nodes-of p)) e63 e64 ∙ between-slots (f .«hash_width») (level-start s f 63) (level-start s f 64) (low 63 (omega arith) (omega arith)) (start-up s f j some 63 (omega arith)) ∙ level-63))
     where
-      short : all (open-clear (f .hash + 16)) (nodes-of p) ≡ true
-      short = ap (all (open-clear (f .hash + 16))) (sym from-start) ∙ short-slots w (f .hash + 16) shapes (drop (0 * w) (p .sv)) (omega (arith, j .frame .width, j .frame .real))
+      short : all (open-clear (f .«hash_width» + 16)) (nodes-of p) ≡ true
+      short = ap (all (open-clear (f .«hash_width» + 16))) (sym from-start) ∙ short-slots w (f .«hash_width» + 16) shapes (drop (0 * w) (p .sv)) (omega (arith, j .frame .width, j .frame .real-range))
 
 -- no leaves, no slots
 pub no-leaves : (s : Bytes) (f : Frame) → Passed-to-15 s f → f .leaves ≡ 0 → slots-pass s f ≡ true
 unfolding slots-valid levels-of levels all total
 no-leaves s f j z = slots-parts s f j ∙ go (nodes-of (frame-parts s f)) (bits-pass s f j .nodes)
   where
-    go : (ns : List Node) → nodes-valid (f .dense .levels) (f .dense .nodes) (f .leaves) ns ≡ true → slots-valid (f .hash) 0 (levels-of ns) ≡ true
+    go : (ns : List Node) → nodes-valid (f .dense .levels) (f .dense .nodes) (f .leaves) ns ≡ true → slots-valid (f .«hash_width») 0 (levels-of ns) ≡ true
     go [] h = refl
     go (r ∷ ns) h = absurd (omega (arith, nodes-valid-true (f .dense .levels) (f .dense .nodes) (f .leaves) r ns h .some-leaf))
 
@@ -165,8 +165,8 @@ no-bits s f j some z =
     ∙ ap₂ _&&_
     (ap₂ _&&_ (from-pass _ 0 (f .dense .nodes) (λ i a b. pass (is-set (dp-body s f) i) 0 (dense-slot (dl-body s f) (dc-body s f) (dp-body s f) i)))
     (from-pass _ 0 (f .sparse .entries) (λ i a b. pass (is-extra (sl-body s f) (sb-body s f) (f .sparse .entries) i) 0 (sparse-slot (sc-body s f) (dense-leaf-count f) i))))
-    (ap₂ _&&_ (from-pass (clear-at s f (f .hash + 8)) (level-slot s f 62) (level-slot s f 63 - level-slot s f 62) (λ i a b. none (f .hash + 8) i))
-    (from-pass (clear-at s f (f .hash)) (level-slot s f 63) (f .leaves - level-slot s f 63) (λ i a b. none (f .hash) i)))
+    (ap₂ _&&_ (from-pass (clear-at s f (f .«hash_width» + 8)) (level-slot s f 62) (level-slot s f 63 - level-slot s f 62) (λ i a b. none (f .«hash_width» + 8) i))
+    (from-pass (clear-at s f (f .«hash_width»)) (level-slot s f 63) (f .leaves - level-slot s f 63) (λ i a b. none (f .«hash_width») i)))
   where
     none : (m v : ℕ) → clear-at s f m v ≡ true
     none m v = ap (λ (w : ℕ). slot-clear m w (bits (sv-body s f) (f .leaves * f .width)) v) z ∙ clear-none m

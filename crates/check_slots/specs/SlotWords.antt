@@ -1,4 +1,4 @@
--- Zero bits by bytes: a few by one 64-bit number, a run by the greatest of its bytes.
+-- Zero bits by bytes: a few by one 64-bit number, many in a row by the greatest of their bytes.
 use Prim.Native.Nat.{ℕ, zero, suc, _+_, _-_, _*_, _/_, _%_, _^_, _<_, _≤_}
 use mathlib.Core.Path.{_≡_, refl, sym, ap, ap₂, _∙_}
 use mathlib.Core.Bool.{Bool, true, false, _&&_}

@@ -110,7 +110,7 @@ module _ (x j y : ℕ) (is : y ≡ x / 2 ^ j) where
         let w : j + t + 1 ≡ j + (t + 1) = omega arith in
         shr-shr y t 1 ∙ ap (λ (k : ℕ). k / 2 ^ (t + 1)) is ∙ shr-shr x j (t + 1) ∙ ap (λ (k : ℕ). x / 2 ^ k) (sym w)
 
--- ---- the digits of x from j on, at their places
+-- ---- the digits of x from j on, at their positions
 
 module _ (x j : ℕ) where
   -- those before j are not set
@@ -128,11 +128,11 @@ module _ (x j : ℕ) where
       ap (digit (x / 2 ^ j * 2 ^ j)) (sym e) ∙ ap (λ (n : ℕ). n % 2) (sym (shr-shr (x / 2 ^ j * 2 ^ j) j (i - j))) ∙ ap (λ (n : ℕ). n / 2 ^ (i - j) % 2) (shl-shr (x / 2 ^ j) j)
       ∙ ap (λ (n : ℕ). n % 2) (shr-shr x j (i - j)) ∙ ap (digit x) e
 
--- one place further is twice as much
+-- one position further is twice as much
 shift-suc : (a k : ℕ) → a * 2 ^ suc k ≡ a * 2 ^ k * 2
 shift-suc a k = ap (λ (x : ℕ). a * x) (pow-suc 2 k) ∙ sym (mul-assoc a (2 ^ k) 2)
 
--- a number is a multiple of 2 to its lowest set digit's place
+-- a number is a multiple of 2 to its lowest set digit's position
 trailing-shift : (k x : ℕ) → x ≡ x / 2 ^ trailingZeros k x * 2 ^ trailingZeros k x
 unfolding trailingZeros
 trailing-shift zero x = omega arith

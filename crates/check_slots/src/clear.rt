@@ -1,4 +1,4 @@
-// Bits and suffix slots that are clear: a slot by one read, a run of bits by its bytes.
+// Bits and suffix slots that are clear: a slot by one read, bits in a row by their bytes.
 ghost use mathlib.Core.Path.{_≡_};
 ghost use Prim.Native.Nat.{_+_, _-_, _*_, _≤_};
 ghost use lib.ListN.{length};
@@ -64,7 +64,7 @@ pub fn slot_clear(sv: &[u8], leaves: usize, width: usize, slot: ValuePos) -> boo
     few_clear(sv, BitPos(at), BitPos(at + width))
 }
 
-// Whether the slots from one to another have no bit set behind the first ones, of which so many are skipped in each slot. Where none is skipped the slots are one run of bits.
+// Whether the slots from one to another have no bit set behind the first ones, of which so many are skipped in each slot. Where none is skipped the slots are bits in a row.
 pub fn past_clear(
     sv: &[u8],
     leaves: usize,

@@ -77,6 +77,6 @@ pub fn last_levels_clear(image: &[u8], f: Frame) -> bool
     let from = first_slot(f, level);
     let to = first_slot(f, below);
     let sv = part(image, f.sv, bytes_for(f.leaves * f.width));
-    past_clear(sv, f.leaves, f.width, f.hash + 8, from, to)
-        & past_clear(sv, f.leaves, f.width, f.hash, to, ValuePos(f.leaves))
+    past_clear(sv, f.leaves, f.width, f.hash_width + 8, from, to)
+        & past_clear(sv, f.leaves, f.width, f.hash_width, to, ValuePos(f.leaves))
 }

@@ -17,7 +17,7 @@ use Rattle.bits_select.specs.SelectLaws.{select-le}
 use Rattle.bits.specs.ValueLaws.{Small}
 use Rattle.bits.specs.Parts.{length-part}
 use Rattle.bits.specs.PartLaws.{bits-room, small-part}
-use Rattle.rank_tables.specs.Entries.{entries, rank-entries, sample-entries, entry, table-wrong}
+use Rattle.rank_tables.specs.TableEntries.{table-of, rank-table, sample-table, table-entry, table-wrong}
 use Rattle.rank_tables.specs.Ranks.{block-begun, ranks-are}
 use Rattle.rank_tables.specs.Samples.{samples-are}
 use Rattle.image.specs.declared.Frame.{Frame}
@@ -49,7 +49,7 @@ pub record Sparse-counted (s : Bytes) (f : Frame) (c : SparseCounts) : Type 0 wh
   pub agrees : c .agrees ≡ sparse-agrees s f
 
 -- a body of n bits and the table of its ranks, by blocks of so many words, lie within the image
-pub record Ranks-placed (s : Bytes) (at n table words : ℕ) : Type 0 where
+pub record Ranks-inside (s : Bytes) (at n table words : ℕ) : Type 0 where
   -- a block is one to eight words
   pub some : 0 < words
   pub few : words ≤ 8
@@ -61,7 +61,7 @@ pub record Ranks-placed (s : Bytes) (at n table words : ℕ) : Type 0 where
   pub ranks : table + 4 * blocks (64 * words) n ≤ length s
 
 -- a body of n bits and its samples, of m bytes, lie within the image
-pub record Samples-placed (s : Bytes) (at n table m : ℕ) : Type 0 where
+pub record Samples-inside (s : Bytes) (at n table m : ℕ) : Type 0 where
   -- the bits are few
   pub short : n < 4294967296
   -- the body
@@ -74,7 +74,7 @@ positive : {w : ℕ} → 0 < w → 0 < 64 * w
 positive h = omega arith
 
 -- a table of ranks and its body, as lent
-module _ (s : Bytes) (at n table words : ℕ) (p : Ranks-placed s at n table words) where
+module _ (s : Bytes) (at n table words : ℕ) (p : Ranks-inside s at n table words) where
   long : length (part s at (blocks 8 n)) ≡ blocks 8 n
   long = length-part s at (blocks 8 n) (p .body)
 
@@ -89,36 +89,36 @@ module _ (s : Bytes) (at n table words : ℕ) (p : Ranks-placed s at n table wor
   }
 
   -- and what it gives is what document 01 asks for
-  pub ranked-is : equal (part s table (4 * blocks (64 * words) n)) (rank-entries (64 * words) (part s at (blocks 8 n)) (blocks (64 * words) n)) ≡ holds-ranks s at n table (64 * words)
+  pub ranked-is : equal (part s table (4 * blocks (64 * words) n)) (rank-table (64 * words) (part s at (blocks 8 n)) (blocks (64 * words) n)) ≡ holds-ranks s at n table (64 * words)
   ranked-is = ap (equal (part s table (4 * blocks (64 * words) n))) (sym (ranks-are (64 * words) n (part s at (blocks 8 n)) (positive (p .some)) (bits-room n (part s at (blocks 8 n)) long)))
 
 -- samples and their body, as lent
 pub sampled-is : (s : Bytes) (at n table m : ℕ) → at + blocks 8 n ≤ length s
-    → equal (part s table m) (sample-entries (part s at (blocks 8 n)) n (blocks 64 (rank (part s at (blocks 8 n)) n))) ≡ holds-samples s at n table m
+    → equal (part s table m) (sample-table (part s at (blocks 8 n)) n (blocks 64 (rank (part s at (blocks 8 n)) n))) ≡ holds-samples s at n table m
 sampled-is s at n table m h = ap (equal (part s table m)) (sym (samples-are n (part s at (blocks 8 n)) (bits-room n (part s at (blocks 8 n)) (length-part s at (blocks 8 n) h))))
 
 -- ---- what is read in a table that is right
 
 -- an entry of it
-table-entry : (f : ℕ → ℕ) (n : ℕ) (t : Bytes) → Small t → equal t (entries f n) ≡ true → (i : ℕ) → i < n → entry t i ≡ f i % 4294967296
-table-entry f n t h e i l = go (eqb (entry t i) (f i % 4294967296)) refl
+table-entry-is : (f : ℕ → ℕ) (n : ℕ) (t : Bytes) → Small t → equal t (table-of f n) ≡ true → (i : ℕ) → i < n → table-entry t i ≡ f i % 4294967296
+table-entry-is f n t h e i l = go (eqb (table-entry t i) (f i % 4294967296)) refl
   where
-    go : (b : Bool) → eqb (entry t i) (f i % 4294967296) ≡ b → entry t i ≡ f i % 4294967296
-    go true q = eqb-true (entry t i) (f i % 4294967296) q
-    go false q = absurd (true≢false (sym e ∙ table-wrong f n t h i l (eqb-false (entry t i) (f i % 4294967296) q)))
+    go : (b : Bool) → eqb (table-entry t i) (f i % 4294967296) ≡ b → table-entry t i ≡ f i % 4294967296
+    go true q = eqb-true (table-entry t i) (f i % 4294967296) q
+    go false q = absurd (true≢false (sym e ∙ table-wrong f n t h i l (eqb-false (table-entry t i) (f i % 4294967296) q)))
 
 -- a rank: the ones before a block
-pub stored-rank : (s : Bytes) (at n table words b : ℕ) → Small s → Ranks-placed s at n table words → holds-ranks s at n table (64 * words) ≡ true → n < 4294967296 → 64 * words * b < n
-    → entry (part s table (4 * blocks (64 * words) n)) b ≡ rank (part s at (blocks 8 n)) (64 * words * b)
+pub stored-rank : (s : Bytes) (at n table words b : ℕ) → Small s → Ranks-inside s at n table words → holds-ranks s at n table (64 * words) ≡ true → n < 4294967296 → 64 * words * b < n
+    → table-entry (part s table (4 * blocks (64 * words) n)) b ≡ rank (part s at (blocks 8 n)) (64 * words * b)
 stored-rank s at n table words b h p e l k =
-    table-entry (λ i. rank (part s at (blocks 8 n)) (64 * words * i)) (blocks (64 * words) n) (part s table (4 * blocks (64 * words) n)) (small-part s table (4 * blocks (64 * words) n) h) (ranked-is s at n table words p ∙ e) b (block-begun (64 * words) b n (positive (p .some)) k)
+    table-entry-is (λ i. rank (part s at (blocks 8 n)) (64 * words * i)) (blocks (64 * words) n) (part s table (4 * blocks (64 * words) n)) (small-part s table (4 * blocks (64 * words) n) h) (ranked-is s at n table words p ∙ e) b (block-begun (64 * words) b n (positive (p .some)) k)
     ∙ mod-eq-of-lt (omega (arith, rank-le (part s at (blocks 8 n)) (64 * words * b)))
 
 -- a sample: the position of the set bit number 64 t, counted from 0
 pub stored-sample : (s : Bytes) (at n table m t : ℕ) → Small s → at + blocks 8 n ≤ length s → holds-samples s at n table m ≡ true → n < 4294967296 → 64 * t < rank (part s at (blocks 8 n)) n
-    → entry (part s table m) t ≡ select (part s at (blocks 8 n)) n (64 * t)
+    → table-entry (part s table m) t ≡ select (part s at (blocks 8 n)) n (64 * t)
 stored-sample s at n table m t h p e l k =
-    table-entry (λ i. select (part s at (blocks 8 n)) n (64 * i)) (blocks 64 (rank (part s at (blocks 8 n)) n)) (part s table m) (small-part s table m h) (sampled-is s at n table m p ∙ e) t (omega arith)
+    table-entry-is (λ i. select (part s at (blocks 8 n)) n (64 * i)) (blocks 64 (rank (part s at (blocks 8 n)) n)) (part s table m) (small-part s table m h) (sampled-is s at n table m p ∙ e) t (omega arith)
     ∙ mod-eq-of-lt (omega (arith, select-le (part s at (blocks 8 n)) n (64 * t)))
 
 -- bytes of whole bits

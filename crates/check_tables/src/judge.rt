@@ -4,7 +4,7 @@ ghost use Prim.Native.Nat.{_*_};
 ghost use Rattle.spec.specs.Bytes.{blocks};
 ghost use Rattle.bits.specs.Bits.{rank, part};
 ghost use Rattle.image.specs.FrameOf.{FrameOf};
-ghost use Rattle.check_tables.specs.Tables.{Ranks-placed, Samples-placed, Sparse-counted, holds-ranks, holds-samples};
+ghost use Rattle.check_tables.specs.Tables.{Ranks-inside, Samples-inside, Sparse-counted, holds-ranks, holds-samples};
 use super::SparseCounts;
 use bits::numbers::blocks_for;
 use bits::numbers::bytes_for;
@@ -18,18 +18,18 @@ use rank_tables::words::Counted;
 
 // The ones of the body at an offset, which has n bits, and whether the table at another holds its ranks, by blocks of so many words.
 pub fn ranks_at(image: &[u8], at: usize, n: usize, table: usize, words: usize) -> Counted
-    requires { ⌜ Ranks-placed (now image) at n table words ⌝ }
+    requires { ⌜ Ranks-inside (now image) at n table words ⌝ }
     ensures { λ r. ⌜ (r .ones ≡ rank (part (now (image .entry)) at (blocks 8 n)) n) × (r .agrees ≡ holds-ranks (now (image .entry)) at n table (64 * words)) ⌝ }
 {
-    let entries = blocks_for(64 * words, n);
+    let blocks = blocks_for(64 * words, n);
     let body = part(image, at, bytes_for(n));
-    let ranks = part(image, table, 4 * entries);
+    let ranks = part(image, table, 4 * blocks);
     count_ranks(body, n, ranks, words)
 }
 
 // The ones of the body at an offset, which has n bits, and whether the table at another, of m bytes, holds its samples.
 fn samples_at(image: &[u8], at: usize, n: usize, table: usize, m: usize) -> Counted
-    requires { ⌜ Samples-placed (now image) at n table m ⌝ }
+    requires { ⌜ Samples-inside (now image) at n table m ⌝ }
     ensures { λ r. ⌜ (r .ones ≡ rank (part (now (image .entry)) at (blocks 8 n)) n) × (r .agrees ≡ holds-samples (now (image .entry)) at n table m) ⌝ }
 {
     let body = part(image, at, bytes_for(n));

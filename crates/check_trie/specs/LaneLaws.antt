@@ -117,7 +117,7 @@ carry-full x h = go (eqb x 255) refl
 
 -- ---- eight carries as one byte
 
--- the carries of e at the even places of a byte in four parts, those of o at the odd ones
+-- the carries of e at the even positions of a byte in four parts, those of o at the odd ones
 abbrev pub paired : ℕ → ℕ → ℕ
 paired e o = bitOr (bitAnd carries e / 256) (bitAnd carries o / 128)
 

@@ -1,4 +1,4 @@
 pub mod DensePositions
+pub mod FlagLaws
 pub mod LaneLaws
-pub mod MarkLaws
 pub mod WordEntries

@@ -66,13 +66,13 @@ sole-ends x y c = bitAnd (bitAnd x y) (complement c)
 abbrev pub descents : ℕ → ℕ → ℕ
 descents y a = bitAnd (complement y) (complement a)
 
--- what an exact mark is not: a later entry, one that continues, or one whose label is not FF
-abbrev pub no-mark : ℕ → ℕ → ℕ → ℕ
-no-mark x c m = bitOr (bitOr (complement x) c) (complement m)
+-- what an extra FF is not: a later entry, one that continues, or one whose label is not FF
+abbrev pub not-extra : ℕ → ℕ → ℕ → ℕ
+not-extra x c m = bitOr (bitOr (complement x) c) (complement m)
 
 -- the entries that are wrong: x is their S-LOUDS bits, y those of the entries behind them, c whether they continue, a where labels ascend, m where they are FF
 abbrev pub wrong : ℕ → ℕ → ℕ → ℕ → ℕ → ℕ
-wrong x y c a m = bitOr (sole-ends x y c) (bitAnd (descents y a) (no-mark x c m))
+wrong x y c a m = bitOr (sole-ends x y c) (bitAnd (descents y a) (not-extra x c m))
 
 -- as tests of one entry: a label that ascends is not FF
 wrong-entry : (x y c a m : Bool) → (a ≡ true → m ≡ false)
@@ -103,9 +103,9 @@ digit-wrong : (x y c a m i : ℕ) → i < 64 → x < 2 ^ 64 → y < 2 ^ 64 → c
     → (x′ y′ c′ a′ m′ : Bool) → digit x i ≡ x′ → digit y i ≡ y′ → digit c i ≡ c′ → digit a i ≡ a′ → digit m i ≡ m′
     → digit (wrong x y c a m) i ≡ (x′ && y′ && not c′ || not y′ && not a′ && (not x′ || c′ || not m′))
 digit-wrong x y c a m i l hx hy hc ha hm x′ y′ c′ a′ m′ ex ey ec ea em =
-    digit-or (sole-ends x y c) (bitAnd (descents y a) (no-mark x c m)) i
+    digit-or (sole-ends x y c) (bitAnd (descents y a) (not-extra x c m)) i
     ∙ ap₂ _||_ (digit-and (bitAnd x y) (complement c) i ∙ ap₂ _&&_ (digit-and x y i ∙ ap₂ _&&_ ex ey) (other c c′ hc ec))
-    (digit-and (descents y a) (no-mark x c m) i
+    (digit-and (descents y a) (not-extra x c m) i
     ∙ ap₂ _&&_ (digit-and (complement y) (complement a) i ∙ ap₂ _&&_ (other y y′ hy ey) (other a a′ ha ea))
     (digit-or (bitOr (complement x) c) (complement m) i ∙ ap₂ _||_ (digit-or (complement x) c i ∙ ap₂ _||_ (other x x′ hx ex) ec) (other m m′ hm em)))
   where
@@ -157,8 +157,8 @@ module _ (sl sc sb : Bytes) (small-l : Small sl) (small-c : Small sc) (small-b :
   word-valid : eqb (wrong starts behind goes-on (mask (ascends sl (64 * q)) 64) (mask (full sl (64 * q)) 64)) 0 ≡ range-valid sl sc sb (64 * q) 64
   word-valid =
       zero-digits 64 (wrong starts behind goes-on a m)
-      (or-lt 64 (sole-ends starts behind goes-on) (bitAnd (descents behind a) (no-mark starts goes-on m)) (lt-of-le-of-lt (and-le-r (bitAnd starts behind) (complement goes-on)) (omega arith))
-      (lt-of-le-of-lt (and-le-l (descents behind a) (no-mark starts goes-on m)) (lt-of-le-of-lt (and-le-l (complement behind) (complement a)) (omega arith))))
+      (or-lt 64 (sole-ends starts behind goes-on) (bitAnd (descents behind a) (not-extra starts goes-on m)) (lt-of-le-of-lt (and-le-r (bitAnd starts behind) (complement goes-on)) (omega arith))
+      (lt-of-le-of-lt (and-le-l (descents behind a) (not-extra starts goes-on m)) (lt-of-le-of-lt (and-le-l (complement behind) (complement a)) (omega arith))))
       ∙ from-ext (λ i. not (digit (wrong starts behind goes-on a m) i)) (λ i. later-entry-valid sl sc sb (64 * q + i)) 0 64 (λ i h l. each-one i (omega arith))
       ∙ sym (from-shift (later-entry-valid sl sc sb) (64 * q) 0 64) ∙ ap (λ (k : ℕ). range-valid sl sc sb k 64) start
     where
@@ -192,7 +192,7 @@ module _ (sl sc sb : Bytes) (small-l : Small sl) (small-c : Small sc) (small-b :
     pub word-ascends : (a : ℕ) → a ≡ mask (ascends sl (64 * q)) 64 → descents y a ≡ 0 → eqb (sole-ends x y c) 0 ≡ range-valid sl sc sb (64 * q) 64
     word-ascends a ea e =
         let m : ℕ = mask (full sl (64 * q)) 64 in
-        ap (λ (k : ℕ). eqb k 0) (sym (ap (λ (k : ℕ). bitOr (sole-ends x y c) (bitAnd k (no-mark x c m))) e ∙ or-zero-r (sole-ends x y c))) ∙ word-judged a m ea refl
+        ap (λ (k : ℕ). eqb k 0) (sym (ap (λ (k : ℕ). bitOr (sole-ends x y c) (bitAnd k (not-extra x c m))) e ∙ or-zero-r (sole-ends x y c))) ∙ word-judged a m ea refl
 
     -- so too where each entry is the last of its node
     pub word-lasts : complement y ≡ 0 → eqb (sole-ends x y c) 0 ≡ range-valid sl sc sb (64 * q) 64

@@ -25,7 +25,7 @@ fn gather(even: u64, odd: u64) -> u64
     255 & (t | (t >> 14) | (t >> 28) | (t >> 42))
 }
 
-// The bytes of a word at even places, one to a lane.
+// The bytes of a word at even positions, one to a lane.
 fn even_bytes(w: u64) -> u64
     ensures { λ r. ⌜ (r ≡ bitAnd w low-bytes) × (r ≤ low-bytes) ⌝ }
 {

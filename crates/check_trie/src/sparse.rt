@@ -84,8 +84,8 @@ fn word_valid(sl: &[u8], sc: &[u8], sb: &[u8], q: usize) -> bool
         return sole_ends == 0;
     }
     let descents = !y & !ascents(sl, 64 * q);
-    let no_mark = !x | c | !full_labels(sl, 64 * q);
-    sole_ends | (descents & no_mark) == 0
+    let not_extra = !x | c | !full_labels(sl, 64 * q);
+    sole_ends | (descents & not_extra) == 0
 }
 
 // Whether the entries of the words from one on and before another are valid.

@@ -34,7 +34,7 @@ fn first_set(s: &[u8], n: usize) -> bool
     bit_at(s, 0) == 1
 }
 
-// Whether S-LOUDS, which marks so many entries, marks the first one, and as many as there are sparse nodes.
+// Whether S-LOUDS, which has so many ones, has one at the first entry, and as many as there are sparse nodes.
 fn louds_valid(image: &[u8], f: Frame, starts: usize) -> bool
     requires { ⌜ FrameOf (now image) f × (starts ≡ rank (sb-body (now image) f) (f .sparse .entries)) ⌝ }
     ensures { λ r. ⌜ r ≡ louds-test (now (image .entry)) f ⌝ }

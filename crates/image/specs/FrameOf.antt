@@ -20,7 +20,7 @@ use Rattle.image.specs.declared.Frame.{Frame}
 
 -- what a frame's header says
 abbrev pub header-of : Frame → Header
-header-of f = record { version = f .version; real = f .real; hash = f .hash; leaves = f .leaves; dense = f .dense; sparse = f .sparse }
+header-of f = record { version = f .version; «real_width» = f .«real_width»; «hash_width» = f .«hash_width»; leaves = f .leaves; dense = f .dense; sparse = f .sparse }
 
 -- the twelve bodies at a frame's offsets, of the lengths that its counts give
 abbrev pub twelve-bodies : Bytes → Frame → List Bytes
@@ -66,7 +66,7 @@ abbrev pub level-gap : ℕ → ℕ
 level-gap v = cond (eqb v 2) 6 0
 
 -- each body starts behind the one before it and the six bytes of its record
-pub record Chained (f : Frame) : Type 0 where
+pub record Contiguous (f : Frame) : Type 0 where
   pub dl : f .dl ≡ 28
   pub dc : f .dc ≡ f .dl + 32 * f .dense .nodes + 6
   pub dp : f .dp ≡ f .dc + 32 * f .dense .nodes + 6
@@ -88,15 +88,15 @@ pub record FrameOf (s : Bytes) (f : Frame) : Type 0 where
   pub bodies : read-bodies (rows-of s) (drop 22 s) ≡ some (frame-bodies s f)
   pub parts-are : parts s (frame-named s f) ≡ frame-parts s f
   pub valid : header-valid (parts s (frame-named s f)) (frame-bodies s f) ≡ true
-  pub levels : f .dense .levels ≤ 4
-  pub real : f .real ≤ 16
-  pub hash : f .hash ≤ 16
-  pub width : f .width ≡ f .hash + f .real
+  pub dense-range : f .dense .levels ≤ 4
+  pub real-range : f .«real_width» ≤ 16
+  pub hash-range : f .«hash_width» ≤ 16
+  pub width : f .width ≡ f .«hash_width» + f .«real_width»
   pub leaves : f .leaves ≤ 65535
   pub dense : f .dense .nodes < 4294967296
   pub entries : f .sparse .entries < 4294967296
   pub sparse : f .sparse .nodes < 4294967296
-  pub chained : Chained f
+  pub contiguous : Contiguous f
   pub end : f .lv ≤ length s
   pub children : f .totals .children ≡ rank (drop (f .dc) s) (256 * f .dense .nodes)
   pub dense-entries : f .totals .entries ≡ rank (drop (f .dl) s) (256 * f .dense .nodes) + rank (drop (f .dp) s) (f .dense .nodes)
@@ -120,19 +120,19 @@ pub record Within (s : Bytes) (f : Frame) : Type 0 where
 -- A frame of an image tells so of each body.
 pub within : (s : Bytes) (f : Frame) → FrameOf s f → Within s f
 within s f o =
-    let ts : f .ts + 4 * blocks 64 (f .sparse .nodes) ≤ length s = omega (arith, o .end, o .chained .lv) in
-    let rs : f .rs + 4 * blocks 512 (f .sparse .entries) ≤ length s = omega (arith, o .chained .ts) in
-    let rp : f .rp + 4 * blocks 64 (f .dense .nodes) ≤ length s = omega (arith, o .chained .rs) in
-    let rc : f .rc + 4 * blocks 64 (256 * f .dense .nodes) ≤ length s = omega (arith, o .chained .rp) in
-    let rl : f .rl + 4 * blocks 64 (256 * f .dense .nodes) ≤ length s = omega (arith, o .chained .rc) in
-    let sv : f .sv + blocks 8 (f .leaves * f .width) ≤ length s = omega (arith, o .chained .rl) in
-    let sb : f .sb + blocks 8 (f .sparse .entries) ≤ length s = omega (arith, o .chained .sv) in
-    let sc : f .sc + blocks 8 (f .sparse .entries) ≤ length s = omega (arith, o .chained .sb) in
-    let sl : f .sl + f .sparse .entries ≤ length s = omega (arith, o .chained .sc) in
-    let dp : f .dp + blocks 8 (f .dense .nodes) ≤ length s = omega (arith, o .chained .sl) in
-    let dc : f .dc + 32 * f .dense .nodes ≤ length s = omega (arith, o .chained .dp) in
-    let dl : f .dl + 32 * f .dense .nodes ≤ length s = omega (arith, o .chained .dc) in
-    let narrow : f .width ≤ 32 = omega (arith, o .real, o .hash, o .width) in
+    let ts : f .ts + 4 * blocks 64 (f .sparse .nodes) ≤ length s = omega (arith, o .end, o .contiguous .lv) in
+    let rs : f .rs + 4 * blocks 512 (f .sparse .entries) ≤ length s = omega (arith, o .contiguous .ts) in
+    let rp : f .rp + 4 * blocks 64 (f .dense .nodes) ≤ length s = omega (arith, o .contiguous .rs) in
+    let rc : f .rc + 4 * blocks 64 (256 * f .dense .nodes) ≤ length s = omega (arith, o .contiguous .rp) in
+    let rl : f .rl + 4 * blocks 64 (256 * f .dense .nodes) ≤ length s = omega (arith, o .contiguous .rc) in
+    let sv : f .sv + blocks 8 (f .leaves * f .width) ≤ length s = omega (arith, o .contiguous .rl) in
+    let sb : f .sb + blocks 8 (f .sparse .entries) ≤ length s = omega (arith, o .contiguous .sv) in
+    let sc : f .sc + blocks 8 (f .sparse .entries) ≤ length s = omega (arith, o .contiguous .sb) in
+    let sl : f .sl + f .sparse .entries ≤ length s = omega (arith, o .contiguous .sc) in
+    let dp : f .dp + blocks 8 (f .dense .nodes) ≤ length s = omega (arith, o .contiguous .sl) in
+    let dc : f .dc + 32 * f .dense .nodes ≤ length s = omega (arith, o .contiguous .dp) in
+    let dl : f .dl + 32 * f .dense .nodes ≤ length s = omega (arith, o .contiguous .dc) in
+    let narrow : f .width ≤ 32 = omega (arith, o .real-range, o .hash-range, o .width) in
     record {
       dl = dl;
       dc = dc;

@@ -17,11 +17,11 @@ settings version dense n h = record { version = version; dense-levels = dense; r
 
 -- the settings that are asked for
 abbrev pub asked : Asked → Settings
-asked s = settings (s .version) (s .levels) (s .real) (s .hash)
+asked s = settings (s .version) (s .«dense_levels») (s .«real_width») (s .«hash_width»)
 
 -- the settings that a header says
 abbrev pub settings-of : Header → Settings
-settings-of h = settings (h .version) (h .dense .levels) (h .real) (h .hash)
+settings-of h = settings (h .version) (h .dense .levels) (h .«real_width») (h .«hash_width»)
 
 -- the counts that a header says
 abbrev pub counts-of : Header → Counts
@@ -30,17 +30,17 @@ counts-of h = record { leaves = h .leaves; dense-nodes = h .dense .nodes; sparse
 -- the fields of a header fit the bytes that hold them: one byte for each setting, four for each count
 pub record Short-fields (h : Header) : Type 0 where
   pub version : h .version < 256
-  pub levels : h .dense .levels < 256
-  pub real : h .real < 256
-  pub hash : h .hash < 256
+  pub dense-range : h .dense .levels < 256
+  pub real-range : h .«real_width» < 256
+  pub hash-range : h .«hash_width» < 256
   pub leaves : h .leaves < 4294967296
   pub dense-nodes : h .dense .nodes < 4294967296
   pub sparse-entries : h .sparse .entries < 4294967296
   pub sparse-nodes : h .sparse .nodes < 4294967296
 
 -- the bits of all slots
-pub slots-short : (h : Header) → Short-fields h → h .leaves * (h .hash + h .real) < 2199023255552
-slots-short h f = let w : h .hash + h .real ≤ 512 = omega (arith, f .real, f .hash) in omega (arith, f .leaves, mul-le-mul-left (h .leaves) w)
+pub slots-short : (h : Header) → Short-fields h → h .leaves * (h .«hash_width» + h .«real_width») < 2199023255552
+slots-short h f = let w : h .«hash_width» + h .«real_width» ≤ 512 = omega (arith, f .real-range, f .hash-range) in omega (arith, f .leaves, mul-le-mul-left (h .leaves) w)
 
 -- a header by value is what document 01 reads from the bytes
 pub record Reads-header (s : Bytes) (h : Header) : Type 0 where

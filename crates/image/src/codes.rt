@@ -14,13 +14,13 @@ pub const REFUSAL_WEIGHT: u64 = 4294967296;
 const BYTE: u64 = 256;
 
 // What the dense levels are multiplied with where settings are one number.
-const LEVELS_WEIGHT: u64 = 256;
+const DENSE_LEVELS_WEIGHT: u64 = 256;
 
 // What the real bits are multiplied with there.
-const REAL_WEIGHT: u64 = 65536;
+const REAL_WIDTH_WEIGHT: u64 = 65536;
 
 // What the hash bits are multiplied with there.
-const HASH_WEIGHT: u64 = 16777216;
+const HASH_WIDTH_WEIGHT: u64 = 16777216;
 
 // An answer as one number: the number of a refusal, 0 for success, times 2^32, plus the bytes written, 0 for a refusal.
 pub fn code(answer: Written) -> u64
@@ -38,8 +38,8 @@ pub fn settings_of(number: u64) -> Settings
 {
     Settings {
         version: (number % BYTE) as usize,
-        levels: (number / LEVELS_WEIGHT % BYTE) as usize,
-        real: (number / REAL_WEIGHT % BYTE) as usize,
-        hash: (number / HASH_WEIGHT) as usize,
+        dense_levels: (number / DENSE_LEVELS_WEIGHT % BYTE) as usize,
+        real_width: (number / REAL_WIDTH_WEIGHT % BYTE) as usize,
+        hash_width: (number / HASH_WIDTH_WEIGHT) as usize,
     }
 }

@@ -6,7 +6,7 @@ ghost use lib.ListN.{length, drop, replicate};
 ghost use Rattle.spec.specs.Bytes.{le32};
 ghost use Rattle.spec.specs.Image.{header};
 ghost use Rattle.spec.specs.Build.{in-range};
-ghost use Rattle.bits.specs.Bits.{placed};
+ghost use Rattle.bits.specs.Bits.{overlaid};
 ghost use Rattle.image.specs.Header.{asked, settings-of, counts-of, Short-fields, Reads-header, mark-bytes, first-bytes};
 use super::Dense;
 use super::Header;
@@ -40,10 +40,10 @@ pub const VERSION_AT: usize = 2;
 const DENSE_LEVELS_AT: usize = 3;
 
 // The offset of the number of real bits in a header.
-const REAL_AT: usize = 4;
+const REAL_WIDTH_AT: usize = 4;
 
 // The offset of the number of hash bits in a header.
-const HASH_AT: usize = 5;
+const HASH_WIDTH_AT: usize = 5;
 
 // The offset of the number of leaves in a header.
 const LEAVES_AT: usize = 6;
@@ -63,14 +63,14 @@ pub fn settings_in_range(settings: Settings) -> bool
 {
     ((settings.version == FIRST_VERSION) | (settings.version == LEVELED_VERSION))
         & (settings.levels <= MAX_DENSE_LEVELS)
-        & (settings.real <= MAX_REAL_BITS)
-        & (settings.hash <= MAX_HASH_BITS)
+        & (settings.real_width <= MAX_REAL_BITS)
+        & (settings.hash_width <= MAX_HASH_BITS)
 }
 
 // The mark's two bytes go to out from at, and all else stays.
 fn write_mark(out: &mut [u8], at: usize, mark: &[u8; MARK_BYTES])
     requires { ⌜ at + 2 ≤ length (now out) ⌝ }
-    ensures { λ _. ⌜ now (out .exit) ≡ placed (now (out .entry)) at (mark-bytes (now (mark .entry))) ⌝ }
+    ensures { λ _. ⌜ now (out .exit) ≡ overlaid (now (out .entry)) at (mark-bytes (now (mark .entry))) ⌝ }
 {
     out[at] = mark[0];
     out[at + 1] = mark[1];
@@ -79,7 +79,7 @@ fn write_mark(out: &mut [u8], at: usize, mark: &[u8; MARK_BYTES])
 // A record begins at `at`: its mark and the length of its body, which goes behind them.
 pub fn begin_record(out: &mut [u8], at: usize, mark: &[u8; MARK_BYTES], len: usize)
     requires { ⌜ at + 6 ≤ length (now out) ⌝ }
-    ensures { λ _. ⌜ now (out .exit) ≡ placed (now (out .entry)) at (mark-bytes (now (mark .entry)) ++ le32 len) ⌝ }
+    ensures { λ _. ⌜ now (out .exit) ≡ overlaid (now (out .entry)) at (mark-bytes (now (mark .entry)) ++ le32 len) ⌝ }
 {
     write_mark(out, at, mark);
     write32(out, at + MARK_BYTES, len);
@@ -88,26 +88,26 @@ pub fn begin_record(out: &mut [u8], at: usize, mark: &[u8; MARK_BYTES], len: usi
 // The header's first six bytes: its mark and the settings.
 fn write_settings(out: &mut [u8], version: u8, dense: u8, n: u8, h: u8)
     requires { ⌜ 6 ≤ length (now out) ⌝ }
-    ensures { λ _. ⌜ now (out .exit) ≡ placed (now (out .entry)) 0 (first-bytes version dense n h) ⌝ }
+    ensures { λ _. ⌜ now (out .exit) ≡ overlaid (now (out .entry)) 0 (first-bytes version dense n h) ⌝ }
 {
     write_mark(out, 0, b"HD");
     out[VERSION_AT] = version;
     out[DENSE_LEVELS_AT] = dense;
-    out[REAL_AT] = n;
-    out[HASH_AT] = h;
+    out[REAL_WIDTH_AT] = n;
+    out[HASH_WIDTH_AT] = h;
 }
 
 // The header.
 pub fn write_header(out: &mut [u8], h: Header)
     requires { ⌜ Short-fields h × (22 ≤ length (now out)) ⌝ }
-    ensures { λ _. ⌜ now (out .exit) ≡ placed (now (out .entry)) 0 (header (settings-of h) (counts-of h)) ⌝ }
+    ensures { λ _. ⌜ now (out .exit) ≡ overlaid (now (out .entry)) 0 (header (settings-of h) (counts-of h)) ⌝ }
 {
     write_settings(
         out,
         h.version as u8,
         h.dense.levels as u8,
-        h.real as u8,
-        h.hash as u8,
+        h.real_width as u8,
+        h.hash_width as u8,
     );
     write32(out, LEAVES_AT, h.leaves);
     write32(out, DENSE_NODES_AT, h.dense.nodes);
@@ -122,8 +122,8 @@ pub fn read_header(image: &[u8]) -> Header
 {
     Header {
         version: wide(image[VERSION_AT]),
-        real: wide(image[REAL_AT]),
-        hash: wide(image[HASH_AT]),
+        real_width: wide(image[REAL_WIDTH_AT]),
+        hash_width: wide(image[HASH_WIDTH_AT]),
         leaves: read32(image, LEAVES_AT),
         dense: Dense {
             levels: wide(image[DENSE_LEVELS_AT]),

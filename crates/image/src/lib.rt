@@ -57,9 +57,9 @@ pub struct ValuePos(pub usize);
 // The settings of an image that is to be built, in range or not: the version, the dense levels, and how many real bits and hash bits a suffix slot has.
 pub struct Settings {
     pub version: usize,
-    pub levels: usize,
-    pub real: usize,
-    pub hash: usize,
+    pub dense_levels: usize,
+    pub real_width: usize,
+    pub hash_width: usize,
 }
 
 // The dense nodes by the header: on how many levels they are, and how many there are.
@@ -77,8 +77,8 @@ pub struct Sparse {
 // What a header says: the version, how many real bits and hash bits a suffix slot has, the leaves, and the dense and sparse nodes.
 pub struct Header {
     pub version: usize,
-    pub real: usize,
-    pub hash: usize,
+    pub real_width: usize,
+    pub hash_width: usize,
     pub leaves: usize,
     pub dense: Dense,
     pub sparse: Sparse,
@@ -93,8 +93,8 @@ pub struct DenseTotals {
 // The frame of an image: what its header says, the width of a suffix slot, which is its hash bits and real bits together, the totals of its dense nodes, and the offset of each record's body. LV's goes up to the end of the image; where the version has none, its offset is that end.
 pub struct Frame {
     pub version: usize,
-    pub real: usize,
-    pub hash: usize,
+    pub real_width: usize,
+    pub hash_width: usize,
     pub width: usize,
     pub leaves: usize,
     pub dense: Dense,

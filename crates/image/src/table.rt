@@ -69,7 +69,7 @@ pub fn body_size(h: Header, i: usize) -> usize
         3 => h.sparse.entries,
         4 => bytes_for(h.sparse.entries),
         5 => bytes_for(h.sparse.entries),
-        6 => bytes_for(h.leaves * (h.hash + h.real)),
+        6 => bytes_for(h.leaves * (h.hash_width + h.real_width)),
         7 => table_size(DENSE_BLOCK_BITS, ROW_BITS * h.dense.nodes),
         8 => table_size(DENSE_BLOCK_BITS, ROW_BITS * h.dense.nodes),
         9 => table_size(DENSE_BLOCK_BITS, h.dense.nodes),

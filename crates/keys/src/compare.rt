@@ -84,7 +84,7 @@ fn equal_word(p: &[u8], q: &[u8], i: usize) -> usize
 }
 
 // How many bytes a word and the words behind it have in common with others: `rest`, those behind it, count where all eight of the word are equal. No branch is taken, as none could be foretold.
-fn run_on(equal: usize, rest: usize) -> usize
+fn equal_with_rest(equal: usize, rest: usize) -> usize
     requires { ⌜ (equal ≤ 8) × (rest ≤ 16) ⌝ }
     ensures { λ r. ⌜ (r ≤ 8 + rest) × (equal < 8 → r ≡ equal) × (8 ≤ equal → r ≡ 8 + rest) ⌝ }
 {
@@ -100,8 +100,8 @@ fn equal_window(p: &[u8], q: &[u8]) -> usize
     if second < 8 {
         return 8 + second;
     }
-    let last = run_on(equal_word(p, q, 24), equal_word(p, q, 32));
-    16 + run_on(equal_word(p, q, 16), last)
+    let last = equal_with_rest(equal_word(p, q, 24), equal_word(p, q, 32));
+    16 + equal_with_rest(equal_word(p, q, 16), last)
 }
 
 // The length of the longest prefix that two keys share: the first n bytes of p and the first m bytes of q, which is no longer than p. The first word is known to be shared where q has one.

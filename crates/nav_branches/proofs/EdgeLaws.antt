@@ -22,8 +22,8 @@ use Rattle.nav_nodes.specs.Counting.{labels-below-le}
 use Rattle.nav_nodes.specs.FoundBranch.{Is-sparse, Found-branch, Entries-at}
 use Rattle.nav_nodes.specs.LabelMaps.{matches}
 use Rattle.nav_nodes.specs.NextBranch.{Next-branch, Entry-branch, sparse-next}
-use Rattle.nav_nodes.specs.NextLabel.{first-kind, kind-with, kind-there, is-there, with-there, there-before, labels-next, own-place}
-use Rattle.nav_nodes.specs.Positions.{branches, place, child-at, slot-at, Branch-at, end-sparse, rising, label-sparse, branch-sparse, place-sparse, none-end, one-there}
+use Rattle.nav_nodes.specs.NextLabel.{first-kind, kind-with, kind-there, is-there, with-there, there-before, labels-next, own-index}
+use Rattle.nav_nodes.specs.Positions.{branches, branch-index, child-at, slot-at, Branch-at, end-sparse, rising, label-sparse, branch-sparse, index-sparse, none-end, one-there}
 use Rattle.nav_nodes.specs.Slots.{node-at}
 use Rattle.nav_nodes.specs.SparsePositions.{label-high}
 use Rattle.nav_branches.specs.declared.edges.LastBranch.{LastBranch}
@@ -57,8 +57,8 @@ module _ (s : Bytes) (f : Frame) (m : ℕ) (n : Is-sparse s f m) where
 
   module _ (y : ℕ) (b : Found) (r : Found-branch s f m y b) where
     -- the first branch whose label is not below y stands at its entry
-    found-at : b .at .0 ≡ first-entry s f m + place s f m y
-    found-at = one-position (place s f m y) (b .at .0) (first-entry s f m + place s f m y) (r .at-is) (branch-there (place s f m y) (labels-below-le y (branches s f m)))
+    found-at : b .at .0 ≡ first-entry s f m + branch-index s f m y
+    found-at = one-position (branch-index s f m y) (b .at .0) (first-entry s f m + branch-index s f m y) (r .at-is) (branch-there (branch-index s f m y) (labels-below-le y (branches s f m)))
 
     -- The position behind the node's last branch is among the image's entries.
     pub end-room : b .end .0 ≤ f .sparse .entries
@@ -67,26 +67,26 @@ module _ (s : Bytes) (f : Frame) (m : ℕ) (n : Is-sparse s f m) where
     -- The first branch with a label above y stands behind the branch at y, or, where y has none, at its position.
     pub higher-there : (p : ℕ) → p ≡ b .at .0 + bit (is-there (b .kind)) → (c : NextBranch) → Entry-branch s f p (b .end .0) c → Next-branch s f m (y + 1) (c .kind) (c .label) (c .at .0)
     higher-there p e =
-        let t : is-there (b .kind) ≡ matches y (drop (place s f m y) (branches s f m)) = ap is-there (r .kind-is) ∙ with-there y (drop (place s f m y) (branches s f m)) in
+        let t : is-there (b .kind) ≡ matches y (drop (branch-index s f m y) (branches s f m)) = ap is-there (r .kind-is) ∙ with-there y (drop (branch-index s f m y) (branches s f m)) in
         let next = labels-next y (branches s f m) (rising s f (n .accepted) m (n .behind-dense) (n .inside)) in
         sparse-next s f (n .accepted) m (y + 1) p (first-entry s f m) (n .behind-dense) (n .inside) refl (omega (arith, e, ap bit t, found-at)) (b .end .0) (omega (arith, found-at, r .end-is (n .behind-dense))) end-room
 
   module _ (y first end : ℕ) (exact : Bool) (r : Entries-at s f m exact first end) where
     -- where all labels are below z, the branches from z on start at the end
-    past : (z : ℕ) → (first < end → getD s (f .sl + (end - 1)) 0 < z) → end ≡ first + place s f m z
+    past : (z : ℕ) → (first < end → getD s (f .sl + (end - 1)) 0 < z) → end ≡ first + branch-index s f m z
     past z h =
-        place-sparse s f (n .accepted) m (n .behind-dense) (n .inside) first (r .first-is) end z (omega (arith, r .end-is)) (omega (arith, r .end-is)) (λ k. rw (getD-drop (f .sl) s (end - 1) 0) (h k)) (λ k. absurd (omega (arith, r .end-is)))
+        index-sparse s f (n .accepted) m (n .behind-dense) (n .inside) first (r .first-is) end z (omega (arith, r .end-is)) (omega (arith, r .end-is)) (λ k. rw (getD-drop (f .sl) s (end - 1) 0) (h k)) (λ k. absurd (omega (arith, r .end-is)))
 
     -- no label is above y
-    no-higher : end ≡ first + place s f m (y + 1) → false ≡ is-there (first-kind (drop (place s f m (y + 1)) (branches s f m)))
-    no-higher h = sym (there-before (branches s f m) (place s f m (y + 1)) ∙ le-ltb (place s f m (y + 1)) (length (branches s f m)) (omega (arith, r .end-is)))
+    no-higher : end ≡ first + branch-index s f m (y + 1) → false ≡ is-there (first-kind (drop (branch-index s f m (y + 1)) (branches s f m)))
+    no-higher h = sym (there-before (branches s f m) (branch-index s f m (y + 1)) ∙ le-ltb (branch-index s f m (y + 1)) (length (branches s f m)) (omega (arith, r .end-is)))
 
     -- no branch at y, nor behind it
-    end-kind : end ≡ first + place s f m y → Absent ≡ kind-with y (drop (place s f m y) (branches s f m))
+    end-kind : end ≡ first + branch-index s f m y → Absent ≡ kind-with y (drop (branch-index s f m y) (branches s f m))
     end-kind h = none-end s f (n .accepted) m (n .behind-dense) (n .inside) first (r .first-is) end y h (omega (arith, r .end-is))
 
-    entry-at : (p : ℕ) → p ≡ first + place s f m y → Branch-at s f m (place s f m y) p
-    entry-at p h = rw h (branch-sparse s f (n .accepted) m (n .behind-dense) (n .inside) first (r .first-is) (place s f m y) (labels-below-le y (branches s f m)) (omega (arith, r .end-is, r .end-inside, labels-below-le y (branches s f m))))
+    entry-at : (p : ℕ) → p ≡ first + branch-index s f m y → Branch-at s f m (branch-index s f m y) p
+    entry-at p h = rw h (branch-sparse s f (n .accepted) m (n .behind-dense) (n .inside) first (r .first-is) (branch-index s f m y) (labels-below-le y (branches s f m)) (omega (arith, r .end-is, r .end-inside, labels-below-le y (branches s f m))))
 
     -- A node without branches.
     pub last-none : (b : LastBranch) → b ≡ record { higher = false; kind = Absent; at = record { 0 = end } } → end ≤ first → Last-branch s f m y b
@@ -112,18 +112,18 @@ module _ (s : Bytes) (f : Frame) (m : ℕ) (n : Is-sparse s f m) where
               under : (x y : ℕ) → x ≤ y → (x ≡ y → ⊥) → x < y
               under x y u d = omega arith
 
-          go : (t : Bool) → ltb y x ≡ t → t ≡ is-there (first-kind (drop (place s f m (y + 1)) (branches s f m)))
+          go : (t : Bool) → ltb y x ≡ t → t ≡ is-there (first-kind (drop (branch-index s f m (y + 1)) (branches s f m)))
           go true q =
-              sym (there-before (branches s f m) (place s f m (y + 1)) ∙ lt-ltb (place s f m (y + 1)) (length (branches s f m))
+              sym (there-before (branches s f m) (branch-index s f m (y + 1)) ∙ lt-ltb (branch-index s f m (y + 1)) (length (branches s f m))
               (omega (arith, r .end-is, label-high (y + 1) (branches s f m) (length (branches s f m) - 1) (omega (arith, r .end-is)) (omega (arith, last-label, ltb-true y x q)))))
           go false q = no-higher (past (y + 1) (λ k. omega (arith, low q k)))
 
       -- The last label is y.
       pub last-own : (b : LastBranch) (c : ℕ) → b ≡ record { higher = false; kind = kind-there (eqb c 1); at = record { 0 = end - 1 } } → x ≡ y → c ≡ bit-at (drop (f .sc) s) (end - 1) → Last-branch s f m y b
       last-own b c e h q =
-          let o : place s f m y ≡ length (branches s f m) - 1 =
-          ap (λ (z : ℕ). place s f m z) (sym (last-label ∙ h)) ∙ own-place (branches s f m) (length (branches s f m) - 1) (rising s f (n .accepted) m (n .behind-dense) (n .inside)) (omega (arith, r .end-is)) in
-          let p : end - 1 ≡ first + place s f m y = omega (arith, r .end-is) in
+          let o : branch-index s f m y ≡ length (branches s f m) - 1 =
+          ap (λ (z : ℕ). branch-index s f m z) (sym (last-label ∙ h)) ∙ own-index (branches s f m) (length (branches s f m) - 1) (rising s f (n .accepted) m (n .behind-dense) (n .inside)) (omega (arith, r .end-is)) in
+          let p : end - 1 ≡ first + branch-index s f m y = omega (arith, r .end-is) in
           rw e (record {
             higher-is = no-higher (past (y + 1) (λ k. omega (arith, is, h)));
             kind-is = λ k. one-there s f (n .accepted) m (n .behind-dense) (n .inside) first (r .first-is) (end - 1) y c p (omega (arith, r .end-is)) (sym is ∙ h) q;

@@ -51,7 +51,7 @@ below ns (suc l) m = exact-leaf (own-slot (node-at ns m)) ++ behind-branches (be
 unfoldable pub from-label : List Node → ℕ → ℕ → ℕ → Group
 from-label ns l m y = behind-branches (below ns l) (drop (labels-below y (branches-of (node-at ns m))) (branches-of (node-at ns m))) (child-number ns m (labels-below y (branches-of (node-at ns m))))
 
--- Node m stands at place `index` of the first of some linked levels, at most l of them, behind the nodes `before`.
+-- Node m stands at the index `index` of the first of some linked levels, at most l of them, behind the nodes `before`.
 pub record On-level (ns : List Node) (l m : ℕ) : Type 0 where
   pub before : List Node
   pub levels : List (List Node)
@@ -83,7 +83,7 @@ next-label (b ∷ es) (suc i) e rest r d =
     let h = next-label es i e rest (r .1) d in
     below-low (suc (label-of e)) (label-of b) b es refl (omega (arith, first-lower (suc (label-of e)) (label-of b) es (omega arith) (r .0))) ∙ ap suc h
 
--- what is left behind the member at place i
+-- what is left behind the member at index i
 pub drop-next : {A : Type 0} (xs : List A) (i : ℕ) (x : A) (rest : List A) → drop i xs ≡ x ∷ rest → drop (suc i) xs ≡ rest
 drop-next [] zero x rest d = let z : _≡_ {A = ℕ} 0 1 = cc in absurd (omega arith)
 drop-next [] (suc i) x rest d = let z : _≡_ {A = ℕ} 0 1 = cc in absurd (omega arith)

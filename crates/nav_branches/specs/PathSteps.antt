@@ -18,10 +18,10 @@ use Rattle.nav_branches.specs.declared.LeafStop.the-variants as Stop
 use Rattle.nav_nodes.specs.Counting.{labels-below}
 use Rattle.nav_nodes.specs.Slots.{slot-number}
 use Rattle.nav_nodes.specs.Descent.{child-number}
-use Rattle.nav_nodes.specs.NextLabel.{kind-end, label-first, own-place}
+use Rattle.nav_nodes.specs.NextLabel.{kind-end, label-first, own-index}
 use Rattle.nav_nodes.specs.NumberBounds.{kind-slot}
 use Rattle.nav_nodes.specs.Accepted.{Accepted, nodes, dense-nodes, sparse-nodes}
-use Rattle.nav_nodes.specs.Positions.{branches, place, child-at, slot-at}
+use Rattle.nav_nodes.specs.Positions.{branches, branch-index, child-at, slot-at}
 use Rattle.nav_nodes.specs.NextBranch.{Next-branch}
 use Rattle.nav_nodes.specs.FoundBranch.{node-count}
 use Rattle.theory.specs.LinkedLevels.{Ascends}
@@ -87,18 +87,18 @@ node-in s f a l m on = omega (arith, level-node (nodes s f) l m on, length-appen
 
 -- The first branch from a label on is the one with its own label.
 module _ (s : Bytes) (f : Frame) (l m y : ℕ) (b : NextBranch) (on : On-level (nodes s f) l m) (is : Branch-from s f m y b) (there : b .kind ≡ Kind.Absent → ⊥) where
-  pub same-place : place s f m (b .label) ≡ place s f m y
-  same-place = go (ltb (place s f m y) (length (branches s f m))) refl
+  pub same-index : branch-index s f m (b .label) ≡ branch-index s f m y
+  same-index = go (ltb (branch-index s f m y) (length (branches s f m))) refl
     where
-      go : (t : Bool) → ltb (place s f m y) (length (branches s f m)) ≡ t → place s f m (b .label) ≡ place s f m y
+      go : (t : Bool) → ltb (branch-index s f m y) (length (branches s f m)) ≡ t → branch-index s f m (b .label) ≡ branch-index s f m y
       go true e =
-          let h = ltb-true (place s f m y) (length (branches s f m)) e in
-          ap (λ (x : ℕ). labels-below x (branches s f m)) (is .there there .label-is ∙ sym (label-first (branches s f m) (place s f m y) h)) ∙ own-place (branches s f m) (place s f m y) (level-rising (nodes s f) l m on) h
-      go false e = absurd (there (is .kind-is ∙ sym (kind-end (branches s f m) (place s f m y) (ltb-false (place s f m y) (length (branches s f m)) e))))
+          let h = ltb-true (branch-index s f m y) (length (branches s f m)) e in
+          ap (λ (x : ℕ). labels-below x (branches s f m)) (is .there there .label-is ∙ sym (label-first (branches s f m) (branch-index s f m y) h)) ∙ own-index (branches s f m) (branch-index s f m y) (level-rising (nodes s f) l m on) h
+      go false e = absurd (there (is .kind-is ∙ sym (kind-end (branches s f m) (branch-index s f m y) (ltb-false (branch-index s f m y) (length (branches s f m)) e))))
 
   pub own-branch : Branch-from s f m (b .label) b
   own-branch =
-      let e = same-place in
+      let e = same-index in
       record { kind-is = rw e (is .kind-is); there = λ n. let t = is .there n in record { label-is = rw e (t .label-is); label-byte = t .label-byte; at-is = rw e (t .at-is) } }
 
 -- ---- up
@@ -110,7 +110,7 @@ module _ (s : Bytes) (f : Frame) (path : List NodeNum) (cut : Bytes) (d y : ℕ)
     branch-found = record { deep = deep; on = on; there = there; branch-is = own-branch s f (64 - d) (node-on path d) y b on is there }
 
     pub branch-onward : onward (nodes s f) path cut d y ≡ onward (nodes s f) path cut d (b .label)
-    branch-onward = onward-first (nodes s f) path cut d (b .label) y (same-place s f (64 - d) (node-on path d) y b on is there)
+    branch-onward = onward-first (nodes s f) path cut d (b .label) y (same-index s f (64 - d) (node-on path d) y b on is there)
 
   -- none is left up to the root
   pub none-onward : b .kind ≡ Kind.Absent → d ≡ 0 → onward (nodes s f) path cut d y ≡ []
@@ -133,21 +133,21 @@ module _ (s : Bytes) (f : Frame) (a : Accepted s f) (m d : ℕ) (b : NextBranch)
 
   -- behind the branch stands an open leaf
   module _ (v : ValuePos) (is : v .0 ≡ slot-at s f m (b .at .0)) (ends : b .kind ≡ Kind.Leaf) where
-    pub slot-is : v .0 ≡ slot-number (nodes s f) m (place s f m (b .label))
+    pub slot-is : v .0 ≡ slot-number (nodes s f) m (branch-index s f m (b .label))
     slot-is = is ∙ h .branch-is .there (h .there) .at-is .slot-is
 
     pub leaf-slot : v .0 < f .leaves
-    leaf-slot = omega (arith, slot-is, kind-slot (nodes s f) m (place s f m (b .label)) (b .kind) (h .branch-is .kind-is) ends, a .writable .leaf-total)
+    leaf-slot = omega (arith, slot-is, kind-slot (nodes s f) m (branch-index s f m (b .label)) (b .kind) (h .branch-is .kind-is) ends, a .writable .leaf-total)
 
   -- behind it stands a node of the next level
   module _ (c : NodeNum) (is : c .0 ≡ child-at s f m (b .at .0)) (continues : b .kind ≡ Kind.Child) where
-    pub child-is : c .0 ≡ child-number (nodes s f) m (place s f m (b .label))
+    pub child-is : c .0 ≡ child-number (nodes s f) m (branch-index s f m (b .label))
     child-is = is ∙ h .branch-is .there (h .there) .at-is .child-is
 
     pub child-on : On-level (nodes s f) (64 - (d + 1)) (c .0)
     child-on =
         let z : 64 - d ≡ suc (64 - (d + 1)) = omega (arith, h .deep) in
-        rw child-is (level-child (nodes s f) (64 - (d + 1)) m (place s f m (b .label)) (rw z at (h .on)) (sym (h .branch-is .kind-is) ∙ continues))
+        rw child-is (level-child (nodes s f) (64 - (d + 1)) m (branch-index s f m (b .label)) (rw z at (h .on)) (sym (h .branch-is .kind-is) ∙ continues))
 
     pub child-deep : d + 1 < 64
     child-deep = omega (arith, level-left (nodes s f) (64 - (d + 1)) (c .0) child-on)

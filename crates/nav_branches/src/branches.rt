@@ -7,7 +7,7 @@ ghost use Rattle.nav_nodes.specs.Accepted.{Accepted};
 ghost use Rattle.nav_nodes.specs.NextLabel.{first-kind, kind-there, is-there};
 ghost use Rattle.nav_nodes.specs.NextBranch.{Next-branch, Entry-read, Entry-branch};
 ghost use Rattle.nav_nodes.specs.FoundBranch.{Is-node, Is-sparse, Found-branch};
-ghost use Rattle.nav_nodes.specs.Positions.{branches, place};
+ghost use Rattle.nav_nodes.specs.Positions.{branches, branch-index};
 use bits::numbers::wide;
 use bits::ranks::bit_at;
 use bits_select::select::next_one;
@@ -214,7 +214,7 @@ pub fn next_branch(image: &[u8], f: Frame, m: NodeNum, y: usize) -> NextBranch
 // Whether a node has a branch with a label above y, where b is what it has at y. In a sparse node the branch's position tells; a dense one is searched.
 pub fn has_higher(image: &[u8], f: Frame, m: NodeNum, y: usize, b: Found) -> bool
     requires { ⌜ Is-node (now image) f (m .0) × (y < 256) × Found-branch (now image) f (m .0) y b ⌝ }
-    ensures { λ r. ⌜ r ≡ is-there (first-kind (drop (place (now (image .entry)) f (m .0) (y + 1)) (branches (now (image .entry)) f (m .0)))) ⌝ }
+    ensures { λ r. ⌜ r ≡ is-there (first-kind (drop (branch-index (now (image .entry)) f (m .0) (y + 1)) (branches (now (image .entry)) f (m .0)))) ⌝ }
 {
     if m.0 < f.dense.nodes {
         let n = next_dense(image, f, m, y + 1);

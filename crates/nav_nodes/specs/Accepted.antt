@@ -40,10 +40,10 @@ Body b s at = (at ≤ length s) × Starts b (drop at s)
 -- LV, in the version that has it, is the first nodes of the levels, each one behind the branches that continue before the last,
 -- nodes are continuing branches plus one, and they are the trie of the leaf list ls.
 pub record Holds (s : Bytes) (f : Frame) (ds ss : List Node) (ls : List Leaf) : Type 0 where
-  pub hash-is : read-settings s .hash-width ≡ f .hash
-  pub width-is : f .width ≡ f .hash + f .real
-  pub hash-range : f .hash ≤ 16
-  pub real-range : f .real ≤ 16
+  pub hash-is : read-settings s .hash-width ≡ f .«hash_width»
+  pub width-is : f .width ≡ f .«hash_width» + f .«real_width»
+  pub hash-range : f .«hash_width» ≤ 16
+  pub real-range : f .«real_width» ≤ 16
   pub writable : Writable (f .width) (f .leaves) ds ss
   pub dense-size : length ds ≡ f .dense .nodes
   pub entry-size : length (concat (map sparse-labels ss)) ≡ f .sparse .entries
@@ -51,7 +51,7 @@ pub record Holds (s : Bytes) (f : Frame) (ds ss : List Node) (ls : List Leaf) : 
   pub node-total : 0 < f .dense .nodes + f .sparse .nodes → f .dense .nodes + f .sparse .nodes ≡ 1 + total children-of (ds ++ ss)
   pub realizable : Realizable (f .width) ls
   pub well-sized : All-well-sized (f .width) ls
-  pub spare : All (Spare-clear (f .hash)) ls
+  pub spare : All (Spare-clear (f .«hash_width»)) ls
   pub trie-is : ds ++ ss ≡ concat (trie ls)
   pub DL : Body (pack (concat (map dense-labels ds))) s (f .dl)
   pub DC : Body (pack (concat (map dense-has-child ds))) s (f .dc)
@@ -77,20 +77,20 @@ Accepted s f = Holds s f (dense-nodes s f) (sparse-nodes s f) (read-leaves s)
 
 -- its leaves with their hash bits struck out
 abbrev pub real-leaves : Bytes → Frame → List Leaf
-real-leaves s f = reals (f .hash) (read-leaves s)
+real-leaves s f = reals (f .«hash_width») (read-leaves s)
 
 -- the hash bits in slot number v
 abbrev pub hash-slot : Bytes → Frame → ℕ → Bits
-hash-slot s f v = take (f .hash) (slot-of (f .width) (nodes s f) v)
+hash-slot s f v = take (f .«hash_width») (slot-of (f .width) (nodes s f) v)
 
 -- the real bits behind them
 abbrev pub real-slot : Bytes → Frame → ℕ → Bits
-real-slot s f v = drop (f .hash) (slot-of (f .width) (nodes s f) v)
+real-slot s f v = drop (f .«hash_width») (slot-of (f .width) (nodes s f) v)
 
 -- Its leaves with their hash bits struck out are a realizable list,
-pub real-realizable : (s : Bytes) (f : Frame) → Accepted s f → Realizable (f .real) (real-leaves s f)
-real-realizable s f a = reals-realizable (f .hash) (f .real) (read-leaves s) (subst (λ (w : ℕ). Realizable w (read-leaves s)) (a .width-is) (a .realizable))
+pub real-realizable : (s : Bytes) (f : Frame) → Accepted s f → Realizable (f .«real_width») (real-leaves s f)
+real-realizable s f a = reals-realizable (f .«hash_width») (f .«real_width») (read-leaves s) (subst (λ (w : ℕ). Realizable w (read-leaves s)) (a .width-is) (a .realizable))
 
 -- of real bits alone.
-pub real-sized : (s : Bytes) (f : Frame) → Accepted s f → All-real-sized (f .real) (real-leaves s f)
-real-sized s f a = reals-sized (f .hash) (f .real) (read-leaves s) (subst (λ (w : ℕ). All-well-sized w (read-leaves s)) (a .width-is) (a .well-sized)) (a .spare)
+pub real-sized : (s : Bytes) (f : Frame) → Accepted s f → All-real-sized (f .«real_width») (real-leaves s f)
+real-sized s f a = reals-sized (f .«hash_width») (f .«real_width») (read-leaves s) (subst (λ (w : ℕ). All-well-sized w (read-leaves s)) (a .width-is) (a .well-sized)) (a .spare)

@@ -17,7 +17,7 @@ use Rattle.nav_nodes.specs.Descent.{children-before}
 use Rattle.nav_nodes.specs.LabelMaps.{matches}
 use Rattle.nav_nodes.specs.NextLabel.{first-kind, kind-with, is-there, with-there, there-before, labels-next}
 use Rattle.nav_nodes.specs.Accepted.{Accepted, nodes}
-use Rattle.nav_nodes.specs.Positions.{branches, place, child-at, slot-at, Within, Branch-at, rising}
+use Rattle.nav_nodes.specs.Positions.{branches, branch-index, child-at, slot-at, Within, Branch-at, rising}
 use Rattle.nav_nodes.specs.NextBranch.{Next-branch}
 
 -- how many nodes an image has, by its frame
@@ -54,9 +54,9 @@ pub record Entries-at (s : Bytes) (f : Frame) (m : ℕ) (exact : Bool) (first en
 
 -- What node m has at the label y: the kind of the branch, the position of the first branch from there on, and, of a sparse node, the position behind the last branch.
 pub record Found-branch (s : Bytes) (f : Frame) (m y : ℕ) (b : Found) : Type 0 where
-  pub kind-is : b .kind ≡ kind-with y (drop (place s f m y) (branches s f m))
-  pub at-is : Branch-at s f m (place s f m y) (b .at .0)
-  pub end-is : f .dense .nodes ≤ m → b .end .0 + place s f m y ≡ b .at .0 + length (branches s f m)
+  pub kind-is : b .kind ≡ kind-with y (drop (branch-index s f m y) (branches s f m))
+  pub at-is : Branch-at s f m (branch-index s f m y) (b .at .0)
+  pub end-is : f .dense .nodes ≤ m → b .end .0 + branch-index s f m y ≡ b .at .0 + length (branches s f m)
 
 -- Behind the branch at position p of node m stand this child, if the branch continues, and this slot, if it ends.
 pub record Behind-branch (s : Bytes) (f : Frame) (m p child slot : ℕ) : Type 0 where
@@ -70,15 +70,15 @@ pub record First-branch (s : Bytes) (f : Frame) (m : ℕ) (b : FirstBranch) : Ty
 
 -- Whether a sparse node has a label above y: a branch stands behind the one at y, or, where y has none, from its position on.
 pub higher-found : (s : Bytes) (f : Frame) (m y : ℕ) (b : Found) → Is-sparse s f m → Found-branch s f m y b
-    → is-there (first-kind (drop (place s f m (y + 1)) (branches s f m))) ≡ ltb (b .at .0 + bit (is-there (b .kind))) (b .end .0)
+    → is-there (first-kind (drop (branch-index s f m (y + 1)) (branches s f m))) ≡ ltb (b .at .0 + bit (is-there (b .kind))) (b .end .0)
 higher-found s f m y b n r =
-    let t : is-there (b .kind) ≡ matches y (drop (place s f m y) (branches s f m)) = ap is-there (r .kind-is) ∙ with-there y (drop (place s f m y) (branches s f m)) in
+    let t : is-there (b .kind) ≡ matches y (drop (branch-index s f m y) (branches s f m)) = ap is-there (r .kind-is) ∙ with-there y (drop (branch-index s f m y) (branches s f m)) in
     let next = labels-next y (branches s f m) (rising s f (n .accepted) m (n .behind-dense) (n .inside)) in
-    rw (there-before (branches s f m) (place s f m (y + 1)), t) (same (place s f m (y + 1)) (length (branches s f m)) (omega (arith, r .end-is (n .behind-dense), next)))
+    rw (there-before (branches s f m) (branch-index s f m (y + 1)), t) (same (branch-index s f m (y + 1)) (length (branches s f m)) (omega (arith, r .end-is (n .behind-dense), next)))
   where
-    same : (i l : ℕ) → b .end .0 + i ≡ b .at .0 + bit (matches y (drop (place s f m y) (branches s f m))) + l → ltb i l ≡ ltb (b .at .0 + bit (matches y (drop (place s f m y) (branches s f m)))) (b .end .0)
+    same : (i l : ℕ) → b .end .0 + i ≡ b .at .0 + bit (matches y (drop (branch-index s f m y) (branches s f m))) + l → ltb i l ≡ ltb (b .at .0 + bit (matches y (drop (branch-index s f m y) (branches s f m)))) (b .end .0)
     same i l e = go (ltb i l) refl
       where
-        go : (t : Bool) → ltb i l ≡ t → t ≡ ltb (b .at .0 + bit (matches y (drop (place s f m y) (branches s f m)))) (b .end .0)
-        go true h = let k = ltb-true i l h in sym (lt-ltb (b .at .0 + bit (matches y (drop (place s f m y) (branches s f m)))) (b .end .0) (omega arith))
-        go false h = let k = ltb-false i l h in sym (le-ltb (b .at .0 + bit (matches y (drop (place s f m y) (branches s f m)))) (b .end .0) (omega arith))
+        go : (t : Bool) → ltb i l ≡ t → t ≡ ltb (b .at .0 + bit (matches y (drop (branch-index s f m y) (branches s f m)))) (b .end .0)
+        go true h = let k = ltb-true i l h in sym (lt-ltb (b .at .0 + bit (matches y (drop (branch-index s f m y) (branches s f m)))) (b .end .0) (omega arith))
+        go false h = let k = ltb-false i l h in sym (le-ltb (b .at .0 + bit (matches y (drop (branch-index s f m y) (branches s f m)))) (b .end .0) (omega arith))

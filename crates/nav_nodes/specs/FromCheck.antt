@@ -43,7 +43,7 @@ body-same : (cs bs : List Bytes) → cs ≡ bs → (i : ℕ) → getD cs i [] �
 body-same cs bs e i = ap (λ (z : List Bytes). getD z i []) e
 
 -- the hash bits of an image, by the frame that is read from it
-pub hash-read : (s : Bytes) (f : Frame) → FrameOf s f → read-settings s .hash-width ≡ f .hash
+pub hash-read : (s : Bytes) (f : Frame) → FrameOf s f → read-settings s .hash-width ≡ f .«hash_width»
 unfolding parts
 hash-read s f fr = ap (λ (p : Parts). p .settings .hash-width) (fr .parts-are)
 
@@ -86,7 +86,7 @@ module _ (s : Bytes) (f : Frame) (fr : FrameOf s f) (st : Settings) (ls : List L
           ap (λ (t : Bool). cond t (drop (f .lv) s ∷ []) []) (sym here) ∙ ap (drop 12) all-same
           ∙ ap (λ (t : Bool). cond t (level-starts (map length (levels-of (ds ++ ss))) ∷ []) []) there
 
-  hash-same : f .hash ≡ st .hash-width
+  hash-same : f .«hash_width» ≡ st .hash-width
   hash-same = ap (λ (p : Parts). p .settings .hash-width) parts-same
 
   width-same : f .width ≡ slot-width st
@@ -117,8 +117,8 @@ module _ (s : Bytes) (f : Frame) (fr : FrameOf s f) (st : Settings) (ls : List L
   holds = record {
     hash-is = hash-read s f fr;
     width-is = fr .width;
-    hash-range = fr .hash;
-    real-range = fr .real;
+    hash-range = fr .hash-range;
+    real-range = fr .real-range;
     writable = rw (width-same, leaves-same) w;
     dense-size = sym dense-same;
     entry-size = sym entries-same;

@@ -159,7 +159,7 @@ with-there y (to-node x ∷ es) = go (eqb x y) ∙ sym (eqb-flip y x)
     go true = refl
     go false = refl
 
--- by the branch at place i
+-- by the branch at index i
 pub kind-at : (es : List Branch) (i : ℕ) → i < length es → first-kind (drop i es) ≡ kind-there (getD (map has-child es) i false)
 unfolding first-kind
 kind-at [] i h = absurd (omega arith)
@@ -174,7 +174,7 @@ kind-end [] (suc i) h = refl
 kind-end (c ∷ es) zero h = absurd (omega arith)
 kind-end (c ∷ es) (suc i) h = kind-end es i (omega arith)
 
--- there is a branch at place i exactly if i is below their number
+-- there is a branch at index i exactly if i is below their number
 pub there-before : (es : List Branch) (i : ℕ) → is-there (first-kind (drop i es)) ≡ ltb i (length es)
 there-before es i = go (ltb i (length es)) refl
   where
@@ -232,10 +232,10 @@ rising-step (c ∷ []) i r h = absurd (omega arith)
 rising-step (c ∷ d ∷ es) zero r h = r .0
 rising-step (c ∷ d ∷ es) (suc i) r h = rising-step (d ∷ es) i (r .1) (omega arith)
 
--- a label's own place
-pub own-place : (es : List Branch) (i : ℕ) → Ascends es → i < length es → labels-below (getD (map label-of es) i 0) es ≡ i
-own-place es zero r h = omega (arith, label-high (getD (map label-of es) 0 0) es 0 h (omega arith))
-own-place es (suc i) r h =
+-- a label's own index
+pub own-index : (es : List Branch) (i : ℕ) → Ascends es → i < length es → labels-below (getD (map label-of es) i 0) es ≡ i
+own-index es zero r h = omega (arith, label-high (getD (map label-of es) 0 0) es 0 h (omega arith))
+own-index es (suc i) r h =
     omega (arith, label-high (getD (map label-of es) (suc i) 0) es (suc i) h (omega arith), label-low (getD (map label-of es) (suc i) 0) es i r (omega arith) (rising-step es i r h))
 
 small-label : (es : List Branch) (i : ℕ) → Is-bytes (map label-of es) → i < length es → getD (map label-of es) i 0 < 256
@@ -273,7 +273,7 @@ module _ (ds ss : List Node) (dl dc dp : Bytes) (hl : Starts (pack (concat (map 
       let a = label-rank ds ss dl dc dp hl hc hp fit small m y h l in
       let b = label-rank ds ss dl dc dp hl hc hp fit small m (getD (map label-of (branches-of (node-at ds m))) (labels-below y (branches-of (node-at ds m))) 0) h (omega arith) in
       let c = label-rank ds ss dl dc dp hl hc hp fit small m (getD (map label-of (branches-of (node-at ds m))) (labels-below y (branches-of (node-at ds m))) 0 + 1) h (omega arith) in
-      let o = own-place (branches-of (node-at ds m)) (labels-below y (branches-of (node-at ds m))) rising k in
+      let o = own-index (branches-of (node-at ds m)) (labels-below y (branches-of (node-at ds m))) rising k in
       let t = label-low (getD (map label-of (branches-of (node-at ds m))) (labels-below y (branches-of (node-at ds m))) 0 + 1) (branches-of (node-at ds m)) (labels-below y (branches-of (node-at ds m))) rising k (omega arith) in
       let e : 256 * m + getD (map label-of (branches-of (node-at ds m))) (labels-below y (branches-of (node-at ds m))) 0 + 1 ≡ 256 * m + (getD (map label-of (branches-of (node-at ds m))) (labels-below y (branches-of (node-at ds m))) 0 + 1) = omega arith in
       (select-here dl (256 * m + 256) (rank dl (256 * m + y)) (256 * m + getD (map label-of (branches-of (node-at ds m))) (labels-below y (branches-of (node-at ds m))) 0) (omega arith) (omega (arith, b, o)) (rw e (omega (arith, c, t))), s)

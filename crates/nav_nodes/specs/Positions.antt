@@ -33,8 +33,8 @@ abbrev pub branches : Bytes → Frame → ℕ → List Branch
 branches s f m = branches-of (node-at (nodes s f) m)
 
 -- the first branch of node m whose label is not below y
-abbrev pub place : Bytes → Frame → ℕ → ℕ → ℕ
-place s f m y = labels-below y (branches s f m)
+abbrev pub branch-index : Bytes → Frame → ℕ → ℕ → ℕ
+branch-index s f m y = labels-below y (branches s f m)
 
 -- the node behind the branch at position p of node m
 unfoldable pub child-at : Bytes → Frame → ℕ → ℕ → ℕ
@@ -104,7 +104,7 @@ module _ (s : Bytes) (f : Frame) (a : Accepted s f) where
 
     -- the bits of the branch y
     pub bits-dense : y < 256
-        → (bit-at (drop (f .dl) s) (256 * m + y) ≡ bit (matches y (drop (place s f m y) (branches s f m)))) × (bit-at (drop (f .dc) s) (256 * m + y) ≡ bit (goes-on y (drop (place s f m y) (branches s f m))))
+        → (bit-at (drop (f .dl) s) (256 * m + y) ≡ bit (matches y (drop (branch-index s f m y) (branches s f m)))) × (bit-at (drop (f .dc) s) (256 * m + y) ≡ bit (goes-on y (drop (branch-index s f m y) (branches s f m))))
     bits-dense l = (
       dense-label (dense-nodes s f) (sparse-nodes s f) (drop (f .dl) s) (drop (f .dc) s) (drop (f .dp) s) (a .DL .1) (a .DC .1) (a .DP .1) (a .writable .dense-labelled) (a .writable .dense-bytes) m y inside l,
       dense-child (dense-nodes s f) (sparse-nodes s f) (drop (f .dl) s) (drop (f .dc) s) (drop (f .dp) s) (a .DL .1) (a .DC .1) (a .DP .1) (a .writable .dense-labelled) (a .writable .dense-bytes) m y inside l,
@@ -112,19 +112,19 @@ module _ (s : Bytes) (f : Frame) (a : Accepted s f) where
 
     -- the kind of the branch y, by its two bits
     pub kind-dense : y < 256 → (l c : ℕ) → l ≡ bit-at (drop (f .dl) s) (256 * m + y) → c ≡ bit-at (drop (f .dc) s) (256 * m + y)
-        → (l ≡ 0 → Absent ≡ kind-with y (drop (place s f m y) (branches s f m))) × ((l ≡ 0 → ⊥) → kind-there (eqb c 1) ≡ kind-with y (drop (place s f m y) (branches s f m)))
-    kind-dense r l c u v = let b = bits-dense r in go (matches y (drop (place s f m y) (branches s f m))) refl (u ∙ b .0) (v ∙ b .1)
+        → (l ≡ 0 → Absent ≡ kind-with y (drop (branch-index s f m y) (branches s f m))) × ((l ≡ 0 → ⊥) → kind-there (eqb c 1) ≡ kind-with y (drop (branch-index s f m y) (branches s f m)))
+    kind-dense r l c u v = let b = bits-dense r in go (matches y (drop (branch-index s f m y) (branches s f m))) refl (u ∙ b .0) (v ∙ b .1)
       where
-        go : (t : Bool) → matches y (drop (place s f m y) (branches s f m)) ≡ t → l ≡ bit (matches y (drop (place s f m y) (branches s f m))) → c ≡ bit (goes-on y (drop (place s f m y) (branches s f m)))
-            → (l ≡ 0 → Absent ≡ kind-with y (drop (place s f m y) (branches s f m))) × ((l ≡ 0 → ⊥) → kind-there (eqb c 1) ≡ kind-with y (drop (place s f m y) (branches s f m)))
+        go : (t : Bool) → matches y (drop (branch-index s f m y) (branches s f m)) ≡ t → l ≡ bit (matches y (drop (branch-index s f m y) (branches s f m))) → c ≡ bit (goes-on y (drop (branch-index s f m y) (branches s f m)))
+            → (l ≡ 0 → Absent ≡ kind-with y (drop (branch-index s f m y) (branches s f m))) × ((l ≡ 0 → ⊥) → kind-there (eqb c 1) ≡ kind-with y (drop (branch-index s f m y) (branches s f m)))
         go true t p q = (
           λ z. absurd (omega (arith, p, ap bit t)),
-          λ z. kind-by c (goes-on y (drop (place s f m y) (branches s f m))) q ∙ ap (λ (x : Bool). kind-of-bits x (goes-on y (drop (place s f m y) (branches s f m)))) (sym t) ∙ with-bits y (drop (place s f m y) (branches s f m)),
+          λ z. kind-by c (goes-on y (drop (branch-index s f m y) (branches s f m))) q ∙ ap (λ (x : Bool). kind-of-bits x (goes-on y (drop (branch-index s f m y) (branches s f m)))) (sym t) ∙ with-bits y (drop (branch-index s f m y) (branches s f m)),
         )
-        go false t p q = (λ z. sym (not-there (kind-with y (drop (place s f m y) (branches s f m))) (with-there y (drop (place s f m y) (branches s f m)) ∙ t)), λ z. absurd (z (p ∙ ap bit t)))
+        go false t p q = (λ z. sym (not-there (kind-with y (drop (branch-index s f m y) (branches s f m))) (with-there y (drop (branch-index s f m y) (branches s f m)) ∙ t)), λ z. absurd (z (p ∙ ap bit t)))
 
     -- The branch y of a dense node stands at bit 256 m + y.
-    pub branch-dense : y ≤ 256 → Branch-at s f m (place s f m y) (256 * m + y)
+    pub branch-dense : y ≤ 256 → Branch-at s f m (branch-index s f m y) (256 * m + y)
     unfolding child-at slot-at
     branch-dense l =
         let n = dense-child-number (dense-nodes s f) (sparse-nodes s f) (drop (f .dl) s) (drop (f .dc) s) (drop (f .dp) s) (a .DL .1) (a .DC .1) (a .DP .1) (a .writable .dense-labelled) (a .writable .dense-bytes) m y inside l in
@@ -227,26 +227,26 @@ module _ (s : Bytes) (f : Frame) (a : Accepted s f) where
             within = record { dense = λ q. absurd (omega arith); sparse = λ q. r };
           }
 
-      -- A position with only labels below y before it, and none behind it, is the place of y.
-      pub place-sparse : (p y : ℕ) → first ≤ p → p ≤ first + length (branches s f m)
-          → (first < p → getD (drop (f .sl) s) (p - 1) 0 < y) → (p < first + length (branches s f m) → y ≤ getD (drop (f .sl) s) p 0) → p ≡ first + place s f m y
-      place-sparse p y lo hi low high = go (ltb first p) refl (ltb p (first + length (branches s f m))) refl
+      -- A position with only labels below y before it, and none behind it, is first + the index of y.
+      pub index-sparse : (p y : ℕ) → first ≤ p → p ≤ first + length (branches s f m)
+          → (first < p → getD (drop (f .sl) s) (p - 1) 0 < y) → (p < first + length (branches s f m) → y ≤ getD (drop (f .sl) s) p 0) → p ≡ first + branch-index s f m y
+      index-sparse p y lo hi low high = go (ltb first p) refl (ltb p (first + length (branches s f m))) refl
         where
-          below : first < p → p - first ≤ place s f m y
+          below : first < p → p - first ≤ branch-index s f m y
           below q =
               let e : p - 1 ≡ first + (p - first - 1) = omega arith in
               let b = label-sparse (p - first - 1) (omega arith) in
               let u : getD (map label-of (branches s f m)) (p - first - 1) 0 < y = omega (arith, ap (λ (z : ℕ). getD (drop (f .sl) s) z 0) e, low q, b) in
               omega (arith, sparse.label-low y (branches s f m) (p - first - 1) rising (omega arith) u)
 
-          above : p < first + length (branches s f m) → place s f m y ≤ p - first
+          above : p < first + length (branches s f m) → branch-index s f m y ≤ p - first
           above q =
               let e : p ≡ first + (p - first) = omega arith in
               let b = label-sparse (p - first) (omega arith) in
               let u : y ≤ getD (map label-of (branches s f m)) (p - first) 0 = omega (arith, ap (λ (z : ℕ). getD (drop (f .sl) s) z 0) e, high q, b) in
               sparse.label-high y (branches s f m) (p - first) (omega arith) u
 
-          go : (b : Bool) → ltb first p ≡ b → (c : Bool) → ltb p (first + length (branches s f m)) ≡ c → p ≡ first + place s f m y
+          go : (b : Bool) → ltb first p ≡ b → (c : Bool) → ltb p (first + length (branches s f m)) ≡ c → p ≡ first + branch-index s f m y
           go true u true v = omega (arith, below (ltb-true first p u), above (ltb-true p (first + length (branches s f m)) v))
           go true u false v = omega (arith, below (ltb-true first p u), labels-below-le y (branches s f m), ltb-false p (first + length (branches s f m)) v)
           go false u true v = omega (arith, above (ltb-true p (first + length (branches s f m)) v), ltb-false first p u)
@@ -256,26 +256,26 @@ module _ (s : Bytes) (f : Frame) (a : Accepted s f) where
       no-match y fs q = sym (not-there (kind-with y fs) (with-there y fs ∙ q))
 
       -- no branch, where the search stops at the end
-      pub none-end : (p y : ℕ) → p ≡ first + place s f m y → first + length (branches s f m) ≤ p → Absent ≡ kind-with y (drop (place s f m y) (branches s f m))
-      none-end p y q k = no-match y (drop (place s f m y) (branches s f m)) (sparse.matches-end y (branches s f m) (place s f m y) (omega arith))
+      pub none-end : (p y : ℕ) → p ≡ first + branch-index s f m y → first + length (branches s f m) ≤ p → Absent ≡ kind-with y (drop (branch-index s f m y) (branches s f m))
+      none-end p y q k = no-match y (drop (branch-index s f m y) (branches s f m)) (sparse.matches-end y (branches s f m) (branch-index s f m y) (omega arith))
 
-      label-there : (p y : ℕ) → p ≡ first + place s f m y → p < first + length (branches s f m) → matches y (drop (place s f m y) (branches s f m)) ≡ eqb y (getD s (f .sl + p) 0)
+      label-there : (p y : ℕ) → p ≡ first + branch-index s f m y → p < first + length (branches s f m) → matches y (drop (branch-index s f m y) (branches s f m)) ≡ eqb y (getD s (f .sl + p) 0)
       label-there p y q k =
-          sparse.matches-at y (branches s f m) (place s f m y) (omega arith)
-          ∙ ap (eqb y) (sym (label-sparse (place s f m y) (omega arith)) ∙ ap (λ (z : ℕ). getD (drop (f .sl) s) z 0) (sym q) ∙ getD-drop (f .sl) s p 0)
+          sparse.matches-at y (branches s f m) (branch-index s f m y) (omega arith)
+          ∙ ap (eqb y) (sym (label-sparse (branch-index s f m y) (omega arith)) ∙ ap (λ (z : ℕ). getD (drop (f .sl) s) z 0) (sym q) ∙ getD-drop (f .sl) s p 0)
 
       -- nor where it stops at another label
-      pub none-other : (p y : ℕ) → p ≡ first + place s f m y → p < first + length (branches s f m) → (getD s (f .sl + p) 0 ≡ y → ⊥) → Absent ≡ kind-with y (drop (place s f m y) (branches s f m))
-      none-other p y q k n = no-match y (drop (place s f m y) (branches s f m)) (label-there p y q k ∙ ne-eqb y (getD s (f .sl + p) 0) (λ e. n (sym e)))
+      pub none-other : (p y : ℕ) → p ≡ first + branch-index s f m y → p < first + length (branches s f m) → (getD s (f .sl + p) 0 ≡ y → ⊥) → Absent ≡ kind-with y (drop (branch-index s f m y) (branches s f m))
+      none-other p y q k n = no-match y (drop (branch-index s f m y) (branches s f m)) (label-there p y q k ∙ ne-eqb y (getD s (f .sl + p) 0) (λ e. n (sym e)))
 
       -- where it stops at the label, the branch's bit says whether it continues
-      pub one-there : (p y c : ℕ) → p ≡ first + place s f m y → p < first + length (branches s f m) → getD s (f .sl + p) 0 ≡ y → c ≡ bit-at (drop (f .sc) s) p
-          → kind-there (eqb c 1) ≡ kind-with y (drop (place s f m y) (branches s f m))
+      pub one-there : (p y c : ℕ) → p ≡ first + branch-index s f m y → p < first + length (branches s f m) → getD s (f .sl + p) 0 ≡ y → c ≡ bit-at (drop (f .sc) s) p
+          → kind-there (eqb c 1) ≡ kind-with y (drop (branch-index s f m y) (branches s f m))
       one-there p y c q k e b =
-          let t : matches y (drop (place s f m y) (branches s f m)) ≡ true = label-there p y q k ∙ eq-eqb y (getD s (f .sl + p) 0) (sym e) in
-          let u = b ∙ ap (bit-at (drop (f .sc) s)) q ∙ child-sparse (place s f m y) (omega arith) ∙ ap bit (sym (sparse.goes-at y (branches s f m) (place s f m y) t)) in
-          kind-by c (goes-on y (drop (place s f m y) (branches s f m))) u
-          ∙ ap (λ (z : Bool). kind-of-bits z (goes-on y (drop (place s f m y) (branches s f m)))) (sym t) ∙ with-bits y (drop (place s f m y) (branches s f m))
+          let t : matches y (drop (branch-index s f m y) (branches s f m)) ≡ true = label-there p y q k ∙ eq-eqb y (getD s (f .sl + p) 0) (sym e) in
+          let u = b ∙ ap (bit-at (drop (f .sc) s)) q ∙ child-sparse (branch-index s f m y) (omega arith) ∙ ap bit (sym (sparse.goes-at y (branches s f m) (branch-index s f m y) t)) in
+          kind-by c (goes-on y (drop (branch-index s f m y) (branches s f m))) u
+          ∙ ap (λ (z : Bool). kind-of-bits z (goes-on y (drop (branch-index s f m y) (branches s f m)))) (sym t) ∙ with-bits y (drop (branch-index s f m y) (branches s f m))
 
     -- The entries of a sparse node that starts at p and ends at e, an exact leaf or not.
     pub entries-valid : (p e : ℕ) (b : Bool) → p ≡ select (drop (f .sb) s) (f .sparse .entries) (m - f .dense .nodes) → e ≡ select (drop (f .sb) s) (f .sparse .entries) (m + 1 - f .dense .nodes) → is-exact (node-at (nodes s f) m) ≡ b
@@ -283,7 +283,7 @@ module _ (s : Bytes) (f : Frame) (a : Accepted s f) where
         × (e ≡ p + bit b + length (branches s f m))
     entries-valid p e b u v x = let y = ap bit x in (sym y, omega arith, omega (arith, end-sparse))
 
-    -- one entry alone is no mark
+    -- one entry alone is no extra FF
     pub sole-plain : (p e : ℕ) → p ≡ select (drop (f .sb) s) (f .sparse .entries) (m - f .dense .nodes) → e ≡ select (drop (f .sb) s) (f .sparse .entries) (m + 1 - f .dense .nodes) → e < p + 2 → is-exact (node-at (nodes s f) m) ≡ false
     sole-plain p e u v h = exact-sparse ∙ rw (← u, ← v, lt-leb (p + 2) e h)
 

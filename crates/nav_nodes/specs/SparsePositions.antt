@@ -173,7 +173,7 @@ under-all x [] i u r h = absurd (omega arith)
 under-all x (e ∷ es) zero u r h = u
 under-all x (e ∷ es) (suc i) u r h = omega (arith, under-all (label-of e) es i (r .0) (r .1) (omega arith))
 
--- A label below y stands before the place of y.
+-- A label below y stands before the index of y.
 pub label-low : (y : ℕ) (es : List Branch) (i : ℕ) → Ascends es → i < length es → getD (map label-of es) i 0 < y → i < labels-below y es
 unfolding labels-below
 label-low y [] i r h l = absurd (omega arith)
@@ -189,7 +189,7 @@ label-low y (e ∷ es) (suc i) r h l =
     go true q k = absurd (true≢false q)
     go false q k = omega arith
 
--- A label that is not below y stands at or behind the place of y.
+-- A label that is not below y stands at or behind the index of y.
 pub label-high : (y : ℕ) (es : List Branch) (i : ℕ) → i < length es → y ≤ getD (map label-of es) i 0 → labels-below y es ≤ i
 unfolding labels-below
 label-high y [] i h l = absurd (omega arith)
@@ -204,7 +204,7 @@ label-high y (e ∷ es) (suc i) h l = go (leb y (label-of e)) (label-high y es i
     go true k = omega arith
     go false k = omega arith
 
--- the branch at place i has the label y
+-- the branch at index i has the label y
 pub matches-at : (y : ℕ) (es : List Branch) (i : ℕ) → i < length es → matches y (drop i es) ≡ eqb y (getD (map label-of es) i 0)
 unfolding matches
 matches-at y [] i h = absurd (omega arith)
@@ -219,7 +219,7 @@ matches-end y [] (suc i) h = refl
 matches-end y (e ∷ es) zero h = absurd (omega arith)
 matches-end y (e ∷ es) (suc i) h = matches-end y es i (omega arith)
 
--- the branch at place i has the label y and continues
+-- the branch at index i has the label y and continues
 pub goes-at : (y : ℕ) (es : List Branch) (i : ℕ) → matches y (drop i es) ≡ true → goes-on y (drop i es) ≡ getD (map has-child es) i false
 unfolding matches goes-on
 goes-at y [] zero h = absurd (true≢false (sym h))

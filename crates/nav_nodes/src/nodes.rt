@@ -87,7 +87,7 @@ pub struct Entries {
     pub end: BitPos,
 }
 
-// The entries of a sparse node. A first FF that is not alone marks an exact leaf; a sole FF is a label.
+// The entries of a sparse node. A first FF that is not alone is the extra one of an exact leaf; a sole FF is a label.
 pub fn entries_of(image: &[u8], f: Frame, m: NodeNum) -> Entries
     requires { ⌜ Is-sparse (now image) f (m .0) ⌝ }
     ensures { λ r. ⌜ Entries-at (now (image .entry)) f (m .0) (r .exact) (r .first .0) (r .end .0) ⌝ }

@@ -36,11 +36,11 @@ module _ (s : Bytes) (f : Frame) (a : Accepted s f) (k : Bytes) where
   pub led-stops : (ends : Bool) (q : Bits → Bytes → Bool) → count (leads-to-leaf ends q k) (read-leaves s) ≡ value ends q (f .width) (nodes s f) (descend (nodes s f) 0 k)
   led-stops ends q = led-is (f .width) (f .width) (read-leaves s) (nodes s f) (a .realizable) (a .well-sized) (a .trie-is) (a .writable .wide) ends q k
 
-  passed-stops : passed (real-leaves s f) k ≡ leaves-below (nodes s f) 64 0 0 k + value false (slot-passed (f .hash) (length k)) (f .width) (nodes s f) (descend (nodes s f) 0 k)
-  passed-stops = passed-is (f .width) (f .width) (read-leaves s) (nodes s f) (a .realizable) (a .well-sized) (a .trie-is) (a .writable .wide) (f .hash) k
+  passed-stops : passed (real-leaves s f) k ≡ leaves-below (nodes s f) 64 0 0 k + value false (slot-passed (f .«hash_width») (length k)) (f .width) (nodes s f) (descend (nodes s f) 0 k)
+  passed-stops = passed-is (f .width) (f .width) (read-leaves s) (nodes s f) (a .realizable) (a .well-sized) (a .trie-is) (a .writable .wide) (f .«hash_width») k
 
-  reached-stops : reached (real-leaves s f) k ≡ leaves-below (nodes s f) 64 0 0 k + value true (slot-reached (f .hash) (length k)) (f .width) (nodes s f) (descend (nodes s f) 0 k)
-  reached-stops = reached-is (f .width) (f .width) (read-leaves s) (nodes s f) (a .realizable) (a .well-sized) (a .trie-is) (a .writable .wide) (f .hash) k
+  reached-stops : reached (real-leaves s f) k ≡ leaves-below (nodes s f) 64 0 0 k + value true (slot-reached (f .«hash_width») (length k)) (f .width) (nodes s f) (descend (nodes s f) 0 k)
+  reached-stops = reached-is (f .width) (f .width) (read-leaves s) (nodes s f) (a .realizable) (a .well-sized) (a .trie-is) (a .writable .wide) (f .«hash_width») k
 
   module _ (stop : LeafStop) (d : ℕ) (e : descend (nodes s f) 0 k ≡ stop-of stop (drop d k)) where
     -- What counts where the key leads: nothing; an exact leaf; an open one that passes the test.
@@ -59,19 +59,19 @@ module _ (s : Bytes) (f : Frame) (a : Accepted s f) (k : Bytes) where
 
 -- Count: the leaves that the upper bound has reached, less those that the lower one has passed.
 pub count-is : (s : Bytes) (f : Frame) → Accepted s f → (lo hi : Bytes) → counted (real-leaves s f) lo hi ≡ reached (real-leaves s f) hi - passed (real-leaves s f) lo
-count-is s f a lo hi = counted-is (f .real) (real-leaves s f) lo hi (real-realizable s f a .ordered) (real-sized s f a)
+count-is s f a lo hi = counted-is (f .«real_width») (real-leaves s f) lo hi (real-realizable s f a .ordered) (real-sized s f a)
 
 -- By the bounds of both keys: the sums of their slot numbers, and what counts where each key leads.
 pub count-bounds : (s : Bytes) (f : Frame) → Accepted s f → (lo hi : Bytes) → length lo ≤ 64 → length hi ≤ 64 → (a b u v : ℕ) → a ≡ slots-below (nodes s f) 64 0 lo → b ≡ slots-below (nodes s f) 64 0 hi
-    → u ≡ value false (slot-passed (f .hash) (length lo)) (f .width) (nodes s f) (descend (nodes s f) 0 lo) → v ≡ value true (slot-reached (f .hash) (length hi)) (f .width) (nodes s f) (descend (nodes s f) 0 hi)
+    → u ≡ value false (slot-passed (f .«hash_width») (length lo)) (f .width) (nodes s f) (descend (nodes s f) 0 lo) → v ≡ value true (slot-reached (f .«hash_width») (length hi)) (f .width) (nodes s f) (descend (nodes s f) 0 hi)
     → counted (real-leaves s f) lo hi ≡ (b + v) - (a + u)
 count-bounds s f z lo hi g h a b u v d e p q =
     count-is s f z lo hi ∙ omega (arith, passed-stops s f z lo, reached-stops s f z hi, below-sums (nodes s f) 64 0 0 lo (omega arith) g, below-sums (nodes s f) 64 0 0 hi (omega arith) h)
 
 -- The leaves that a key has passed: the sum of the slot numbers of its bound, with what counts where it leads, less that of the empty key's.
-pub passed-sums : (s : Bytes) (f : Frame) → Accepted s f → (k : Bytes) (starts sum : ℕ) → length k ≤ 64 → starts ≡ slots-below (nodes s f) 64 0 []
-    → slots-below (nodes s f) 64 0 k + value false (slot-passed (f .hash) (length k)) (f .width) (nodes s f) (descend (nodes s f) 0 k) ≡ sum → (starts ≤ sum) × (sum - starts ≡ passed (real-leaves s f) k)
-passed-sums s f a k starts sum h p q =
+pub passed-sums : (s : Bytes) (f : Frame) → Accepted s f → (k : Bytes) (base sum : ℕ) → length k ≤ 64 → base ≡ slots-below (nodes s f) 64 0 []
+    → slots-below (nodes s f) 64 0 k + value false (slot-passed (f .«hash_width») (length k)) (f .width) (nodes s f) (descend (nodes s f) 0 k) ≡ sum → (base ≤ sum) × (sum - base ≡ passed (real-leaves s f) k)
+passed-sums s f a k base sum h p q =
     let n = slots-nothing (nodes s f) 64 0 in
     let w = below-sums (nodes s f) 64 0 0 k (omega arith) h in
     (omega arith, omega (arith, passed-stops s f a k))

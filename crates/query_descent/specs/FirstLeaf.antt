@@ -19,8 +19,8 @@ use Rattle.nav_nodes.specs.declared.NextBranch.{NextBranch}
 use Rattle.nav_nodes.specs.Accepted.{Accepted, nodes}
 use Rattle.nav_branches.specs.Below.{own-slot, below, from-label, On-level, below-step, from-leaf, from-node}
 use Rattle.nav_nodes.specs.Descent.{child-number}
-use Rattle.nav_branches.specs.PathSteps.{Branch-from, Node-branch, same-place, rising, slot-is, child-is, child-on}
-use Rattle.nav_nodes.specs.Positions.{place, child-at, slot-at}
+use Rattle.nav_branches.specs.PathSteps.{Branch-from, Node-branch, same-index, rising, slot-is, child-is, child-on}
+use Rattle.nav_nodes.specs.Positions.{branch-index, child-at, slot-at}
 use Rattle.nav_nodes.specs.Slots.{node-at, slot-of}
 use Rattle.query_descent.specs.Next.{head-of, behind-each, behind-twice, front-head, below-some}
 
@@ -62,7 +62,7 @@ module _ (ns : List Node) (key : Bytes) (m d : ℕ) (deep : d < 64) where
 pub behind-own : (s : Bytes) (f : Frame) (key : Bytes) (m d y : ℕ) (b : NextBranch) → On-level (nodes s f) (64 - d) m → Branch-from s f m y b → (b .kind ≡ Kind.Absent → ⊥)
     → leaf-behind (nodes s f) key m d y ≡ leaf-behind (nodes s f) key m d (b .label)
 unfolding from-label
-behind-own s f key m d y b on is there = rw (same-place s f (64 - d) m y b on is there)
+behind-own s f key m d y b on is there = rw (same-index s f (64 - d) m y b on is there)
 
 -- ---- from a branch
 
@@ -84,9 +84,9 @@ module _ (s : Bytes) (f : Frame) (a : Accepted s f) (key : Bytes) (m d : ℕ) (b
       let e : 64 - (d + 1) ≡ 63 - d = omega arith in
       let n = child-is s f a m d b h c is continues in
       let on = rw (e, n) at (child-on s f a m d b h c is continues) in
-      let g : Group = below (nodes s f) (63 - d) (child-number (nodes s f) m (place s f m (b .label))) in
+      let g : Group = below (nodes s f) (63 - d) (child-number (nodes s f) m (branch-index s f m (b .label))) in
       ap (λ (g : Group). behind-each (take d key) (head-of g))
       (from-node (nodes s f) (63 - d) m (b .label) (b .kind) (h .branch-is .kind-is) (b .label) (rising s f a m d b h) (h .branch-is .there (h .there) .label-is) continues)
-      ∙ ap (behind-each (take d key)) (front-head (b .label ∷ []) g (from-label (nodes s f) (63 - d) m (b .label + 1)) (below-some (nodes s f) (63 - d) (child-number (nodes s f) m (place s f m (b .label))) on))
+      ∙ ap (behind-each (take d key)) (front-head (b .label ∷ []) g (from-label (nodes s f) (63 - d) m (b .label + 1)) (below-some (nodes s f) (63 - d) (child-number (nodes s f) m (branch-index s f m (b .label))) on))
       ∙ behind-twice (take d key) (b .label) (head-of g)
       ∙ rw (cut-next, e, n)

@@ -19,7 +19,7 @@ use Rattle.nav_nodes.specs.Descent.{descend, at-open, children-before, child-nu
 use Rattle.nav_nodes.specs.NextLabel.{kind-with}
 use Rattle.nav_nodes.specs.NumberBounds.{child-in, child-range}
 use Rattle.nav_nodes.specs.Accepted.{Accepted, nodes, dense-nodes, sparse-nodes}
-use Rattle.nav_nodes.specs.Positions.{branches, place, child-at, slot-at}
+use Rattle.nav_nodes.specs.Positions.{branches, branch-index, child-at, slot-at}
 use Rattle.nav_nodes.specs.FoundBranch.{node-count, Is-position, Found-branch}
 use Rattle.query_descent.specs.Root.{first-below, first-next, first-up, levels-end}
 use Rattle.query_descent.specs.LevelSums.{slots-below, slots-on, slots-off, below-sums, between-nowhere}
@@ -102,23 +102,23 @@ module _ (s : Bytes) (f : Frame) (a : Accepted s f) (key : Bytes) where
       no-slot true v q = let n : _≡_ {A = ℕ} 0 1 = cc in absurd (omega arith)
       no-slot false v q = let n : _≡_ {A = ℕ} 0 1 = cc in absurd (omega arith)
 
-  module _ (m d : ℕ) (kind : BranchKind) (h : d < length key) (is : kind ≡ kind-with (getD key d 0) (drop (place s f m (getD key d 0)) (branches s f m))) where
+  module _ (m d : ℕ) (kind : BranchKind) (h : d < length key) (is : kind ≡ kind-with (getD key d 0) (drop (branch-index s f m (getD key d 0)) (branches s f m))) where
     -- a branch that continues: the next byte leads to the node behind it
     pub byte-on : kind ≡ Child → 0 < node-count f → descend (nodes s f) 0 key ≡ descend (nodes s f) m (drop d key)
-        → (child-number (nodes s f) m (place s f m (getD key d 0)) < node-count f) × (descend (nodes s f) 0 key ≡ descend (nodes s f) (child-number (nodes s f) m (place s f m (getD key d 0))) (drop (d + 1) key))
+        → (child-number (nodes s f) m (branch-index s f m (getD key d 0)) < node-count f) × (descend (nodes s f) 0 key ≡ descend (nodes s f) (child-number (nodes s f) m (branch-index s f m (getD key d 0))) (drop (d + 1) key))
     byte-on k n e =
         let z = node-length s f a in
         let g = goes-there (nodes s f) m (getD key d 0) (drop (d + 1) key) kind is k in
-        let x = child-in (nodes s f) m (place s f m (getD key d 0)) (getD key d 0) (z ∙ a .node-total n) g in
+        let x = child-in (nodes s f) m (branch-index s f m (getD key d 0)) (getD key d 0) (z ∙ a .node-total n) g in
         (omega arith, e ∙ ap (descend (nodes s f) m) (key-next key d h) ∙ descend-on (nodes s f) m (getD key d 0) (drop (d + 1) key) kind is k)
 
     -- on the next level
-    way-on : kind ≡ Child → On-way s f key d m → On-way s f key (d + 1) (child-number (nodes s f) m (place s f m (getD key d 0)))
+    way-on : kind ≡ Child → On-way s f key d m → On-way s f key (d + 1) (child-number (nodes s f) m (branch-index s f m (getD key d 0)))
     way-on k o = let b = byte-on k (omega (arith, o .node-in)) (o .leads) in record {
       node-in = b .0;
       depth-in = omega arith;
       leads = b .1;
-      levels-in = omega (arith, lower (below d (λ q. way-ends d m q o)), first-up (nodes s f) (64 - (d + 1)) (1 + children-before (nodes s f) m) (child-number (nodes s f) m (place s f m (getD key d 0))) (child-range (nodes s f) m (place s f m (getD key d 0)) .0));
+      levels-in = omega (arith, lower (below d (λ q. way-ends d m q o)), first-up (nodes s f) (64 - (d + 1)) (1 + children-before (nodes s f) m) (child-number (nodes s f) m (branch-index s f m (getD key d 0))) (child-range (nodes s f) m (branch-index s f m (getD key d 0)) .0));
     }
       where
         below : (x : ℕ) → (64 ≤ x → ⊥) → x < 64
@@ -136,7 +136,7 @@ module _ (s : Bytes) (f : Frame) (a : Accepted s f) (key : Bytes) where
     }
 
     -- one that ends: the key leads to its open leaf
-    pub stopped-open : (v : ValuePos) → v .0 ≡ slot-number (nodes s f) m (place s f m (getD key d 0)) → kind ≡ Leaf → descend (nodes s f) 0 key ≡ descend (nodes s f) m (drop d key) → Stopped s f key (Open v) (d + 1)
+    pub stopped-open : (v : ValuePos) → v .0 ≡ slot-number (nodes s f) m (branch-index s f m (getD key d 0)) → kind ≡ Leaf → descend (nodes s f) 0 key ≡ descend (nodes s f) m (drop d key) → Stopped s f key (Open v) (d + 1)
     stopped-open v w k e = record {
       leads = e ∙ ap (descend (nodes s f) m) (key-next key d h) ∙ descend-open (nodes s f) m (getD key d 0) (drop (d + 1) key) kind is k ∙ ap (λ (x : ℕ). at-open x (drop (d + 1) key)) (sym w);
       depth-in = omega arith;
@@ -145,12 +145,12 @@ module _ (s : Bytes) (f : Frame) (a : Accepted s f) (key : Bytes) where
 
     -- the sum of slot numbers, one level taken off
     pub sum-on : kind ≡ Child → (l : ℕ) → slots-below (nodes s f) l m (drop d key)
-        ≡ slot-number (nodes s f) m (place s f m (getD key d 0)) + slots-below (nodes s f) (l - 1) (child-number (nodes s f) m (place s f m (getD key d 0))) (drop (d + 1) key)
+        ≡ slot-number (nodes s f) m (branch-index s f m (getD key d 0)) + slots-below (nodes s f) (l - 1) (child-number (nodes s f) m (branch-index s f m (getD key d 0))) (drop (d + 1) key)
     sum-on k l = ap (slots-below (nodes s f) l m) (key-next key d h) ∙ slots-on (nodes s f) m (getD key d 0) (drop (d + 1) key) kind is l k
 
     -- a key that has left the trie counts on the levels below as one that has ended
     pub sum-off : (kind ≡ Child → ⊥) → (l : ℕ)
-        → slots-below (nodes s f) l m (drop d key) ≡ slot-number (nodes s f) m (place s f m (getD key d 0)) + slots-below (nodes s f) (l - 1) (child-number (nodes s f) m (place s f m (getD key d 0))) []
+        → slots-below (nodes s f) l m (drop d key) ≡ slot-number (nodes s f) m (branch-index s f m (getD key d 0)) + slots-below (nodes s f) (l - 1) (child-number (nodes s f) m (branch-index s f m (getD key d 0))) []
     sum-off k l = ap (slots-below (nodes s f) l m) (key-next key d h) ∙ slots-off (nodes s f) m (getD key d 0) (drop (d + 1) key) kind is l k
 
   -- What the node has at the key's next byte: the same laws, by the branch found there and what stands behind its position.

@@ -146,7 +146,7 @@ module _ (q : Bits → Bytes → Bool) (f : ℕ → Group) (y : ℕ) (k : Bytes)
   open-here : (x : ℕ) (s : Bits) → x ≡ y → counts false q (y ∷ k) (record { cut = x ∷ []; exact = false; suffix = s }) ≡ q s k
   open-here x s z = ap (λ (w : ℕ). counts false q (w ∷ k) (record { cut = x ∷ []; exact = false; suffix = s })) (sym z) ∙ open-same false q x s k
 
-  -- what is left at the branch at place i, or else the first leaf behind the branches from place j on
+  -- what is left at the branch at index i, or else the first leaf behind the branches from index j on
   abbrev left-at : List Branch → ℕ → ℕ → ℕ → Option Leaf
   left-at es c i j = or-else (next-at (drop i es) (c + children (take i es))) (head-of (behind-branches f (drop j es) (c + children (take j es))))
 
@@ -248,27 +248,27 @@ module _ (q : Bits → Bytes → Bool) (f : ℕ → Group) (y : ℕ) (k : Bytes)
 
 -- ---- nodes with leaves
 
--- the branches of node m, and the place among them of the first whose label is not below y
+-- the branches of node m, and the index among them of the first whose label is not below y
 abbrev pub branches-at : List Node → ℕ → List Branch
 branches-at ns m = branches-of (node-at ns m)
 
-abbrev pub place-at : List Node → ℕ → ℕ → ℕ
-place-at ns m y = labels-below y (branches-of (node-at ns m))
+abbrev pub branch-index-at : List Node → ℕ → ℕ → ℕ
+branch-index-at ns m y = labels-below y (branches-of (node-at ns m))
 
 -- a branch from the label y on has a leaf behind it, if the nodes one level lower have one
-from-deep : (ns : List Node) (l m y : ℕ) → On-level ns (suc l) m → ((c : ℕ) → On-level ns l c → 0 < length (below ns l c)) → (first-kind (drop (place-at ns m y) (branches-at ns m)) ≡ Absent → ⊥) → 0 < length (from-label ns l m y)
+from-deep : (ns : List Node) (l m y : ℕ) → On-level ns (suc l) m → ((c : ℕ) → On-level ns l c → 0 < length (below ns l c)) → (first-kind (drop (branch-index-at ns m y) (branches-at ns m)) ≡ Absent → ⊥) → 0 < length (from-label ns l m y)
 unfolding from-label behind-branches first-kind
-from-deep ns l m y on deep h = go (drop (place-at ns m y) (branches-at ns m)) h (λ e. deep (child-number ns m (place-at ns m y)) (level-child ns l m (place-at ns m y) on e))
+from-deep ns l m y on deep h = go (drop (branch-index-at ns m y) (branches-at ns m)) h (λ e. deep (child-number ns m (branch-index-at ns m y)) (level-child ns l m (branch-index-at ns m y) on e))
   where
-    go : (fs : List Branch) → (first-kind fs ≡ Absent → ⊥) → (first-kind fs ≡ Child → 0 < length (below ns l (child-number ns m (place-at ns m y)))) → 0 < length (behind-branches (below ns l) fs (child-number ns m (place-at ns m y)))
+    go : (fs : List Branch) → (first-kind fs ≡ Absent → ⊥) → (first-kind fs ≡ Child → 0 < length (below ns l (child-number ns m (branch-index-at ns m y)))) → 0 < length (behind-branches (below ns l) fs (child-number ns m (branch-index-at ns m y)))
     go [] h d = absurd (h refl)
     go (to-leaf x s ∷ fs) h d = omega arith
     go (to-node x ∷ fs) h d =
         omega (
           arith,
           d refl,
-          length-append (map (prefix x) (below ns l (child-number ns m (place-at ns m y)))) (behind-branches (below ns l) fs (suc (child-number ns m (place-at ns m y)))),
-          length-map (below ns l (child-number ns m (place-at ns m y))) (prefix x),
+          length-append (map (prefix x) (below ns l (child-number ns m (branch-index-at ns m y)))) (behind-branches (below ns l) fs (suc (child-number ns m (branch-index-at ns m y)))),
+          length-map (below ns l (child-number ns m (branch-index-at ns m y))) (prefix x),
         )
 
 -- Below each node of a level there is a leaf.
@@ -278,7 +278,7 @@ below-some ns (suc l) m on =
     rw (below-step ns l m) (omega (arith, length-append (exact-leaf (own-slot (node-at ns m))) (from-label ns l m 0), from-deep ns l m 0 on (λ c o. below-some ns l c o) (level-branch ns (suc l) m on)))
 
 -- Behind a branch from the label y on there is a leaf.
-pub from-some : (ns : List Node) (l m y : ℕ) → On-level ns (suc l) m → (first-kind (drop (place-at ns m y) (branches-at ns m)) ≡ Absent → ⊥) → 0 < length (from-label ns l m y)
+pub from-some : (ns : List Node) (l m y : ℕ) → On-level ns (suc l) m → (first-kind (drop (branch-index-at ns m y) (branches-at ns m)) ≡ Absent → ⊥) → 0 < length (from-label ns l m y)
 from-some ns l m y on h = from-deep ns l m y on (λ c o. below-some ns l c o) h
 
 -- ---- the leaf behind a higher label
@@ -290,15 +290,15 @@ higher-at ns l m path y higher = or-else (behind-each path (head-of (from-label 
 
 module _ (ns : List Node) (l m : ℕ) (path : Bytes) (y : ℕ) (higher : Option Leaf) where
   -- no label is above y
-  pub higher-kept : is-there (first-kind (drop (place-at ns m (y + 1)) (branches-at ns m))) ≡ false → higher-at ns l m path y higher ≡ higher
+  pub higher-kept : is-there (first-kind (drop (branch-index-at ns m (y + 1)) (branches-at ns m))) ≡ false → higher-at ns l m path y higher ≡ higher
   unfolding higher-at
-  higher-kept h = rw (from-none ns l m (y + 1) (first-kind (drop (place-at ns m (y + 1)) (branches-at ns m))) refl (not-there (first-kind (drop (place-at ns m (y + 1)) (branches-at ns m))) h))
+  higher-kept h = rw (from-none ns l m (y + 1) (first-kind (drop (branch-index-at ns m (y + 1)) (branches-at ns m))) refl (not-there (first-kind (drop (branch-index-at ns m (y + 1)) (branches-at ns m))) h))
 
   -- one is
-  pub higher-taken : On-level ns (suc l) m → is-there (first-kind (drop (place-at ns m (y + 1)) (branches-at ns m))) ≡ true → higher-at ns l m path y higher ≡ behind-each path (head-of (from-label ns l m (y + 1)))
+  pub higher-taken : On-level ns (suc l) m → is-there (first-kind (drop (branch-index-at ns m (y + 1)) (branches-at ns m))) ≡ true → higher-at ns l m path y higher ≡ behind-each path (head-of (from-label ns l m (y + 1)))
   unfolding higher-at
   higher-taken on h =
-      full-head path (from-label ns l m (y + 1)) higher (from-some ns l m (y + 1) on (there-not (first-kind (drop (place-at ns m (y + 1)) (branches-at ns m))) h))
+      full-head path (from-label ns l m (y + 1)) higher (from-some ns l m (y + 1) on (there-not (first-kind (drop (branch-index-at ns m (y + 1)) (branches-at ns m))) h))
 
 -- ---- the leaf that is left from a node on
 
@@ -343,42 +343,42 @@ child-from ns m i = omega arith
 module _ (q : Bits → Bytes → Bool) (ns : List Node) (l m : ℕ) (on : On-level ns (suc l) m) (path : Bytes) (y : ℕ) (k : Bytes) (higher : Option Leaf) where
   -- what one byte of the key leaves of the leaves at or below a node
   byte-left : next-of (counts false q (y ∷ k)) (below ns (suc l) m)
-      ≡ or-else (next-at q (below ns l) y k (drop (place-at ns m y) (branches-at ns m)) (child-number ns m (place-at ns m y))) (head-of (from-label ns l m (y + 1)))
+      ≡ or-else (next-at q (below ns l) y k (drop (branch-index-at ns m y) (branches-at ns m)) (child-number ns m (branch-index-at ns m y))) (head-of (from-label ns l m (y + 1)))
   unfolding below from-label
   byte-left =
       let b = next-branches q (below ns l) y k (branches-at ns m) (child-number ns m 0) (level-rising ns (suc l) m on) in
       next-append (counts false q (y ∷ k)) (exact-leaf (own-slot (node-at ns m))) (behind-branches (below ns l) (branches-at ns m) (child-number ns m 0))
-      ∙ ap₂ or-else (exact-passed q (own-slot (node-at ns m)) y k) (rw (add-one y, ← child-from ns m (place-at ns m y), ← child-from ns m (place-at ns m (suc y))) b)
+      ∙ ap₂ or-else (exact-passed q (own-slot (node-at ns m)) y k) (rw (add-one y, ← child-from ns m (branch-index-at ns m y), ← child-from ns m (branch-index-at ns m (suc y))) b)
 
   next-byte : next-from q ns (suc l) m path (y ∷ k) higher
-      ≡ or-else (behind-each path (next-at q (below ns l) y k (drop (place-at ns m y) (branches-at ns m)) (child-number ns m (place-at ns m y)))) (higher-at ns l m path y higher)
+      ≡ or-else (behind-each path (next-at q (below ns l) y k (drop (branch-index-at ns m y) (branches-at ns m)) (child-number ns m (branch-index-at ns m y)))) (higher-at ns l m path y higher)
   unfolding next-from higher-at
   next-byte =
-      let a : Option Leaf = next-at q (below ns l) y k (drop (place-at ns m y) (branches-at ns m)) (child-number ns m (place-at ns m y)) in
+      let a : Option Leaf = next-at q (below ns l) y k (drop (branch-index-at ns m y) (branches-at ns m)) (child-number ns m (branch-index-at ns m y)) in
       let h : Option Leaf = head-of (from-label ns l m (y + 1)) in
       rw byte-left (ap (λ (z : Option Leaf). or-else z higher) (behind-or path a h) ∙ or-assoc (behind-each path a) (behind-each path h) higher)
 
   -- No branch has the byte as its label: the leaf behind a higher label.
-  pub next-absent : kind-with y (drop (place-at ns m y) (branches-at ns m)) ≡ Absent → next-from q ns (suc l) m path (y ∷ k) higher ≡ higher-at ns l m path y higher
-  next-absent h = next-byte ∙ rw (at-absent q (below ns l) y k (drop (place-at ns m y) (branches-at ns m)) (child-number ns m (place-at ns m y)) h)
+  pub next-absent : kind-with y (drop (branch-index-at ns m y) (branches-at ns m)) ≡ Absent → next-from q ns (suc l) m path (y ∷ k) higher ≡ higher-at ns l m path y higher
+  next-absent h = next-byte ∙ rw (at-absent q (below ns l) y k (drop (branch-index-at ns m y) (branches-at ns m)) (child-number ns m (branch-index-at ns m y)) h)
 
   -- The branch ends at an open leaf: that leaf, if the key has not passed it.
-  pub next-open : (w : ℕ) → All (Slots-width w) ns → kind-with y (drop (place-at ns m y) (branches-at ns m)) ≡ Ends
+  pub next-open : (w : ℕ) → All (Slots-width w) ns → kind-with y (drop (branch-index-at ns m y) (branches-at ns m)) ≡ Ends
       → next-from q ns (suc l) m path (y ∷ k) higher
-      ≡ cond (q (slot-of w ns (slot-number ns m (place-at ns m y))) k) (higher-at ns l m path y higher) (some (record { cut = path ++ (y ∷ []); exact = false; suffix = slot-of w ns (slot-number ns m (place-at ns m y)) }))
+      ≡ cond (q (slot-of w ns (slot-number ns m (branch-index-at ns m y))) k) (higher-at ns l m path y higher) (some (record { cut = path ++ (y ∷ []); exact = false; suffix = slot-of w ns (slot-number ns m (branch-index-at ns m y)) }))
   next-open w wide h =
-      next-byte ∙ rw (at-leaf q (below ns l) y k (drop (place-at ns m y) (branches-at ns m)) (child-number ns m (place-at ns m y)) (slot-of w ns (slot-number ns m (place-at ns m y))) h (λ x t rest e. slot-is w ns m (place-at ns m y) x t rest wide e)) (go (q (slot-of w ns (slot-number ns m (place-at ns m y))) k))
+      next-byte ∙ rw (at-leaf q (below ns l) y k (drop (branch-index-at ns m y) (branches-at ns m)) (child-number ns m (branch-index-at ns m y)) (slot-of w ns (slot-number ns m (branch-index-at ns m y))) h (λ x t rest e. slot-is w ns m (branch-index-at ns m y) x t rest wide e)) (go (q (slot-of w ns (slot-number ns m (branch-index-at ns m y))) k))
     where
-      go : (b : Bool) → or-else (behind-each path (cond b none (some (record { cut = y ∷ []; exact = false; suffix = slot-of w ns (slot-number ns m (place-at ns m y)) })))) (higher-at ns l m path y higher)
-          ≡ cond b (higher-at ns l m path y higher) (some (record { cut = path ++ (y ∷ []); exact = false; suffix = slot-of w ns (slot-number ns m (place-at ns m y)) }))
+      go : (b : Bool) → or-else (behind-each path (cond b none (some (record { cut = y ∷ []; exact = false; suffix = slot-of w ns (slot-number ns m (branch-index-at ns m y)) })))) (higher-at ns l m path y higher)
+          ≡ cond b (higher-at ns l m path y higher) (some (record { cut = path ++ (y ∷ []); exact = false; suffix = slot-of w ns (slot-number ns m (branch-index-at ns m y)) }))
       go true = refl
       go false = refl
 
   -- The branch continues: what is left from its child on.
-  pub next-child : kind-with y (drop (place-at ns m y) (branches-at ns m)) ≡ Child
-      → next-from q ns (suc l) m path (y ∷ k) higher ≡ next-from q ns l (child-number ns m (place-at ns m y)) (path ++ (y ∷ [])) k (higher-at ns l m path y higher)
+  pub next-child : kind-with y (drop (branch-index-at ns m y) (branches-at ns m)) ≡ Child
+      → next-from q ns (suc l) m path (y ∷ k) higher ≡ next-from q ns l (child-number ns m (branch-index-at ns m y)) (path ++ (y ∷ [])) k (higher-at ns l m path y higher)
   unfolding next-from
   next-child h =
       next-byte
       ∙ ap (λ (z : Option Leaf). or-else z (higher-at ns l m path y higher))
-      (ap (behind-each path) (at-child q (below ns l) y k (drop (place-at ns m y) (branches-at ns m)) (child-number ns m (place-at ns m y)) h) ∙ behind-twice path y (next-of (counts false q k) (below ns l (child-number ns m (place-at ns m y)))))
+      (ap (behind-each path) (at-child q (below ns l) y k (drop (branch-index-at ns m y) (branches-at ns m)) (child-number ns m (branch-index-at ns m y)) h) ∙ behind-twice path y (next-of (counts false q k) (below ns l (child-number ns m (branch-index-at ns m y)))))

@@ -20,4 +20,4 @@ pub record Open-between (s : Bytes) (f : Frame) (lo hi : Bytes) (slot d : ℕ) :
 -- whether that leaf neither ends below the lower bound nor starts above the upper
 abbrev pub open-between : Bytes → Frame → Bytes → Bytes → ℕ → ℕ → Bool
 open-between s f lo hi slot d =
-    not (slot-passed (f .hash) (length lo) (slot-of (f .width) (nodes s f) slot) (drop d lo)) && slot-reached (f .hash) (length hi) (slot-of (f .width) (nodes s f) slot) (drop d hi)
+    not (slot-passed (f .«hash_width») (length lo) (slot-of (f .width) (nodes s f) slot) (drop d lo)) && slot-reached (f .«hash_width») (length hi) (slot-of (f .width) (nodes s f) slot) (drop d hi)

@@ -23,7 +23,7 @@ use Rattle.nav_nodes.specs.Descent.{child-number}
 use Rattle.nav_nodes.specs.FoundBranch.{node-count, Found-branch, Behind-branch}
 use Rattle.nav_nodes.specs.NumberBounds.{slot-range}
 use Rattle.nav_nodes.specs.NextLabel.{first-kind, kind-with, is-there, there-not}
-use Rattle.nav_nodes.specs.Positions.{branches, place}
+use Rattle.nav_nodes.specs.Positions.{branches, branch-index}
 use Rattle.nav_nodes.specs.Slots.{slot-number, slot-of}
 use Rattle.query_descent.specs.declared.LastHigher.{LastHigher}
 use Rattle.query_descent.specs.declared.LastHigher.the-variants.{None, At}
@@ -48,7 +48,7 @@ higher-leaf ns start (At m d b) = leaf-behind ns start (m .0) d (getD start d 0 
 -- Node m, at depth d of the way, has a label above the start's byte there, and this at the byte itself.
 pub record Has-higher (s : Bytes) (f : Frame) (start : Bytes) (m d : ℕ) (b : Found) : Type 0 where
   pub level : On-level (nodes s f) (64 - d) m
-  pub label-there : first-kind (drop (place s f m (getD start d 0 + 1)) (branches s f m)) ≡ Kind.Absent → ⊥
+  pub label-there : first-kind (drop (branch-index s f m (getD start d 0 + 1)) (branches s f m)) ≡ Kind.Absent → ⊥
   pub found : Found-branch s f m (getD start d 0) b
 
 -- the node of the last higher label is one of the n that were passed
@@ -82,7 +82,7 @@ pub record Following (s : Bytes) (f : Frame) (start : Bytes) (higher : LastHighe
   -- the last higher label stands above it
   pub higher-in : Higher-in s f start depth higher
   -- the leaf that is sought stands at or below it, or else behind the last higher label
-  pub leaf-is : next-leaf (f .hash) (read-leaves s) start ≡ next-from (slot-passed (f .hash) (length start)) (nodes s f) (64 - depth) node (take depth start) (drop depth start) (higher-leaf (nodes s f) start higher)
+  pub leaf-is : next-leaf (f .«hash_width») (read-leaves s) start ≡ next-from (slot-passed (f .«hash_width») (length start)) (nodes s f) (64 - depth) node (take depth start) (drop depth start) (higher-leaf (nodes s f) start higher)
 
 -- With node m at depth d passed, the last higher label is this one.
 pub record Higher-passed (s : Bytes) (f : Frame) (start : Bytes) (m d : ℕ) (before after : LastHigher) : Type 0 where
@@ -94,7 +94,7 @@ pub record Higher-passed (s : Bytes) (f : Frame) (start : Bytes) (m d : ℕ) (be
 -- Where following the start has ended.
 pub record Key-followed (s : Bytes) (f : Frame) (start : Bytes) (end : BoundEnd) (higher : LastHigher) (node depth sum : ℕ) : Type 0 where
   -- there the leaf that is sought stands
-  pub leaf-is : next-leaf (f .hash) (read-leaves s) start ≡ end-leaf (f .width) (nodes s f) start end higher node depth
+  pub leaf-is : next-leaf (f .«hash_width») (read-leaves s) start ≡ end-leaf (f .width) (nodes s f) start end higher node depth
   pub end-in : End-in (nodes s f) (f .leaves) end node depth
   pub higher-in : Higher-in s f start depth higher
   -- the start's bound on the level below
@@ -120,18 +120,18 @@ higher-within s f start d n (At m e b) l h = (omega (arith, h .0), h .1)
 
 module _ (s : Bytes) (f : Frame) (start : Bytes) (m : NodeNum) (d : ℕ) (before : LastHigher) (short : d < 64) (on : On-level (nodes s f) (64 - d) (m .0)) (inside : Higher-in s f start d before) where
   -- The node passed has no label above the start's byte.
-  pub higher-same : is-there (first-kind (drop (place s f (m .0) (getD start d 0 + 1)) (branches s f (m .0)))) ≡ false → Higher-passed s f start (m .0) d before before
+  pub higher-same : is-there (first-kind (drop (branch-index s f (m .0) (getD start d 0 + 1)) (branches s f (m .0)))) ≡ false → Higher-passed s f start (m .0) d before before
   higher-same h = record { leaf-is = higher-kept (nodes s f) (64 - (d + 1)) (m .0) (take d start) (getD start d 0) (higher-leaf (nodes s f) start before) h; higher-in = higher-within s f start d (d + 1) before (omega arith) inside }
 
   -- It has one.
-  pub higher-new : {b : Found} → Found-branch s f (m .0) (getD start d 0) b → is-there (first-kind (drop (place s f (m .0) (getD start d 0 + 1)) (branches s f (m .0)))) ≡ true → Higher-passed s f start (m .0) d before (At m d b)
+  pub higher-new : {b : Found} → Found-branch s f (m .0) (getD start d 0) b → is-there (first-kind (drop (branch-index s f (m .0) (getD start d 0 + 1)) (branches s f (m .0)))) ≡ true → Higher-passed s f start (m .0) d before (At m d b)
   higher-new found h =
       let z : 64 - d ≡ suc (64 - (d + 1)) = omega arith in
       let e : 64 - (d + 1) ≡ 63 - d = omega arith in
       record {
         leaf-is = higher-taken (nodes s f) (64 - (d + 1)) (m .0) (take d start) (getD start d 0) (higher-leaf (nodes s f) start before) (rw z at on) h
             ∙ ap (λ (l : ℕ). behind-each (take d start) (head-of (from-label (nodes s f) l (m .0) (getD start d 0 + 1)))) e;
-        higher-in = (omega arith, record { level = on; label-there = there-not (first-kind (drop (place s f (m .0) (getD start d 0 + 1)) (branches s f (m .0)))) h; found = found });
+        higher-in = (omega arith, record { level = on; label-there = there-not (first-kind (drop (branch-index s f (m .0) (getD start d 0 + 1)) (branches s f (m .0)))) h; found = found });
       }
 
 -- ---- the way
@@ -145,8 +145,8 @@ module _ (s : Bytes) (f : Frame) (a : Accepted s f) (start : Bytes) where
   pub followed-end : {higher : LastHigher} {m d sum : ℕ} → Following s f start higher m d sum → length start ≤ d → Key-followed s f start End.Node higher m d sum
   followed-end {higher} {m} {d} {sum} o h = record {
     leaf-is =
-        o .leaf-is ∙ ap (λ (k : Bytes). next-from (slot-passed (f .hash) (length start)) (nodes s f) (64 - d) m (take d start) k (higher-leaf (nodes s f) start higher)) (drop-of-length-le start {i = d} h)
-        ∙ next-end (slot-passed (f .hash) (length start)) (nodes s f) (64 - d) m (take d start) (higher-leaf (nodes s f) start higher) (o .level);
+        o .leaf-is ∙ ap (λ (k : Bytes). next-from (slot-passed (f .«hash_width») (length start)) (nodes s f) (64 - d) m (take d start) k (higher-leaf (nodes s f) start higher)) (drop-of-length-le start {i = d} h)
+        ∙ next-end (slot-passed (f .«hash_width») (length start)) (nodes s f) (64 - d) m (take d start) (higher-leaf (nodes s f) start higher) (o .level);
     end-in = o .level;
     higher-in = o .higher-in;
     sums = summed-end s f a start m d sum (o .leads) h;
@@ -165,10 +165,10 @@ pub record Byte-passed (s : Bytes) (f : Frame) (start : Bytes) (higher : LastHig
   pub passed : Higher-passed s f start m d higher after
 
 module _ {s : Bytes} {f : Frame} {start : Bytes} {higher : LastHigher} {m d sum : ℕ} {b : Found} {child : NodeNum} {slot : ValuePos} {after : LastHigher} (a : Accepted s f) (p : Byte-passed s f start higher m d sum b child slot after) where
-  child-is : child .0 ≡ child-number (nodes s f) m (place s f m (getD start d 0))
+  child-is : child .0 ≡ child-number (nodes s f) m (branch-index s f m (getD start d 0))
   child-is = p .behind .child-is ∙ p .found .at-is .child-is
 
-  slot-is : slot .0 ≡ slot-number (nodes s f) m (place s f m (getD start d 0))
+  slot-is : slot .0 ≡ slot-number (nodes s f) m (branch-index s f m (getD start d 0))
   slot-is = p .behind .slot-is ∙ p .found .at-is .slot-is
 
   level-more : 64 - d ≡ suc (64 - (d + 1))
@@ -178,11 +178,11 @@ module _ {s : Bytes} {f : Frame} {start : Bytes} {higher : LastHigher} {m d sum 
   cut-next = rw (add-one d) (sym (take-suc start d 0 (p .more)))
 
   -- the leaf that is sought, before the next byte of the start
-  byte-leaf : next-leaf (f .hash) (read-leaves s) start
-      ≡ next-from (slot-passed (f .hash) (length start)) (nodes s f) (suc (64 - (d + 1))) m (take d start) (getD start d 0 ∷ drop (d + 1) start) (higher-leaf (nodes s f) start higher)
+  byte-leaf : next-leaf (f .«hash_width») (read-leaves s) start
+      ≡ next-from (slot-passed (f .«hash_width») (length start)) (nodes s f) (suc (64 - (d + 1))) m (take d start) (getD start d 0 ∷ drop (d + 1) start) (higher-leaf (nodes s f) start higher)
   byte-leaf =
-      p .from .leaf-is ∙ ap (λ (k : Bytes). next-from (slot-passed (f .hash) (length start)) (nodes s f) (64 - d) m (take d start) k (higher-leaf (nodes s f) start higher)) (key-next start d (p .more))
-      ∙ ap (λ (l : ℕ). next-from (slot-passed (f .hash) (length start)) (nodes s f) l m (take d start) (getD start d 0 ∷ drop (d + 1) start) (higher-leaf (nodes s f) start higher)) level-more
+      p .from .leaf-is ∙ ap (λ (k : Bytes). next-from (slot-passed (f .«hash_width») (length start)) (nodes s f) (64 - d) m (take d start) k (higher-leaf (nodes s f) start higher)) (key-next start d (p .more))
+      ∙ ap (λ (l : ℕ). next-from (slot-passed (f .«hash_width») (length start)) (nodes s f) l m (take d start) (getD start d 0 ∷ drop (d + 1) start) (higher-leaf (nodes s f) start higher)) level-more
 
   on : On-level (nodes s f) (suc (64 - (d + 1))) m
   on = rw level-more at (p .from .level)
@@ -191,7 +191,7 @@ module _ {s : Bytes} {f : Frame} {start : Bytes} {higher : LastHigher} {m d sum 
   pub followed-none : b .kind ≡ Kind.Absent → Key-followed s f start End.NoLeaf after (child .0) (d + 1) (sum + slot .0)
   followed-none k = record {
     leaf-is =
-        byte-leaf ∙ next-absent (slot-passed (f .hash) (length start)) (nodes s f) (64 - (d + 1)) m on (take d start) (getD start d 0) (drop (d + 1) start) (higher-leaf (nodes s f) start higher) (sym (p .found .kind-is) ∙ k)
+        byte-leaf ∙ next-absent (slot-passed (f .«hash_width») (length start)) (nodes s f) (64 - (d + 1)) m on (take d start) (getD start d 0) (drop (d + 1) start) (higher-leaf (nodes s f) start higher) (sym (p .found .kind-is) ∙ k)
         ∙ p .passed .leaf-is;
     end-in = tt;
     higher-in = p .passed .higher-in;
@@ -204,15 +204,15 @@ module _ {s : Bytes} {f : Frame} {start : Bytes} {higher : LastHigher} {m d sum 
 
   -- The sum with that slot is small.
   pub sum-small : sum + slot .0 ≤ 4194240
-  sum-small = omega (arith, slot-is, slot-range (nodes s f) m (place s f m (getD start d 0)) .1, a .writable .leaf-total, a .writable .few, p .from .leads .small, p .more, p .short)
+  sum-small = omega (arith, slot-is, slot-range (nodes s f) m (branch-index s f m (getD start d 0)) .1, a .writable .leaf-total, a .writable .few, p .from .leads .small, p .more, p .short)
 
   -- The branch ends at an open leaf, which the start has passed or not.
-  pub followed-leaf : b .kind ≡ Kind.Leaf → (t : Bool) → t ≡ slot-passed (f .hash) (length start) (slot-of (f .width) (nodes s f) (slot .0)) (drop (d + 1) start)
+  pub followed-leaf : b .kind ≡ Kind.Leaf → (t : Bool) → t ≡ slot-passed (f .«hash_width») (length start) (slot-of (f .width) (nodes s f) (slot .0)) (drop (d + 1) start)
       → Key-followed s f start (leaf-end t slot) after (child .0) (d + 1) (sum + slot .0 + bit t)
   followed-leaf k t is = record {
     leaf-is =
         byte-leaf
-        ∙ next-open (slot-passed (f .hash) (length start)) (nodes s f) (64 - (d + 1)) m on (take d start) (getD start d 0) (drop (d + 1) start) (higher-leaf (nodes s f) start higher) (f .width) (a .writable .wide) (sym (p .found .kind-is) ∙ k)
+        ∙ next-open (slot-passed (f .«hash_width») (length start)) (nodes s f) (64 - (d + 1)) m on (take d start) (getD start d 0) (drop (d + 1) start) (higher-leaf (nodes s f) start higher) (f .width) (a .writable .wide) (sym (p .found .kind-is) ∙ k)
         ∙ rw (p .passed .leaf-is, cut-next, ← slot-is, ← is) (leaf-there t);
     end-in = slot-there t;
     higher-in = p .passed .higher-in;
@@ -231,10 +231,10 @@ module _ {s : Bytes} {f : Frame} {start : Bytes} {higher : LastHigher} {m d sum 
   pub following-child : b .kind ≡ Kind.Child → Following s f start after (child .0) (d + 1) (sum + slot .0)
   following-child k = record {
     leads = leading-on s f a start m d sum (p .from .leads) (b .kind) (child .0) (slot .0) (p .more) (p .short) (p .found .kind-is) child-is slot-is k;
-    level = rw child-is (level-child (nodes s f) (64 - (d + 1)) m (place s f m (getD start d 0)) on (first-child (getD start d 0) (drop (place s f m (getD start d 0)) (branches s f m)) (sym (p .found .kind-is) ∙ k)));
+    level = rw child-is (level-child (nodes s f) (64 - (d + 1)) m (branch-index s f m (getD start d 0)) on (first-child (getD start d 0) (drop (branch-index s f m (getD start d 0)) (branches s f m)) (sym (p .found .kind-is) ∙ k)));
     higher-in = p .passed .higher-in;
     leaf-is =
-        byte-leaf ∙ next-child (slot-passed (f .hash) (length start)) (nodes s f) (64 - (d + 1)) m on (take d start) (getD start d 0) (drop (d + 1) start) (higher-leaf (nodes s f) start higher) (sym (p .found .kind-is) ∙ k)
+        byte-leaf ∙ next-child (slot-passed (f .«hash_width») (length start)) (nodes s f) (64 - (d + 1)) m on (take d start) (getD start d 0) (drop (d + 1) start) (higher-leaf (nodes s f) start higher) (sym (p .found .kind-is) ∙ k)
         ∙ rw (p .passed .leaf-is, cut-next, child-is);
   }
 
@@ -242,13 +242,13 @@ module _ {s : Bytes} {f : Frame} {start : Bytes} {higher : LastHigher} {m d sum 
 
 module _ {s : Bytes} {f : Frame} {start : Bytes} {end : BoundEnd} {higher : LastHigher} {m d sum : ℕ} (k : Key-followed s f start end higher m d sum) where
   -- at no leaf
-  pub ended-nowhere : end ≡ End.NoLeaf → next-leaf (f .hash) (read-leaves s) start ≡ higher-leaf (nodes s f) start higher
+  pub ended-nowhere : end ≡ End.NoLeaf → next-leaf (f .«hash_width») (read-leaves s) start ≡ higher-leaf (nodes s f) start higher
   ended-nowhere e = k .leaf-is ∙ ap (λ (x : BoundEnd). end-leaf (f .width) (nodes s f) start x higher m d) e
 
   -- at a node
-  pub ended-node : end ≡ End.Node → (next-leaf (f .hash) (read-leaves s) start ≡ leaf-below (nodes s f) start m d) × On-level (nodes s f) (64 - d) m
+  pub ended-node : end ≡ End.Node → (next-leaf (f .«hash_width») (read-leaves s) start ≡ leaf-below (nodes s f) start m d) × On-level (nodes s f) (64 - d) m
   ended-node e = (k .leaf-is ∙ ap (λ (x : BoundEnd). end-leaf (f .width) (nodes s f) start x higher m d) e, rw e at (k .end-in))
 
   -- at an open leaf
-  pub ended-leaf : (v : ValuePos) → end ≡ End.Leaf v → (next-leaf (f .hash) (read-leaves s) start ≡ some (record { cut = take d start; exact = false; suffix = slot-of (f .width) (nodes s f) (v .0) })) × (v .0 < f .leaves)
+  pub ended-leaf : (v : ValuePos) → end ≡ End.Leaf v → (next-leaf (f .«hash_width») (read-leaves s) start ≡ some (record { cut = take d start; exact = false; suffix = slot-of (f .width) (nodes s f) (v .0) })) × (v .0 < f .leaves)
   ended-leaf v e = (k .leaf-is ∙ ap (λ (x : BoundEnd). end-leaf (f .width) (nodes s f) start x higher m d) e, rw e at (k .end-in))

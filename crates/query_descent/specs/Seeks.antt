@@ -74,11 +74,11 @@ module _ (s : Bytes) (f : Frame) (a : Accepted s f) where
       go (l ∷ ls) e = omega arith
 
   -- An image without nodes has no leaf that a key has not passed.
-  pub next-nowhere : node-count f ≡ 0 → (k : Bytes) → next-leaf (f .hash) (read-leaves s) k ≡ none
+  pub next-nowhere : node-count f ≡ 0 → (k : Bytes) → next-leaf (f .«hash_width») (read-leaves s) k ≡ none
   unfolding next-leaf
   next-nowhere z k = go (read-leaves s) root-of
     where
-      go : (ls : List Leaf) → (0 < length ls → Root (nodes s f) ls) → next-leaf (f .hash) ls k ≡ none
+      go : (ls : List Leaf) → (0 < length ls → Root (nodes s f) ls) → next-leaf (f .«hash_width») ls k ≡ none
       go [] r = refl
       go (l ∷ ls) r = absurd (omega (arith, level-node (nodes s f) 64 0 (r (omega arith) .on), node-length s f a))
 
@@ -87,8 +87,8 @@ module _ (s : Bytes) (f : Frame) (a : Accepted s f) where
   root-level h = root-of (some-leaf h) .on
 
   -- The first leaf that a key has not passed, from the root on.
-  pub next-root : 0 < node-count f → (k : Bytes) → next-leaf (f .hash) (read-leaves s) k ≡ next-from (slot-passed (f .hash) (length k)) (nodes s f) 64 0 [] k none
+  pub next-root : 0 < node-count f → (k : Bytes) → next-leaf (f .«hash_width») (read-leaves s) k ≡ next-from (slot-passed (f .«hash_width») (length k)) (nodes s f) 64 0 [] k none
   unfolding next-from
   next-root h k =
-      next-leaf-of (f .hash) (read-leaves s) k ∙ ap (next-of (counts false (slot-passed (f .hash) (length k)) k)) (sym (root-of (some-leaf h) .whole))
-      ∙ sym (behind-nothing (next-of (counts false (slot-passed (f .hash) (length k)) k) (below (nodes s f) 64 0)))
+      next-leaf-of (f .«hash_width») (read-leaves s) k ∙ ap (next-of (counts false (slot-passed (f .«hash_width») (length k)) k)) (sym (root-of (some-leaf h) .whole))
+      ∙ sym (behind-nothing (next-of (counts false (slot-passed (f .«hash_width») (length k)) k) (below (nodes s f) 64 0)))

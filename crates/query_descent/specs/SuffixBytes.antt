@@ -176,7 +176,7 @@ module _ (w : ℕ) (ns : List Node) (sv : Bytes) (wide : All (Slots-width w) ns)
   pub slot-past : (f : Bool) (i : ℕ) → w ≤ i → getD (slot-of w ns v) i f ≡ f
   slot-past f i l = List·getD-eq-default (slot-of w ns v) f (omega (arith, slot-length))
 
--- ---- the tests by their place in the key
+-- ---- the tests by their position in the key
 
 -- The highest key test at the start: d bytes are passed.
 high-start : (k : Bytes) (d : ℕ) (s : Bits) → d ≤ length k → high-passed (length k) s (drop d k) ≡ below (filled true (64 - d) s) (drop d k)
@@ -265,13 +265,13 @@ module _ (s : Bytes) (f : Frame) (a : Accepted s f) (v : ℕ) (h : v < f .leaves
   whole-length = slot-length (f .width) (nodes s f) (drop (f .sv) s) (a .writable .wide) (a .SV .1) v (omega (arith, a .writable .leaf-total))
 
   -- as many real bits as the header says
-  pub real-length : length (real-slot s f v) ≡ f .real
-  real-length = omega (arith, length-drop (f .hash) (slot-of (f .width) (nodes s f) v), whole-length, a .width-is)
+  pub real-length : length (real-slot s f v) ≡ f .«real_width»
+  real-length = omega (arith, length-drop (f .«hash_width») (slot-of (f .width) (nodes s f) v), whole-length, a .width-is)
 
   -- and as many hash bits
-  pub hash-length : length (hash-slot s f v) ≡ f .hash
-  hash-length = length-take-le (f .hash) (slot-of (f .width) (nodes s f) v) (omega (arith, whole-length, a .width-is))
+  pub hash-length : length (hash-slot s f v) ≡ f .«hash_width»
+  hash-length = length-take-le (f .«hash_width») (slot-of (f .width) (nodes s f) v) (omega (arith, whole-length, a .width-is))
 
   -- behind its real bits there are none
-  pub real-past : (ones : Bool) (i : ℕ) → f .real ≤ i → getD (real-slot s f v) i ones ≡ ones
+  pub real-past : (ones : Bool) (i : ℕ) → f .«real_width» ≤ i → getD (real-slot s f v) i ones ≡ ones
   real-past ones i l = List·getD-eq-default (real-slot s f v) ones (omega (arith, real-length))

@@ -23,22 +23,22 @@ use Rattle.nav_nodes.specs.NumberBounds.{child-range, slot-range, children-all,
 use Rattle.query_descent.specs.Steps.{exact-stop}
 use Rattle.query_descent.specs.SuffixBytes.{bit-le}
 use Rattle.nav_nodes.specs.Accepted.{Accepted, nodes}
-use Rattle.nav_nodes.specs.Positions.{branches, place}
+use Rattle.nav_nodes.specs.Positions.{branches, branch-index}
 use Rattle.nav_nodes.specs.FoundBranch.{node-count}
 use Rattle.query_descent.specs.Answers.{value-none, value-exact, value-open}
 use Rattle.query_descent.specs.Followed.{Stopped, node-length, byte-on, stopped-end, stopped-none, stopped-open, sum-on, sum-off, level-next}
 
 -- the sum of the slot numbers of the empty key's bound, which is the first node of every level
-abbrev pub level-starts : Bytes → Frame → ℕ
-level-starts s f = slots-below (nodes s f) 64 0 []
+abbrev pub empty-key-sum : Bytes → Frame → ℕ
+empty-key-sum s f = slots-below (nodes s f) 64 0 []
 
 -- what counts where a key leads, beside the slot numbers of its bound: 1 for an open leaf that it has passed
 abbrev pub passed-there : Bytes → Frame → Bytes → ℕ
-passed-there s f key = value false (slot-passed (f .hash) (length key)) (f .width) (nodes s f) (descend (nodes s f) 0 key)
+passed-there s f key = value false (slot-passed (f .«hash_width») (length key)) (f .width) (nodes s f) (descend (nodes s f) 0 key)
 
 -- the same for the leaves that it has reached: 1 for an exact leaf, and for an open one that it has reached
 abbrev pub reached-there : Bytes → Frame → Bytes → ℕ
-reached-there s f key = value true (slot-reached (f .hash) (length key)) (f .width) (nodes s f) (descend (nodes s f) 0 key)
+reached-there s f key = value true (slot-reached (f .«hash_width») (length key)) (f .width) (nodes s f) (descend (nodes s f) 0 key)
 
 -- the first bytes of a key lead to a node, with the sum of the slot numbers on the levels above it
 pub record Leading (s : Bytes) (f : Frame) (key : Bytes) (node depth sum : ℕ) : Type 0 where
@@ -113,8 +113,8 @@ module _ (s : Bytes) (f : Frame) (a : Accepted s f) (key : Bytes) where
 
   -- an exact leaf at the key's end is not passed
   pub end-unpassed : (d : ℕ) (b : Bool) → Stopped s f key (exact-stop b) d → passed-there s f key ≡ 0
-  end-unpassed d true t = value-exact s f a key Exact d (t .leads) false (slot-passed (f .hash) (length key)) refl
-  end-unpassed d false t = value-none s f a key Nowhere d (t .leads) false (slot-passed (f .hash) (length key)) refl
+  end-unpassed d true t = value-exact s f a key Exact d (t .leads) false (slot-passed (f .«hash_width») (length key)) refl
+  end-unpassed d false t = value-none s f a key Nowhere d (t .leads) false (slot-passed (f .«hash_width») (length key)) refl
 
   module _ (m d sum : ℕ) (o : Leading s f key m d sum) where
     -- the end of the key, at a node that may be an exact leaf
@@ -129,10 +129,10 @@ module _ (s : Bytes) (f : Frame) (a : Accepted s f) (key : Bytes) where
     pub summed-end : length key ≤ d → Summed s f key m d sum
     summed-end h = let e = ended-end h in unsummed (exact-stop (is-exact (node-at (nodes s f) m))) m d sum e (end-unpassed d (is-exact (node-at (nodes s f) m)) (e .stop-is))
 
-    module _ (kind : BranchKind) (child slot : ℕ) (h : d < length key) (short : length key ≤ 64) (is : kind ≡ kind-with (getD key d 0) (drop (place s f m (getD key d 0)) (branches s f m)))
-        (child-is : child ≡ child-number (nodes s f) m (place s f m (getD key d 0))) (slot-is : slot ≡ slot-number (nodes s f) m (place s f m (getD key d 0))) where
+    module _ (kind : BranchKind) (child slot : ℕ) (h : d < length key) (short : length key ≤ 64) (is : kind ≡ kind-with (getD key d 0) (drop (branch-index s f m (getD key d 0)) (branches s f m)))
+        (child-is : child ≡ child-number (nodes s f) m (branch-index s f m (getD key d 0))) (slot-is : slot ≡ slot-number (nodes s f) m (branch-index s f m (getD key d 0))) where
       slot-few : slot ≤ 65535
-      slot-few = rw slot-is (rest-slot s f a m (place s f m (getD key d 0)))
+      slot-few = rw slot-is (rest-slot s f a m (branch-index s f m (getD key d 0)))
 
       -- a branch that continues: the next byte leads to the node behind it
       pub leading-on : kind ≡ Child → Leading s f key child (d + 1) (sum + slot)
@@ -152,7 +152,7 @@ module _ (s : Bytes) (f : Frame) (a : Accepted s f) (key : Bytes) where
       off k leaf t =
           let w = rw (level-next d) at (sum-off s f a key m d kind h is k (64 - d)) in
           record {
-            node-in = rw child-is (rest-child s f a m (place s f m (getD key d 0)) (omega (arith, o .node-in)));
+            node-in = rw child-is (rest-child s f a m (branch-index s f m (getD key d 0)) (omega (arith, o .node-in)));
             small = omega (arith, o .small, slot-few);
             sums = rw child-is (omega (arith, o .sums, w));
             stop-is = t;
@@ -167,12 +167,12 @@ module _ (s : Bytes) (f : Frame) (a : Accepted s f) (key : Bytes) where
       ended-leaf k v e = off (λ q. let n : _≡_ {A = ℕ} 0 1 = cc in omega arith) (Open v) (stopped-open s f a key m d kind h is v (e ∙ slot-is) k (o .leads))
 
       pub summed-none : kind ≡ Absent → Summed s f key child (d + 1) (sum + slot)
-      summed-none k = let e = ended-none k in unsummed Nowhere child (d + 1) (sum + slot) e (value-none s f a key Nowhere (d + 1) (e .stop-is .leads) false (slot-passed (f .hash) (length key)) refl)
+      summed-none k = let e = ended-none k in unsummed Nowhere child (d + 1) (sum + slot) e (value-none s f a key Nowhere (d + 1) (e .stop-is .leads) false (slot-passed (f .«hash_width») (length key)) refl)
 
       -- an open leaf counts if the key has passed it
-      pub summed-leaf : kind ≡ Leaf → Summed s f key child (d + 1) (sum + slot + bit (slot-passed (f .hash) (length key) (slot-of (f .width) (nodes s f) slot) (drop (d + 1) key)))
+      pub summed-leaf : kind ≡ Leaf → Summed s f key child (d + 1) (sum + slot + bit (slot-passed (f .«hash_width») (length key) (slot-of (f .width) (nodes s f) slot) (drop (d + 1) key)))
       summed-leaf k =
           let v : ValuePos = record { 0 = slot } in
           let e = ended-leaf k v refl in
-          let b = slot-passed (f .hash) (length key) (slot-of (f .width) (nodes s f) slot) (drop (d + 1) key) in
-          summed (Open v) child (d + 1) (sum + slot) e (bit b) (bit-le b) (value-open s f a key (Open v) (d + 1) (e .stop-is .leads) false (slot-passed (f .hash) (length key)) v refl)
+          let b = slot-passed (f .«hash_width») (length key) (slot-of (f .width) (nodes s f) slot) (drop (d + 1) key) in
+          summed (Open v) child (d + 1) (sum + slot) e (bit b) (bit-le b) (value-open s f a key (Open v) (d + 1) (e .stop-is .leads) false (slot-passed (f .«hash_width») (length key)) v refl)

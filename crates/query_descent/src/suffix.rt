@@ -49,12 +49,12 @@ pub fn real_byte(image: &[u8], f: Frame, slot: ValuePos, i: usize, ones: bool) -
     requires { ⌜ Accepted (now image) f × (slot .0 < f .leaves) × (i < 64) ⌝ }
     ensures { λ r. ⌜ (r ≡ fill ones 8 (drop (8 * i) (real-slot (now (image .entry)) f (slot .0)))) × (r < 256) ⌝ }
 {
-    let n = f.real;
+    let n = f.real_width;
     let first = 8 * i;
     if n <= first {
         return filled_below(0, 0, ones);
     }
-    let x = slot_bits(image, f, slot, f.hash + first);
+    let x = slot_bits(image, f, slot, f.hash_width + first);
     filled_below(reversed((x % 256) as u8), smaller(n - first, 8), ones)
 }
 
@@ -63,29 +63,29 @@ pub fn real_equals(image: &[u8], f: Frame, slot: ValuePos, key: &[u8], d: usize)
     requires { ⌜ Accepted (now image) f × (slot .0 < f .leaves) × (d ≤ length (now key)) ⌝ }
     ensures { λ r. ⌜ r ≡ has-suffix (real-slot (now (image .entry)) f (slot .0)) (drop d (now (key .entry))) ⌝ }
 {
-    if f.real == 0 {
+    if f.real_width == 0 {
         return true;
     }
-    let x = slot_bits(image, f, slot, f.hash) as usize;
-    x % (1usize << f.real) == real_number(key, d, f.real)
+    let x = slot_bits(image, f, slot, f.hash_width) as usize;
+    x % (1usize << f.real_width) == real_number(key, d, f.real_width)
 }
 
 // Whether a key has the leaf's hash bits: the lowest bits of the slot's number are the number of the key's hash bits.
 pub fn hash_equals(image: &[u8], f: Frame, slot: ValuePos, key: &[u8]) -> bool
     requires { ⌜ Accepted (now image) f × (slot .0 < f .leaves) ⌝ }
-    ensures { λ r. ⌜ r ≡ same-bits (hash-bits (f .hash) (now (key .entry))) (hash-slot (now (image .entry)) f (slot .0)) ⌝ }
+    ensures { λ r. ⌜ r ≡ same-bits (hash-bits (f .«hash_width») (now (key .entry))) (hash-slot (now (image .entry)) f (slot .0)) ⌝ }
 {
-    if f.hash == 0 {
+    if f.hash_width == 0 {
         return true;
     }
     let x = slot_bits(image, f, slot, 0) as usize;
-    x % (1usize << f.hash) == hash_number(key, f.hash)
+    x % (1usize << f.hash_width) == hash_number(key, f.hash_width)
 }
 
 // Whether the leaf's highest key lies below the key, whose first d bytes are the cut key.
 pub fn high_below(image: &[u8], f: Frame, slot: ValuePos, key: &[u8], d: usize) -> bool
     requires { ⌜ Accepted (now image) f × (slot .0 < f .leaves) × (d ≤ length (now key)) × (length (now key) ≤ 64) ⌝ }
-    ensures { λ r. ⌜ r ≡ slot-passed (f .hash) (length (now (key .entry))) (slot-of (f .width) (nodes (now (image .entry)) f) (slot .0)) (drop d (now (key .entry))) ⌝ }
+    ensures { λ r. ⌜ r ≡ slot-passed (f .«hash_width») (length (now (key .entry))) (slot-of (f .width) (nodes (now (image .entry)) f) (slot .0)) (drop d (now (key .entry))) ⌝ }
 {
     let mut i = d;
     while i < key.len() {
@@ -105,9 +105,9 @@ pub fn high_below(image: &[u8], f: Frame, slot: ValuePos, key: &[u8], d: usize) 
 // Whether the leaf's lowest key lies above the key, whose first d bytes are the cut key.
 pub fn low_above(image: &[u8], f: Frame, slot: ValuePos, key: &[u8], d: usize) -> bool
     requires { ⌜ Accepted (now image) f × (slot .0 < f .leaves) × (d ≤ length (now key)) × (length (now key) ≤ 64) ⌝ }
-    ensures { λ r. ⌜ slot-reached (f .hash) (length (now (key .entry))) (slot-of (f .width) (nodes (now (image .entry)) f) (slot .0)) (drop d (now (key .entry))) ≡ not r ⌝ }
+    ensures { λ r. ⌜ slot-reached (f .«hash_width») (length (now (key .entry))) (slot-of (f .width) (nodes (now (image .entry)) f) (slot .0)) (drop d (now (key .entry))) ≡ not r ⌝ }
 {
-    let n = f.real;
+    let n = f.real_width;
     let mut i = d;
     while i < 64 {
         if 8 * (i - d) >= n {

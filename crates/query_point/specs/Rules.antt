@@ -150,66 +150,66 @@ rule-nothing H (l ∷ ls) k h = absurd (omega arith)
 
 module _ (s : Bytes) (f : Frame) (a : Accepted s f) (key : Bytes) where
   -- an image without nodes has no leaf
-  pub rule-nowhere : node-count f ≡ 0 → rule (f .hash) (read-leaves s) key ≡ no-nodes
-  rule-nowhere z = rule-nothing (f .hash) (read-leaves s) key (go (length (read-leaves s)) refl)
+  pub rule-nowhere : node-count f ≡ 0 → rule (f .«hash_width») (read-leaves s) key ≡ no-nodes
+  rule-nowhere z = rule-nothing (f .«hash_width») (read-leaves s) key (go (length (read-leaves s)) refl)
     where
       go : (n : ℕ) → length (read-leaves s) ≡ n → length (read-leaves s) ≡ 0
       go zero e = e
       go (suc n) e = absurd (omega (arith, level-node (nodes s f) 64 0 (root-of s f a (omega arith) .on), node-length s f a))
 
   -- what the leaves say of a key that leads to none
-  told-none : (d : ℕ) → Stopped s f key Nowhere d → Told (f .hash) (read-leaves s) key false false false false
-  told-none d t = told (f .hash) (read-leaves s) key (λ ends q. false) (λ ends q. led-stops s f a key ends q ∙ value-none s f a key Nowhere d (t .leads) ends q refl)
+  told-none : (d : ℕ) → Stopped s f key Nowhere d → Told (f .«hash_width») (read-leaves s) key false false false false
+  told-none d t = told (f .«hash_width») (read-leaves s) key (λ ends q. false) (λ ends q. led-stops s f a key ends q ∙ value-none s f a key Nowhere d (t .leads) ends q refl)
 
   -- of one that leads to an exact leaf
-  told-exact : (d : ℕ) → Stopped s f key Exact d → Told (f .hash) (read-leaves s) key true false false false
-  told-exact d t = told (f .hash) (read-leaves s) key (λ ends q. ends) (λ ends q. led-stops s f a key ends q ∙ value-exact s f a key Exact d (t .leads) ends q refl)
+  told-exact : (d : ℕ) → Stopped s f key Exact d → Told (f .«hash_width») (read-leaves s) key true false false false
+  told-exact d t = told (f .«hash_width») (read-leaves s) key (λ ends q. ends) (λ ends q. led-stops s f a key ends q ∙ value-exact s f a key Exact d (t .leads) ends q refl)
 
   -- of one that leads to an open leaf
   told-open : (d : ℕ) (v : ValuePos) → Stopped s f key (Open v) d
-      → Told (f .hash) (read-leaves s) key false true (slot-has (f .hash) key (slot-of (f .width) (nodes s f) (v .0)) (drop d key)) (not (slot-has (f .hash) key (slot-of (f .width) (nodes s f) (v .0)) (drop d key)))
-  told-open d v t = told (f .hash) (read-leaves s) key (λ ends q. q (slot-of (f .width) (nodes s f) (v .0)) (drop d key)) (λ ends q. led-stops s f a key ends q ∙ value-open s f a key (Open v) d (t .leads) ends q v refl)
+      → Told (f .«hash_width») (read-leaves s) key false true (slot-has (f .«hash_width») key (slot-of (f .width) (nodes s f) (v .0)) (drop d key)) (not (slot-has (f .«hash_width») key (slot-of (f .width) (nodes s f) (v .0)) (drop d key)))
+  told-open d v t = told (f .«hash_width») (read-leaves s) key (λ ends q. q (slot-of (f .width) (nodes s f) (v .0)) (drop d key)) (λ ends q. led-stops s f a key ends q ∙ value-open s f a key (Open v) d (t .leads) ends q v refl)
 
   -- a rule that applies among the image's leaves is the key's
-  the-rule : (r : spec.Rule) → applies (f .hash) (read-leaves s) key r ≡ true → rule (f .hash) (read-leaves s) key ≡ r
-  the-rule = applies-rule (f .hash) (read-leaves s) (a .realizable) (a .well-sized) key
+  the-rule : (r : spec.Rule) → applies (f .«hash_width») (read-leaves s) key r ≡ true → rule (f .«hash_width») (read-leaves s) key ≡ r
+  the-rule = applies-rule (f .«hash_width») (read-leaves s) (a .realizable) (a .well-sized) key
 
   -- The key leads to an open leaf, whose slot is one of the leaves: its suffix decides.
   pub rule-leaf : {n m p d : ℕ} → Leaf-behind s f key n m p d
-      → (slot-at s f m p < f .leaves) × (rule (f .hash) (read-leaves s) key ≡ cond (slot-has (f .hash) key (slot-of (f .width) (nodes s f) (slot-at s f m p)) (drop d key)) suffix-equal suffix-other)
+      → (slot-at s f m p < f .leaves) × (rule (f .«hash_width») (read-leaves s) key ≡ cond (slot-has (f .«hash_width») key (slot-of (f .width) (nodes s f) (slot-at s f m p)) (drop d key)) suffix-equal suffix-other)
   rule-leaf {m = m} {p = p} l =
       let v : ValuePos = record { 0 = slot-at s f m p } in
       let t = way-leaf s f a key m (l .depth) (l .here .more) (l .branch) (l .here .found) v (ap (slot-at s f m) (l .at-is)) (l .ends) (leads-way s f a key (l .leads)) in
-      (t .leaf-in v refl, rw (l .passed) (go (slot-has (f .hash) key (slot-of (f .width) (nodes s f) (v .0)) (drop (l .depth + 1) key)) (told-open (l .depth + 1) v t)))
+      (t .leaf-in v refl, rw (l .passed) (go (slot-has (f .«hash_width») key (slot-of (f .width) (nodes s f) (v .0)) (drop (l .depth + 1) key)) (told-open (l .depth + 1) v t)))
     where
-      go : (h : Bool) → Told (f .hash) (read-leaves s) key false true h (not h) → rule (f .hash) (read-leaves s) key ≡ cond h suffix-equal suffix-other
+      go : (h : Bool) → Told (f .«hash_width») (read-leaves s) key false true h (not h) → rule (f .«hash_width») (read-leaves s) key ≡ cond h suffix-equal suffix-other
       go true u = the-rule suffix-equal (u .same-is)
       go false u = the-rule suffix-other (u .other-is)
 
   module _ (b : Bound key) where
     -- some leaf has a possible key that begins with the key, or none has
-    covered-by : (n : ℕ) → begins-with (real-leaves s f) key ≡ n → bit (any (covers (slot-agrees (f .hash)) key) (read-leaves s)) ≡ n
-    covered-by n h = sym (begins-covers (f .hash) (f .real) (read-leaves s) (real-sized s f a) key b) ∙ h
+    covered-by : (n : ℕ) → begins-with (real-leaves s f) key ≡ n → bit (any (covers (slot-agrees (f .«hash_width»)) key) (read-leaves s)) ≡ n
+    covered-by n h = sym (begins-covers (f .«hash_width») (f .«real_width») (read-leaves s) (real-sized s f a) key b) ∙ h
 
     -- A branch is missing.
-    pub rule-missing : {n : ℕ} → Branch-missing s f key n → rule (f .hash) (read-leaves s) key ≡ branch-missing
+    pub rule-missing : {n : ℕ} → Branch-missing s f key n → rule (f .«hash_width») (read-leaves s) key ≡ branch-missing
     unfolding applies
     rule-missing l =
         let o = leads-way s f a key (l .leads) in
         let u = told-none (l .depth + 1) (way-none s f a key (l .node) (l .depth) (l .here .more) (l .branch) (l .here .found) (l .absent) o) in
-        let c = uncovered-node (f .hash) (read-leaves s) key (bit-false (any (covers (slot-agrees (f .hash)) key) (read-leaves s)) (covered-by 0 (stem-none s f a key b l))) in
+        let c = uncovered-node (f .«hash_width») (read-leaves s) key (bit-false (any (covers (slot-agrees (f .«hash_width»)) key) (read-leaves s)) (covered-by 0 (stem-none s f a key b l))) in
         let m = some-in (read-leaves s) (some-leaf s f a (omega (arith, o .node-in))) in
-        the-rule branch-missing (else-missing (f .hash) (read-leaves s) (a .realizable) (a .well-sized) key (root-there (f .hash) (read-leaves s) (a .realizable) (a .well-sized) key (m .1)) (rw c) (u .exact-is) (u .same-is) (u .other-is))
+        the-rule branch-missing (else-missing (f .«hash_width») (read-leaves s) (a .realizable) (a .well-sized) key (root-there (f .«hash_width») (read-leaves s) (a .realizable) (a .well-sized) key (m .1)) (rw c) (u .exact-is) (u .same-is) (u .other-is))
 
     -- The key ends at a node: whether the node is an exact leaf decides.
-    pub rule-node : {m : ℕ} → Leads s f key (length key) m → rule (f .hash) (read-leaves s) key ≡ cond (is-exact (node-at (nodes s f) m)) at-exact-leaf key-ended
+    pub rule-node : {m : ℕ} → Leads s f key (length key) m → rule (f .«hash_width») (read-leaves s) key ≡ cond (is-exact (node-at (nodes s f) m)) at-exact-leaf key-ended
     unfolding applies
     rule-node {m} l =
         go (is-exact (node-at (nodes s f) m)) (stopped-end s f a key (length key) m (exact-stop (is-exact (node-at (nodes s f) m))) refl refl (leads-way s f a key l .leads))
       where
-        go : (x : Bool) → Stopped s f key (exact-stop x) (length key) → rule (f .hash) (read-leaves s) key ≡ cond x at-exact-leaf key-ended
+        go : (x : Bool) → Stopped s f key (exact-stop x) (length key) → rule (f .«hash_width») (read-leaves s) key ≡ cond x at-exact-leaf key-ended
         go true t = the-rule at-exact-leaf (told-exact (length key) t .exact-is)
         go false t =
             let u = told-none (length key) t in
-            let c = covered-node (f .hash) (read-leaves s) key (bit-true (any (covers (slot-agrees (f .hash)) key) (read-leaves s)) (covered-by 1 (stem-ended s f a key b l))) u in
+            let c = covered-node (f .«hash_width») (read-leaves s) key (bit-true (any (covers (slot-agrees (f .«hash_width»)) key) (read-leaves s)) (covered-by 1 (stem-ended s f a key b l))) u in
             the-rule key-ended (rw (c, u .exact-is))

@@ -24,7 +24,7 @@ use Rattle.nav_nodes.specs.Descent.{child-number, goes-on, ends-at}
 use Rattle.nav_nodes.specs.FoundBranch.{node-count}
 use Rattle.nav_nodes.specs.LabelMaps.{eqb-flip}
 use Rattle.nav_nodes.specs.NextLabel.{kind-with, with-absent, with-leaf, with-child}
-use Rattle.nav_nodes.specs.Positions.{branches, place, child-at, slot-at}
+use Rattle.nav_nodes.specs.Positions.{branches, branch-index, child-at, slot-at}
 use Rattle.nav_nodes.specs.Slots.{node-at, slot-number, slot-of, slot-is}
 use Rattle.query_descent.specs.Followed.{node-length}
 use Rattle.query_descent.specs.Leads.{At-byte, Leads, along, Branch-missing, Leaf-behind}
@@ -181,7 +181,7 @@ pub record Stem-way (s : Bytes) (f : Frame) (stem : Bytes) (depth node : ℕ) : 
   -- it stands on its level
   pub level : On-level (nodes s f) (64 - depth) node
   -- the rest of the stem decides over the leaves at or below it
-  pub covered : begins-with (real-leaves s f) stem ≡ bit (any (covers (slot-agrees (f .hash)) (drop depth stem)) (below (nodes s f) (64 - depth) node))
+  pub covered : begins-with (real-leaves s f) stem ≡ bit (any (covers (slot-agrees (f .«hash_width»)) (drop depth stem)) (below (nodes s f) (64 - depth) node))
 
 module _ (s : Bytes) (f : Frame) (a : Accepted s f) (stem : Bytes) where
   -- What the node has at the stem's next byte.
@@ -196,39 +196,39 @@ module _ (s : Bytes) (f : Frame) (a : Accepted s f) (stem : Bytes) where
 
     -- the branch with that byte decides
     byte-covers : begins-with (real-leaves s f) stem
-        ≡ bit (covered-at (f .hash) (below (nodes s f) (64 - (d + 1))) (getD stem d 0) (drop (d + 1) stem) (drop (place s f m (getD stem d 0)) (branches s f m)) (child-number (nodes s f) m (place s f m (getD stem d 0))))
+        ≡ bit (covered-at (f .«hash_width») (below (nodes s f) (64 - (d + 1))) (getD stem d 0) (drop (d + 1) stem) (drop (branch-index s f m (getD stem d 0)) (branches s f m)) (child-number (nodes s f) m (branch-index s f m (getD stem d 0))))
     byte-covers =
-        o .covered ∙ ap (λ (k : Bytes). bit (any (covers (slot-agrees (f .hash)) k) (below (nodes s f) (64 - d) m))) (key-next stem d (here .more))
-        ∙ ap (λ (l : ℕ). bit (any (covers (slot-agrees (f .hash)) (getD stem d 0 ∷ drop (d + 1) stem)) (below (nodes s f) l m))) one-less
-        ∙ ap bit (below-covers (f .hash) (nodes s f) (64 - (d + 1)) m on (getD stem d 0) (drop (d + 1) stem))
+        o .covered ∙ ap (λ (k : Bytes). bit (any (covers (slot-agrees (f .«hash_width»)) k) (below (nodes s f) (64 - d) m))) (key-next stem d (here .more))
+        ∙ ap (λ (l : ℕ). bit (any (covers (slot-agrees (f .«hash_width»)) (getD stem d 0 ∷ drop (d + 1) stem)) (below (nodes s f) l m))) one-less
+        ∙ ap bit (below-covers (f .«hash_width») (nodes s f) (64 - (d + 1)) m on (getD stem d 0) (drop (d + 1) stem))
 
     -- no branch
     none-covers : b .kind ≡ Kind.Absent → begins-with (real-leaves s f) stem ≡ 0
     none-covers k =
         byte-covers
-        ∙ ap bit (covered-absent (f .hash) (below (nodes s f) (64 - (d + 1))) (getD stem d 0) (drop (d + 1) stem) (drop (place s f m (getD stem d 0)) (branches s f m)) (child-number (nodes s f) m (place s f m (getD stem d 0))) (sym (here .found .kind-is) ∙ k))
+        ∙ ap bit (covered-absent (f .«hash_width») (below (nodes s f) (64 - (d + 1))) (getD stem d 0) (drop (d + 1) stem) (drop (branch-index s f m (getD stem d 0)) (branches s f m)) (child-number (nodes s f) m (branch-index s f m (getD stem d 0))) (sym (here .found .kind-is) ∙ k))
 
     -- a branch that ends: its open leaf decides
-    open-covers : (v : ℕ) → v ≡ slot-at s f m (b .at .0) → b .kind ≡ Kind.Leaf → begins-with (real-leaves s f) stem ≡ bit (slot-agrees (f .hash) (slot-of (f .width) (nodes s f) v) (drop (d + 1) stem))
+    open-covers : (v : ℕ) → v ≡ slot-at s f m (b .at .0) → b .kind ≡ Kind.Leaf → begins-with (real-leaves s f) stem ≡ bit (slot-agrees (f .«hash_width») (slot-of (f .width) (nodes s f) v) (drop (d + 1) stem))
     open-covers v e k =
         let y : ℕ = getD stem d 0 in
-        let i : ℕ = place s f m y in
+        let i : ℕ = branch-index s f m y in
         let z : v ≡ slot-number (nodes s f) m i = e ∙ here .found .at-is .slot-is in
         byte-covers
-        ∙ ap bit (covered-leaf (f .hash) (below (nodes s f) (64 - (d + 1))) y (drop (d + 1) stem) (drop i (branches s f m)) (child-number (nodes s f) m i) (slot-of (f .width) (nodes s f) v) (sym (here .found .kind-is) ∙ k)
+        ∙ ap bit (covered-leaf (f .«hash_width») (below (nodes s f) (64 - (d + 1))) y (drop (d + 1) stem) (drop i (branches s f m)) (child-number (nodes s f) m i) (slot-of (f .width) (nodes s f) v) (sym (here .found .kind-is) ∙ k)
         (λ x t rest q. ap (slot-of (f .width) (nodes s f)) z ∙ slot-is (f .width) (nodes s f) m i x t rest (a .writable .wide) q))
 
     -- a branch that continues
     stem-child : (child : ℕ) → child ≡ child-at s f m (b .at .0) → b .kind ≡ Kind.Child → Stem-way s f stem (d + 1) child
     stem-child child e k =
         let y : ℕ = getD stem d 0 in
-        let i : ℕ = place s f m y in
+        let i : ℕ = branch-index s f m y in
         let z : child ≡ child-number (nodes s f) m i = e ∙ here .found .at-is .child-is in
         let c : kind-with y (drop i (branches s f m)) ≡ Kind.Child = sym (here .found .kind-is) ∙ k in
         record {
           level = rw z (level-child (nodes s f) (64 - (d + 1)) m i on (first-child y (drop i (branches s f m)) c));
-          covered = byte-covers ∙ ap bit (covered-child (f .hash) (below (nodes s f) (64 - (d + 1))) y (drop (d + 1) stem) (drop i (branches s f m)) (child-number (nodes s f) m i) c)
-              ∙ ap (λ (n : ℕ). bit (any (covers (slot-agrees (f .hash)) (drop (d + 1) stem)) (below (nodes s f) (64 - (d + 1)) n))) (sym z);
+          covered = byte-covers ∙ ap bit (covered-child (f .«hash_width») (below (nodes s f) (64 - (d + 1))) y (drop (d + 1) stem) (drop i (branches s f m)) (child-number (nodes s f) m i) c)
+              ∙ ap (λ (n : ℕ). bit (any (covers (slot-agrees (f .«hash_width»)) (drop (d + 1) stem)) (below (nodes s f) (64 - (d + 1)) n))) (sym z);
         }
 
 module _ (s : Bytes) (f : Frame) (a : Accepted s f) (stem : Bytes) (b : Bound stem) where
@@ -236,7 +236,7 @@ module _ (s : Bytes) (f : Frame) (a : Accepted s f) (stem : Bytes) (b : Bound st
   stem-root : 0 < node-count f → Stem-way s f stem 0 0
   stem-root h = let r = root-of s f a (some-leaf s f a h) in record {
     level = r .on;
-    covered = begins-covers (f .hash) (f .real) (read-leaves s) (real-sized s f a) stem b ∙ ap (λ (ls : List Leaf). bit (any (covers (slot-agrees (f .hash)) stem) ls)) (sym (r .whole));
+    covered = begins-covers (f .«hash_width») (f .«real_width») (read-leaves s) (real-sized s f a) stem b ∙ ap (λ (ls : List Leaf). bit (any (covers (slot-agrees (f .«hash_width»)) stem) ls)) (sym (r .whole));
   }
 
   -- The node to which the first bytes of a stem lead is on its way.
@@ -246,9 +246,9 @@ module _ (s : Bytes) (f : Frame) (a : Accepted s f) (stem : Bytes) (b : Bound st
   -- An image without nodes has no key that begins with a stem.
   pub stem-nowhere : node-count f ≡ 0 → begins-with (real-leaves s f) stem ≡ 0
   unfolding any
-  stem-nowhere z = begins-covers (f .hash) (f .real) (read-leaves s) (real-sized s f a) stem b ∙ go (read-leaves s) (root-of s f a)
+  stem-nowhere z = begins-covers (f .«hash_width») (f .«real_width») (read-leaves s) (real-sized s f a) stem b ∙ go (read-leaves s) (root-of s f a)
     where
-      go : (ls : List Leaf) → (0 < length ls → Root (nodes s f) ls) → bit (any (covers (slot-agrees (f .hash)) stem) ls) ≡ 0
+      go : (ls : List Leaf) → (0 < length ls → Root (nodes s f) ls) → bit (any (covers (slot-agrees (f .«hash_width»)) stem) ls) ≡ 0
       go [] r = refl
       go (l ∷ ls) r = absurd (omega (arith, level-node (nodes s f) 64 0 (r (omega arith) .on), node-length s f a))
 
@@ -261,9 +261,9 @@ module _ (s : Bytes) (f : Frame) (a : Accepted s f) (stem : Bytes) (b : Bound st
   stem-ended {m} l =
       let n : ℕ = length stem in
       let o = stem-way l in
-      o .covered ∙ ap (λ (k : Bytes). bit (any (covers (slot-agrees (f .hash)) k) (below (nodes s f) (64 - n) m))) (drop-of-length-le stem {i = n} (omega arith))
-      ∙ ap bit (covers-all (f .hash) (below (nodes s f) (64 - n) m) (below-some (nodes s f) (64 - n) m (o .level)))
+      o .covered ∙ ap (λ (k : Bytes). bit (any (covers (slot-agrees (f .«hash_width»)) k) (below (nodes s f) (64 - n) m))) (drop-of-length-le stem {i = n} (omega arith))
+      ∙ ap bit (covers-all (f .«hash_width») (below (nodes s f) (64 - n) m) (below-some (nodes s f) (64 - n) m (o .level)))
 
   -- Where a stem leads to an open leaf, the leaf's suffix decides.
-  pub stem-leaf : {n m p d : ℕ} → Leaf-behind s f stem n m p d → (v : ℕ) → v ≡ slot-at s f m p → begins-with (real-leaves s f) stem ≡ bit (slot-agrees (f .hash) (slot-of (f .width) (nodes s f) v) (drop d stem))
+  pub stem-leaf : {n m p d : ℕ} → Leaf-behind s f stem n m p d → (v : ℕ) → v ≡ slot-at s f m p → begins-with (real-leaves s f) stem ≡ bit (slot-agrees (f .«hash_width») (slot-of (f .width) (nodes s f) v) (drop d stem))
   stem-leaf {m = m} t v e = rw (t .passed) (open-covers s f a stem m (t .depth) (t .branch) (t .here) (stem-way (t .leads)) v (e ∙ ap (slot-at s f m) (t .at-is)) (t .ends))

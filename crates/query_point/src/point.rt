@@ -24,7 +24,7 @@ use query_descent::suffix::real_equals;
 // Whether a key, whose first d bytes lead to the open leaf behind a branch, has the leaf's suffix: its real bits and its hash bits. No slot is looked up where slots have no bits, and no key is hashed whose real bits differ.
 fn leaf_has(image: &[u8], f: Frame, m: NodeNum, at: BitPos, key: &[u8], d: usize) -> bool
     requires { ⌜ Is-position (now image) f (m .0) (at .0) × (slot-at (now image) f (m .0) (at .0) < f .leaves) × (d ≤ length (now key)) ⌝ }
-    ensures { λ r. ⌜ r ≡ slot-has (f .hash) (now (key .entry)) (slot-of (f .width) (nodes (now (image .entry)) f) (slot-at (now (image .entry)) f (m .0) (at .0))) (drop d (now (key .entry))) ⌝ }
+    ensures { λ r. ⌜ r ≡ slot-has (f .«hash_width») (now (key .entry)) (slot-of (f .width) (nodes (now (image .entry)) f) (slot-at (now (image .entry)) f (m .0) (at .0))) (drop d (now (key .entry))) ⌝ }
 {
     if f.width == 0 {
         return true;
@@ -50,7 +50,7 @@ fn node_rule(image: &[u8], f: Frame, m: NodeNum) -> Rule
 // The rule of a key whose first d bytes lead to the open leaf behind a branch: the key has the leaf's suffix, or another.
 fn leaf_rule(image: &[u8], f: Frame, m: NodeNum, at: BitPos, key: &[u8], d: usize) -> Rule
     requires { ⌜ Is-position (now image) f (m .0) (at .0) × (slot-at (now image) f (m .0) (at .0) < f .leaves) × (d ≤ length (now key)) ⌝ }
-    ensures { λ r. ⌜ rule-of r ≡ cond (slot-has (f .hash) (now (key .entry)) (slot-of (f .width) (nodes (now (image .entry)) f) (slot-at (now (image .entry)) f (m .0) (at .0))) (drop d (now (key .entry)))) suffix-equal suffix-other ⌝ }
+    ensures { λ r. ⌜ rule-of r ≡ cond (slot-has (f .«hash_width») (now (key .entry)) (slot-of (f .width) (nodes (now (image .entry)) f) (slot-at (now (image .entry)) f (m .0) (at .0))) (drop d (now (key .entry)))) suffix-equal suffix-other ⌝ }
 {
     if leaf_has(image, f, m, at, key, d) {
         return Rule::SuffixEqual;
@@ -61,7 +61,7 @@ fn leaf_rule(image: &[u8], f: Frame, m: NodeNum, at: BitPos, key: &[u8], d: usiz
 // The rule behind the point question's reply to a key, by where the key leads from the root: one label search a level, and one look at the node or the leaf there.
 pub fn descend(image: &[u8], f: Frame, key: &[u8]) -> Rule
     requires { ⌜ Accepted (now image) f × (length (now key) ≤ 64) ⌝ }
-    ensures { λ r. ⌜ rule-of r ≡ rule (f .hash) (read-leaves (now (image .entry))) (now (key .entry)) ⌝ }
+    ensures { λ r. ⌜ rule-of r ≡ rule (f .«hash_width») (read-leaves (now (image .entry))) (now (key .entry)) ⌝ }
 {
     let end = follow(image, f, key, key.len());
     match end {

@@ -14,9 +14,9 @@ use query_descent::suffix::real_byte;
 // 1 if the leaf has a possible key that begins with the stem, whose first d bytes are the cut key, else 0: the real bits of its suffix and the rest of the stem agree as far as both go.
 pub fn real_agrees(image: &[u8], f: Frame, slot: ValuePos, stem: &[u8], d: usize) -> usize
     requires { ⌜ Accepted (now image) f × (slot .0 < f .leaves) × (d ≤ length (now stem)) × (length (now stem) ≤ 64) ⌝ }
-    ensures { λ r. ⌜ r ≡ bit (slot-agrees (f .hash) (slot-of (f .width) (nodes (now (image .entry)) f) (slot .0)) (drop d (now (stem .entry)))) ⌝ }
+    ensures { λ r. ⌜ r ≡ bit (slot-agrees (f .«hash_width») (slot-of (f .width) (nodes (now (image .entry)) f) (slot .0)) (drop d (now (stem .entry)))) ⌝ }
 {
-    let n = f.real;
+    let n = f.real_width;
     let mut i = d;
     while i < stem.len() {
         if 8 * (i - d) >= n {

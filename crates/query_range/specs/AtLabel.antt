@@ -17,7 +17,7 @@ use Rattle.nav_nodes.specs.Slots.{node-at, slot-number, slot-of, slot-is}
 use Rattle.nav_nodes.specs.Descent.{child-number}
 use Rattle.nav_nodes.specs.NextLabel.{first-kind, kind-with, low-none}
 use Rattle.nav_branches.specs.Below.{behind-branches, own-slot, below, from-label, On-level, level-rising, level-child}
-use Rattle.query_descent.specs.Next.{branches-at, place-at, groups-from, over-groups, below-some, child-from}
+use Rattle.query_descent.specs.Next.{branches-at, branch-index-at, groups-from, over-groups, below-some, child-from}
 use Rattle.theory.specs.Terms.{All}
 use Rattle.theory.specs.LinkedLevels.{Below-label, Ascends}
 use Rattle.theory.specs.Levels.{exact-leaf-count}
@@ -38,7 +38,7 @@ first-with f y (e ∷ es) c = cond (eqb (label-of e) y) (behind-one f e c) []
 -- the leaves behind the branch of node m with the label y, without the label, l levels left below the node
 unfoldable pub at-label : List Node → ℕ → ℕ → ℕ → Group
 unfolding below first-with
-at-label ns l m y = first-with (below ns l) y (drop (place-at ns m y) (branches-at ns m)) (child-number ns m (place-at ns m y))
+at-label ns l m y = first-with (below ns l) y (drop (branch-index-at ns m y) (branches-at ns m)) (child-number ns m (branch-index-at ns m y))
 
 -- ---- behind branches
 
@@ -53,7 +53,7 @@ module _ (f : ℕ → Group) where
       ap length (behind-first e es c)
       ∙ omega (arith, length-append (map (prefix (label-of e)) (behind-one f e c)) (behind-branches f es (c + bit (has-child e))), length-map (behind-one f e c) (prefix (label-of e)))
 
-  -- how many leaves stand behind the branches from place i on
+  -- how many leaves stand behind the branches from index i on
   abbrev length-from : List Branch → ℕ → ℕ → ℕ
   length-from es c i = length (behind-branches f (drop i es) (c + children (take i es)))
 
@@ -145,7 +145,7 @@ module _ (ns : List Node) (l m : ℕ) (on : On-level ns (suc l) m) where
   pub from-next : (y : ℕ) → size-from ns l m y ≡ length (at-label ns l m y) + size-from ns l m (y + 1)
   unfolding from-label at-label
   from-next y =
-      rw (add-one y, ← child-from ns m (place-at ns m y), ← child-from ns m (place-at ns m (suc y))) (from-split (below ns l) y (branches-at ns m) (child-number ns m 0) (level-rising ns (suc l) m on))
+      rw (add-one y, ← child-from ns m (branch-index-at ns m y), ← child-from ns m (branch-index-at ns m (suc y))) (from-split (below ns l) y (branches-at ns m) (child-number ns m 0) (level-rising ns (suc l) m on))
 
   -- The leaves that count before a key of one byte more are all that do not stand behind the byte or a higher label, and those behind the byte that count before the rest.
   pub byte-split : (ends : Bool) (q : Bits → Bytes → Bool) (y : ℕ) (k : Bytes)
@@ -158,18 +158,18 @@ module _ (ns : List Node) (l m : ℕ) (on : On-level ns (suc l) m) where
         length-append (exact-leaf (own-slot (node-at ns m))) (behind-branches (below ns l) (branches-at ns m) (child-number ns m 0)),
         exact-counted ends q (own-slot (node-at ns m)) [] y k,
         exact-leaf-count (own-slot (node-at ns m)) [],
-        rw (child-from ns m (place-at ns m y)) at (branches-split (below ns l) ends q y k (branches-at ns m) (child-number ns m 0) (level-rising ns (suc l) m on)),
+        rw (child-from ns m (branch-index-at ns m y)) at (branches-split (below ns l) ends q y k (branches-at ns m) (child-number ns m 0) (level-rising ns (suc l) m on)),
       )
 
 -- ---- the leaves behind a branch, by its kind
 
-module _ (ns : List Node) (l m y : ℕ) (kind : BranchKind) (is : kind ≡ kind-with y (drop (place-at ns m y) (branches-at ns m))) where
+module _ (ns : List Node) (l m y : ℕ) (kind : BranchKind) (is : kind ≡ kind-with y (drop (branch-index-at ns m y) (branches-at ns m))) where
   -- no branch
   pub at-absent : kind ≡ Absent → at-label ns l m y ≡ []
   unfolding at-label first-with kind-with
-  at-absent h = go (drop (place-at ns m y) (branches-at ns m)) (sym is ∙ h)
+  at-absent h = go (drop (branch-index-at ns m y) (branches-at ns m)) (sym is ∙ h)
     where
-      go : (fs : List Branch) → kind-with y fs ≡ Absent → first-with (below ns l) y fs (child-number ns m (place-at ns m y)) ≡ []
+      go : (fs : List Branch) → kind-with y fs ≡ Absent → first-with (below ns l) y fs (child-number ns m (branch-index-at ns m y)) ≡ []
       go [] e = refl
       go (to-leaf x s ∷ fs) e = here (eqb x y) e
         where
@@ -178,22 +178,22 @@ module _ (ns : List Node) (l m y : ℕ) (kind : BranchKind) (is : kind ≡ kind-
           here false u = refl
       go (to-node x ∷ fs) e = here (eqb x y) e
         where
-          here : (b : Bool) → cond b Child Absent ≡ Absent → cond {A = Group} b (below ns l (child-number ns m (place-at ns m y))) [] ≡ []
+          here : (b : Bool) → cond b Child Absent ≡ Absent → cond {A = Group} b (below ns l (child-number ns m (branch-index-at ns m y))) [] ≡ []
           here true u = let z : _≡_ {A = ℕ} 0 1 = cc in absurd (omega arith)
           here false u = refl
 
   -- an open leaf
-  pub at-open : (w : ℕ) → All (Slots-width w) ns → kind ≡ Ends → at-label ns l m y ≡ record { cut = []; exact = false; suffix = slot-of w ns (slot-number ns m (place-at ns m y)) } ∷ []
+  pub at-open : (w : ℕ) → All (Slots-width w) ns → kind ≡ Ends → at-label ns l m y ≡ record { cut = []; exact = false; suffix = slot-of w ns (slot-number ns m (branch-index-at ns m y)) } ∷ []
   unfolding at-label first-with kind-with
-  at-open w wide h = go (drop (place-at ns m y) (branches-at ns m)) refl (sym is ∙ h)
+  at-open w wide h = go (drop (branch-index-at ns m y) (branches-at ns m)) refl (sym is ∙ h)
     where
-      go : (fs : List Branch) → drop (place-at ns m y) (branches-at ns m) ≡ fs → kind-with y fs ≡ Ends
-          → first-with (below ns l) y fs (child-number ns m (place-at ns m y)) ≡ record { cut = []; exact = false; suffix = slot-of w ns (slot-number ns m (place-at ns m y)) } ∷ []
+      go : (fs : List Branch) → drop (branch-index-at ns m y) (branches-at ns m) ≡ fs → kind-with y fs ≡ Ends
+          → first-with (below ns l) y fs (child-number ns m (branch-index-at ns m y)) ≡ record { cut = []; exact = false; suffix = slot-of w ns (slot-number ns m (branch-index-at ns m y)) } ∷ []
       go [] d e = let z : _≡_ {A = ℕ} 0 1 = cc in absurd (omega arith)
       go (to-leaf x s ∷ fs) d e = here (eqb x y) e
         where
-          here : (b : Bool) → cond b Ends Absent ≡ Ends → cond {A = Group} b (record { cut = []; exact = false; suffix = s } ∷ []) [] ≡ record { cut = []; exact = false; suffix = slot-of w ns (slot-number ns m (place-at ns m y)) } ∷ []
-          here true u = rw (slot-is w ns m (place-at ns m y) x s fs wide d)
+          here : (b : Bool) → cond b Ends Absent ≡ Ends → cond {A = Group} b (record { cut = []; exact = false; suffix = s } ∷ []) [] ≡ record { cut = []; exact = false; suffix = slot-of w ns (slot-number ns m (branch-index-at ns m y)) } ∷ []
+          here true u = rw (slot-is w ns m (branch-index-at ns m y) x s fs wide d)
           here false u = let z : _≡_ {A = ℕ} 0 1 = cc in absurd (omega arith)
       go (to-node x ∷ fs) d e = absurd (here (eqb x y) e)
         where
@@ -202,11 +202,11 @@ module _ (ns : List Node) (l m y : ℕ) (kind : BranchKind) (is : kind ≡ kind-
           here false u = let z : _≡_ {A = ℕ} 0 1 = cc in omega arith
 
   -- a branch that continues
-  pub at-child : kind ≡ Child → at-label ns l m y ≡ below ns l (child-number ns m (place-at ns m y))
+  pub at-child : kind ≡ Child → at-label ns l m y ≡ below ns l (child-number ns m (branch-index-at ns m y))
   unfolding at-label first-with kind-with
-  at-child h = go (drop (place-at ns m y) (branches-at ns m)) (sym is ∙ h)
+  at-child h = go (drop (branch-index-at ns m y) (branches-at ns m)) (sym is ∙ h)
     where
-      go : (fs : List Branch) → kind-with y fs ≡ Child → first-with (below ns l) y fs (child-number ns m (place-at ns m y)) ≡ below ns l (child-number ns m (place-at ns m y))
+      go : (fs : List Branch) → kind-with y fs ≡ Child → first-with (below ns l) y fs (child-number ns m (branch-index-at ns m y)) ≡ below ns l (child-number ns m (branch-index-at ns m y))
       go [] e = let z : _≡_ {A = ℕ} 0 1 = cc in absurd (omega arith)
       go (to-leaf x s ∷ fs) e = absurd (here (eqb x y) e)
         where
@@ -215,16 +215,16 @@ module _ (ns : List Node) (l m y : ℕ) (kind : BranchKind) (is : kind ≡ kind-
           here false u = let z : _≡_ {A = ℕ} 0 1 = cc in omega arith
       go (to-node x ∷ fs) e = here (eqb x y) e
         where
-          here : (b : Bool) → cond b Child Absent ≡ Child → cond {A = Group} b (below ns l (child-number ns m (place-at ns m y))) [] ≡ below ns l (child-number ns m (place-at ns m y))
+          here : (b : Bool) → cond b Child Absent ≡ Child → cond {A = Group} b (below ns l (child-number ns m (branch-index-at ns m y))) [] ≡ below ns l (child-number ns m (branch-index-at ns m y))
           here true u = refl
           here false u = let z : _≡_ {A = ℕ} 0 1 = cc in absurd (omega arith)
 
 -- A branch with the label y has a leaf behind it.
-pub at-some : (ns : List Node) (l m y : ℕ) → On-level ns (suc l) m → (kind-with y (drop (place-at ns m y) (branches-at ns m)) ≡ Absent → ⊥) → 0 < length (at-label ns l m y)
+pub at-some : (ns : List Node) (l m y : ℕ) → On-level ns (suc l) m → (kind-with y (drop (branch-index-at ns m y) (branches-at ns m)) ≡ Absent → ⊥) → 0 < length (at-label ns l m y)
 unfolding at-label first-with kind-with first-kind
-at-some ns l m y on h = go (drop (place-at ns m y) (branches-at ns m)) h (λ e. below-some ns l (child-number ns m (place-at ns m y)) (level-child ns l m (place-at ns m y) on e))
+at-some ns l m y on h = go (drop (branch-index-at ns m y) (branches-at ns m)) h (λ e. below-some ns l (child-number ns m (branch-index-at ns m y)) (level-child ns l m (branch-index-at ns m y) on e))
   where
-    go : (fs : List Branch) → (kind-with y fs ≡ Absent → ⊥) → (first-kind fs ≡ Child → 0 < length (below ns l (child-number ns m (place-at ns m y)))) → 0 < length (first-with (below ns l) y fs (child-number ns m (place-at ns m y)))
+    go : (fs : List Branch) → (kind-with y fs ≡ Absent → ⊥) → (first-kind fs ≡ Child → 0 < length (below ns l (child-number ns m (branch-index-at ns m y)))) → 0 < length (first-with (below ns l) y fs (child-number ns m (branch-index-at ns m y)))
     go [] h d = absurd (h refl)
     go (to-leaf x s ∷ fs) h d = here (eqb x y) h
       where
@@ -233,6 +233,6 @@ at-some ns l m y on h = go (drop (place-at ns m y) (branches-at ns m)) h (λ e. 
         here false u = absurd (u refl)
     go (to-node x ∷ fs) h d = here (eqb x y) h
       where
-        here : (b : Bool) → (cond b Child Absent ≡ Absent → ⊥) → 0 < length (cond {A = Group} b (below ns l (child-number ns m (place-at ns m y))) [])
+        here : (b : Bool) → (cond b Child Absent ≡ Absent → ⊥) → 0 < length (cond {A = Group} b (below ns l (child-number ns m (branch-index-at ns m y))) [])
         here true u = d refl
         here false u = absurd (u refl)

@@ -16,9 +16,9 @@ use Rattle.nav_nodes.specs.declared.BranchKind.the-variants.{Absent}
 use Rattle.nav_nodes.specs.Counting.{counts, branches-none, count-append, exact-none}
 use Rattle.nav_nodes.specs.Slots.{node-at}
 use Rattle.nav_nodes.specs.Descent.{child-number}
-use Rattle.nav_nodes.specs.NextLabel.{first-kind, first-label, kind-with, is-there, there-not, not-there, there-before, label-first, own-place}
+use Rattle.nav_nodes.specs.NextLabel.{first-kind, first-label, kind-with, is-there, there-not, not-there, there-before, label-first, own-index}
 use Rattle.nav_branches.specs.Below.{behind-branches, own-slot, below, from-label, On-level, below-step, from-none, level-rising}
-use Rattle.query_descent.specs.Next.{branches-at, place-at, count-le, groups-from, over-groups, below-some, from-some, none-passed}
+use Rattle.query_descent.specs.Next.{branches-at, branch-index-at, count-le, groups-from, over-groups, below-some, from-some, none-passed}
 use Rattle.query_range.specs.AtLabel.{at-label, size, size-from, from-next, byte-split, at-some}
 use Rattle.theory.specs.Levels.{exact-leaf-count}
 
@@ -142,7 +142,7 @@ module _ (ns : List Node) (l m : ℕ) (on : On-level ns (suc l) m) where
 
   -- ---- the first branch from a label on
 
-  module _ (y : ℕ) (kind : BranchKind) (is : kind ≡ first-kind (drop (place-at ns m y) (branches-at ns m))) where
+  module _ (y : ℕ) (kind : BranchKind) (is : kind ≡ first-kind (drop (branch-index-at ns m y) (branches-at ns m))) where
     -- there is none: so there is none from a later label on
     pub ahead-none : kind ≡ Absent → (z : ℕ) → y ≤ z → (size-from ns l m z ≡ size-from ns l m y) × (at-label ns l m z ≡ [])
     ahead-none h z u =
@@ -150,25 +150,25 @@ module _ (ns : List Node) (l m : ℕ) (on : On-level ns (suc l) m) where
         let f = from-up y z u in
         (omega arith, empty-of (at-label ns l m z) (omega (arith, from-next ns l m on z)))
 
-    module _ (there : kind ≡ Absent → ⊥) (label : ℕ) (named : label ≡ first-label (drop (place-at ns m y) (branches-at ns m))) where
-      inside : place-at ns m y < length (branches-at ns m)
-      inside = go (ltb (place-at ns m y) (length (branches-at ns m))) refl
+    module _ (there : kind ≡ Absent → ⊥) (label : ℕ) (named : label ≡ first-label (drop (branch-index-at ns m y) (branches-at ns m))) where
+      inside : branch-index-at ns m y < length (branches-at ns m)
+      inside = go (ltb (branch-index-at ns m y) (length (branches-at ns m))) refl
         where
-          go : (b : Bool) → ltb (place-at ns m y) (length (branches-at ns m)) ≡ b → place-at ns m y < length (branches-at ns m)
-          go true e = ltb-true (place-at ns m y) (length (branches-at ns m)) e
-          go false e = absurd (there (is ∙ not-there (first-kind (drop (place-at ns m y) (branches-at ns m))) (there-before (branches-at ns m) (place-at ns m y) ∙ e)))
+          go : (b : Bool) → ltb (branch-index-at ns m y) (length (branches-at ns m)) ≡ b → branch-index-at ns m y < length (branches-at ns m)
+          go true e = ltb-true (branch-index-at ns m y) (length (branches-at ns m)) e
+          go false e = absurd (there (is ∙ not-there (first-kind (drop (branch-index-at ns m y) (branches-at ns m))) (there-before (branches-at ns m) (branch-index-at ns m y) ∙ e)))
 
-      -- its label is found at its place
-      pub named-place : place-at ns m label ≡ place-at ns m y
-      named-place =
-          ap (λ (x : ℕ). place-at ns m x) (named ∙ sym (label-first (branches-at ns m) (place-at ns m y) inside)) ∙ own-place (branches-at ns m) (place-at ns m y) (level-rising ns (suc l) m on) inside
+      -- its label is found at its index
+      pub named-index : branch-index-at ns m label ≡ branch-index-at ns m y
+      named-index =
+          ap (λ (x : ℕ). branch-index-at ns m x) (named ∙ sym (label-first (branches-at ns m) (branch-index-at ns m y) inside)) ∙ own-index (branches-at ns m) (branch-index-at ns m y) (level-rising ns (suc l) m on) inside
 
-      pub named-kind : kind ≡ kind-with label (drop (place-at ns m label) (branches-at ns m))
-      named-kind = is ∙ sym (kind-named (drop (place-at ns m y) (branches-at ns m))) ∙ rw (named-place, ← named)
+      pub named-kind : kind ≡ kind-with label (drop (branch-index-at ns m label) (branches-at ns m))
+      named-kind = is ∙ sym (kind-named (drop (branch-index-at ns m y) (branches-at ns m))) ∙ rw (named-index, ← named)
 
       named-size : size-from ns l m label ≡ size-from ns l m y
       unfolding from-label
-      named-size = rw named-place
+      named-size = rw named-index
 
       -- a later label than its own: fewer leaves stand from there on
       pub ahead-lower : (z : ℕ) → label < z → size-from ns l m z < size-from ns l m y
@@ -186,7 +186,7 @@ module _ (ns : List Node) (l m : ℕ) (on : On-level ns (suc l) m) where
 
   module _ (q : Bits → Bytes → Bool) (y : ℕ) (k : Bytes) where
     -- a label above the bound's byte: a leaf behind it is left
-    pub left-higher : is-there (first-kind (drop (place-at ns m (y + 1)) (branches-at ns m))) ≡ true → some-left q (y ∷ k) (below ns (suc l) m) ≡ true
+    pub left-higher : is-there (first-kind (drop (branch-index-at ns m (y + 1)) (branches-at ns m))) ≡ true → some-left q (y ∷ k) (below ns (suc l) m) ≡ true
     unfolding some-left
     left-higher h =
         lt-ltb (count (counts false q (y ∷ k)) (below ns (suc l) m)) (size ns (suc l) m)
@@ -195,14 +195,14 @@ module _ (ns : List Node) (l m : ℕ) (on : On-level ns (suc l) m) where
           byte-split ns l m on false q y k,
           from-next ns l m on y,
           count-le (counts false q k) (at-label ns l m y),
-          from-some ns l m (y + 1) on (there-not (first-kind (drop (place-at ns m (y + 1)) (branches-at ns m))) h),
+          from-some ns l m (y + 1) on (there-not (first-kind (drop (branch-index-at ns m (y + 1)) (branches-at ns m))) h),
         ))
 
     -- none: what is left stands behind the byte
-    pub left-same : is-there (first-kind (drop (place-at ns m (y + 1)) (branches-at ns m))) ≡ false → some-left q (y ∷ k) (below ns (suc l) m) ≡ some-left q k (at-label ns l m y)
+    pub left-same : is-there (first-kind (drop (branch-index-at ns m (y + 1)) (branches-at ns m))) ≡ false → some-left q (y ∷ k) (below ns (suc l) m) ≡ some-left q k (at-label ns l m y)
     unfolding some-left
     left-same h =
-        let e = ap length (from-none ns l m (y + 1) (first-kind (drop (place-at ns m (y + 1)) (branches-at ns m))) refl (not-there (first-kind (drop (place-at ns m (y + 1)) (branches-at ns m))) h)) in
+        let e = ap length (from-none ns l m (y + 1) (first-kind (drop (branch-index-at ns m (y + 1)) (branches-at ns m))) refl (not-there (first-kind (drop (branch-index-at ns m (y + 1)) (branches-at ns m))) h)) in
         let b = byte-split ns l m on false q y k in
         let n = from-next ns l m on y in
         ltb-same (count (counts false q (y ∷ k)) (below ns (suc l) m)) (size ns (suc l) m) (count (counts false q k) (at-label ns l m y)) (length (at-label ns l m y)) (λ u. omega arith) (λ u. omega arith)

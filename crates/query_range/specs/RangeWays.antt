@@ -23,13 +23,13 @@ use Rattle.nav_nodes.specs.FoundBranch.{node-count, Is-node}
 use Rattle.nav_nodes.specs.NextBranch.{Next-branch}
 use Rattle.nav_nodes.specs.NextLabel.{first-kind, kind-with, is-there}
 use Rattle.nav_branches.specs.PathSteps.{node-in}
-use Rattle.nav_nodes.specs.Positions.{branches, place, child-at, slot-at, Within, Branch-at}
+use Rattle.nav_nodes.specs.Positions.{branches, branch-index, child-at, slot-at, Within, Branch-at}
 use Rattle.nav_nodes.specs.Slots.{node-at, slot-of}
 use Rattle.query_range.specs.AtLabel.{at-label, size-from, at-absent, at-open, at-child}
 use Rattle.query_descent.specs.Bounds.{slot-passed, slot-reached, real-highest, real-lowest}
 use Rattle.query_descent.specs.Ordered.{passed, reached, counted-is, range-counted}
 use Rattle.query_descent.specs.OpenBetween.{open-between}
-use Rattle.query_range.specs.Parting.{some-left, some-reached, some-met, left-none, reached-none, left-open, reached-open, ahead-none, named-place, named-kind, ahead-lower, ahead-upto, ahead-higher, left-higher, left-same, reached-end, reached-exact, reached-lower, reached-same, met-none, met-open, met-same, met-past, met-above, met-between, met-parted, left-end, met-end}
+use Rattle.query_range.specs.Parting.{some-left, some-reached, some-met, left-none, reached-none, left-open, reached-open, ahead-none, named-index, named-kind, ahead-lower, ahead-upto, ahead-higher, left-higher, left-same, reached-end, reached-exact, reached-lower, reached-same, met-none, met-open, met-same, met-past, met-above, met-between, met-parted, left-end, met-end}
 use Rattle.query_descent.specs.Root.{count-map}
 use Rattle.query_descent.specs.Seeking.{first-child}
 use Rattle.query_descent.specs.Seeks.{root-of, some-leaf}
@@ -51,8 +51,8 @@ pub record Key-at (s : Bytes) (f : Frame) (key : Bytes) (m d : ℕ) : Type 0 whe
 pub record Key-branch (s : Bytes) (f : Frame) (key : Bytes) (m d : ℕ) (kind : BranchKind) (p : ℕ) : Type 0 where
   pub from : Key-at s f key m d
   pub more : d < length key
-  pub kind-is : kind ≡ kind-with (getD key d 0) (drop (place s f m (getD key d 0)) (branches s f m))
-  pub at-is : Branch-at s f m (place s f m (getD key d 0)) p
+  pub kind-is : kind ≡ kind-with (getD key d 0) (drop (branch-index s f m (getD key d 0)) (branches s f m))
+  pub at-is : Branch-at s f m (branch-index s f m (getD key d 0)) p
 
 -- the leaves at or below node m at depth d, and those behind its branch with the byte of a key there
 abbrev pub group-below : Bytes → Frame → ℕ → ℕ → Group
@@ -63,15 +63,15 @@ group-behind s f key m d = at-label (nodes s f) (64 - (d + 1)) m (getD key d 0)
 
 -- whether a leaf of a group does not end below lo, the first d bytes of lo before its cut key
 abbrev pub left-of : Frame → Bytes → ℕ → Group → Bool
-left-of f lo d g = some-left (slot-passed (f .hash) (length lo)) (drop d lo) g
+left-of f lo d g = some-left (slot-passed (f .«hash_width») (length lo)) (drop d lo) g
 
 -- whether one does not start above hi
 abbrev pub reached-of : Frame → Bytes → ℕ → Group → Bool
-reached-of f hi d g = some-reached (slot-reached (f .hash) (length hi)) (drop d hi) g
+reached-of f hi d g = some-reached (slot-reached (f .«hash_width») (length hi)) (drop d hi) g
 
 -- whether one does neither, lo not above hi
 abbrev pub met-of : Frame → Bytes → Bytes → ℕ → Group → Bool
-met-of f lo hi d g = some-met (slot-passed (f .hash) (length lo)) (slot-reached (f .hash) (length hi)) (drop d lo) (drop d hi) g
+met-of f lo hi d g = some-met (slot-passed (f .«hash_width») (length lo)) (slot-reached (f .«hash_width») (length hi)) (drop d lo) (drop d hi) g
 
 -- The first d bytes of both bounds lead to node m, and the leaves at or below it decide the range.
 pub record Both-at (s : Bytes) (f : Frame) (lo hi : Bytes) (m d : ℕ) : Type 0 where
@@ -89,7 +89,7 @@ pub record Both-leaf (s : Bytes) (f : Frame) (lo hi : Bytes) (m p d : ℕ) : Typ
 
 -- no leaf is reached where there is none
 pub reached-empty : (f : Frame) (key : Bytes) (d : ℕ) (g : Group) → g ≡ [] → reached-of f key d g ≡ false
-reached-empty f key d g e = rw e (reached-none (slot-reached (f .hash) (length key)) (drop d key))
+reached-empty f key d g e = rw e (reached-none (slot-reached (f .«hash_width») (length key)) (drop d key))
 
 -- ---- behind a branch
 
@@ -115,17 +115,17 @@ module _ {s : Bytes} {f : Frame} {key : Bytes} {m d : ℕ} {kind : BranchKind} {
 
   child-level : (c : ℕ) → c ≡ child-at s f m p → kind ≡ Child → On-level (nodes s f) (64 - (d + 1)) c
   child-level c e h =
-      rw (e ∙ b .at-is .child-is) (level-child (nodes s f) (64 - (d + 1)) m (place s f m (getD key d 0)) (rw level-more at (b .from .level)) (first-child (getD key d 0) (drop (place s f m (getD key d 0)) (branches s f m)) (sym (b .kind-is) ∙ h)))
+      rw (e ∙ b .at-is .child-is) (level-child (nodes s f) (64 - (d + 1)) m (branch-index s f m (getD key d 0)) (rw level-more at (b .from .level)) (first-child (getD key d 0) (drop (branch-index s f m (getD key d 0)) (branches s f m)) (sym (b .kind-is) ∙ h)))
 
   pub child-key : (c : ℕ) → c ≡ child-at s f m p → kind ≡ Child → Key-at s f key c (d + 1)
   child-key c e h = record { accepted = b .from .accepted; short = b .from .short; depth-in = omega (arith, b .more); level = child-level c e h }
 
   -- what they say of the lower bound
   pub left-nothing : kind ≡ Absent → left-of f key (d + 1) (group-behind s f key m d) ≡ false
-  left-nothing h = rw (behind-absent h) (left-none (slot-passed (f .hash) (length key)) (drop (d + 1) key))
+  left-nothing h = rw (behind-absent h) (left-none (slot-passed (f .«hash_width») (length key)) (drop (d + 1) key))
 
-  pub left-leaf : (slot : ℕ) → slot ≡ slot-at s f m p → kind ≡ Ends → left-of f key (d + 1) (group-behind s f key m d) ≡ not (slot-passed (f .hash) (length key) (slot-of (f .width) (nodes s f) slot) (drop (d + 1) key))
-  left-leaf slot e h = rw (behind-open slot e h) (left-open (slot-passed (f .hash) (length key)) (drop (d + 1) key) (slot-of (f .width) (nodes s f) slot))
+  pub left-leaf : (slot : ℕ) → slot ≡ slot-at s f m p → kind ≡ Ends → left-of f key (d + 1) (group-behind s f key m d) ≡ not (slot-passed (f .«hash_width») (length key) (slot-of (f .width) (nodes s f) slot) (drop (d + 1) key))
+  left-leaf slot e h = rw (behind-open slot e h) (left-open (slot-passed (f .«hash_width») (length key)) (drop (d + 1) key) (slot-of (f .width) (nodes s f) slot))
 
   pub left-child : (c : ℕ) → c ≡ child-at s f m p → kind ≡ Child → left-of f key (d + 1) (group-behind s f key m d) ≡ left-of f key (d + 1) (group-below s f c (d + 1))
   left-child c e h = rw (behind-child c e h)
@@ -134,8 +134,8 @@ module _ {s : Bytes} {f : Frame} {key : Bytes} {m d : ℕ} {kind : BranchKind} {
   pub reached-nothing : kind ≡ Absent → reached-of f key (d + 1) (group-behind s f key m d) ≡ false
   reached-nothing h = reached-empty f key (d + 1) (group-behind s f key m d) (behind-absent h)
 
-  pub reached-leaf : (slot : ℕ) → slot ≡ slot-at s f m p → kind ≡ Ends → reached-of f key (d + 1) (group-behind s f key m d) ≡ slot-reached (f .hash) (length key) (slot-of (f .width) (nodes s f) slot) (drop (d + 1) key)
-  reached-leaf slot e h = rw (behind-open slot e h) (reached-open (slot-reached (f .hash) (length key)) (drop (d + 1) key) (slot-of (f .width) (nodes s f) slot))
+  pub reached-leaf : (slot : ℕ) → slot ≡ slot-at s f m p → kind ≡ Ends → reached-of f key (d + 1) (group-behind s f key m d) ≡ slot-reached (f .«hash_width») (length key) (slot-of (f .width) (nodes s f) slot) (drop (d + 1) key)
+  reached-leaf slot e h = rw (behind-open slot e h) (reached-open (slot-reached (f .«hash_width») (length key)) (drop (d + 1) key) (slot-of (f .width) (nodes s f) slot))
 
   pub reached-child : (c : ℕ) → c ≡ child-at s f m p → kind ≡ Child → reached-of f key (d + 1) (group-behind s f key m d) ≡ reached-of f key (d + 1) (group-below s f c (d + 1))
   reached-child c e h = rw (behind-child c e h)
@@ -156,34 +156,34 @@ module _ {s : Bytes} {f : Frame} {key : Bytes} {m d : ℕ} (n : Key-at s f key m
 
     -- ---- along the lower bound
 
-    left-byte : left-of f key d (group-below s f m d) ≡ some-left (slot-passed (f .hash) (length key)) (getD key d 0 ∷ drop (d + 1) key) (below (nodes s f) (suc (64 - (d + 1))) m)
+    left-byte : left-of f key d (group-below s f m d) ≡ some-left (slot-passed (f .«hash_width») (length key)) (getD key d 0 ∷ drop (d + 1) key) (below (nodes s f) (suc (64 - (d + 1))) m)
     left-byte = rw (key-next key d more, levels)
 
     -- a label above its byte: a leaf is left
-    pub left-above : is-there (first-kind (drop (place s f m (getD key d 0 + 1)) (branches s f m))) ≡ true → left-of f key d (group-below s f m d) ≡ true
-    left-above h = left-byte ∙ left-higher (nodes s f) (64 - (d + 1)) m on (slot-passed (f .hash) (length key)) (getD key d 0) (drop (d + 1) key) h
+    pub left-above : is-there (first-kind (drop (branch-index s f m (getD key d 0 + 1)) (branches s f m))) ≡ true → left-of f key d (group-below s f m d) ≡ true
+    left-above h = left-byte ∙ left-higher (nodes s f) (64 - (d + 1)) m on (slot-passed (f .«hash_width») (length key)) (getD key d 0) (drop (d + 1) key) h
 
     -- none: those behind its byte decide
-    pub left-on : is-there (first-kind (drop (place s f m (getD key d 0 + 1)) (branches s f m))) ≡ false → left-of f key d (group-below s f m d) ≡ left-of f key (d + 1) (group-behind s f key m d)
-    left-on h = left-byte ∙ left-same (nodes s f) (64 - (d + 1)) m on (slot-passed (f .hash) (length key)) (getD key d 0) (drop (d + 1) key) h
+    pub left-on : is-there (first-kind (drop (branch-index s f m (getD key d 0 + 1)) (branches s f m))) ≡ false → left-of f key d (group-below s f m d) ≡ left-of f key (d + 1) (group-behind s f key m d)
+    left-on h = left-byte ∙ left-same (nodes s f) (64 - (d + 1)) m on (slot-passed (f .«hash_width») (length key)) (getD key d 0) (drop (d + 1) key) h
 
     -- ---- along the upper bound
 
-    reached-byte : reached-of f key d (group-below s f m d) ≡ some-reached (slot-reached (f .hash) (length key)) (getD key d 0 ∷ drop (d + 1) key) (below (nodes s f) (suc (64 - (d + 1))) m)
+    reached-byte : reached-of f key d (group-below s f m d) ≡ some-reached (slot-reached (f .«hash_width») (length key)) (getD key d 0 ∷ drop (d + 1) key) (below (nodes s f) (suc (64 - (d + 1))) m)
     reached-byte = rw (key-next key d more, levels)
 
     -- the node is an exact leaf: it is reached
     pub reached-here : is-exact (node-at (nodes s f) m) ≡ true → reached-of f key d (group-below s f m d) ≡ true
-    reached-here h = reached-byte ∙ reached-exact (nodes s f) (64 - (d + 1)) m on (slot-reached (f .hash) (length key)) (getD key d 0) (drop (d + 1) key) h
+    reached-here h = reached-byte ∙ reached-exact (nodes s f) (64 - (d + 1)) m on (slot-reached (f .«hash_width») (length key)) (getD key d 0) (drop (d + 1) key) h
 
     -- a label below its byte: the leaves behind it are reached
     pub reached-under : size-from (nodes s f) (64 - (d + 1)) m (getD key d 0) < size-from (nodes s f) (64 - (d + 1)) m 0 → reached-of f key d (group-below s f m d) ≡ true
-    reached-under h = reached-byte ∙ reached-lower (nodes s f) (64 - (d + 1)) m on (slot-reached (f .hash) (length key)) (getD key d 0) (drop (d + 1) key) h
+    reached-under h = reached-byte ∙ reached-lower (nodes s f) (64 - (d + 1)) m on (slot-reached (f .«hash_width») (length key)) (getD key d 0) (drop (d + 1) key) h
 
     -- neither: those behind its byte decide
     pub reached-on : is-exact (node-at (nodes s f) m) ≡ false → size-from (nodes s f) (64 - (d + 1)) m (getD key d 0) ≡ size-from (nodes s f) (64 - (d + 1)) m 0
         → reached-of f key d (group-below s f m d) ≡ reached-of f key (d + 1) (group-behind s f key m d)
-    reached-on h e = reached-byte ∙ reached-same (nodes s f) (64 - (d + 1)) m on (slot-reached (f .hash) (length key)) (getD key d 0) (drop (d + 1) key) h e
+    reached-on h e = reached-byte ∙ reached-same (nodes s f) (64 - (d + 1)) m on (slot-reached (f .«hash_width») (length key)) (getD key d 0) (drop (d + 1) key) h e
 
     -- ---- the first branch from a label on, the key's byte no lower
 
@@ -211,7 +211,7 @@ module _ {s : Bytes} {f : Frame} {key : Bytes} {m d : ℕ} (n : Key-at s f key m
           from = n;
           more = more;
           kind-is = rw (← h) (named-kind (nodes s f) (64 - (d + 1)) m on y kind (b .kind-is) there label (b .there there .label-is));
-          at-is = rw (← h, named-place (nodes s f) (64 - (d + 1)) m on y kind (b .kind-is) there label (b .there there .label-is)) (b .there there .at-is);
+          at-is = rw (← h, named-index (nodes s f) (64 - (d + 1)) m on y kind (b .kind-is) there label (b .there there .label-is)) (b .there there .at-is);
         }
 
   -- The first branch of the node is there.
@@ -224,64 +224,64 @@ module _ {s : Bytes} {f : Frame} {key : Bytes} {m d : ℕ} (n : Key-at s f key m
 
     -- The lower bound has ended: it has passed no leaf at or below the node.
     pub left-stop : left-of f key d (group-below s f m d) ≡ true
-    left-stop = rw (drop-of-length-le key {i = d} ended) (left-end (nodes s f) (64 - d) m (n .level) (slot-passed (f .hash) (length key)))
+    left-stop = rw (drop-of-length-le key {i = d} ended) (left-end (nodes s f) (64 - d) m (n .level) (slot-passed (f .«hash_width») (length key)))
 
     -- The upper bound has ended: it reaches the exact leaf that the node is.
     pub reached-stop : reached-of f key d (group-below s f m d) ≡ is-exact (node-at (nodes s f) m)
-    reached-stop = rw (drop-of-length-le key {i = d} ended, left) (reached-end (nodes s f) (63 - d) m (rw left at (n .level)) (slot-reached (f .hash) (length key)))
+    reached-stop = rw (drop-of-length-le key {i = d} ended, left) (reached-end (nodes s f) (63 - d) m (rw left at (n .level)) (slot-reached (f .«hash_width») (length key)))
 
 -- ---- along both bounds
 
 module _ {s : Bytes} {f : Frame} {lo hi : Bytes} {m d : ℕ} (n : Key-at s f lo m d) (u : Key-at s f hi m d) where
   -- The lower bound has ended: the upper decides.
   pub met-stop : length lo ≤ d → met-of f lo hi d (group-below s f m d) ≡ reached-of f hi d (group-below s f m d)
-  met-stop h = rw (drop-of-length-le lo {i = d} h) (met-end (nodes s f) (64 - d) m (n .level) (slot-passed (f .hash) (length lo)) (slot-reached (f .hash) (length hi)) (drop d hi))
+  met-stop h = rw (drop-of-length-le lo {i = d} h) (met-end (nodes s f) (64 - d) m (n .level) (slot-passed (f .«hash_width») (length lo)) (slot-reached (f .«hash_width») (length hi)) (drop d hi))
 
   module _ (more : d < length lo) where
-    met-byte : met-of f lo hi d (group-below s f m d) ≡ some-met (slot-passed (f .hash) (length lo)) (slot-reached (f .hash) (length hi)) (getD lo d 0 ∷ drop (d + 1) lo) (drop d hi) (below (nodes s f) (suc (64 - (d + 1))) m)
+    met-byte : met-of f lo hi d (group-below s f m d) ≡ some-met (slot-passed (f .«hash_width») (length lo)) (slot-reached (f .«hash_width») (length hi)) (getD lo d 0 ∷ drop (d + 1) lo) (drop d hi) (below (nodes s f) (suc (64 - (d + 1))) m)
     met-byte = rw (key-next lo d more, levels n more)
 
     -- The upper bound has ended, and the lower has not.
     pub met-ended : length hi ≤ d → met-of f lo hi d (group-below s f m d) ≡ false
     met-ended h =
-        met-byte ∙ rw (drop-of-length-le hi {i = d} h) (met-past (nodes s f) (64 - (d + 1)) m (on n more) (slot-passed (f .hash) (length lo)) (slot-reached (f .hash) (length hi)) (drop (d + 1) lo) [] (getD lo d 0))
+        met-byte ∙ rw (drop-of-length-le hi {i = d} h) (met-past (nodes s f) (64 - (d + 1)) m (on n more) (slot-passed (f .«hash_width») (length lo)) (slot-reached (f .«hash_width») (length hi)) (drop (d + 1) lo) [] (getD lo d 0))
 
     module _ (further : d < length hi) where
-      met-bytes : met-of f lo hi d (group-below s f m d) ≡ some-met (slot-passed (f .hash) (length lo)) (slot-reached (f .hash) (length hi)) (getD lo d 0 ∷ drop (d + 1) lo) (getD hi d 0 ∷ drop (d + 1) hi) (below (nodes s f) (suc (64 - (d + 1))) m)
+      met-bytes : met-of f lo hi d (group-below s f m d) ≡ some-met (slot-passed (f .«hash_width») (length lo)) (slot-reached (f .«hash_width») (length hi)) (getD lo d 0 ∷ drop (d + 1) lo) (getD hi d 0 ∷ drop (d + 1) hi) (below (nodes s f) (suc (64 - (d + 1))) m)
       met-bytes = met-byte ∙ rw (key-next hi d further)
 
       -- Both go on with the same byte.
       met-on : getD lo d 0 ≡ getD hi d 0 → met-of f lo hi d (group-below s f m d) ≡ met-of f lo hi (d + 1) (group-behind s f lo m d)
       met-on e =
           met-bytes
-          ∙ rw (← e) (met-same (nodes s f) (64 - (d + 1)) m (on n more) (slot-passed (f .hash) (length lo)) (slot-reached (f .hash) (length hi)) (drop (d + 1) lo) (drop (d + 1) hi) (getD lo d 0))
+          ∙ rw (← e) (met-same (nodes s f) (64 - (d + 1)) m (on n more) (slot-passed (f .«hash_width») (length lo)) (slot-reached (f .«hash_width») (length hi)) (drop (d + 1) lo) (drop (d + 1) hi) (getD lo d 0))
 
       -- The lower bound lies above the upper.
       pub met-crossed : getD hi d 0 < getD lo d 0 → met-of f lo hi d (group-below s f m d) ≡ false
       met-crossed h =
-          met-bytes ∙ met-above (nodes s f) (64 - (d + 1)) m (on n more) (slot-passed (f .hash) (length lo)) (slot-reached (f .hash) (length hi)) (drop (d + 1) lo) (drop (d + 1) hi) (getD lo d 0) (getD hi d 0) h
+          met-bytes ∙ met-above (nodes s f) (64 - (d + 1)) m (on n more) (slot-passed (f .«hash_width») (length lo)) (slot-reached (f .«hash_width») (length hi)) (drop (d + 1) lo) (drop (d + 1) hi) (getD lo d 0) (getD hi d 0) h
 
       -- They part, and a label stands between their bytes.
       pub met-inside : size-from (nodes s f) (64 - (d + 1)) m (getD hi d 0) < size-from (nodes s f) (64 - (d + 1)) m (getD lo d 0 + 1) → met-of f lo hi d (group-below s f m d) ≡ true
       met-inside h =
-          met-bytes ∙ met-between (nodes s f) (64 - (d + 1)) m (on n more) (slot-passed (f .hash) (length lo)) (slot-reached (f .hash) (length hi)) (drop (d + 1) lo) (drop (d + 1) hi) (getD lo d 0) (getD hi d 0) h
+          met-bytes ∙ met-between (nodes s f) (64 - (d + 1)) m (on n more) (slot-passed (f .«hash_width») (length lo)) (slot-reached (f .«hash_width») (length hi)) (drop (d + 1) lo) (drop (d + 1) hi) (getD lo d 0) (getD hi d 0) h
 
       -- They part, and none does: each is asked alone.
       pub met-apart : size-from (nodes s f) (64 - (d + 1)) m (getD hi d 0) ≡ size-from (nodes s f) (64 - (d + 1)) m (getD lo d 0 + 1)
           → met-of f lo hi d (group-below s f m d) ≡ left-of f lo (d + 1) (group-behind s f lo m d) || reached-of f hi (d + 1) (group-behind s f hi m d)
       met-apart h =
-          met-bytes ∙ met-parted (nodes s f) (64 - (d + 1)) m (on n more) (slot-passed (f .hash) (length lo)) (slot-reached (f .hash) (length hi)) (drop (d + 1) lo) (drop (d + 1) hi) (getD lo d 0) (getD hi d 0) h
+          met-bytes ∙ met-parted (nodes s f) (64 - (d + 1)) m (on n more) (slot-passed (f .«hash_width») (length lo)) (slot-reached (f .«hash_width») (length hi)) (drop (d + 1) lo) (drop (d + 1) hi) (getD lo d 0) (getD hi d 0) h
 
 -- ---- from the root
 
 module _ (s : Bytes) (f : Frame) (a : Accepted s f) where
-  passed-counts : (ls : List Leaf) (k : Bytes) → passed (reals (f .hash) ls) k ≡ count (counts false (slot-passed (f .hash) (length k)) k) ls
+  passed-counts : (ls : List Leaf) (k : Bytes) → passed (reals (f .«hash_width») ls) k ≡ count (counts false (slot-passed (f .«hash_width») (length k)) k) ls
   unfolding passed reals
-  passed-counts ls k = count-map (λ l. keys.below (highest l) k) (real (f .hash)) (counts false (slot-passed (f .hash) (length k)) k) ls (λ l. real-highest (f .hash) l k)
+  passed-counts ls k = count-map (λ l. keys.below (highest l) k) (real (f .«hash_width»)) (counts false (slot-passed (f .«hash_width») (length k)) k) ls (λ l. real-highest (f .«hash_width») l k)
 
-  reached-counts : (ls : List Leaf) (k : Bytes) → reached (reals (f .hash) ls) k ≡ count (counts true (slot-reached (f .hash) (length k)) k) ls
+  reached-counts : (ls : List Leaf) (k : Bytes) → reached (reals (f .«hash_width») ls) k ≡ count (counts true (slot-reached (f .«hash_width») (length k)) k) ls
   unfolding reached reals
-  reached-counts ls k = count-map (λ l. not (keys.below k (lowest l))) (real (f .hash)) (counts true (slot-reached (f .hash) (length k)) k) ls (λ l. real-lowest (f .hash) l k)
+  reached-counts ls k = count-map (λ l. not (keys.below k (lowest l))) (real (f .«hash_width»)) (counts true (slot-reached (f .«hash_width») (length k)) k) ls (λ l. real-lowest (f .«hash_width») l k)
 
   difference : (r p : ℕ) → ltb 0 (r - p) ≡ ltb p r
   difference r p = go (ltb p r) refl
@@ -294,7 +294,7 @@ module _ (s : Bytes) (f : Frame) (a : Accepted s f) where
   range-root : 0 < node-count f → (lo hi : Bytes) → range (real-leaves s f) lo hi ≡ bit (met-of f lo hi 0 (group-below s f 0 0))
   unfolding some-met
   range-root h lo hi =
-      range-counted (real-leaves s f) lo hi ∙ ap (λ (c : ℕ). bit (ltb 0 c)) (counted-is (f .real) (real-leaves s f) lo hi (real-realizable s f a .ordered) (real-sized s f a))
+      range-counted (real-leaves s f) lo hi ∙ ap (λ (c : ℕ). bit (ltb 0 c)) (counted-is (f .«real_width») (real-leaves s f) lo hi (real-realizable s f a .ordered) (real-sized s f a))
       ∙ ap bit (difference (reached (real-leaves s f) hi) (passed (real-leaves s f) lo) ∙ ap₂ ltb (passed-counts (read-leaves s) lo) (reached-counts (read-leaves s) hi))
       ∙ rw (root-of s f a (some-leaf s f a h) .whole)
 
@@ -303,7 +303,7 @@ module _ (s : Bytes) (f : Frame) (a : Accepted s f) where
   unfolding range any reals
   range-nowhere z lo hi = go (read-leaves s) (root-of s f a)
     where
-      go : (ls : List Leaf) → (0 < length ls → Root (nodes s f) ls) → range (reals (f .hash) ls) lo hi ≡ 0
+      go : (ls : List Leaf) → (0 < length ls → Root (nodes s f) ls) → range (reals (f .«hash_width») ls) lo hi ≡ 0
       go [] r = refl
       go (l ∷ ls) r = absurd (omega (arith, level-node (nodes s f) 64 0 (r (omega arith) .on), node-length s f a))
 
@@ -341,12 +341,12 @@ module _ {s : Bytes} {f : Frame} {lo hi : Bytes} {m d : ℕ} (both : Both-at s f
     slot-in = open-in both-branch slot refl k;
     lo-in = omega (arith, t .more);
     hi-in = omega (arith, both-more);
-    decides = both-behind (record { cut = []; exact = false; suffix = bits } ∷ []) (behind-open both-branch slot refl k) ∙ ap bit (met-open (slot-passed (f .hash) (length lo)) (slot-reached (f .hash) (length hi)) (drop (d + 1) lo) (drop (d + 1) hi) bits);
+    decides = both-behind (record { cut = []; exact = false; suffix = bits } ∷ []) (behind-open both-branch slot refl k) ∙ ap bit (met-open (slot-passed (f .«hash_width») (length lo)) (slot-reached (f .«hash_width») (length hi)) (drop (d + 1) lo) (drop (d + 1) hi) bits);
   }
 
   -- none
   both-absent : b .kind ≡ Absent → range (real-leaves s f) lo hi ≡ 0
-  both-absent k = both-behind [] (behind-absent both-branch k) ∙ ap bit (met-none (slot-passed (f .hash) (length lo)) (slot-reached (f .hash) (length hi)) (drop (d + 1) lo) (drop (d + 1) hi))
+  both-absent k = both-behind [] (behind-absent both-branch k) ∙ ap bit (met-none (slot-passed (f .«hash_width») (length lo)) (slot-reached (f .«hash_width») (length hi)) (drop (d + 1) lo) (drop (d + 1) hi))
 
 module _ (s : Bytes) (f : Frame) (lo hi : Bytes) (a : Accepted s f) (lo-short : length lo ≤ 64) (hi-short : length hi ≤ 64) where
   -- The bytes lead to a node: the leaves at or below it decide.

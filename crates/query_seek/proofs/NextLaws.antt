@@ -5,7 +5,7 @@ use mathlib.Core.Bool.{true, false, true≢false}
 use lib.ListN.{length, take, drop}
 use lib.Seq.{take-append-seam}
 use Rattle.spec.specs.Bytes.{Bytes}
-use Rattle.bits.specs.Bits.{placed}
+use Rattle.bits.specs.Bits.{overlaid}
 use Rattle.nav_branches.specs.declared.LeafStop.{LeafStop}
 use Rattle.nav_branches.specs.declared.LeafStop.the-variants.{Nowhere, Exact, Open}
 use Rattle.query_seek.specs.SeekContracts.{leaf-there}
@@ -19,6 +19,6 @@ not-there Nowhere h = refl
 not-there Exact h = absurd (true≢false h)
 not-there (Open v) h = absurd (true≢false h)
 
--- bytes that were placed at the front
-pub placed-front : (out xs : Bytes) → take (length xs) (placed out 0 xs) ≡ xs
-placed-front out xs = take-append-seam xs (drop (0 + length xs) out)
+-- bytes that were written at the front
+pub overlaid-front : (out xs : Bytes) → take (length xs) (overlaid out 0 xs) ≡ xs
+overlaid-front out xs = take-append-seam xs (drop (0 + length xs) out)

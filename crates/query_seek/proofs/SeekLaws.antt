@@ -33,7 +33,7 @@ use Rattle.theory.specs.Order.{equal-true}
 use Rattle.theory.specs.TrieTests.{Empty-or-valid, empty-list, valid-trie, realizable-trie}
 
 -- the lowest key of an open leaf, whose cut key is the first d bytes of the key
-pub low-open : (s : Bytes) (f : Frame) (v : ValuePos) (d : ℕ) (key low : Bytes) → d ≤ length key → low ≡ take d key ++ low-rest d (real-slot s f (v .0)) → low-of (f .hash) (f .width) (nodes s f) (Open v) (take d key) ≡ some low
+pub low-open : (s : Bytes) (f : Frame) (v : ValuePos) (d : ℕ) (key low : Bytes) → d ≤ length key → low ≡ take d key ++ low-rest d (real-slot s f (v .0)) → low-of (f .«hash_width») (f .width) (nodes s f) (Open v) (take d key) ≡ some low
 low-open s f v d key low h q = rw (length-take-le d key h) (ap some (sym q))
 
 -- ---- the greater of two keys, by their order
@@ -63,13 +63,13 @@ module _ (a b : Bytes) where
 
 module _ (s : Bytes) (f : Frame) (a : Accepted s f) (start : Bytes) where
   -- by the lowest key of the first leaf that the start has not passed
-  seek-low : seek (real-leaves s f) start ≡ found-low (low-each (f .hash) (next-leaf (f .hash) (read-leaves s) start)) (passed (real-leaves s f) start) start
-  seek-low = seek-is (f .hash) (f .real) (read-leaves s) start (real-realizable s f a .ordered) (real-sized s f a) ∙ found-each (f .hash) (next-leaf (f .hash) (read-leaves s) start) (passed (real-leaves s f) start) start
+  seek-low : seek (real-leaves s f) start ≡ found-low (low-each (f .«hash_width») (next-leaf (f .«hash_width») (read-leaves s) start)) (passed (real-leaves s f) start) start
+  seek-low = seek-is (f .«hash_width») (f .«real_width») (read-leaves s) start (real-realizable s f a .ordered) (real-sized s f a) ∙ found-each (f .«hash_width») (next-leaf (f .«hash_width») (read-leaves s) start) (passed (real-leaves s f) start) start
 
   -- the start has passed no more leaves than there are
   pub few-passed : passed (real-leaves s f) start ≤ 65535
   unfolding passed
-  few-passed = omega (arith, count-bound (λ l. below (highest l) start) (real-leaves s f), reals-length (f .hash) (read-leaves s), leaves-few, a .writable .few)
+  few-passed = omega (arith, count-bound (λ l. below (highest l) start) (real-leaves s f), reals-length (f .«hash_width») (read-leaves s), leaves-few, a .writable .few)
     where
       go : {ls : List Leaf} → Empty-or-valid ls → length ls ≤ leaf-count (concat (trie ls))
       go empty-list = omega arith
@@ -78,11 +78,11 @@ module _ (s : Bytes) (f : Frame) (a : Accepted s f) (start : Bytes) where
       leaves-few : length (read-leaves s) ≤ f .leaves
       leaves-few = omega (arith, go (realizable-trie (f .width) (read-leaves s) (a .realizable) (a .well-sized)), ap leaf-count (a .trie-is), a .writable .leaf-total)
 
-  module _ (stop : LeafStop) (cut : Bytes) (e : low-each (f .hash) (next-leaf (f .hash) (read-leaves s) start) ≡ low-of (f .hash) (f .width) (nodes s f) stop cut) where
+  module _ (stop : LeafStop) (cut : Bytes) (e : low-each (f .«hash_width») (next-leaf (f .«hash_width») (read-leaves s) start) ≡ low-of (f .«hash_width») (f .width) (nodes s f) stop cut) where
     -- no leaf
     pub seek-none : stop ≡ Nowhere → none ≡ seek (real-leaves s f) start
     seek-none h = sym (seek-low ∙ ap (λ (o : Option Bytes). found-low o (passed (real-leaves s f) start) start) e ∙ rw h)
 
     -- a leaf whose lowest key is `low`
-    pub seek-found : (number : ℕ) (low key : Bytes) → low-of (f .hash) (f .width) (nodes s f) stop cut ≡ some low → key ≡ greater start low → number ≡ passed (real-leaves s f) start → found number key ≡ seek (real-leaves s f) start
+    pub seek-found : (number : ℕ) (low key : Bytes) → low-of (f .«hash_width») (f .width) (nodes s f) stop cut ≡ some low → key ≡ greater start low → number ≡ passed (real-leaves s f) start → found number key ≡ seek (real-leaves s f) start
     seek-found number low key l g n = sym (seek-low ∙ ap (λ (o : Option Bytes). found-low o (passed (real-leaves s f) start) start) (e ∙ l) ∙ rw (g, n))

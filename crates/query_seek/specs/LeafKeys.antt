@@ -32,7 +32,7 @@ use Rattle.query_descent.specs.Seeking.{Has-higher}
 -- An optional leaf is the one at this stop, whose cut key is the first `depth` bytes of `cut`.
 pub record Has-key (s : Bytes) (f : Frame) (leaf : Option Leaf) (stop : LeafStop) (cut : Bytes) (depth : ℕ) : Type 0 where
   -- both have the same lowest key
-  pub low-is : low-each (f .hash) leaf ≡ low-of (f .hash) (f .width) (nodes s f) stop (take depth cut)
+  pub low-is : low-each (f .«hash_width») leaf ≡ low-of (f .«hash_width») (f .width) (nodes s f) stop (take depth cut)
   -- a cut key has at most 64 bytes
   pub depth-in : depth ≤ 64
   -- an open leaf's slot is one of the leaves
@@ -48,7 +48,7 @@ pub record Leaf-at (s : Bytes) (f : Frame) (stop : LeafStop) (key : Bytes) (dept
 
 -- The lowest key of the leaf at a stop with this cut key is the first n bytes of a key of 64.
 pub record Lowest-key (s : Bytes) (f : Frame) (stop : LeafStop) (cut key : Bytes) (n : ℕ) : Type 0 where
-  pub low-is : low-of (f .hash) (f .width) (nodes s f) stop cut ≡ some (take n key)
+  pub low-is : low-of (f .«hash_width») (f .width) (nodes s f) stop cut ≡ some (take n key)
   pub upto : n ≤ 64
   pub key-size : length key ≡ 64
 

@@ -41,6 +41,6 @@ pub record Way-followed (s : Bytes) (f : Frame) (start : Bytes) (way : Way) (key
 
 -- The first leaf that the start has not passed, with its cut key at the front of a key, and the start's bound.
 pub record Next-leaf (s : Bytes) (f : Frame) (start key : Bytes) (r : NextLeaf) : Type 0 where
-  pub leaf : Reached s f (next-leaf (f .hash) (read-leaves s) start) key (r .end)
+  pub leaf : Reached s f (next-leaf (f .«hash_width») (read-leaves s) start) key (r .end)
   -- where there is a leaf, the bound is that of the start
   pub bound : (r .end .stop ≡ Nowhere → ⊥) → Summed s f start (r .level .node .0) (r .level .depth) (r .level .sum)

@@ -24,7 +24,7 @@ pub record Leaf-branch (s : Bytes) (f : Frame) (start : Bytes) (slot : ValuePos)
 
 -- whether a start whose first d bytes are the cut key of an open leaf has passed the leaf
 abbrev pub leaf-passed : Bytes → Frame → Bytes → ValuePos → ℕ → Bool
-leaf-passed s f start slot d = slot-passed (f .hash) (length start) (slot-of (f .width) (nodes s f) (slot .0)) (drop d start)
+leaf-passed s f start slot d = slot-passed (f .«hash_width») (length start) (slot-of (f .width) (nodes s f) (slot .0)) (drop d start)
 
 -- The bound ends at the open leaf, or at no leaf if the start has passed it.
 pub record Ends-there (s : Bytes) (f : Frame) (start : Bytes) (slot : ValuePos) (level : LevelSum) (r : Bound) : Type 0 where

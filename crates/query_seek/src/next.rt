@@ -63,7 +63,7 @@ fn leaf_above(image: &[u8], f: Frame, start: &[u8], higher: LastHigher, key: &mu
 // The leaf that is sought, from where the way along the start ends. The key begins with the start.
 fn leaf_of_way(image: &[u8], f: Frame, start: &[u8], way: Way, key: &mut [u8]) -> LeafEnd
     requires { ⌜ Way-followed (now image) f (now start) way (now key) ⌝ }
-    ensures { λ r. ⌜ Reached (now (image .entry)) f (next-leaf (f .hash) (read-leaves (now (image .entry))) (now (start .entry))) (now (key .exit)) r ⌝ }
+    ensures { λ r. ⌜ Reached (now (image .entry)) f (next-leaf (f .«hash_width») (read-leaves (now (image .entry))) (now (start .entry))) (now (key .exit)) r ⌝ }
 {
     let bound = way.bound;
     let level = bound.level;

@@ -6,7 +6,7 @@ ghost use Rattle.spec.specs.Questions.{greater};
 ghost use Rattle.nav_nodes.specs.Accepted.{Accepted};
 ghost use Rattle.query_seek.specs.LeafKeys.{Leaf-at, Lowest-key};
 ghost use Rattle.query_seek.specs.Sought.{Is-sought};
-ghost use Rattle.query_descent.specs.Summed.{level-starts};
+ghost use Rattle.query_descent.specs.Summed.{empty-key-sum};
 use super::SoughtLeaf;
 use super::next::is_leaf;
 use super::next::next_leaf;
@@ -24,7 +24,7 @@ fn append_real(image: &[u8], f: Frame, slot: ValuePos, key: &mut [u8], depth: us
     requires { ⌜ Accepted (now image) f × (slot .0 < f .leaves) × (length (now key) ≡ 64) × (depth ≤ 64) ⌝ }
     ensures { λ r. ⌜ Lowest-key (now (image .entry)) f (LeafStop.Open slot) (take depth (now (key .entry))) (now (key .exit)) r ⌝ }
 {
-    let n = f.real;
+    let n = f.real_width;
     let mut end = depth;
     let mut i = depth;
     while i < 64 {
@@ -75,9 +75,9 @@ pub struct Sought {
     pub n: usize,
 }
 
-// The first leaf whose highest possible key is not below the start: its number, and in the first n bytes of `key` the greater of the start and its lowest key. `starts` is the sum of slot numbers for the empty key.
-pub fn seek(image: &[u8], f: Frame, starts: usize, start: &[u8], key: &mut [u8]) -> Sought
-    requires { ⌜ Accepted (now image) f × (starts ≡ level-starts (now image) f) × (length (now start) ≤ 64) × (length (now key) ≡ 64) ⌝ }
+// The first leaf whose highest possible key is not below the start: its number, and in the first n bytes of `key` the greater of the start and its lowest key. `base` is the sum of slot numbers for the empty key.
+pub fn seek(image: &[u8], f: Frame, base: usize, start: &[u8], key: &mut [u8]) -> Sought
+    requires { ⌜ Accepted (now image) f × (base ≡ empty-key-sum (now image) f) × (length (now start) ≤ 64) × (length (now key) ≡ 64) ⌝ }
     ensures { λ r. ⌜ Is-sought (now (image .entry)) f (now (start .entry)) (r .leaf) (now (key .exit)) (r .n) × (length (now (key .exit)) ≡ 64) ⌝ }
 {
     let next = next_leaf(image, f, start, key);
@@ -91,7 +91,7 @@ pub fn seek(image: &[u8], f: Frame, starts: usize, start: &[u8], key: &mut [u8])
     }
     let low = lowest_key(image, f, stop, key, end.depth);
     let n = greater_key(start, key, low);
-    let number = sum_below(image, f, next.level) - starts;
+    let number = sum_below(image, f, next.level) - base;
     Sought {
         leaf: SoughtLeaf::At(number),
         n,

@@ -17,7 +17,7 @@ use Rattle.nav_nodes.specs.Accepted.{Accepted, nodes, real-leaves}
 use Rattle.nav_nodes.specs.Slots.{node-at, slot-number, slot-of}
 use Rattle.nav_nodes.specs.Descent.{child-number}
 use Rattle.nav_nodes.specs.NextLabel.{kind-with}
-use Rattle.nav_nodes.specs.Positions.{branches, place, child-at, slot-at}
+use Rattle.nav_nodes.specs.Positions.{branches, branch-index, child-at, slot-at}
 use Rattle.nav_nodes.specs.FoundBranch.{node-count, Is-position, Found-branch, Behind-branch}
 use Rattle.query_descent.specs.declared.BoundEnd.{BoundEnd}
 use Rattle.query_descent.specs.declared.BoundEnd.the-variants as End
@@ -139,31 +139,31 @@ module _ (s : Bytes) (f : Frame) (key : Bytes) (r : Bound) (o : Key-ended s f ke
 
   -- nothing is passed
   pub passed-nowhere : r .end ≡ End.NoLeaf → passed-there s f key ≡ 0
-  passed-nowhere e = value-none s f (o .accepted) key stop depth (o .stop-is .leads) false (slot-passed (f .hash) (length key)) (stop-at End.NoLeaf e)
+  passed-nowhere e = value-none s f (o .accepted) key stop depth (o .stop-is .leads) false (slot-passed (f .«hash_width») (length key)) (stop-at End.NoLeaf e)
 
   -- nor where the key ends at a node
   pub passed-node : r .end ≡ End.Node → passed-there s f key ≡ 0
   passed-node e = end-unpassed s f (o .accepted) key depth (is-exact (node-at (nodes s f) (r .level .node .0))) (rw e at (o .stop-is))
 
   -- an open leaf is passed by its highest key
-  pub passed-leaf : (v : ValuePos) → r .end ≡ End.Leaf v → passed-there s f key ≡ bit (slot-passed (f .hash) (length key) (slot-of (f .width) (nodes s f) (v .0)) (drop depth key))
-  passed-leaf v e = value-open s f (o .accepted) key stop depth (o .stop-is .leads) false (slot-passed (f .hash) (length key)) v (stop-at (End.Leaf v) e)
+  pub passed-leaf : (v : ValuePos) → r .end ≡ End.Leaf v → passed-there s f key ≡ bit (slot-passed (f .«hash_width») (length key) (slot-of (f .width) (nodes s f) (v .0)) (drop depth key))
+  passed-leaf v e = value-open s f (o .accepted) key stop depth (o .stop-is .leads) false (slot-passed (f .«hash_width») (length key)) v (stop-at (End.Leaf v) e)
 
   -- nothing is reached
   pub reached-nowhere : r .end ≡ End.NoLeaf → reached-there s f key ≡ 0
-  reached-nowhere e = value-none s f (o .accepted) key stop depth (o .stop-is .leads) true (slot-reached (f .hash) (length key)) (stop-at End.NoLeaf e)
+  reached-nowhere e = value-none s f (o .accepted) key stop depth (o .stop-is .leads) true (slot-reached (f .«hash_width») (length key)) (stop-at End.NoLeaf e)
 
   -- a node is reached if it is an exact leaf
   pub reached-node : r .end ≡ End.Node → reached-there s f key ≡ bit (is-exact (node-at (nodes s f) (r .level .node .0)))
   reached-node e = go (is-exact (node-at (nodes s f) (r .level .node .0))) (stop-at End.Node e)
     where
       go : (b : Bool) → stop ≡ exact-stop b → reached-there s f key ≡ bit b
-      go true q = value-exact s f (o .accepted) key stop depth (o .stop-is .leads) true (slot-reached (f .hash) (length key)) q
-      go false q = value-none s f (o .accepted) key stop depth (o .stop-is .leads) true (slot-reached (f .hash) (length key)) q
+      go true q = value-exact s f (o .accepted) key stop depth (o .stop-is .leads) true (slot-reached (f .«hash_width») (length key)) q
+      go false q = value-none s f (o .accepted) key stop depth (o .stop-is .leads) true (slot-reached (f .«hash_width») (length key)) q
 
   -- an open leaf is reached by its lowest key
-  pub reached-leaf : (v : ValuePos) → r .end ≡ End.Leaf v → reached-there s f key ≡ bit (slot-reached (f .hash) (length key) (slot-of (f .width) (nodes s f) (v .0)) (drop depth key))
-  reached-leaf v e = value-open s f (o .accepted) key stop depth (o .stop-is .leads) true (slot-reached (f .hash) (length key)) v (stop-at (End.Leaf v) e)
+  pub reached-leaf : (v : ValuePos) → r .end ≡ End.Leaf v → reached-there s f key ≡ bit (slot-reached (f .«hash_width») (length key) (slot-of (f .width) (nodes s f) (v .0)) (drop depth key))
+  reached-leaf v e = value-open s f (o .accepted) key stop depth (o .stop-is .leads) true (slot-reached (f .«hash_width») (length key)) v (stop-at (End.Leaf v) e)
 
 -- ---- along the way that two keys share
 
@@ -176,22 +176,22 @@ module _ (s : Bytes) (f : Frame) (a : Accepted s f) (lo hi : Bytes) (g : length 
   module _ (m d : ℕ) (o : Parted s f lo hi m d) (within : d < shared lo hi) (b : Found) (t : Found-branch s f m (getD lo d 0) b) where
     -- the child behind the branch of the shared byte, and its slot
     abbrev child : ℕ
-    child = child-number (nodes s f) m (place s f m (getD lo d 0))
+    child = child-number (nodes s f) m (branch-index s f m (getD lo d 0))
 
     abbrev slot : ℕ
-    slot = slot-number (nodes s f) m (place s f m (getD lo d 0))
+    slot = slot-number (nodes s f) m (branch-index s f m (getD lo d 0))
 
     same : getD lo d 0 ≡ getD hi d 0
     same = shared-byte lo hi d within .2
 
-    upper-kind : b .kind ≡ kind-with (getD hi d 0) (drop (place s f m (getD hi d 0)) (branches s f m))
+    upper-kind : b .kind ≡ kind-with (getD hi d 0) (drop (branch-index s f m (getD hi d 0)) (branches s f m))
     upper-kind = rw same at (t .kind-is)
 
-    upper-child : child ≡ child-number (nodes s f) m (place s f m (getD hi d 0))
-    upper-child = ap (λ (y : ℕ). child-number (nodes s f) m (place s f m y)) same
+    upper-child : child ≡ child-number (nodes s f) m (branch-index s f m (getD hi d 0))
+    upper-child = ap (λ (y : ℕ). child-number (nodes s f) m (branch-index s f m y)) same
 
-    upper-slot : slot ≡ slot-number (nodes s f) m (place s f m (getD hi d 0))
-    upper-slot = ap (λ (y : ℕ). slot-number (nodes s f) m (place s f m y)) same
+    upper-slot : slot ≡ slot-number (nodes s f) m (branch-index s f m (getD hi d 0))
+    upper-slot = ap (λ (y : ℕ). slot-number (nodes s f) m (branch-index s f m y)) same
 
     -- a branch that continues: both keys go on, with the same sum
     parted-next : b .kind ≡ Child → (c : ℕ) → c ≡ child-at s f m (b .at .0) → Parted s f lo hi c (d + 1)
@@ -229,7 +229,7 @@ module _ (s : Bytes) (f : Frame) (a : Accepted s f) (lo hi : Bytes) (g : length 
 
   -- Where both keys lead nowhere, no leaf lies between them.
   none-between : (d : ℕ) → Same-stop s f lo hi Nowhere d → counted (real-leaves s f) lo hi ≡ 0
-  none-between d t = count-same Nowhere d t 0 0 (sym (value-none s f a lo Nowhere d (t .lower .leads) false (slot-passed (f .hash) (length lo)) refl)) (sym (value-none s f a hi Nowhere d (t .upper .leads) true (slot-reached (f .hash) (length hi)) refl))
+  none-between d t = count-same Nowhere d t 0 0 (sym (value-none s f a lo Nowhere d (t .lower .leads) false (slot-passed (f .«hash_width») (length lo)) refl)) (sym (value-none s f a hi Nowhere d (t .upper .leads) true (slot-reached (f .«hash_width») (length hi)) refl))
 
   -- An image without nodes has no leaf between two keys.
   pub count-nowhere : node-count f ≡ 0 → counted (real-leaves s f) lo hi ≡ 0
@@ -248,8 +248,8 @@ module _ (s : Bytes) (f : Frame) (a : Accepted s f) (lo hi : Bytes) (g : length 
       record {
         position = record { accepted = a; within = rw (t .at-is) (t .here .found .at-is .within) };
         cut = record { accepted = a; slot-in = y .lower .leaf-in v refl; lo-in = y .lower .depth-in; hi-in = y .upper .depth-in; lo-short = g; hi-short = h };
-        count-is = count-same (Open v) d y _ _ (sym (value-open s f a lo (Open v) d (y .lower .leads) false (slot-passed (f .hash) (length lo)) v refl)) (sym (value-open s f a hi (Open v) d (y .upper .leads) true (slot-reached (f .hash) (length hi)) v refl))
-            ∙ one-less (slot-passed (f .hash) (length lo) (slot-of (f .width) (nodes s f) (v .0)) (drop d lo)) (slot-reached (f .hash) (length hi) (slot-of (f .width) (nodes s f) (v .0)) (drop d hi));
+        count-is = count-same (Open v) d y _ _ (sym (value-open s f a lo (Open v) d (y .lower .leads) false (slot-passed (f .«hash_width») (length lo)) v refl)) (sym (value-open s f a hi (Open v) d (y .upper .leads) true (slot-reached (f .«hash_width») (length hi)) v refl))
+            ∙ one-less (slot-passed (f .«hash_width») (length lo) (slot-of (f .width) (nodes s f) (v .0)) (drop d lo)) (slot-reached (f .«hash_width») (length hi) (slot-of (f .width) (nodes s f) (v .0)) (drop d hi));
       }
     where
       one-less : (p r : Bool) → bit r - bit p ≡ bit (not p && r)
@@ -272,10 +272,10 @@ module _ (s : Bytes) (f : Frame) (a : Accepted s f) (key : Bytes) (short : lengt
     to-sum : above + to .sum ≡ above + from .sum + slot .0
     to-sum = omega arith
 
-    to-child : to .node .0 ≡ child-number (nodes s f) (from .node .0) (place s f (from .node .0) (getD key (from .depth) 0))
+    to-child : to .node .0 ≡ child-number (nodes s f) (from .node .0) (branch-index s f (from .node .0) (getD key (from .depth) 0))
     to-child = v .child-is ∙ t .at-is .child-is
 
-    to-slot : slot .0 ≡ slot-number (nodes s f) (from .node .0) (place s f (from .node .0) (getD key (from .depth) 0))
+    to-slot : slot .0 ≡ slot-number (nodes s f) (from .node .0) (branch-index s f (from .node .0) (getD key (from .depth) 0))
     to-slot = v .slot-is ∙ t .at-is .slot-is
 
     -- a branch that continues

@@ -1,4 +1,4 @@
--- LV over an accepted image: the first node of each level by its number, and runs of levels on which every node has one branch alone, which continues.
+-- LV over an accepted image: the first node of each level by its number, and chains of levels on which every node has one branch alone, which continues.
 use Prim.Native.Nat.{ℕ, zero, suc, _+_, _-_, _*_, _<_, _≤_}
 use mathlib.Core.Path.{_≡_, refl, sym, ap, ap₂, _∙_}
 use mathlib.Core.Bool.{Bool, true, false, cond}
@@ -265,7 +265,7 @@ entries-between ns i j a h l =
       size,
     )
 
--- ---- runs
+-- ---- chains
 
 module _ (s : Bytes) (f : Frame) (a : Accepted s f) where
   entries-up : (i j : ℕ) → i ≤ j → j ≤ node-count f → entries-before s f i + (j - i) ≤ entries-before s f j
@@ -275,21 +275,21 @@ module _ (s : Bytes) (f : Frame) (a : Accepted s f) where
   -- k levels of w nodes, the first of them level t from node n on, have one entry a node, and the level behind them has w nodes too: no node of theirs has a leaf, and each has one branch that continues
   module _ (t k n w : ℕ) (inside : t + k < level-count s f) (first : level-at s f t ≡ n) (second : level-at s f (suc t) ≡ n + w) (last : level-at s f (t + k) ≡ n + k * w) (behind : level-at s f (suc (t + k)) ≡ n + k * w + w)
       (sole : entries-before s f (n + k * w) ≡ entries-before s f n + k * w) where
-    run-inside : n + k * w ≤ node-count f
-    run-inside = omega (arith, level-inside s f a (t + k) inside)
+    chain-inside : n + k * w ≤ node-count f
+    chain-inside = omega (arith, level-inside s f a (t + k) inside)
 
-    -- the leaves before the run
-    pub run-leaves : leaves-before (nodes s f) n + (n + w) ≡ entries-before s f n + 1
-    run-leaves = omega (arith, level-next s f a t (omega arith), ap (children-before (nodes s f)) first)
+    -- the leaves before the chain
+    pub chain-leaves : leaves-before (nodes s f) n + (n + w) ≡ entries-before s f n + 1
+    chain-leaves = omega (arith, level-next s f a t (omega arith), ap (children-before (nodes s f)) first)
 
     leaves-end : leaves-before (nodes s f) (n + k * w) ≡ leaves-before (nodes s f) n
-    leaves-end = omega (arith, run-leaves, level-next s f a (t + k) inside, ap (children-before (nodes s f)) last)
+    leaves-end = omega (arith, chain-leaves, level-next s f a (t + k) inside, ap (children-before (nodes s f)) last)
 
     module _ (m : ℕ) (low : n ≤ m) (high : m ≤ n + k * w) where
-      -- a node of the run has the same leaves before it
-      pub run-flat : leaves-before (nodes s f) m ≡ leaves-before (nodes s f) n
-      run-flat = omega (arith, leaves-end, leaves-up (nodes s f) n m low, leaves-up (nodes s f) m (n + k * w) high)
+      -- a node of the chain has the same leaves before it
+      pub chain-flat : leaves-before (nodes s f) m ≡ leaves-before (nodes s f) n
+      chain-flat = omega (arith, leaves-end, leaves-up (nodes s f) n m low, leaves-up (nodes s f) m (n + k * w) high)
 
       -- and leads to the node w numbers on
-      pub run-next : children-before (nodes s f) m + 1 ≡ m + w
-      run-next = omega (arith, run-flat, run-leaves, entries-up n m low (omega (arith, run-inside)), entries-up m (n + k * w) high run-inside)
+      pub chain-next : children-before (nodes s f) m + 1 ≡ m + w
+      chain-next = omega (arith, chain-flat, chain-leaves, entries-up n m low (omega (arith, chain-inside)), entries-up m (n + k * w) high chain-inside)

@@ -15,10 +15,10 @@ use Rattle.nav_nodes.specs.Descent.{children-before}
 use Rattle.nav_nodes.specs.FoundBranch.{node-count}
 use Rattle.query_descent.specs.LevelSums.{slots-below, slots-past, slots-ended}
 use Rattle.query_descent.specs.Summed.{rest-full, rest-node, rest-leaves}
-use Rattle.query_sums.specs.Runs.{Run-of, Flat, run-end, run-sum}
+use Rattle.query_sums.specs.Chains.{Chain-of, Flat, chain-end, chain-sum}
 use Rattle.query_sums.specs.LevelTable.{nodes-few}
 use Rattle.query_descent.specs.Followed.{node-length}
-use Rattle.query_sums.specs.declared.Run.{Run}
+use Rattle.query_sums.specs.declared.Chain.{Chain}
 use Rattle.query_sums.specs.declared.levels.LevelSum.{LevelSum}
 use Rattle.query_sums.specs.declared.levels.BoundSums.{BoundSums}
 
@@ -108,42 +108,42 @@ lowered-next s f from to h g = record {
   gone = record { node-in = g .node-in; depth-is = refl; sums = g .sums ∙ ap (λ (l : ℕ). to .sum + slots-below (nodes s f) (64 - l) (to .node .0) []) (sym (g .depth-is)); small = omega (arith, g .small, g .depth-is) };
 }
 
--- ---- runs
+-- ---- chains
 
--- whether a node lies on the first level of a run, or just behind that level
-abbrev pub On-run : Run → ℕ → Bool → Type 0
-On-run r n true = (0 < r .levels) × (r .start ≤ n) × (n ≤ r .start + r .width)
-On-run r n false = Unit
+-- whether a node lies on the first level of a chain, or just behind that level
+abbrev pub On-chain : Chain → ℕ → Bool → Type 0
+On-chain r n true = (0 < r .levels) × (r .start ≤ n) × (n ≤ r .start + r .width)
+On-chain r n false = Unit
 
--- it does if it is not before the run and not past the level
-pub on-run-by : (r : Run) (n : ℕ) → r .start ≤ n → On-run r n (ltb 0 (r .levels) && leb (n - r .start) (r .width))
-on-run-by r n h = go (ltb 0 (r .levels)) (leb (n - r .start) (r .width)) refl refl
+-- it does if it is not before the chain and not past the level
+pub on-chain-by : (r : Chain) (n : ℕ) → r .start ≤ n → On-chain r n (ltb 0 (r .levels) && leb (n - r .start) (r .width))
+on-chain-by r n h = go (ltb 0 (r .levels)) (leb (n - r .start) (r .width)) refl refl
   where
-    go : (a b : Bool) → ltb 0 (r .levels) ≡ a → leb (n - r .start) (r .width) ≡ b → On-run r n (a && b)
+    go : (a b : Bool) → ltb 0 (r .levels) ≡ a → leb (n - r .start) (r .width) ≡ b → On-chain r n (a && b)
     go true true e g = (ltb-true 0 (r .levels) e, h, omega (arith, leb-true (n - r .start) (r .width) g))
     go true false e g = tt
     go false b e g = tt
 
--- the bound behind a run
-abbrev pub passed : LevelSum → Run → LevelSum
+-- the bound behind a chain
+abbrev pub passed : LevelSum → Chain → LevelSum
 passed from r = record { node = record { 0 = from .node .0 + r .levels * r .width }; depth = from .depth + r .levels; sum = from .sum + r .levels * r .leaves }
 
 -- its numbers are short
-pub record Passable (from : LevelSum) (r : Run) : Type 0 where
+pub record Passable (from : LevelSum) (r : Chain) : Type 0 where
   pub node : from .node .0 + r .levels * r .width < 1099511627776
   pub depth : from .depth + r .levels ≤ 64
   pub sum : from .sum + r .levels * r .leaves < 1099511627776
 
-module _ (s : Bytes) (f : Frame) (from : LevelSum) (p : Down-to s f from 64) (r : Run) (q : Run-of s f (from .depth) r) (on : On-run r (from .node .0) true) where
+module _ (s : Bytes) (f : Frame) (from : LevelSum) (p : Down-to s f from 64) (r : Chain) (q : Chain-of s f (from .depth) r) (on : On-chain r (from .node .0) true) where
   flat : Flat s f r
   flat = q .flat (on .0)
 
   few : r .leaves ≤ 65535
   few = omega (arith, flat .leaves-are (r .start) (omega arith) (omega arith), rest-leaves s f (p .accepted) (r .start))
 
-  -- behind the run the bound's node is one of the nodes, or behind the last
+  -- behind the chain the bound's node is one of the nodes, or behind the last
   node-end : from .node .0 + r .levels * r .width ≤ node-count f
-  node-end = omega (arith, on .2, flat .next-is (run-end r) (omega arith) (omega arith), rest-node s f (p .accepted) (run-end r) some-node)
+  node-end = omega (arith, on .2, flat .next-is (chain-end r) (omega arith) (omega arith), rest-node s f (p .accepted) (chain-end r) some-node)
     where
       some-node : 0 < node-count f
       some-node = omega (arith, flat .inside, flat .next-is (r .start) (omega arith) (omega arith), mul-le-mul-right {m = 1} {n = r .levels} (r .width) (on .0))
@@ -151,22 +151,22 @@ module _ (s : Bytes) (f : Frame) (from : LevelSum) (p : Down-to s f from 64) (r 
   leaves-few : r .levels * r .leaves ≤ r .levels * 65535
   leaves-few = mul-le-mul-left (r .levels) few
 
-  pub run-passable : Passable from r
-  run-passable = record {
+  pub chain-passable : Passable from r
+  chain-passable = record {
     node = omega (arith, node-end, nodes-few s f (p .accepted), node-length s f (p .accepted));
     depth = q .deep;
     sum = omega (arith, leaves-few, p .small, q .deep);
   }
 
-  -- a bound on a run passes it
-  pub run-passed : Lowered s f from (passed from r)
-  run-passed = record {
+  -- a bound on a chain passes it
+  pub chain-passed : Lowered s f from (passed from r)
+  chain-passed = record {
     deeper = omega (arith, on .0);
     depth-in = q .deep;
     gone = record {
       node-in = node-end;
       depth-is = refl;
-      sums = omega (arith, run-sum s f r flat (from .node .0) (on .1) (on .2) (r .levels) (64 - from .depth) (omega arith) (omega (arith, q .deep)), ap (λ (l : ℕ). slots-below (nodes s f) l (from .node .0 + r .levels * r .width) []) levels);
+      sums = omega (arith, chain-sum s f r flat (from .node .0) (on .1) (on .2) (r .levels) (64 - from .depth) (omega arith) (omega (arith, q .deep)), ap (λ (l : ℕ). slots-below (nodes s f) l (from .node .0 + r .levels * r .width) []) levels);
       small = omega (arith, leaves-few, ap (λ (n : ℕ). n * 65535) depth);
     };
   }

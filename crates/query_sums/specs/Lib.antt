@@ -1,4 +1,4 @@
 pub mod Bounds
+pub mod Chains
 pub mod LevelTable
 pub mod Levels
-pub mod Runs

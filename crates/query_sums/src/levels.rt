@@ -3,12 +3,12 @@ ghost use mathlib.Core.Path.{_≡_};
 ghost use Prim.Native.Nat.{_*_, _+_, _≤_, _<_};
 ghost use Rattle.nav_nodes.specs.Accepted.{Accepted};
 ghost use Rattle.nav_nodes.specs.FoundBranch.{node-count};
-ghost use Rattle.query_descent.specs.Summed.{level-starts};
-ghost use Rattle.query_sums.specs.Levels.{Down-to, Gone-down, Lowered, Summed-below, Sums-apart, On-run, Passable, passed};
-use super::Run;
-use super::runs::level_count;
-use super::runs::level_start;
-use super::runs::run_at;
+ghost use Rattle.query_descent.specs.Summed.{empty-key-sum};
+ghost use Rattle.query_sums.specs.Levels.{Down-to, Gone-down, Lowered, Summed-below, Sums-apart, On-chain, Passable, passed};
+use super::Chain;
+use super::chains::chain_at;
+use super::chains::level_count;
+use super::chains::level_start;
 use bits::numbers::larger;
 use image::Frame;
 use image::LEVELED_VERSION;
@@ -54,37 +54,37 @@ pub fn go_down(image: &[u8], f: Frame, from: LevelSum, depth: usize) -> LevelSum
     go_down(image, f, next, depth)
 }
 
-// Whether a node lies on the first level of a run, or just behind that level.
-fn on_run(run: Run, node: NodeNum) -> bool
-    ensures { λ r. ⌜ On-run run (node .0) r ⌝ }
+// Whether a node lies on the first level of a chain, or just behind that level.
+fn on_chain(chain: Chain, node: NodeNum) -> bool
+    ensures { λ r. ⌜ On-chain chain (node .0) r ⌝ }
 {
-    if node.0 < run.start {
+    if node.0 < chain.start {
         return false;
     }
-    (0 < run.levels) & (node.0 - run.start <= run.width)
+    (0 < chain.levels) & (node.0 - chain.start <= chain.width)
 }
 
-// A bound behind all levels of a run, on whose first level it stands.
-fn pass_run(from: LevelSum, run: Run) -> LevelSum
-    requires { ⌜ Passable from run ⌝ }
-    ensures { λ r. ⌜ r ≡ passed from run ⌝ }
+// A bound behind all levels of a chain, on whose first level it stands.
+fn pass_chain(from: LevelSum, chain: Chain) -> LevelSum
+    requires { ⌜ Passable from chain ⌝ }
+    ensures { λ r. ⌜ r ≡ passed from chain ⌝ }
 {
     LevelSum {
-        node: NodeNum(from.node.0 + run.levels * run.width),
-        depth: from.depth + run.levels,
-        sum: from.sum + run.levels * run.leaves,
+        node: NodeNum(from.node.0 + chain.levels * chain.width),
+        depth: from.depth + chain.levels,
+        sum: from.sum + chain.levels * chain.leaves,
     }
 }
 
-// The bound of a key that has ended, behind the run of levels on which it stands, or where it is.
-fn past_run(image: &[u8], f: Frame, from: LevelSum) -> LevelSum
+// The bound of a key that has ended, behind the chain of levels on which it stands, or where it is.
+fn past_chain(image: &[u8], f: Frame, from: LevelSum) -> LevelSum
     requires { ⌜ Down-to (now image) f from 64 ⌝ }
     ensures { λ r. ⌜ Down-to (now (image .entry)) f r 64 × (from .depth ≤ r .depth) × Gone-down (now (image .entry)) f from (r .depth) r ⌝ }
 {
-    let run = run_at(image, f, from.depth);
+    let chain = chain_at(image, f, from.depth);
     let node = from.node;
-    if on_run(run, node) {
-        return pass_run(from, run);
+    if on_chain(chain, node) {
+        return pass_chain(from, chain);
     }
     from
 }
@@ -94,15 +94,15 @@ pub fn sum_below(image: &[u8], f: Frame, from: LevelSum) -> usize
     requires { ⌜ Accepted (now image) f × (from .node .0 ≤ node-count f) × (from .depth ≤ 64) × (from .sum ≤ from .depth * 65535 + 1) ⌝ }
     ensures { λ r. ⌜ Summed-below (now (image .entry)) f from r ⌝ }
 {
-    let level = past_run(image, f, from);
+    let level = past_chain(image, f, from);
     let last = go_down(image, f, level, MAX_LEVELS);
     last.sum
 }
 
 // The sum for the empty key by LV, from the last level up: of the entries before a level's first node, those continue that stand before the first node of the level below.
-fn table_starts(image: &[u8], f: Frame) -> usize
+fn empty_key_sum_by_table(image: &[u8], f: Frame) -> usize
     requires { ⌜ Accepted (now image) f × (f .version ≡ 2) ⌝ }
-    ensures { λ r. ⌜ r ≡ level-starts (now (image .entry)) f ⌝ }
+    ensures { λ r. ⌜ r ≡ empty-key-sum (now (image .entry)) f ⌝ }
 {
     let levels = level_count(image, f);
     let mut sum = (MAX_LEVELS - levels) * f.leaves;
@@ -118,17 +118,17 @@ fn table_starts(image: &[u8], f: Frame) -> usize
 }
 
 // The sum for the empty key, whose bound is the first node of every level: by LV, or level by level. The sum for another key less this one is the number of leaves before that key.
-pub fn level_starts(image: &[u8], f: Frame) -> usize
+pub fn empty_key_sum(image: &[u8], f: Frame) -> usize
     requires { ⌜ Accepted (now image) f ⌝ }
-    ensures { λ r. ⌜ r ≡ level-starts (now (image .entry)) f ⌝ }
+    ensures { λ r. ⌜ r ≡ empty-key-sum (now (image .entry)) f ⌝ }
 {
     if f.version == LEVELED_VERSION {
-        return table_starts(image, f);
+        return empty_key_sum_by_table(image, f);
     }
     sum_below(image, f, AT_ROOT)
 }
 
-// Two bounds look for a run on one of so many levels alone, so that looking in vain costs little.
+// Two bounds look for a chain on one of so many levels alone, so that looking in vain costs little.
 const LEVELS_A_LOOK: usize = 4;
 
 // Two bounds on one level.
@@ -137,19 +137,19 @@ pub struct TwoBounds {
     pub upper: LevelSum,
 }
 
-// Two bounds whose keys have ended, both behind a run of levels where both stand on one that is looked for, else both on the next level.
+// Two bounds whose keys have ended, both behind a chain of levels where both stand on one that is looked for, else both on the next level.
 fn step_both(image: &[u8], f: Frame, a: LevelSum, b: LevelSum) -> TwoBounds
     requires { ⌜ Down-to (now image) f a 64 × Down-to (now image) f b 64 × (a .depth ≡ b .depth) × (a .depth < 64) ⌝ }
     ensures { λ r. ⌜ Lowered (now (image .entry)) f a (r .lower) × Lowered (now (image .entry)) f b (r .upper) × (r .lower .depth ≡ r .upper .depth) ⌝ }
 {
     if a.depth % LEVELS_A_LOOK == 0 {
-        let run = run_at(image, f, a.depth);
+        let chain = chain_at(image, f, a.depth);
         let below = a.node;
         let above = b.node;
-        if on_run(run, below) & on_run(run, above) {
+        if on_chain(chain, below) & on_chain(chain, above) {
             return TwoBounds {
-                lower: pass_run(a, run),
-                upper: pass_run(b, run),
+                lower: pass_chain(a, chain),
+                upper: pass_chain(b, chain),
             };
         }
     }

@@ -12,7 +12,7 @@ use Rattle.spec.specs.Bytes.{Bytes, blocks, ones, unpack}
 use Rattle.spec.specs.Image.{ranks}
 use Rattle.bits.specs.Bits.{rank}
 use Rattle.bits.specs.UnpackLaws.{length-unpack, rank-unpack}
-use Rattle.rank_tables.specs.Entries.{entries, entries-same}
+use Rattle.rank_tables.specs.TableEntries.{table-of, table-same}
 
 -- a begun block starts before the end
 block-start : (w b n : ℕ) → 0 < w → b < blocks w n → w * b ≤ n
@@ -48,8 +48,8 @@ pub rank-first : (n k : ℕ) (s : Bytes) → k ≤ n → ones (take k (take n (u
 rank-first n k s h = ap ones (take-take k n (unpack s) h) ∙ sym (rank-unpack s k)
 
 -- The ranks of the first n bits of a body: entry b is the ones before block b.
-pub ranks-are : (w n : ℕ) (s : Bytes) → 0 < w → n ≤ 8 * length s → ranks w (take n (unpack s)) ≡ entries (λ b. rank s (w * b)) (blocks w n)
-unfolding ranks entries
+pub ranks-are : (w n : ℕ) (s : Bytes) → 0 < w → n ≤ 8 * length s → ranks w (take n (unpack s)) ≡ table-of (λ b. rank s (w * b)) (blocks w n)
+unfolding ranks table-of
 ranks-are w n s p h =
-    ap (λ (k : ℕ). entries (λ b. ones (take (w * b) (take n (unpack s)))) (blocks w k)) (length-first n s h)
-    ∙ entries-same (λ b. ones (take (w * b) (take n (unpack s)))) (λ b. rank s (w * b)) (blocks w n) (λ b l. rank-first n (w * b) s (block-start w b n p l))
+    ap (λ (k : ℕ). table-of (λ b. ones (take (w * b) (take n (unpack s)))) (blocks w k)) (length-first n s h)
+    ∙ table-same (λ b. ones (take (w * b) (take n (unpack s)))) (λ b. rank s (w * b)) (blocks w n) (λ b l. rank-first n (w * b) s (block-start w b n p l))

@@ -5,11 +5,11 @@ use native.Mathlib.Omega.{arith}
 use lib.ListN.{length}
 use Rattle.spec.specs.Bytes.{Bytes}
 use Rattle.bits.specs.Bits.{rank}
-use Rattle.rank_tables.specs.Entries.{entry}
+use Rattle.rank_tables.specs.TableEntries.{table-entry}
 
 -- entry b of a table of ranks by blocks of w bits
 abbrev pub Rank-entry : ℕ → Bytes → Bytes → ℕ → Type 0
-Rank-entry w s rt b = (4 * b + 4 ≤ length rt) × (entry rt b ≡ rank s (w * b))
+Rank-entry w s rt b = (4 * b + 4 ≤ length rt) × (table-entry rt b ≡ rank s (w * b))
 
 -- n bits and their ranks by blocks of w
 abbrev pub Rank-table : ℕ → ℕ → Bytes → Bytes → Type 0
@@ -17,7 +17,7 @@ Rank-table w n s rt = (n ≤ 8 * length s) × ((b : ℕ) → w * b < n → Rank-
 
 -- entry t of the samples of the first n bits: the position of one number 64 t, from 0
 abbrev pub Sample : Bytes → Bytes → ℕ → ℕ → Type 0
-Sample s ts n t = (4 * t + 4 ≤ length ts) × (entry ts t ≤ n) × (rank s (entry ts t) ≡ 64 * t)
+Sample s ts n t = (4 * t + 4 ≤ length ts) × (table-entry ts t ≤ n) × (rank s (table-entry ts t) ≡ 64 * t)
 
 -- n bits with so many ones, and every 64th one's position
 abbrev pub Sample-table : ℕ → ℕ → Bytes → Bytes → Type 0
@@ -30,5 +30,5 @@ module _ (w n k b : ℕ) (s rt : Bytes) (h : Rank-table w n s rt) (l : k ≤ n) 
   entry-room = h .1 b (omega arith) .0
 
   -- it says how many ones stand before the block's first word, from which the count goes on
-  pub entry-counts : (word before : ℕ) → w * b ≡ 64 * word → before ≡ entry rt b → (k ≤ 8 * length s) × (64 * word ≤ k) × (before ≡ rank s (64 * word))
+  pub entry-counts : (word before : ℕ) → w * b ≡ 64 * word → before ≡ table-entry rt b → (k ≤ 8 * length s) × (64 * word ≤ k) × (before ≡ rank s (64 * word))
   entry-counts word before e r = (omega (arith, h .0), omega arith, r ∙ h .1 b (omega arith) .1 ∙ ap (rank s) e)

@@ -17,7 +17,7 @@ use Rattle.bits.specs.Bits.{bit-at, rank, select}
 use Rattle.bits.specs.ValueLaws.{Small}
 use Rattle.bits.specs.RankLaws.{rank-next, rank-up, rank-slow}
 use Rattle.bits_select.specs.SelectLaws.{select-is, select-here}
-use Rattle.rank_tables.specs.Entries.{entries, entries-same, entry, table-valid, table-sized, table-wrong, all-below, all-pass, all-fail}
+use Rattle.rank_tables.specs.TableEntries.{table-of, table-same, table-entry, table-valid, table-sized, table-wrong, all-below, all-pass, all-fail}
 use Rattle.rank_tables.specs.Ranks.{length-first, rank-first}
 
 -- ---- positions of ones
@@ -88,11 +88,11 @@ module _ (s : Bytes) (n m : ℕ) where
 -- ---- samples
 
 -- The samples of the first n bits of a body: entry t is the position of the set bit number 64 t, counted from 0.
-pub samples-are : (n : ℕ) (s : Bytes) → n ≤ 8 * length s → samples (take n (unpack s)) ≡ entries (λ t. select s n (64 * t)) (blocks 64 (rank s n))
-unfolding samples entries
+pub samples-are : (n : ℕ) (s : Bytes) → n ≤ 8 * length s → samples (take n (unpack s)) ≡ table-of (λ t. select s n (64 * t)) (blocks 64 (rank s n))
+unfolding samples table-of
 samples-are n s h =
-    ap (λ (k : ℕ). entries (λ t. getD (positions 0 (take n (unpack s))) (64 * t) 0) (blocks 64 k)) (length-positions 0 (take n (unpack s)) ∙ all)
-    ∙ entries-same (λ t. getD (positions 0 (take n (unpack s))) (64 * t) 0) (λ t. select s n (64 * t)) (blocks 64 (rank s n)) (λ t l. each t (omega arith))
+    ap (λ (k : ℕ). table-of (λ t. getD (positions 0 (take n (unpack s))) (64 * t) 0) (blocks 64 k)) (length-positions 0 (take n (unpack s)) ∙ all)
+    ∙ table-same (λ t. getD (positions 0 (take n (unpack s))) (64 * t) 0) (λ t. select s n (64 * t)) (blocks 64 (rank s n)) (λ t l. each t (omega arith))
   where
     all : ones (take n (unpack s)) ≡ rank s n
     all = ap ones (sym (take-all n (take n (unpack s)) (omega (arith, length-first n s h)))) ∙ rank-first n n s (omega arith)
@@ -109,7 +109,7 @@ samples-are n s h =
 
 -- entry t is there and is the position of the set bit number 64 t, counted from 0, among the first n bits
 abbrev pub sampled : Bytes → ℕ → Bytes → ℕ → Bool
-sampled s n table t = leb (4 * t + 4) (length table) && eqb (entry table t) (select s n (64 * t))
+sampled s n table t = leb (4 * t + 4) (length table) && eqb (table-entry table t) (select s n (64 * t))
 
 module _ (s : Bytes) (n : ℕ) (table : Bytes) (small : Small table) (short : n < 4294967296) where
   -- 32 bits hold every position
@@ -117,38 +117,38 @@ module _ (s : Bytes) (n : ℕ) (table : Bytes) (small : Small table) (short : n 
   fits t = mod-eq-of-lt (omega (arith, select-is s n (64 * t) .0))
 
   -- the samples are not those of the table, where one of them is not
-  samples-wrong : (t : ℕ) → 64 * t < rank s n → sampled s n table t ≡ false → equal table (entries (λ t. select s n (64 * t)) (blocks 64 (rank s n))) ≡ false
-  samples-wrong t h e = go (leb (4 * t + 4) (length table)) refl (eqb (entry table t) (select s n (64 * t))) refl e
+  samples-wrong : (t : ℕ) → 64 * t < rank s n → sampled s n table t ≡ false → equal table (table-of (λ t. select s n (64 * t)) (blocks 64 (rank s n))) ≡ false
+  samples-wrong t h e = go (leb (4 * t + 4) (length table)) refl (eqb (table-entry table t) (select s n (64 * t))) refl e
     where
-      go : (a : Bool) → leb (4 * t + 4) (length table) ≡ a → (b : Bool) → eqb (entry table t) (select s n (64 * t)) ≡ b → a && b ≡ false
-          → equal table (entries (λ t. select s n (64 * t)) (blocks 64 (rank s n))) ≡ false
+      go : (a : Bool) → leb (4 * t + 4) (length table) ≡ a → (b : Bool) → eqb (table-entry table t) (select s n (64 * t)) ≡ b → a && b ≡ false
+          → equal table (table-of (λ t. select s n (64 * t)) (blocks 64 (rank s n))) ≡ false
       go false p b q e = table-sized (λ t. select s n (64 * t)) (blocks 64 (rank s n)) table (λ z. absurd (omega (arith, leb-false (4 * t + 4) (length table) p)))
       go true p false q e =
-          table-wrong (λ t. select s n (64 * t)) (blocks 64 (rank s n)) table small t (omega arith) (λ z. eqb-false (entry table t) (select s n (64 * t)) q (z ∙ fits t))
+          table-wrong (λ t. select s n (64 * t)) (blocks 64 (rank s n)) table small t (omega arith) (λ z. eqb-false (table-entry table t) (select s n (64 * t)) q (z ∙ fits t))
       go true p true q e = absurd (true≢false e)
 
   -- the samples are those of the table, where each of them is and there are no others
   samples-valid : (k : ℕ) → k ≡ blocks 64 (rank s n) → ((t : ℕ) → t < k → sampled s n table t ≡ true)
-      → eqb (4 * k) (length table) ≡ equal table (entries (λ t. select s n (64 * t)) (blocks 64 (rank s n)))
+      → eqb (4 * k) (length table) ≡ equal table (table-of (λ t. select s n (64 * t)) (blocks 64 (rank s n)))
   samples-valid k e h = go (eqb (4 * k) (length table)) refl
     where
       each : (a b : Bool) → a && b ≡ true → b ≡ true
       each true b q = q
       each false b q = absurd (true≢false (sym q))
 
-      go : (a : Bool) → eqb (4 * k) (length table) ≡ a → a ≡ equal table (entries (λ t. select s n (64 * t)) (blocks 64 (rank s n)))
+      go : (a : Bool) → eqb (4 * k) (length table) ≡ a → a ≡ equal table (table-of (λ t. select s n (64 * t)) (blocks 64 (rank s n)))
       go true q =
           let l = eqb-true (4 * k) (length table) q in
           sym (table-valid (λ t. select s n (64 * t)) (blocks 64 (rank s n)) table small (omega arith)
-          (λ t m. eqb-true (entry table t) (select s n (64 * t)) (each (leb (4 * t + 4) (length table)) (eqb (entry table t) (select s n (64 * t))) (h t (omega arith))) ∙ sym (fits t)))
+          (λ t m. eqb-true (table-entry table t) (select s n (64 * t)) (each (leb (4 * t + 4) (length table)) (eqb (table-entry table t) (select s n (64 * t))) (h t (omega arith))) ∙ sym (fits t)))
       go false q =
           let l = eqb-false (4 * k) (length table) q in
           sym (table-sized (λ t. select s n (64 * t)) (blocks 64 (rank s n)) table (λ z. l (omega arith)))
 
   -- the samples are those of the table exactly if each of them is and there are no others
-  pub samples-agree : (k : ℕ) → k ≡ blocks 64 (rank s n) → all-below (sampled s n table) k && eqb (4 * k) (length table) ≡ equal table (entries (λ t. select s n (64 * t)) (blocks 64 (rank s n)))
+  pub samples-agree : (k : ℕ) → k ≡ blocks 64 (rank s n) → all-below (sampled s n table) k && eqb (4 * k) (length table) ≡ equal table (table-of (λ t. select s n (64 * t)) (blocks 64 (rank s n)))
   samples-agree k e = go (all-below (sampled s n table) k) refl
     where
-      go : (b : Bool) → all-below (sampled s n table) k ≡ b → b && eqb (4 * k) (length table) ≡ equal table (entries (λ t. select s n (64 * t)) (blocks 64 (rank s n)))
+      go : (b : Bool) → all-below (sampled s n table) k ≡ b → b && eqb (4 * k) (length table) ≡ equal table (table-of (λ t. select s n (64 * t)) (blocks 64 (rank s n)))
       go true q = samples-valid k e (all-pass (sampled s n table) k q)
       go false q = let r = all-fail (sampled s n table) k q in sym (samples-wrong (r .0) (omega (arith, r .1)) (r .2))

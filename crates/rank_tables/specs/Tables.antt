@@ -9,7 +9,7 @@ use Rattle.spec.specs.Bytes.{Bytes, blocks}
 use native.Mathlib.Omega.{arith}
 use Rattle.bits.specs.Bits.{bit-at, rank, select, part}
 use Rattle.bits.specs.RankLaws.{rank-up}
-use Rattle.rank_tables.specs.Entries.{entry}
+use Rattle.rank_tables.specs.TableEntries.{table-entry}
 use Rattle.rank_tables.specs.Samples.{One-at, select-one, one-select, select-within, sampled}
 use Rattle.rank_tables.specs.declared.Span.{Span}
 
@@ -61,7 +61,7 @@ pub record Held (s : Bytes) (n q before t : ℕ) : Type 0 where
   pub low : before ≤ 64 * t
   pub high : 64 * t < rank s (min (64 * q + 64) n)
 
--- the place of that one: inside the word, below n, set, and with 64 t ones before it
+-- the position of that one: inside the word, below n, set, and with 64 t ones before it
 pub held-one : (s : Bytes) (n q before t : ℕ) → Held s n q before t → (64 * q ≤ select s n (64 * t)) × (select s n (64 * t) < 64 * q + 64) × One-at s n (64 * t) (select s n (64 * t))
 held-one s n q before t h =
     let e : ℕ = min (64 * q + 64) n in
@@ -75,11 +75,11 @@ held-one s n q before t h =
 module _ (s : Bytes) (n q before t : ℕ) (h : Held s n q before t) (table : Bytes) where
   -- the table has ended
   pub sample-missing : length table < 4 * t + 4 → false ≡ sampled s n table t
-  sample-missing l = sym (ap (λ (b : Bool). b && eqb (entry table t) (select s n (64 * t))) (lt-leb (4 * t + 4) (length table) l))
+  sample-missing l = sym (ap (λ (b : Bool). b && eqb (table-entry table t) (select s n (64 * t))) (lt-leb (4 * t + 4) (length table) l))
 
-  module _ (p : ℕ) (e : p ≡ entry table t) where
+  module _ (p : ℕ) (e : p ≡ table-entry table t) where
     another : (p ≡ select s n (64 * t) → ⊥) → false ≡ sampled s n table t
-    another d = sym (ap (λ (b : Bool). leb (4 * t + 4) (length table) && b) (ne-eqb (entry table t) (select s n (64 * t)) (λ z. d (e ∙ z))) ∙ and-false (leb (4 * t + 4) (length table)))
+    another d = sym (ap (λ (b : Bool). leb (4 * t + 4) (length table) && b) (ne-eqb (table-entry table t) (select s n (64 * t)) (λ z. d (e ∙ z))) ∙ and-false (leb (4 * t + 4) (length table)))
 
     -- it stands before the word
     pub sample-early : p < 64 * q → false ≡ sampled s n table t
@@ -112,5 +112,5 @@ module _ (s : Bytes) (n q before t : ℕ) (h : Held s n q before t) (table : Byt
           go true f =
               let g = ranked in
               let o : One-at s n (64 * t) p = record { below = b; before = omega (arith, h .low); set = eqb-true (bit-at s p) 1 f } in
-              sym (ap₂ _&&_ (le-leb (4 * t + 4) (length table) m) (eq-eqb (entry table t) (select s n (64 * t)) (sym e ∙ sym (one-select s n (64 * t) p o))))
+              sym (ap₂ _&&_ (le-leb (4 * t + 4) (length table) m) (eq-eqb (table-entry table t) (select s n (64 * t)) (sym e ∙ sym (one-select s n (64 * t) p o))))
           go false f = another (λ z. eqb-false (bit-at s p) 1 f (ap (bit-at s) z ∙ held-one s n q before t h .2 .set))

@@ -1,8 +1,8 @@
 // Ranks of a finished body, counted by words.
 ghost use mathlib.Core.Path.{_≡_};
 ghost use Prim.Native.Nat.{_*_};
-ghost use Rattle.bits.specs.Bits.{placed};
-ghost use Rattle.rank_tables.specs.Entries.{rank-entries};
+ghost use Rattle.bits.specs.Bits.{overlaid};
+ghost use Rattle.rank_tables.specs.TableEntries.{rank-table};
 ghost use Rattle.rank_tables.specs.Tables.{spanned, Ranks-room};
 use super::Span;
 use bits::numbers::write32;
@@ -12,7 +12,7 @@ use bits::ranks::rank_from;
 // The ones are counted in a shared part, the body; then the part from the table's start is lent to write the entry.
 pub fn fill_ranks(out: &mut [u8], body: Span, table: usize, n: usize, words: usize)
     requires { ⌜ Ranks-room (now out) body table n words ⌝ }
-    ensures { λ _. ⌜ now (out .exit) ≡ placed (now (out .entry)) table (rank-entries (64 * words) (spanned (now (out .entry)) body) n) ⌝ }
+    ensures { λ _. ⌜ now (out .exit) ≡ overlaid (now (out .entry)) table (rank-table (64 * words) (spanned (now (out .entry)) body) n) ⌝ }
 {
     let from = body.at;
     let end = from + body.len;

@@ -4,7 +4,7 @@ ghost use Prim.Native.Nat.{_*_, _≤_, _<_};
 ghost use lib.ListN.{length};
 ghost use Rattle.spec.specs.Bytes.{equal, blocks};
 ghost use Rattle.bits.specs.Bits.{rank};
-ghost use Rattle.rank_tables.specs.Entries.{sample-entries};
+ghost use Rattle.rank_tables.specs.TableEntries.{sample-table};
 ghost use Rattle.rank_tables.specs.Samples.{sampled};
 ghost use Rattle.rank_tables.specs.Tables.{Held};
 use super::words::Counted;
@@ -44,7 +44,7 @@ fn sample_valid(s: &[u8], n: usize, q: usize, before: usize, table: &[u8], t: us
 // A word has at most 64 ones, so at most one of these stands in it.
 pub fn count_samples(s: &[u8], n: usize, table: &[u8]) -> Counted
     requires { ⌜ (n ≤ 8 * length (now s)) × (n < 4294967296) ⌝ }
-    ensures { λ r. ⌜ (r .ones ≡ rank (now (s .entry)) n) × (r .agrees ≡ equal (now (table .entry)) (sample-entries (now (s .entry)) n (blocks 64 (rank (now (s .entry)) n)))) ⌝ }
+    ensures { λ r. ⌜ (r .ones ≡ rank (now (s .entry)) n) × (r .agrees ≡ equal (now (table .entry)) (sample-table (now (s .entry)) n (blocks 64 (rank (now (s .entry)) n)))) ⌝ }
 {
     let mut q = 0usize; // the next word
     let mut ones = 0usize; // the ones before it

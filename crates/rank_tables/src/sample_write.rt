@@ -1,8 +1,8 @@
 // Samples of a finished S-LOUDS body, counted by words.
 ghost use mathlib.Core.Path.{_≡_};
 ghost use Rattle.spec.specs.Bytes.{blocks};
-ghost use Rattle.bits.specs.Bits.{placed, rank};
-ghost use Rattle.rank_tables.specs.Entries.{sample-entries};
+ghost use Rattle.bits.specs.Bits.{overlaid, rank};
+ghost use Rattle.rank_tables.specs.TableEntries.{sample-table};
 ghost use Rattle.rank_tables.specs.Tables.{spanned, Samples-room};
 use super::Span;
 use bits::numbers::smaller;
@@ -15,7 +15,7 @@ use image::SAMPLE_RATE;
 // The ones are counted in a shared part, the body; then the part from the table's start is lent to write the entry.
 pub fn fill_samples(out: &mut [u8], body: Span, bits: usize, table: usize)
     requires { ⌜ Samples-room (now out) body bits table ⌝ }
-    ensures { λ _. ⌜ now (out .exit) ≡ placed (now (out .entry)) table (sample-entries (spanned (now (out .entry)) body) bits (blocks 64 (rank (spanned (now (out .entry)) body) bits))) ⌝ }
+    ensures { λ _. ⌜ now (out .exit) ≡ overlaid (now (out .entry)) table (sample-table (spanned (now (out .entry)) body) bits (blocks 64 (rank (spanned (now (out .entry)) body) bits))) ⌝ }
 {
     let from = body.at;
     let end = from + body.len;

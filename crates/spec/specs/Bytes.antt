@@ -58,7 +58,7 @@ unfoldable pub maximum : List ℕ → ℕ
 maximum [] = 0
 maximum (x ∷ xs) = max x (maximum xs)
 
--- how many blocks of w places n places begin
+-- how many blocks of w positions n positions begin
 abbrev pub blocks : ℕ → ℕ → ℕ
 blocks w n = (n + (w - 1)) / w
 

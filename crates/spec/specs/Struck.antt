@@ -23,7 +23,7 @@ struck-slots st k sv = pack (real-slots (st .hash-width) (st .real-width) k (unp
 abbrev pub slots-body : List Bytes → Bytes
 slots-body bs = getD bs 6 []
 
--- the bodies with that in its place
+-- the bodies with that instead
 unfoldable pub struck-bodies : Settings → ℕ → List Bytes → List Bytes
 unfolding struck-slots
 struck-bodies st k bs = take 6 bs ++ (struck-slots st k (slots-body bs) ∷ drop 7 bs)

@@ -92,7 +92,7 @@ record Rooted (dense H n : ℕ) (D S : List Node) (es : List Branch) (ls : List 
   short : length ((node none es ∷ []) ∷ ls) ≤ 64
   soles : All (All Sole-continues) ls
   dense-size : length (concat (take dense ((node none es ∷ []) ∷ ls))) ≡ length D
-  placed : All (Leaf-valid H n 0) (branch-leaves es (groups ls))
+  leaves-valid : All (Leaf-valid H n 0) (branch-leaves es (groups ls))
 
 trie-of-rooted : (dense H n count : ℕ) (D S : List Node) (es : List Branch) (ls : List (List Node)) → Rooted dense H n D S es ls → leaf-count (D ++ S) ≡ count → Trie-of-list dense H n count D S
 unfolding groups level-groups exact-leaf
@@ -102,9 +102,9 @@ trie-of-rooted dense H n count D S es ls r c =
     let q = append-parts (concat (take dense L)) D (concat-split dense L ∙ r .whole) (r .dense-size) in
     record {
       leaves = branch-leaves es (groups ls);
-      realizable = root-realizable H n es ls (r .linked) (r .soles) (r .placed);
-      well-sized = leaf-valid-well-sized H n (nonempty-cuts-branches es (groups ls)) (r .placed);
-      spare = leaf-valid-spare H n (branch-leaves es (groups ls)) (r .placed);
+      realizable = root-realizable H n es ls (r .linked) (r .soles) (r .leaves-valid);
+      well-sized = leaf-valid-well-sized H n (nonempty-cuts-branches es (groups ls)) (r .leaves-valid);
+      spare = leaf-valid-spare H n (branch-leaves es (groups ls)) (r .leaves-valid);
       size = leaf-count-root L (branch-leaves es (groups ls)) (r .linked) refl ∙ ap leaf-count (r .whole) ∙ c;
       dense-nodes = ap (λ (z : List (List Node)). concat (take dense z)) t ∙ q .0;
       sparse-nodes = ap (λ (z : List (List Node)). concat (drop dense z)) t ∙ q .1;
@@ -130,7 +130,7 @@ rooted dense H n count D S es ns e b w s c =
     let v = nodes-valid-levels (node none es) ns b in
     let q = levels-of-root (node none es) ns in
     let all-nodes : concat (levels-of (node none es ∷ ns)) ≡ node none es ∷ ns = v .whole in
-    let placed = leaf-valid-levels H n 0 (levels-of (node none es ∷ ns)) (omega (arith, b .shallow)) (rw all-nodes w) (rw all-nodes s) c in
+    let leaves-valid = leaf-valid-levels H n 0 (levels-of (node none es ∷ ns)) (omega (arith, b .shallow)) (rw all-nodes w) (rw all-nodes s) c in
     let below : concat ls ≡ ns = tail-eq-of-cons-eq (joined ∙ sym (ap concat q) ∙ all-nodes) in
     record {
       linked = rw q at (v .linked);
@@ -138,7 +138,7 @@ rooted dense H n count D S es ns e b w s c =
       short = rw q at (b .shallow);
       soles = concat-all Sole-continues ls (rw below (all-sole-continue ns (rest-labelled (node none es) ns (b .labelled)) (b .soles)));
       dense-size = rw q at (b .dense-total);
-      placed = (rw q at placed) .0;
+      leaves-valid = (rw q at leaves-valid) .0;
     }
   where
     ls : List (List Node)

@@ -1,4 +1,4 @@
--- What ask, the walk and the printer give over an accepted image; and the reply read at the place of the i-th question.
+-- What ask, the walk and the printer give over an accepted image; and the reply read where the reply to the i-th question stands.
 -- The demands on replies stand on this.
 use Prim.Native.Nat.{ℕ, zero, suc, _+_, _<_, _≤_}
 use mathlib.Core.Path.{_≡_, ap, _∙_, refl, ap₂}

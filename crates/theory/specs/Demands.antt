@@ -307,7 +307,7 @@ pub record Demand-2 : Type 0 where
       → (out : Bytes) → length (image st (leaves (st .hash-width) (st .real-width) ks)) ≤ length out → build list st (length (image st (leaves (st .hash-width) (st .real-width) ks))) out ≡ success (image st (leaves (st .hash-width) (st .real-width) ks)) out
   -- "An image read back gives the same three," and the settings,
   pub read-back : (st : Settings) (list b : Bytes) → Builds-with st list b → (read-leaves b ≡ leaves (st .hash-width) (st .real-width) (keys-of list)) × (read-settings b ≡ st)
-  -- "and every reply is the one worked out from them alone": all that ask writes, and what is read at the place of the i-th question;
+  -- "and every reply is the one worked out from them alone": all that ask writes, and what is read where the reply to the i-th question stands;
   pub all-replies : (st : Settings) (list b : Bytes) → Builds-with st list b → (file out : Bytes) → Taken b file out
       → ask b file out ≡ success (replies (st .hash-width) (leaves (st .hash-width) (st .real-width) (keys-of list)) (questions-of file)) out
   pub each-reply : (st : Settings) (list b : Bytes) → Builds-with st list b → (file out : Bytes) → Taken b file out

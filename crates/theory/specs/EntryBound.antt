@@ -65,10 +65,10 @@ unfolding insert-cut
 sort-weight [] l bs = omega arith
 sort-weight (x ∷ c) l bs = put-weight x (rest-of c l) bs
 
-runs-weight : (g : Group) → branch-weight (subtrees g) ≤ weight g
+subtrees-weight : (g : Group) → branch-weight (subtrees g) ≤ weight g
 unfolding subtrees weight branch-weight
-runs-weight [] = omega arith
-runs-weight (l ∷ ls) = omega (arith, sort-weight (l .cut) l (subtrees ls), runs-weight ls)
+subtrees-weight [] = omega arith
+subtrees-weight (l ∷ ls) = omega (arith, sort-weight (l .cut) l (subtrees ls), subtrees-weight ls)
 
 sub-weight : (x : ℕ) (g : Group) → weights (child-group (subtree x g)) ≤ weight g
 unfolding child-group weights weight
@@ -92,8 +92,8 @@ own-weight (l ∷ ls) es = go (l .cut) (l .exact) (l .suffix)
   where
     go : (c : Bytes) (e : Bool) (s : Bits) → length {A = ℕ} (cond (is-exact (node (exact-of (record { cut = c; exact = e; suffix = s } ∷ ls)) es)) (255 ∷ []) []) + branch-weight (subtrees (record { cut = c; exact = e; suffix = s } ∷ ls))
         ≤ suc (length c) + weight ls
-    go [] e s = omega (arith, runs-weight ls)
-    go (x ∷ c) e s = omega (arith, put-weight x (record { cut = c; exact = e; suffix = s }) (subtrees ls), runs-weight ls)
+    go [] e s = omega (arith, subtrees-weight ls)
+    go (x ∷ c) e s = omega (arith, put-weight x (record { cut = c; exact = e; suffix = s }) (subtrees ls), subtrees-weight ls)
 
 -- what a node has and what is left for the nodes below it
 node-weight : (g : Group) → length (sparse-labels (node-of g)) + weights (child-groups g) ≤ weight g

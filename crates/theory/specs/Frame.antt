@@ -244,12 +244,12 @@ bytes-getD i [] w = omega arith
 bytes-getD zero (x ∷ s) w = w .0
 bytes-getD (suc i) (x ∷ s) w = bytes-getD i s (w .1)
 
--- A 32-bit number at a place is read from the four bytes there.
+-- A 32-bit number at an offset is read from the four bytes there.
 from32-at : (k : ℕ) (s : Bytes) → from32 (drop k s) ≡ from32 (getD s (k + 0) 0 ∷ getD s (k + 1) 0 ∷ getD s (k + 2) 0 ∷ getD s (k + 3) 0 ∷ [])
 unfolding from32
 from32-at k s = rw (getD-drop k s 0 0, getD-drop k s 1 0, getD-drop k s 2 0, getD-drop k s 3 0)
 
--- The four bytes at a place in a header are those of the number there.
+-- The four bytes at an offset in a header are those of the number there.
 le32-at : (k : ℕ) (s : Bytes) → Is-bytes s → le32 (from32 (drop k s)) ≡ getD s (k + 0) 0 ∷ getD s (k + 1) 0 ∷ getD s (k + 2) 0 ∷ getD s (k + 3) 0 ∷ []
 le32-at k s w = ap le32 (from32-at k s) ∙ le32-from32 (getD s (k + 0) 0) (getD s (k + 1) 0) (getD s (k + 2) 0) (getD s (k + 3) 0) [] (bytes-getD (k + 0) s w) (bytes-getD (k + 1) s w) (bytes-getD (k + 2) s w) (bytes-getD (k + 3) s w)
 

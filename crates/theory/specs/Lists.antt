@@ -324,7 +324,7 @@ pub append-empty : {A : Type 0} (a b : List A) → a ++ b ≡ [] → (a ≡ []) 
 append-empty [] b h = (refl, h)
 append-empty (x ∷ a) b h = let z : _≡_ {A = ℕ} 0 1 = cc in absurd (omega arith)
 
--- Two ways to part a list at one place are the same.
+-- Two ways to part a list at one index are the same.
 pub append-parts : {A : Type 0} (a c : List A) {b d : List A} → a ++ b ≡ c ++ d → length a ≡ length c → (a ≡ c) × (b ≡ d)
 append-parts [] [] e h = (refl, e)
 append-parts [] (y ∷ c) e h = absurd (omega arith)
@@ -335,7 +335,7 @@ append-parts {A} (x ∷ a) (y ∷ c) {b} {d} e h =
     let r = append-parts a c q (omega arith) in
     (ap₂ _∷_ p (r .0), r .1)
 
--- The members of lists above and below a place are all their members.
+-- The members of lists above and below an index are all their members.
 pub concat-split : {A : Type 0} (k : ℕ) (ls : List (List A)) → concat (take k ls) ++ concat (drop k ls) ≡ concat ls
 unfolding concat
 concat-split zero ls = refl

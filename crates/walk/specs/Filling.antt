@@ -11,14 +11,14 @@ use Rattle.spec.specs.Bytes.{Bytes, concat}
 use Rattle.spec.specs.Leaves.{Leaf}
 use Rattle.spec.specs.WalkRecords.{record-size, leaf-record, leaf-records, records-from}
 use Rattle.theory.specs.WalkRecordLaws.{record-length}
-use Rattle.bits.specs.Bits.{placed}
-use Rattle.bits.specs.Placing.{length-placed, placed-behind}
+use Rattle.bits.specs.Bits.{overlaid}
+use Rattle.bits.specs.Overlaying.{length-overlaid, overlaid-behind}
 
 -- The records of n leaves from a place on stand at the front of the buffer; the bytes behind them are still those of out.
 pub record Filled (ls : List Leaf) (place : ℕ) (out : Bytes) (n : ℕ) (buffer : Bytes) : Type 0 where
   -- there are as many leaves
   pub size : length (records-from ls place n) ≡ record-size * n
-  pub bytes : buffer ≡ placed out 0 (records-from ls place n)
+  pub bytes : buffer ≡ overlaid out 0 (records-from ls place n)
 
 -- A buffer that was out has the records of the leaves from a place on at its front, of as many as it holds whole, n bytes, and all else stays.
 pub record Fills (ls : List Leaf) (place : ℕ) (out buffer : Bytes) (n : ℕ) : Type 0 where
@@ -47,17 +47,17 @@ module _ (ls : List Leaf) (place : ℕ) (out : Bytes) where
   module _ (n : ℕ) (buffer : Bytes) (f : Filled ls place out n buffer) where
     -- the buffer keeps its length
     pub filled-length : record-size * n ≤ length out → length buffer ≡ length out
-    filled-length h = ap length (f .bytes) ∙ length-placed out 0 (records-from ls place n) (omega (arith, f .size))
+    filled-length h = ap length (f .bytes) ∙ length-overlaid out 0 (records-from ls place n) (omega (arith, f .size))
 
-    -- one record more, placed behind them
-    pub filled-more : (l : Leaf) (after : Bytes) → record-size * n + record-size ≤ length out → getElem? ls (place + n) ≡ some l → after ≡ placed buffer (record-size * n) (leaf-record l) → Filled ls place out (n + 1) after
+    -- one record more, written behind them
+    pub filled-more : (l : Leaf) (after : Bytes) → record-size * n + record-size ≤ length out → getElem? ls (place + n) ≡ some l → after ≡ overlaid buffer (record-size * n) (leaf-record l) → Filled ls place out (n + 1) after
     filled-more l after h e g =
         let xs : Bytes = records-from ls place n in
         let more : records-from ls place (n + 1) ≡ xs ++ leaf-record l = rw (add-one n) (records-more (drop place ls) n l (found-behind ls place n ∙ e)) in
         let w : length (leaf-record l) ≡ record-size = record-length l in
         record {
           size = ap length more ∙ omega (arith, length-append xs (leaf-record l), f .size);
-          bytes = placed-behind out buffer after xs (leaf-record l) 0 (record-size * n) (omega (arith, f .size)) (omega arith) (f .bytes) g ∙ ap (placed out 0) (sym more);
+          bytes = overlaid-behind out buffer after xs (leaf-record l) 0 (record-size * n) (omega (arith, f .size)) (omega arith) (f .bytes) g ∙ ap (overlaid out 0) (sym more);
         }
 
     -- the bytes that are written, of all leaves that are asked for
@@ -66,7 +66,7 @@ module _ (ls : List Leaf) (place : ℕ) (out : Bytes) where
         let ks : List Leaf = take (length out / record-size) (drop place ls) in
         let size : record-size * n ≡ length (leaf-records ks) = sym (f .size) ∙ ap (λ (xs : List Leaf). length (leaf-records xs)) e in
         let z : 0 + length (leaf-records ks) ≡ record-size * n = omega arith in
-        record { size = size; bytes = f .bytes ∙ ap (λ (xs : List Leaf). placed out 0 (leaf-records xs)) e ∙ ap (λ (k : ℕ). leaf-records ks ++ drop k out) z }
+        record { size = size; bytes = f .bytes ∙ ap (λ (xs : List Leaf). overlaid out 0 (leaf-records xs)) e ∙ ap (λ (k : ℕ). leaf-records ks ++ drop k out) z }
 
     -- the buffer is full
     pub filled-full : n ≡ length out / record-size → Fills ls place out buffer (record-size * n)

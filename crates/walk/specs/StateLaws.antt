@@ -65,8 +65,8 @@ module _ (s : Bytes) where
   }
 
   -- a state that is not
-  placed-walks : (w : State) → w .status ≡ Status.Opened → At-place s w → Walks s w
-  placed-walks w e a = record { refusal = λ r f. let z : _≡_ {A = ℕ} 0 1 = cc in absurd (omega arith); going = λ _. a }
+  at-place-walks : (w : State) → w .status ≡ Status.Opened → At-place s w → Walks s w
+  at-place-walks w e a = record { refusal = λ r f. let z : _≡_ {A = ℕ} 0 1 = cc in absurd (omega arith); going = λ _. a }
 
   -- ---- a walk is opened
 
@@ -85,7 +85,7 @@ module _ (s : Bytes) where
   -- the walk stands at the place
   pub opened-at : (f : Frame) → Accepted s f → verdict s ≡ 0 → (place : ℕ) (c : Cursor) → Stands-at s f place c
       → Opens s place (record { status = Status.Opened; place = place; frame = f; cursor = c })
-  opened-at f a v place c h = record { walks = placed-walks _ refl (record { checked = v; accepted = a; stands = h .stands; place-is = h .place-is }); place-is = refl }
+  opened-at f a v place c h = record { walks = at-place-walks _ refl (record { checked = v; accepted = a; stands = h .stands; place-is = h .place-is }); place-is = refl }
 
   -- ---- a state of a walk
 
@@ -133,7 +133,7 @@ module _ (s : Bytes) where
         steps c h =
             let n = next-leaf s (w .place) (omega (arith, at .place-is, before-end, total)) in
             record {
-              walks = placed-walks _ refl (record { checked = at .checked; accepted = at .accepted; stands = h .stands; place-is = omega (arith, h .place-is, at .place-is) });
+              walks = at-place-walks _ refl (record { checked = at .checked; accepted = at .accepted; stands = h .stands; place-is = omega (arith, h .place-is, at .place-is) });
               status-is = sym opened;
               stands = next-at s (w .place) (w .place + 1) n;
               place-is = λ _. sym n;

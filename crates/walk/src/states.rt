@@ -68,8 +68,8 @@ fn refused(number: u32, place: usize) -> State
         place,
         frame: Frame {
             version: 0,
-            real: 0,
-            hash: 0,
+            real_width: 0,
+            hash_width: 0,
             width: 0,
             leaves: 0,
             dense: Dense {

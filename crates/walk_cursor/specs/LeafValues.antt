@@ -10,8 +10,8 @@ use Rattle.spec.specs.Bytes.{Bytes, le32, low-first, low-bits}
 use Rattle.spec.specs.Leaves.{Leaf}
 use Rattle.spec.specs.WalkRecords.{record-size, kind-byte, cut-field, leaf-record}
 use Rattle.theory.specs.Bits.{low-bits-first}
-use Rattle.bits.specs.Bits.{placed}
-use Rattle.bits.specs.Placing.{placed-behind}
+use Rattle.bits.specs.Bits.{overlaid}
+use Rattle.bits.specs.Overlaying.{overlaid-behind}
 use Rattle.bits.specs.UnpackLaws.{length-low-bits}
 use Rattle.image.specs.declared.Leaf.{Leaf as Value}
 use Rattle.image.specs.Value.{leaf-of, Sized, value-of}
@@ -31,8 +31,8 @@ zeros-behind n h =
     ∙ sym (ap (λ (k : ℕ). take (64 - n) (zeros k)) f ∙ ap (take (64 - n)) (sym (replicate-append-replicate (64 - n) n 0)) ∙ take-at (zeros (64 - n)) (zeros n) (64 - n) (length-replicate (64 - n) 0))
 
 -- a key of at most 64 bytes, copied over the front of 64 zeros
-pub field-placed : (k : Bytes) → length k ≤ 64 → placed (replicate 64 0) 0 k ≡ cut-field k
-field-placed k h =
+pub field-overlaid : (k : Bytes) → length k ≤ 64 → overlaid (replicate 64 0) 0 k ≡ cut-field k
+field-overlaid k h =
     let e : 64 ≡ length k + (64 - length k) = omega arith in
     let z : 0 + length k ≡ length k = omega arith in
     ap (λ (n : ℕ). k ++ drop n (zeros 64)) z ∙ ap (λ (r : Bytes). k ++ r) (zeros-behind (length k) h)
@@ -41,11 +41,11 @@ field-placed k h =
 -- ---- the leaf
 
 -- A leaf by value with its cut key copied over zeros, and its suffix bits as a number, is the one that a walk gives.
-pub value-padded : (v : Value) → length (v .cut) ≡ 64 → Sized v → (field : Bytes) (x : ℕ) → field ≡ placed (replicate 64 0) 0 (take (v .len) (v .cut)) → x ≡ low-first (low-bits (v .width) (v .suffix))
+pub value-padded : (v : Value) → length (v .cut) ≡ 64 → Sized v → (field : Bytes) (x : ℕ) → field ≡ overlaid (replicate 64 0) 0 (take (v .len) (v .cut)) → x ≡ low-first (low-bits (v .width) (v .suffix))
     → record { cut = field; len = v .len; exact = v .exact; suffix = x; width = v .width } ≡ value-of (leaf-of v)
 value-padded v whole s field x e f =
     let n : length (take (v .len) (v .cut)) ≡ v .len = length-take-le (v .len) (v .cut) (omega arith) in
-    let c : field ≡ cut-field (take (v .len) (v .cut)) = e ∙ field-placed (take (v .len) (v .cut)) (omega arith) in
+    let c : field ≡ cut-field (take (v .len) (v .cut)) = e ∙ field-overlaid (take (v .len) (v .cut)) (omega arith) in
     let l : v .len ≡ length (take (v .len) (v .cut)) = sym n in
     let w : v .width ≡ length (low-bits (v .width) (v .suffix)) = sym (length-low-bits (v .width) (v .suffix)) in
     λ i. record { cut = c i; len = l i; exact = v .exact; suffix = f i; width = w i }
@@ -68,12 +68,12 @@ pub value-record-is : (l : Leaf) → value-record (value-of l) ≡ leaf-record l
 unfolding leaf-record
 value-record-is l = refl
 
--- The parts of a record, placed one behind the other, are the record.
-pub record-placed : (out : Bytes) (at : ℕ) (v : Value) (keyed after : Bytes) → at + record-size ≤ length out → length (v .cut) ≡ 64
-    → keyed ≡ placed (set (set out at (kind-byte (v .exact))) (at + 1) (v .len)) (at + 2) (v .cut) → after ≡ placed keyed (at + 66) (le32 (v .suffix)) → after ≡ placed out at (value-record v)
+-- The parts of a record, written one behind the other, are the record.
+pub record-overlaid : (out : Bytes) (at : ℕ) (v : Value) (keyed after : Bytes) → at + record-size ≤ length out → length (v .cut) ≡ 64
+    → keyed ≡ overlaid (set (set out at (kind-byte (v .exact))) (at + 1) (v .len)) (at + 2) (v .cut) → after ≡ overlaid keyed (at + 66) (le32 (v .suffix)) → after ≡ overlaid out at (value-record v)
 unfolding le32
-record-placed out at v keyed after room whole e f =
+record-overlaid out at v keyed after room whole e f =
     let front : Bytes = kind-byte (v .exact) ∷ v .len ∷ [] in
-    let started : set (set out at (kind-byte (v .exact))) (at + 1) (v .len) ≡ placed out at front = rw (add-one at) (sets-eq front out at (omega arith)) in
-    let named : keyed ≡ placed out at (front ++ v .cut) = placed-behind out _ keyed front (v .cut) at (at + 2) refl (omega arith) started e in
-    placed-behind out keyed after (front ++ v .cut) (le32 (v .suffix)) at (at + 66) (omega (arith, length-append front (v .cut))) (omega arith) named f
+    let started : set (set out at (kind-byte (v .exact))) (at + 1) (v .len) ≡ overlaid out at front = rw (add-one at) (sets-eq front out at (omega arith)) in
+    let named : keyed ≡ overlaid out at (front ++ v .cut) = overlaid-behind out _ keyed front (v .cut) at (at + 2) refl (omega arith) started e in
+    overlaid-behind out keyed after (front ++ v .cut) (le32 (v .suffix)) at (at + 66) (omega (arith, length-append front (v .cut))) (omega arith) named f

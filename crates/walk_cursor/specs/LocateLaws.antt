@@ -21,7 +21,7 @@ use Rattle.nav_nodes.specs.Descent.{child-number}
 use Rattle.nav_nodes.specs.NextLabel.{first-kind}
 use Rattle.nav_nodes.specs.NumberBounds.{node-total, child-range, slot-range}
 use Rattle.nav_nodes.specs.Accepted.{Accepted, nodes, dense-nodes, sparse-nodes}
-use Rattle.nav_nodes.specs.Positions.{branches, place as branch-index, child-at, slot-at, Branch-at}
+use Rattle.nav_nodes.specs.Positions.{branches, branch-index, child-at, slot-at, Branch-at}
 use Rattle.nav_nodes.specs.FoundBranch.{node-count, Is-position}
 use Rattle.nav_nodes.specs.SparsePositions.{small-node}
 use Rattle.nav_branches.specs.Below.{On-level, own-slot, below, from-label, below-step, from-none, from-leaf, from-node, level-rising, level-branch, level-node, trie-root}

@@ -7,7 +7,7 @@ use Rattle.spec.specs.Nodes.{read-leaves}
 use Rattle.image.specs.declared.Frame.{Frame}
 use Rattle.nav_nodes.specs.declared.BranchKind.the-variants as Kind
 use Rattle.nav_nodes.specs.Accepted.{Accepted, nodes}
-use Rattle.nav_nodes.specs.Positions.{place, child-at, slot-at, Within, Branch-at}
+use Rattle.nav_nodes.specs.Positions.{branch-index, child-at, slot-at, Within, Branch-at}
 use Rattle.nav_nodes.specs.FoundBranch.{node-count}
 use Rattle.nav_branches.specs.Below.{On-level}
 use Rattle.nav_branches.specs.Paths.{standing}
@@ -38,7 +38,7 @@ pub record More-leaves (s : Bytes) (f : Frame) (m d skip : ℕ) : Type 0 where
 
 -- The branch with skip leaves before it lies in the range: at its low branch or behind it, and before its high label.
 pub record Ranges (s : Bytes) (f : Frame) (m d skip : ℕ) (r : Range) : Type 0 where
-  pub first-at : Branch-at s f m (place s f m 0) (r .first .0)
+  pub first-at : Branch-at s f m (branch-index s f m 0) (r .first .0)
   -- the low branch is the first one from this label on
   pub from : ℕ
   pub low-is : Branch-from s f m from (r .low)
@@ -66,9 +66,9 @@ pub record Takes (s : Bytes) (f : Frame) (m d skip : ℕ) (r : Range) : Type 0 w
   pub single : r .high ≡ r .low .label + 1
 
 -- The path ends at the leaf at the place: that leaf and those behind the path are the leaves from the place on.
-pub record Leads (s : Bytes) (f : Frame) (place : ℕ) (e : PathEnd) : Type 0 where
+pub record Leads (s : Bytes) (f : Frame) (branch-index : ℕ) (e : PathEnd) : Type 0 where
   pub ends : Ends s f (e .path .nodes) (e .depth) (e .stop)
   -- the path has room for 64 nodes and labels
   pub nodes-room : length (e .path .nodes) ≡ 64
   pub labels-room : length (e .path .labels) ≡ 64
-  pub leaves-are : drop place (read-leaves s) ≡ standing (f .width) (nodes s f) (e .path .nodes) (e .path .labels) (e .depth) (e .stop)
+  pub leaves-are : drop branch-index (read-leaves s) ≡ standing (f .width) (nodes s f) (e .path .nodes) (e .path .labels) (e .depth) (e .stop)

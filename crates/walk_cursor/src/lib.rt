@@ -20,7 +20,7 @@ use walk_path::moves::first_behind;
 pub mod branch; // branch.rt: the branch of a node before which so many of its leaves stand
 pub mod descent; // descent.rt: the path from the root to the leaf at a place
 pub mod locate; // locate.rt: the cursor at a place, straight from the root
-pub mod values; // values.rt: a leaf by value, with zeros in the place of what it does not settle
+pub mod values; // values.rt: a leaf by value, with zeros for what it does not settle
 
 // A place of a walk: the path to the leaf, whose labels are the cut key, what is kept of its levels, and the leaf's number in key order. Behind the last leaf the path ends nowhere.
 pub struct Cursor {

@@ -14,7 +14,7 @@ fn suffix_number(suffix: usize, width: usize) -> usize
     suffix % (1usize << width)
 }
 
-// The leaf, with zeros in the place of what stands behind its cut key and above its suffix bits.
+// The leaf, with zeros for what stands behind its cut key and above its suffix bits.
 pub fn padded(l: Leaf) -> Leaf
     requires { ⌜ Sized l ⌝ }
     ensures { λ r. ⌜ r ≡ value-of (leaf-of l) ⌝ }

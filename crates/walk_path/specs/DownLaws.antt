@@ -15,7 +15,7 @@ use Rattle.nav_nodes.specs.declared.BranchKind.the-variants as Kind
 use Rattle.nav_branches.specs.declared.LeafStop.the-variants as Stop
 use Rattle.nav_nodes.specs.declared.NextBranch.{NextBranch}
 use Rattle.nav_nodes.specs.Accepted.{Accepted, nodes}
-use Rattle.nav_nodes.specs.Positions.{place, child-at, slot-at}
+use Rattle.nav_nodes.specs.Positions.{branch-index, child-at, slot-at}
 use Rattle.nav_nodes.specs.NextBranch.{Named-branch, Next-branch}
 use Rattle.nav_nodes.specs.NumberBounds.{child-range}
 use Rattle.nav_branches.specs.Below.{On-level, level-branch}
@@ -71,7 +71,7 @@ module _ (s : Bytes) (f : Frame) (a : Accepted s f) (ns₀ : List ℕ) (cut₀ :
   pub goes-small : (b .at .0 < 4294967296) × (c < 4294967296)
   goes-small =
       let w = goes-named .at-is in
-      (by-kind (ltb (getD ns d 0) (f .dense .nodes)) refl, omega (arith, g .child-is, w .child-is, child-range (nodes s f) (getD ns d 0) (place s f (getD ns d 0) (b .label)) .1, a .node-total (omega (arith, inside)), a .dense-size, a .sparse-size, a .writable .few-dense, a .writable .few-sparse))
+      (by-kind (ltb (getD ns d 0) (f .dense .nodes)) refl, omega (arith, g .child-is, w .child-is, child-range (nodes s f) (getD ns d 0) (branch-index s f (getD ns d 0) (b .label)) .1, a .node-total (omega (arith, inside)), a .dense-size, a .sparse-size, a .writable .few-dense, a .writable .few-sparse))
     where
       by-kind : (t : Bool) → ltb (getD ns d 0) (f .dense .nodes) ≡ t → b .at .0 < 4294967296
       by-kind true q = omega (arith, goes-named .at-is .within .dense (ltb-true (getD ns d 0) (f .dense .nodes) q) .0, a .dense-size, a .writable .few-dense)
@@ -143,7 +143,7 @@ module _ (s : Bytes) (f : Frame) (a : Accepted s f) (ns₀ : List ℕ) (cut₀ :
 
       -- it is not the root
       pub down-behind : 0 < c
-      down-behind = omega (arith, g .child-is, goes-named .at-is .child-is, child-range (nodes s f) (getD ns d 0) (place s f (getD ns d 0) (b .label)) .0)
+      down-behind = omega (arith, g .child-is, goes-named .at-is .child-is, child-range (nodes s f) (getD ns d 0) (branch-index s f (getD ns d 0) (b .label)) .0)
 
       -- the node last visited on its level is left
       pub down-last : Behind-node s f (getD ns (d + 1) 0) (entry-on (with-entry es d e) (d + 1))

@@ -9,7 +9,7 @@ use Rattle.bits.specs.Bits.{rank, select}
 use Rattle.image.specs.declared.Frame.{Frame}
 use Rattle.nav_nodes.specs.Slots.{node-at}
 use Rattle.nav_nodes.specs.Accepted.{dense-nodes, nodes}
-use Rattle.nav_nodes.specs.Positions.{place}
+use Rattle.nav_nodes.specs.Positions.{branch-index}
 use Rattle.nav_nodes.specs.FoundBranch.{Is-sparse}
 use Rattle.walk_path.specs.declared.entries.Entry.{Entry}
 
@@ -29,7 +29,7 @@ pub record Tells-end (s : Bytes) (f : Frame) (p : ℕ) (r : Bool) : Type 0 where
 -- The known entry p, where it is known, is the one behind the branches of sparse node m with labels below y, and behind the first entry of the node.
 pub record Next-entry (s : Bytes) (f : Frame) (m y p : ℕ) : Type 0 where
   pub sparse : 0 < p → f .dense .nodes ≤ m
-  pub entry-is : 0 < p → p ≡ start-of s f m + bit (is-exact (node-at (nodes s f) m)) + place s f m y
+  pub entry-is : 0 < p → p ≡ start-of s f m + bit (is-exact (node-at (nodes s f) m)) + branch-index s f m y
   pub behind : 0 < p → start-of s f m < p
 
 -- The known entry, where it is known, is the one behind sparse node m, with the child from it on.

@@ -17,7 +17,7 @@ use Rattle.nav_nodes.specs.declared.NextBranch.{NextBranch}
 use Rattle.nav_nodes.specs.Counting.{none-below-zero, labels-below-le}
 use Rattle.nav_nodes.specs.Slots.{node-at}
 use Rattle.nav_nodes.specs.Accepted.{Accepted, nodes}
-use Rattle.nav_nodes.specs.Positions.{branches, place, end-sparse, sole-plain, other-plain, first-exact}
+use Rattle.nav_nodes.specs.Positions.{branches, branch-index, end-sparse, sole-plain, other-plain, first-exact}
 use Rattle.nav_nodes.specs.Tables.{start-found}
 use Rattle.nav_nodes.specs.NextBranch.{Next-branch, Entry-read, sparse-none, sparse-some}
 use Rattle.nav_nodes.specs.FoundBranch.{node-count, First-branch}
@@ -54,7 +54,7 @@ module _ (s : Bytes) (f : Frame) (a : Accepted s f) (m : ℕ) (h : f .dense .nod
 
   -- ---- branches by their entries
 
-  module _ (y p : ℕ) (is : p ≡ start-of s f m + bit (is-exact (node-at (nodes s f) m)) + place s f m y) where
+  module _ (y p : ℕ) (is : p ≡ start-of s f m + bit (is-exact (node-at (nodes s f) m)) + branch-index s f m y) where
     -- it is not behind the next node's first entry
     pub entry-reached : p ≤ start-of s f (m + 1)
     entry-reached = omega (arith, end-sparse s f a m h l, labels-below-le y (branches s f m))
@@ -84,7 +84,7 @@ module _ (s : Bytes) (f : Frame) (a : Accepted s f) (m : ℕ) (h : f .dense .nod
     first-sole n = plain (sole-plain s f a m h l p (start-of s f (m + 1)) is refl (omega arith))
 
     -- an FF that is not alone
-    pub first-marked : getD s (f .sl + p) 0 ≡ 255 → p + 1 < start-of s f (m + 1) → Entry-read s f (p + 1) b → First-branch s f m (record { exact = true; branch = b })
-    first-marked e n r =
+    pub first-extra : getD s (f .sl + p) 0 ≡ 255 → p + 1 < start-of s f (m + 1) → Entry-read s f (p + 1) b → First-branch s f m (record { exact = true; branch = b })
+    first-extra e n r =
         let t = first-exact s f a m h l p (start-of s f (m + 1)) is refl (omega arith) e in
         record { exact-is = sym t; branch-is = next-there 0 (p + 1) (omega (arith, is, ap bit t, none-below-zero (branches s f m))) n b r }

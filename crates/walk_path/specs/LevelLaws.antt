@@ -24,7 +24,7 @@ use Rattle.nav_nodes.specs.Descent.{child-number}
 use Rattle.nav_nodes.specs.NextLabel.{is-there, kind-there, kind-at, there-before, labels-next, label-first}
 use Rattle.nav_nodes.specs.SparsePositions.{matches-at}
 use Rattle.nav_nodes.specs.Accepted.{Accepted, nodes}
-use Rattle.nav_nodes.specs.Positions.{branches, place, child-at, slot-at, Branch-at, end-sparse, rising, branch-sparse, child-sparse, before-sparse, dense-kids}
+use Rattle.nav_nodes.specs.Positions.{branches, branch-index, child-at, slot-at, Branch-at, end-sparse, rising, branch-sparse, child-sparse, before-sparse, dense-kids}
 use Rattle.nav_nodes.specs.FoundBranch.{node-count, First-branch}
 use Rattle.nav_nodes.specs.NextBranch.{Next-branch}
 use Rattle.nav_branches.specs.Paths.{node-on}
@@ -100,7 +100,7 @@ module _ (s : Bytes) (f : Frame) (a : Accepted s f) (m : ℕ) (h : f .dense .nod
   enters-sparse on b n e t =
       let none = none-below-zero (branches s f m) in
       let p = n .branch-is .there (λ q. on .there (sym (n .branch-is .kind-is) ∙ q)) in
-      let is : b .branch .at .0 ≡ start-of s f m + bit (is-exact (node-at (nodes s f) m)) + place s f m 0 = position-is (place s f m 0) (b .branch .at .0) (omega arith) (p .at-is) in
+      let is : b .branch .at .0 ≡ start-of s f m + bit (is-exact (node-at (nodes s f) m)) + branch-index s f m 0 = position-is (branch-index s f m 0) (b .branch .at .0) (omega arith) (p .at-is) in
       let z : b .branch .at .0 ≡ start-of s f m + bit (is-exact (node-at (nodes s f) m)) = omega arith in
       let c : e .child .0 ≡ child-from s f (b .branch .at .0) = t .child-is ∙ ap (child-from s f) (t .entry-is) ∙ sym child-first ∙ ap (child-from s f) (sym z) in
       record {
@@ -112,26 +112,26 @@ module _ (s : Bytes) (f : Frame) (a : Accepted s f) (m : ℕ) (h : f .dense .nod
 
   -- behind the branch with label x
   module _ (b : NextBranch) (is : Next-branch s f m (b .label) (b .kind) (b .label) (b .at .0)) (there : b .kind ≡ Kind.Absent → ⊥) where
-    before : place s f m (b .label) < length (branches s f m)
-    before = go (ltb (place s f m (b .label)) (length (branches s f m))) refl
+    before : branch-index s f m (b .label) < length (branches s f m)
+    before = go (ltb (branch-index s f m (b .label)) (length (branches s f m))) refl
       where
-        go : (t : Bool) → ltb (place s f m (b .label)) (length (branches s f m)) ≡ t → place s f m (b .label) < length (branches s f m)
-        go true e = ltb-true (place s f m (b .label)) (length (branches s f m)) e
-        go false e = absurd (there (none (b .kind) (ap is-there (is .kind-is) ∙ there-before (branches s f m) (place s f m (b .label)) ∙ e)))
+        go : (t : Bool) → ltb (branch-index s f m (b .label)) (length (branches s f m)) ≡ t → branch-index s f m (b .label) < length (branches s f m)
+        go true e = ltb-true (branch-index s f m (b .label)) (length (branches s f m)) e
+        go false e = absurd (there (none (b .kind) (ap is-there (is .kind-is) ∙ there-before (branches s f m) (branch-index s f m (b .label)) ∙ e)))
           where
             none : (k : BranchKind) → is-there k ≡ false → k ≡ Kind.Absent
             none Kind.Absent q = refl
             none Kind.Leaf q = absurd (true≢false q)
             none Kind.Child q = absurd (true≢false q)
 
-    entry-here : b .at .0 ≡ start-of s f m + bit (is-exact (node-at (nodes s f) m)) + place s f m (b .label)
-    entry-here = position-is (place s f m (b .label)) (b .at .0) (omega (arith, before)) (is .there there .at-is)
+    entry-here : b .at .0 ≡ start-of s f m + bit (is-exact (node-at (nodes s f) m)) + branch-index s f m (b .label)
+    entry-here = position-is (branch-index s f m (b .label)) (b .at .0) (omega (arith, before)) (is .there there .at-is)
 
     -- stands the entry of the labels above x
     pub next-behind : Next-entry s f m (b .label + 1) (b .at .0 + 1)
     next-behind =
-        let same : eqb (b .label) (getD (map label-of (branches s f m)) (place s f m (b .label)) 0) ≡ true = eq-eqb (b .label) _ (is .there there .label-is ∙ sym (label-first (branches s f m) (place s f m (b .label)) before)) in
-        let one = ap bit (matches-at (b .label) (branches s f m) (place s f m (b .label)) before ∙ same) in
+        let same : eqb (b .label) (getD (map label-of (branches s f m)) (branch-index s f m (b .label)) 0) ≡ true = eq-eqb (b .label) _ (is .there there .label-is ∙ sym (label-first (branches s f m) (branch-index s f m (b .label)) before)) in
+        let one = ap bit (matches-at (b .label) (branches s f m) (branch-index s f m (b .label)) before ∙ same) in
         record {
           sparse = λ z. h;
           entry-is = λ z. omega (arith, entry-here, labels-next (b .label) (branches s f m) (rising s f a m h l), one);
@@ -141,7 +141,7 @@ module _ (s : Bytes) (f : Frame) (a : Accepted s f) (m : ℕ) (h : f .dense .nod
     -- and the child from it on is the next one where the branch continues
     pub child-behind : child-from s f (b .at .0 + 1) ≡ child-at s f m (b .at .0) + continues (b .kind)
     child-behind =
-        let i : ℕ = place s f m (b .label) in
+        let i : ℕ = branch-index s f m (b .label) in
         let c : bit-at (drop (f .sc) s) (b .at .0) ≡ bit (getD (map has-child (branches s f m)) i false) = ap (bit-at (drop (f .sc) s)) entry-here ∙ child-sparse s f a m h l (start-of s f m + bit (is-exact (node-at (nodes s f) m))) refl i before in
         let k : continues (b .kind) ≡ bit (getD (map has-child (branches s f m)) i false) = ap continues (is .kind-is ∙ kind-at (branches s f m) i before) ∙ counted (getD (map has-child (branches s f m)) i false) in
         omega (arith, c, k, child-sparse-at (b .at .0), rank-next (drop (f .sc) s) (b .at .0))
@@ -157,8 +157,8 @@ pub left-behind : (s : Bytes) (f : Frame) (a : Accepted s f) (ns es : List ℕ) 
     → Behind-node s f (getD ns d 0) (entry-on es d)
 left-behind s f a ns es d y inside t b n gone =
     let m : ℕ = getD ns d 0 in
-    let none : ltb (place s f m y) (length (branches s f m)) ≡ false = sym (there-before (branches s f m) (place s f m y)) ∙ ap is-there (sym (n .kind-is) ∙ gone) in
-    let end : place s f m y ≡ length (branches s f m) = omega (arith, ltb-false (place s f m y) (length (branches s f m)) none, labels-below-le y (branches s f m)) in
+    let none : ltb (branch-index s f m y) (length (branches s f m)) ≡ false = sym (there-before (branches s f m) (branch-index s f m y)) ∙ ap is-there (sym (n .kind-is) ∙ gone) in
+    let end : branch-index s f m y ≡ length (branches s f m) = omega (arith, ltb-false (branch-index s f m y) (length (branches s f m)) none, labels-below-le y (branches s f m)) in
     record {
       sparse = t .next .sparse;
       entry-is = λ h. omega (arith, t .next .entry-is h, end-sparse s f a m (t .next .sparse h) inside);

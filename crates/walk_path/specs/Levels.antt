@@ -15,7 +15,7 @@ use Rattle.nav_branches.specs.declared.LeafStop.the-variants as Stop
 use Rattle.nav_branches.specs.declared.Path.{Path}
 use Rattle.nav_nodes.specs.Accepted.{Accepted, nodes}
 use Rattle.nav_nodes.specs.NextLabel.{first-kind}
-use Rattle.nav_nodes.specs.Positions.{branches, place, child-at}
+use Rattle.nav_nodes.specs.Positions.{branches, branch-index, child-at}
 use Rattle.nav_nodes.specs.FoundBranch.{node-count, First-branch}
 use Rattle.nav_branches.specs.Paths.{onward}
 use Rattle.nav_branches.specs.PathSteps.{Has-branch}
@@ -103,7 +103,7 @@ pub record Behind-taken (f : Frame) (m : ℕ) (b : NextBranch) (c : ℕ) (e : En
 -- Node m is one of the image's, and has a branch.
 pub record On-node (s : Bytes) (f : Frame) (m : ℕ) : Type 0 where
   pub inside : m < node-count f
-  pub there : first-kind (drop (place s f m 0) (branches s f m)) ≡ Kind.Absent → ⊥
+  pub there : first-kind (drop (branch-index s f m 0) (branches s f m)) ≡ Kind.Absent → ⊥
 
 -- Node m is entered: its first branch, the entry and the child there.
 pub record Enters (s : Bytes) (f : Frame) (m : ℕ) (r : Entered) : Type 0 where

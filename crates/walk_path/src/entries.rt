@@ -26,7 +26,7 @@ use nav_nodes::ranks::label_rank;
 use nav_nodes::ranks::node_start;
 
 // The extra label of an exact leaf, as a number.
-const MARK: usize = EXTRA_LABEL as usize;
+const EXTRA: usize = EXTRA_LABEL as usize;
 
 // A sparse entry, and the node to which the first continuing entry from it on leads.
 pub struct Entry {
@@ -73,7 +73,7 @@ pub fn first_at(image: &[u8], f: Frame, m: NodeNum, at: BitPos) -> FirstBranch
         return first_branch(image, f, m);
     }
     let first = branch_at(image, f, at);
-    if first.label == MARK {
+    if first.label == EXTRA {
         if goes_on(image, f, BitPos(at.0 + 1)) {
             return FirstBranch {
                 exact: true,

@@ -3,7 +3,7 @@
 ghost use mathlib.Core.Path.{_≡_};
 ghost use Rattle.spec.specs.Nodes.{read-leaves};
 ghost use Rattle.spec.specs.WalkRecords.{kind-byte, walk-records};
-ghost use Rattle.bits.specs.Bits.{placed};
+ghost use Rattle.bits.specs.Bits.{overlaid};
 ghost use Rattle.image.specs.Outcomes.{outcome};
 ghost use Rattle.walk_cursor.specs.LeafValues.{value-record};
 ghost use Rattle.walk.specs.Filling.{Fills};
@@ -41,7 +41,7 @@ fn kind_byte(exact: bool) -> u8
 // A leaf's record goes to out from at, and all else stays.
 fn write_record(out: &mut [u8], at: usize, l: Leaf)
     requires { ⌜ Room (now out) at l ⌝ }
-    ensures { λ _. ⌜ now (out .exit) ≡ placed (now (out .entry)) at (value-record l) ⌝ }
+    ensures { λ _. ⌜ now (out .exit) ≡ overlaid (now (out .entry)) at (value-record l) ⌝ }
 {
     let cut = l.cut;
     out[at] = kind_byte(l.exact);

@@ -25,7 +25,7 @@ returns-2 : tie.Need-returns-2
 returns-2 c =
     let e = c .before .before in
     let b = e .before .before .before in
-    replied-number (b .args .image .now) (QB (b .args .stem .now)) (stem-keys (b .args .stem .now) ∙ key-fits (b .args .stem .now) (e .if1 .left)) (c .before .accepted-frame .result) (c .before .accepted-frame .ensures) _ (c .begins-with .ensures ∙ sym (ap (λ (r : Reply). r .number) (begins-reply (c .before .accepted-frame .result .hash) (read-leaves (b .args .image .now)) (b .args .stem .now))))
+    replied-number (b .args .image .now) (QB (b .args .stem .now)) (stem-keys (b .args .stem .now) ∙ key-fits (b .args .stem .now) (e .if1 .left)) (c .before .accepted-frame .result) (c .before .accepted-frame .ensures) _ (c .begins-with .ensures ∙ sym (ap (λ (r : Reply). r .number) (begins-reply (c .before .accepted-frame .result .«hash_width») (read-leaves (b .args .image .now)) (b .args .stem .now))))
 
 pub begins-with-spec : {M : Type 1} → statement M
 begins-with-spec =

@@ -34,7 +34,7 @@ returns-2 c =
     let d = c .before .before .before in
     let b = d .before .before .before .before in
     let e = sym (d .bounds-refusal .ensures) ∙ c .before .before .if1 .left in
-    replied-number (b .args .image .now) (QC (b .args .lo .now) (b .args .hi .now)) (count-keys (b .args .lo .now) (b .args .hi .now) ∙ e) (c .before .accepted-frame .result) (c .before .accepted-frame .ensures) _ (c .count .ensures ∙ sym (ap (λ (r : Reply). r .number) (count-reply (c .before .accepted-frame .result .hash) (read-leaves (b .args .image .now)) (b .args .lo .now) (b .args .hi .now))))
+    replied-number (b .args .image .now) (QC (b .args .lo .now) (b .args .hi .now)) (count-keys (b .args .lo .now) (b .args .hi .now) ∙ e) (c .before .accepted-frame .result) (c .before .accepted-frame .ensures) _ (c .count .ensures ∙ sym (ap (λ (r : Reply). r .number) (count-reply (c .before .accepted-frame .result .«hash_width») (read-leaves (b .args .image .now)) (b .args .lo .now) (b .args .hi .now))))
 
 pub count-spec : {M : Type 1} → statement M
 count-spec =

@@ -34,7 +34,7 @@ returns-2 c =
     let d = c .before .before .before in
     let b = d .before .before .before .before in
     let e = sym (d .bounds-refusal .ensures) ∙ c .before .before .if1 .left in
-    replied-number (b .args .image .now) (QR (b .args .lo .now) (b .args .hi .now)) (range-keys (b .args .lo .now) (b .args .hi .now) ∙ e) (c .before .accepted-frame .result) (c .before .accepted-frame .ensures) _ (c .range .ensures ∙ sym (ap (λ (r : Reply). r .number) (range-reply (c .before .accepted-frame .result .hash) (read-leaves (b .args .image .now)) (b .args .lo .now) (b .args .hi .now))))
+    replied-number (b .args .image .now) (QR (b .args .lo .now) (b .args .hi .now)) (range-keys (b .args .lo .now) (b .args .hi .now) ∙ e) (c .before .accepted-frame .result) (c .before .accepted-frame .ensures) _ (c .range .ensures ∙ sym (ap (λ (r : Reply). r .number) (range-reply (c .before .accepted-frame .result .«hash_width») (read-leaves (b .args .image .now)) (b .args .lo .now) (b .args .hi .now))))
 
 pub range-spec : {M : Type 1} → statement M
 range-spec =

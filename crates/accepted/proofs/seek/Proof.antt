@@ -19,8 +19,8 @@ returns c =
 accepted-frame-requires : tie.Need-accepted-frame-requires
 accepted-frame-requires c κs = search needs
 
-level-starts-requires : tie.Need-level-starts-requires
-level-starts-requires c κs = search needs
+empty-key-sum-requires : tie.Need-empty-key-sum-requires
+empty-key-sum-requires c κs = search needs
 
 slice-aggregate-seek-reply : tie.Need-slice-aggregate-seek-reply
 slice-aggregate-seek-reply c = search needs
@@ -67,7 +67,7 @@ seek-spec =
     (tie.spec
     returns
     accepted-frame-requires
-    level-starts-requires
+    empty-key-sum-requires
     slice-aggregate-seek-reply
     seek-reply-requires
     cast-found

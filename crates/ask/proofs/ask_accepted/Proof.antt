@@ -59,7 +59,7 @@ returns-3 c =
     let a = c .before .before .before .before .before .before .before .before .before .before .before .before .before .args in
     let p = c .before .before .before .before .before .before .before .before .before .before .before .before .before .pre in
     let t = file-taken (a .questions .now) _ (sym (c .before .before .before .before .before .before .before .count .given .1) ∙ c .before .before .before .before .before .before .before .before .before .judge-file .ensures) in
-    let room = leb-true (length (file-replies (a .f .hash) (a .image .now) (a .questions .now))) (length (a .replies .now)) (sym (c .before .before .before .before .before .replies-fit .ensures) ∙ not-false _ (c .before .before .before .before .if1 .left)) in
+    let room = leb-true (length (file-replies (a .f .«hash_width») (a .image .now) (a .questions .now))) (length (a .replies .now)) (sym (c .before .before .before .before .before .replies-fit .ensures) ∙ not-false _ (c .before .before .before .before .if1 .left)) in
     let w = c .before .before .write-replies .ensures in
     let h = hash-read (a .image .now) (a .f) (p .0) in
     sym (ask-joined (a .image .now) (a .questions .now) (a .replies .now) .answered (questions-of (a .questions .now)) _ _ (p .1) (t .0) (rw h (w .sized)) (omega (arith, w .sized, room)) (rw h (w .bytes)))

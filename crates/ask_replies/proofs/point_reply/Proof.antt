@@ -40,7 +40,7 @@ returns c =
     let k = s .args .key .now in
     let w = s .pre .0 in (
       record { small = omega arith; buffer = length-set k 0 (n .rule-number .result) ∙ s .pre .2 },
-      point-answered (s .args .f .hash) (read-leaves (s .args .image .now)) (w .realizable) (w .well-sized) (s .args .point .now) (s .pre .1) _ (set k 0 (n .rule-number .result)) refl (c .rule-says .ensures ∙ ap rule-says (d .descend .ensures)) refl
+      point-answered (s .args .f .«hash_width») (read-leaves (s .args .image .now)) (w .realizable) (w .well-sized) (s .args .point .now) (s .pre .1) _ (set k 0 (n .rule-number .result)) refl (c .rule-says .ensures ∙ ap rule-says (d .descend .ensures)) refl
           (front k (n .rule-number .result) (omega (arith, s .pre .2)) ∙ ap (λ (x : ℕ). x ∷ []) (n .rule-number .ensures ∙ ap rule-number (d .descend .ensures))),
     )
 

@@ -74,7 +74,7 @@ returns c =
     let a = c .before .before .before .before .before .before .before .before .before .before .before .args in
     let g = c .before .before .before .before .before .before .question .given in
     let r = c .before .before .point-reply .ensures in
-    (r .0, r .1 ∙ point-matched (a .f .hash) (read-leaves (a .image .now)) (a .file .now) (g .0 .0) (g .0 .1 .0) _ (c .before .before .before .before .key-at .ensures .0) ∙ reply-matched (a .f .hash) (read-leaves (a .image .now)) (a .file .now) (g .1))
+    (r .0, r .1 ∙ point-matched (a .f .«hash_width») (read-leaves (a .image .now)) (a .file .now) (g .0 .0) (g .0 .1 .0) _ (c .before .before .before .before .key-at .ensures .0) ∙ reply-matched (a .f .«hash_width») (read-leaves (a .image .now)) (a .file .now) (g .1))
 
 same-length-2 : tie.Need-same-length-2
 same-length-2 c = search needs
@@ -84,7 +84,7 @@ returns-2 c =
     let a = c .before .before .before .before .before .before .before .before .before .before .before .args in
     let g = c .before .before .before .before .before .before .question2 .given in
     let r = c .before .before .seek-reply .ensures in
-    (r .0, r .1 ∙ seek-matched (a .f .hash) (read-leaves (a .image .now)) (a .file .now) (g .0 .0) (g .0 .1 .0) _ (c .before .before .before .before .key-at2 .ensures .0) ∙ reply-matched (a .f .hash) (read-leaves (a .image .now)) (a .file .now) (g .1))
+    (r .0, r .1 ∙ seek-matched (a .f .«hash_width») (read-leaves (a .image .now)) (a .file .now) (g .0 .0) (g .0 .1 .0) _ (c .before .before .before .before .key-at2 .ensures .0) ∙ reply-matched (a .f .«hash_width») (read-leaves (a .image .now)) (a .file .now) (g .1))
 
 returns-3 : tie.Need-returns-3
 returns-3 c =
@@ -92,7 +92,7 @@ returns-3 c =
     let a = s .args in
     let g = c .before .before .before .before .question3 .given in
     let t = c .keyless in
-    (keyless-sized (t .result) (a .key .now) (t .ensures .0) (s .pre .3), keyless-of (t .result) (a .key .now) (t .ensures .0) (t .ensures .1) ∙ begins-keyless (a .f .hash) (read-leaves (a .image .now)) (a .file .now) (g .0 .0) (g .0 .1 .0) _ (c .before .before .key-at3 .ensures .0) _ (c .before .begins-with .ensures) ∙ reply-matched (a .f .hash) (read-leaves (a .image .now)) (a .file .now) (g .1))
+    (keyless-sized (t .result) (a .key .now) (t .ensures .0) (s .pre .3), keyless-of (t .result) (a .key .now) (t .ensures .0) (t .ensures .1) ∙ begins-keyless (a .f .«hash_width») (read-leaves (a .image .now)) (a .file .now) (g .0 .0) (g .0 .1 .0) _ (c .before .before .key-at3 .ensures .0) _ (c .before .begins-with .ensures) ∙ reply-matched (a .f .«hash_width») (read-leaves (a .image .now)) (a .file .now) (g .1))
 
 returns-4 : tie.Need-returns-4
 returns-4 c =
@@ -100,7 +100,7 @@ returns-4 c =
     let a = s .args in
     let g = c .before .before .before .before .before .question4 .given in
     let t = c .keyless2 in
-    (keyless-sized (t .result) (a .key .now) (t .ensures .0) (s .pre .3), keyless-of (t .result) (a .key .now) (t .ensures .0) (t .ensures .1) ∙ range-keyless (a .f .hash) (read-leaves (a .image .now)) (a .file .now) (g .0 .0) (g .0 .1 .0) _ (c .before .before .before .key-at4 .ensures .0) (g .0 .1 .1 .0) (g .0 .1 .1 .1 .0) _ (c .before .before .key-at5 .ensures .0) _ (c .before .range .ensures) ∙ reply-matched (a .f .hash) (read-leaves (a .image .now)) (a .file .now) (g .1))
+    (keyless-sized (t .result) (a .key .now) (t .ensures .0) (s .pre .3), keyless-of (t .result) (a .key .now) (t .ensures .0) (t .ensures .1) ∙ range-keyless (a .f .«hash_width») (read-leaves (a .image .now)) (a .file .now) (g .0 .0) (g .0 .1 .0) _ (c .before .before .before .key-at4 .ensures .0) (g .0 .1 .1 .0) (g .0 .1 .1 .1 .0) _ (c .before .before .key-at5 .ensures .0) _ (c .before .range .ensures) ∙ reply-matched (a .f .«hash_width») (read-leaves (a .image .now)) (a .file .now) (g .1))
 
 returns-5 : tie.Need-returns-5
 returns-5 c =
@@ -108,7 +108,7 @@ returns-5 c =
     let a = s .args in
     let g = c .before .before .before .before .before .question5 .given in
     let t = c .keyless3 in
-    (keyless-sized (t .result) (a .key .now) (t .ensures .0) (s .pre .3), keyless-of (t .result) (a .key .now) (t .ensures .0) (t .ensures .1) ∙ count-keyless (a .f .hash) (read-leaves (a .image .now)) (a .file .now) (g .0 .0) (g .0 .1 .0) _ (c .before .before .before .key-at6 .ensures .0) (g .0 .1 .1 .0) (g .0 .1 .1 .1 .0) _ (c .before .before .key-at7 .ensures .0) _ (c .before .count .ensures) ∙ reply-matched (a .f .hash) (read-leaves (a .image .now)) (a .file .now) (g .1))
+    (keyless-sized (t .result) (a .key .now) (t .ensures .0) (s .pre .3), keyless-of (t .result) (a .key .now) (t .ensures .0) (t .ensures .1) ∙ count-keyless (a .f .«hash_width») (read-leaves (a .image .now)) (a .file .now) (g .0 .0) (g .0 .1 .0) _ (c .before .before .before .key-at6 .ensures .0) (g .0 .1 .1 .0) (g .0 .1 .1 .1 .0) _ (c .before .before .key-at7 .ensures .0) _ (c .before .count .ensures) ∙ reply-matched (a .f .«hash_width») (read-leaves (a .image .now)) (a .file .now) (g .1))
 
 pub reply-to-spec : {M : Type 1} → statement M
 reply-to-spec =

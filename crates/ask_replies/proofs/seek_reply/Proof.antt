@@ -32,7 +32,7 @@ returns c =
     let k = c .before .before .before .before .before in
     let s = entered k in
     let t = c .keyless in
-    (keyless-sized (t .result) _ (t .ensures .0) (k .seek .ensures .1), keyless-of (t .result) _ (t .ensures .0) (t .ensures .1) ∙ none-sought (s .args .f .hash) (read-leaves (s .args .image .now)) (s .args .start .now) (k .seek .result .leaf) _ (k .seek .ensures .0 .answer) (c .before .enum-told .given .1))
+    (keyless-sized (t .result) _ (t .ensures .0) (k .seek .ensures .1), keyless-of (t .result) _ (t .ensures .0) (t .ensures .1) ∙ none-sought (s .args .f .«hash_width») (read-leaves (s .args .image .now)) (s .args .start .now) (k .seek .result .leaf) _ (k .seek .ensures .0 .answer) (c .before .enum-told .given .1))
 
 same-length-2 : tie.Need-same-length-2
 same-length-2 c = search needs
@@ -43,7 +43,7 @@ returns-2 c =
     let s = entered k in
     let leaf = c .before .leaf .given in
     let number : ℕ = leaf .0 .0 in
-    (record { small = k .seek .ensures .0 .key-in; buffer = k .seek .ensures .1 }, some-sought (s .args .f .hash) (read-leaves (s .args .image .now)) (s .args .start .now) (k .seek .result .leaf) _ (k .seek .ensures .0 .answer) number (leaf .1))
+    (record { small = k .seek .ensures .0 .key-in; buffer = k .seek .ensures .1 }, some-sought (s .args .f .«hash_width») (read-leaves (s .args .image .now)) (s .args .start .now) (k .seek .result .leaf) _ (k .seek .ensures .0 .answer) number (leaf .1))
 
 pub seek-reply-spec : {M : Type 1} → statement M
 seek-reply-spec = tie.close (tie.spec seek-requires enum-told keyless-requires enum-known-leaf same-length returns same-length-2 returns-2)

@@ -7,7 +7,7 @@ use Rattle.check_frame.proofs.frame_at.Statement.{statement}
 use Rattle.check_frame.proofs.frame_at.Tie as tie
 
 add-width : tie.Need-add-width
-add-width c = let s = c .before .pre in omega (arith, s .real, s .hash)
+add-width c = let s = c .before .pre in omega (arith, s .real-range, s .hash-range)
 
 record-starts-requires : tie.Need-record-starts-requires
 record-starts-requires c κs = search needs

@@ -4,7 +4,7 @@ use mathlib.Core.Path.{_≡_, ap, _∙_}
 use native.Mathlib.Omega.{arith}
 use Rattle.spec.specs.Nodes.{read-leaves}
 use Rattle.spec.specs.WalkRecords.{record-size}
-use Rattle.bits.specs.Bits.{placed}
+use Rattle.bits.specs.Bits.{overlaid}
 use Rattle.image.specs.Value.{leaf-of}
 use Rattle.walk.specs.Filling.{Filled, filled-none, filled-length, filled-more, filled-full, filled-done}
 use Rattle.walk_cursor.specs.Stands.{Stands, At-leaf, Is-leaf, cursor-of}
@@ -113,7 +113,7 @@ loop-again c =
       omega (arith, t),
       rw z (c .advance .ensures .stands (a .from .place + l .count) (at-leaf (c .before .before .before .before .before .before .before .before .before .before))),
       filled-more ls (a .from .place) (a .out .now) (l .count) (l .out) (l .inv .2) leaf _ (omega (arith, t)) found
-          (c .before .before .before .before .before .before .write-record .ensures ∙ ap (placed (l .out) (record-size * l .count)) (record-is (a .image .now) (a .from .frame) (at-place b .accepted) (a .from .place + l .count) leaf found (c .before .before .before .before .before .before .before .before .padded .result) (c .before .before .before .before .before .before .before .before .padded .ensures))),
+          (c .before .before .before .before .before .before .write-record .ensures ∙ ap (overlaid (l .out) (record-size * l .count)) (record-is (a .image .now) (a .from .frame) (at-place b .accepted) (a .from .place + l .count) leaf found (c .before .before .before .before .before .before .before .before .padded .result) (c .before .before .before .before .before .before .before .before .padded .ensures))),
     )
 
 mul-result-2 : tie.Need-mul-result-2 Inv-loop μ-loop

@@ -3,7 +3,7 @@ use mathlib.Core.Path.{_≡_, sym, _∙_}
 use native.Mathlib.Omega.{arith}
 use borrow.Author.Needs.{needs}
 use lib.ListN.{length, length-map, length-set}
-use Rattle.walk_cursor.specs.LeafValues.{record-placed}
+use Rattle.walk_cursor.specs.LeafValues.{record-overlaid}
 use Rattle.walk_records.proofs.write_record.Statement.{statement}
 use Rattle.walk_records.proofs.write_record.Tie as tie
 
@@ -49,7 +49,7 @@ returns c =
     let b = c .before .before .before .before .before .before .before .before .before .before .before .before .before in
     let a = b .args in
     let keyed = c .before .before .before .before .before .before .write-bytes in
-    record-placed (a .out .now) (a .at) (a .l) (keyed .last .0) _ (b .pre .within) (cut-length b) (rw (← c .before .before .before .before .before .before .before .before .before .before .kind-byte .ensures) (keyed .ensures)) (c .before .before .write32 .ensures)
+    record-overlaid (a .out .now) (a .at) (a .l) (keyed .last .0) _ (b .pre .within) (cut-length b) (rw (← c .before .before .before .before .before .before .before .before .before .before .kind-byte .ensures) (keyed .ensures)) (c .before .before .write32 .ensures)
 
 pub write-record-spec : {M : Type 1} → statement M
 write-record-spec =

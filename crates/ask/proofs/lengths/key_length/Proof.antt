@@ -36,28 +36,28 @@ returns c =
     let a = c .before .before .before .before .before .before .before .before .before .args in
     let g = c .before .before .before .before .before .question .given in
     let r = c .before .seek-reply in
-    let e = r .ensures .1 ∙ seek-matched (a .f .hash) (read-leaves (a .image .now)) (a .file .now) (g .0 .0) (g .0 .1 .0) _ (c .before .before .before .key-at .ensures .0) ∙ reply-matched (a .f .hash) (read-leaves (a .image .now)) (a .file .now) (g .1) in
-    (reply-key (a .f .hash) (read-leaves (a .image .now)) (a .file .now) (r .result) _ (a .question) (r .ensures .0) e, r .ensures .0 .small)
+    let e = r .ensures .1 ∙ seek-matched (a .f .«hash_width») (read-leaves (a .image .now)) (a .file .now) (g .0 .0) (g .0 .1 .0) _ (c .before .before .before .key-at .ensures .0) ∙ reply-matched (a .f .«hash_width») (read-leaves (a .image .now)) (a .file .now) (g .1) in
+    (reply-key (a .f .«hash_width») (read-leaves (a .image .now)) (a .file .now) (r .result) _ (a .question) (r .ensures .0) e, r .ensures .0 .small)
 
 returns-2 : tie.Need-returns-2
 returns-2 c =
     let a = c .before .before .before .before .args in
-    (point-length (a .f .hash) (read-leaves (a .image .now)) (a .file .now) (c .enum-told .given .1), omega arith)
+    (point-length (a .f .«hash_width») (read-leaves (a .image .now)) (a .file .now) (c .enum-told .given .1), omega arith)
 
 returns-3 : tie.Need-returns-3
 returns-3 c =
     let a = c .before .before .before .before .args in
-    (keyless-matched (a .f .hash) (read-leaves (a .image .now)) (a .file .now) (c .enum-told2 .given .1) tt, omega arith)
+    (keyless-matched (a .f .«hash_width») (read-leaves (a .image .now)) (a .file .now) (c .enum-told2 .given .1) tt, omega arith)
 
 returns-4 : tie.Need-returns-4
 returns-4 c =
     let a = c .before .before .before .before .args in
-    (keyless-matched (a .f .hash) (read-leaves (a .image .now)) (a .file .now) (c .enum-told3 .given .1) tt, omega arith)
+    (keyless-matched (a .f .«hash_width») (read-leaves (a .image .now)) (a .file .now) (c .enum-told3 .given .1) tt, omega arith)
 
 returns-5 : tie.Need-returns-5
 returns-5 c =
     let a = c .before .before .before .before .args in
-    (keyless-matched (a .f .hash) (read-leaves (a .image .now)) (a .file .now) (c .enum-told4 .given .1) tt, omega arith)
+    (keyless-matched (a .f .«hash_width») (read-leaves (a .image .now)) (a .file .now) (c .enum-told4 .given .1) tt, omega arith)
 
 pub key-length-spec : {M : Type 1} → statement M
 key-length-spec =

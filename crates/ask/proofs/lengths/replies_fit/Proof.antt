@@ -26,8 +26,8 @@ returns c =
     let a = c .before .before .before .args in
     let p = c .before .before .before .pre in
     let small = all-small (a .file .now) (λ i. omega (arith, c .before .shared-slice-known2 .given i)) in
-    let most = replies-bound (a .f .hash) (a .f .real) (read-leaves (a .image .now)) (a .file .now) (questions-of (a .file .now)) (real-sized (a .image .now) (a .f) (p .0)) small (p .1) in
-    sym (le-leb (length (file-replies (a .f .hash) (a .image .now) (a .file .now))) (a .room) (omega (arith, p .2, c .if1 .taken, most)))
+    let most = replies-bound (a .f .«hash_width») (a .f .«real_width») (read-leaves (a .image .now)) (a .file .now) (questions-of (a .file .now)) (real-sized (a .image .now) (a .f) (p .0)) small (p .1) in
+    sym (le-leb (length (file-replies (a .f .«hash_width») (a .image .now) (a .file .now))) (a .room) (omega (arith, p .2, c .if1 .taken, most)))
 
 replies-length-requires : tie.Need-replies-length-requires
 replies-length-requires c κs = search needs

@@ -2,7 +2,7 @@
 use mathlib.Core.Path.{sym, ap, _∙_}
 use native.Mathlib.Omega.{arith}
 use Prim.Native.Nat.{ℕ, _+_}
-use Rattle.ask_files.proofs.PlacedLaws.{key-length}
+use Rattle.ask_files.proofs.OverlaidLaws.{key-length}
 use borrow.Author.Needs.{needs}
 use Rattle.ask_files.proofs.reply_bytes.write_answered.Statement.{statement}
 use Rattle.ask_files.proofs.reply_bytes.write_answered.Tie as tie

@@ -1,7 +1,7 @@
 -- The mark, the number and the length byte, one behind the other.
 use native.Mathlib.Omega.{arith}
 use lib.ListN.{length-set}
-use Rattle.ask_files.proofs.PlacedLaws.{head-placed}
+use Rattle.ask_files.proofs.OverlaidLaws.{head-overlaid}
 use borrow.Author.Needs.{needs}
 use Rattle.ask_files.proofs.reply_bytes.write_head.Statement.{statement}
 use Rattle.ask_files.proofs.reply_bytes.write_head.Tie as tie
@@ -30,7 +30,7 @@ same-length c = simp length-set (omega arith)
 returns : tie.Need-returns
 returns c =
     let a = c .before .before .before .before .before .before .before .before .before .args in
-    head-placed (a .out .now) _ _ (a .at) (a .letter) (a .number) (a .n) (c .before .before .before .before .before .before .before .before .before .pre .0) (c .before .before .before .before .before .before .write-mark .ensures) (c .before .before .write32 .ensures)
+    head-overlaid (a .out .now) _ _ (a .at) (a .letter) (a .number) (a .n) (c .before .before .before .before .before .before .before .before .before .pre .0) (c .before .before .before .before .before .before .write-mark .ensures) (c .before .before .write32 .ensures)
 
 pub write-head-spec : {M : Type 1} → statement M
 write-head-spec =

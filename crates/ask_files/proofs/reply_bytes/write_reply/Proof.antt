@@ -1,6 +1,6 @@
 -- The key behind the first eight bytes.
 use mathlib.Core.Path.{refl}
-use Rattle.ask_files.proofs.PlacedLaws.{reply-placed}
+use Rattle.ask_files.proofs.OverlaidLaws.{reply-overlaid}
 use borrow.Author.Needs.{needs}
 use Rattle.ask_files.proofs.reply_bytes.write_reply.Statement.{statement}
 use Rattle.ask_files.proofs.reply_bytes.write_reply.Tie as tie
@@ -26,7 +26,7 @@ same-length c = search needs
 returns : tie.Need-returns
 returns c =
     let a = c .before .before .before .before .before .before .before .before .before .before .args in
-    (refl, reply-placed (a .out .now) _ _ (a .at) (a .letter) (a .number) (a .key .now) (c .before .before .before .before .before .before .before .before .before .before .pre .0) (c .before .before .before .before .before .before .write-head .ensures) (c .before .before .write-bytes .ensures))
+    (refl, reply-overlaid (a .out .now) _ _ (a .at) (a .letter) (a .number) (a .key .now) (c .before .before .before .before .before .before .before .before .before .before .pre .0) (c .before .before .before .before .before .before .write-head .ensures) (c .before .before .write-bytes .ensures))
 
 pub write-reply-spec : {M : Type 1} → statement M
 write-reply-spec =

@@ -32,7 +32,7 @@ total-requires-2 c κs =
     let st = asked (a .st) in
     let r = pre .0 in
     let counted = c .before .before .before .count-levels in
-    (omega arith, node-sums (a .list .now) st r _ (counted .ensures) (a .st .levels) counters (omega arith))
+    (omega arith, node-sums (a .list .now) st r _ (counted .ensures) (a .st .«dense_levels») counters (omega arith))
 
 total-requires-3 : tie.Need-total-requires-3
 total-requires-3 c κs =
@@ -41,7 +41,7 @@ total-requires-3 c κs =
     let st = asked (a .st) in
     let r = pre .0 in
     let counted = c .before .before .before .before .before .count-levels in
-    (omega arith, entry-sums (a .list .now) st r _ (counted .ensures) (a .st .levels) counters (omega arith))
+    (omega arith, entry-sums (a .list .now) st r _ (counted .ensures) (a .st .«dense_levels») counters (omega arith))
 
 record-starts-requires : tie.Need-record-starts-requires
 record-starts-requires c κs =

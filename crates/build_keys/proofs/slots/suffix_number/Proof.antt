@@ -38,15 +38,15 @@ returns c =
     let a = start .args in
     let k : Bytes = key (a .s .now) (a .k .at) (a .k .len) in
     let e = c .before .before .before .part .ensures in
-    suffix-is (a .slot .hash) (a .slot .real) (a .cut) _ _ k (start .pre .2) (start .pre .3)
-    (c .before .before .hash-number .ensures ∙ ap (λ (x : Bytes). low-first (hash-bits (a .slot .hash) x)) e)
-    (c .before .real-number .ensures ∙ ap (λ (x : Bytes). low-first (bits-behind (a .slot .real) (a .cut) x)) e)
+    suffix-is (a .slot .«hash_width») (a .slot .«real_width») (a .cut) _ _ k (start .pre .2) (start .pre .3)
+    (c .before .before .hash-number .ensures ∙ ap (λ (x : Bytes). low-first (hash-bits (a .slot .«hash_width») x)) e)
+    (c .before .real-number .ensures ∙ ap (λ (x : Bytes). low-first (bits-behind (a .slot .«real_width») (a .cut) x)) e)
 
 add-result : tie.Need-add-result
 add-result c =
     let start = c .before .before .before .before .before in
     let a = start .args in
-    omega (arith, returns c, whole-small (a .slot .hash) (a .slot .real) (a .cut) (key (a .s .now) (a .k .at) (a .k .len)) (start .pre .2) (start .pre .3))
+    omega (arith, returns c, whole-small (a .slot .«hash_width») (a .slot .«real_width») (a .cut) (key (a .s .now) (a .k .at) (a .k .len)) (start .pre .2) (start .pre .3))
 
 pub suffix-number-spec : {M : Type 1} → statement M
 suffix-number-spec =

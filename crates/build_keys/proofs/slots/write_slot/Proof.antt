@@ -25,8 +25,8 @@ level-is : (s : List ℕ) (a n p q b d : ℕ) → a + n ≤ length s → b ≡ p
 level-is s a n p q b d h e f = f ∙ ap₂ (λ (i m : ℕ). leaf-level i q m) e (sym (key-length s a n h))
 
 -- the slot of an open leaf, as computed
-open-slot : (s : List ℕ) (a n p q b c : ℕ) (w : SlotBits) → a + n ≤ length s → b ≡ pred p → c ≡ cut-length b q n → (q ≡ n → ⊥) → suffix-bits (w .hash) (w .real) c (key s a n) ≡ key-slot w (pred p) q (key s a n)
-open-slot s a n p q b c w h e f g = ap (λ (i : ℕ). suffix-bits (w .hash) (w .real) i (key s a n)) (f ∙ ap (λ (i : ℕ). cut-length i q n) e) ∙ slot-open w (pred p) q n (key s a n) (key-length s a n h) g
+open-slot : (s : List ℕ) (a n p q b c : ℕ) (w : SlotBits) → a + n ≤ length s → b ≡ pred p → c ≡ cut-length b q n → (q ≡ n → ⊥) → suffix-bits (w .«hash_width») (w .«real_width») c (key s a n) ≡ key-slot w (pred p) q (key s a n)
+open-slot s a n p q b c w h e f g = ap (λ (i : ℕ). suffix-bits (w .«hash_width») (w .«real_width») i (key s a n)) (f ∙ ap (λ (i : ℕ). cut-length i q n) e) ∙ slot-open w (pred p) q n (key s a n) (key-length s a n h) g
 
 one-less-requires : tie.Need-one-less-requires
 one-less-requires c κs = search needs

@@ -19,7 +19,7 @@ set-wide-number-requires c κs =
     let start = c .before .before .before .before in
     let a = start .args in
     let pre = start .pre in
-    (omega (arith, c .before .suffix-number .ensures, whole-small (a .slot .hash) (a .slot .real) (a .cut) (key (a .s .now) (a .k .at) (a .k .len)) (pre .2) (pre .3)), pre .4)
+    (omega (arith, c .before .suffix-number .ensures, whole-small (a .slot .«hash_width») (a .slot .«real_width») (a .cut) (key (a .s .now) (a .k .at) (a .k .len)) (pre .2) (pre .3)), pre .4)
 
 same-length : tie.Need-same-length
 same-length c = search needs
@@ -29,10 +29,10 @@ returns c =
     let start = c .before .before .before .before .before .before .before in
     let a = start .args in
     let k = key (a .s .now) (a .k .at) (a .k .len) in
-    let bs : Bits = suffix-bits (a .slot .hash) (a .slot .real) (a .cut) k in
+    let bs : Bits = suffix-bits (a .slot .«hash_width») (a .slot .«real_width») (a .cut) k in
     let i : ℕ = a .base .0 in
     c .before .before .set-wide-number .ensures ∙ ap (λ (v : ℕ). with-number (with-number (a .out .now) i (v % 65536)) (i + 16) (v / 65536)) (c .before .before .before .before .suffix-number .ensures)
-    ∙ wide-bits bs i (a .out .now) (whole-short (a .slot .hash) (a .slot .real) (a .cut) k (start .pre .2) (start .pre .3))
+    ∙ wide-bits bs i (a .out .now) (whole-short (a .slot .«hash_width») (a .slot .«real_width») (a .cut) k (start .pre .2) (start .pre .3))
 
 pub write-suffix-spec : {M : Type 1} → statement M
 write-suffix-spec =

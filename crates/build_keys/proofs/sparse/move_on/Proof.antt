@@ -5,7 +5,7 @@ use native.Mathlib.Omega.{arith}
 use borrow.Author.Needs.{needs}
 use Rattle.build_laws.specs.Cursors.{counts}
 use Rattle.build_laws.specs.BytePass.{one-step}
-use Rattle.build_keys.specs.KeyMarks.{blank, blank-more, blank-none}
+use Rattle.build_keys.specs.KeySparseBits.{blank, blank-more, blank-none}
 use Rattle.build_keys.specs.EntryLaws.{To-count, count-next, count-done}
 use mathlib.Core.Bool.{false}
 use mathlib.Core.List.{List, _∷_}
@@ -20,7 +20,7 @@ abbrev μ-loop : tie.MeasureT-loop
 μ-loop cur₀ from to d₀ cur d = to - d
 
 loop-holds : tie.Need-loop-holds Inv-loop μ-loop
-loop-holds c = (omega arith, record { run = refl; room = c .pre })
+loop-holds c = (omega arith, record { final-is = refl; room = c .pre })
 
 next : (d to : ℕ) (cur final : List ℕ) → d < to → To-count one-step (blank d (to - d)) cur final → To-count one-step (emission d false ∷ blank (d + 1) (to - (d + 1))) cur final
 next d to cur final h t = rw (blank-more d to h) at t

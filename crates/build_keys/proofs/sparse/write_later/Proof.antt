@@ -10,7 +10,7 @@ use Rattle.build_laws.specs.BytePass.{byte-state, one-step}
 use Rattle.build_laws.specs.Cursors.{counts}
 use Rattle.build_keys.specs.CountPass.{Counter-room}
 use Rattle.build_laws.specs.PassEmissions.{Key-numbers}
-use Rattle.build_keys.specs.KeyMarks.{blank, later-room, later-cursors, later-cursors-only, later-does, later-none}
+use Rattle.build_keys.specs.KeySparseBits.{blank, later-room, later-cursors, later-cursors-only, later-does, later-none}
 use Rattle.build_keys.proofs.sparse.write_later.Statement.{statement}
 use Rattle.build_keys.proofs.sparse.write_later.Tie as tie
 

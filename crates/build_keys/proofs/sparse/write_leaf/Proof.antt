@@ -5,7 +5,7 @@ use native.Mathlib.Omega.{arith}
 use borrow.Author.Needs.{needs}
 use lib.ListN.{length}
 use Rattle.build_laws.specs.PassEmissions.{Key-numbers}
-use Rattle.build_keys.specs.KeyMarks.{leaf-cursors, leaf-room, leaf-does, leaf-none}
+use Rattle.build_keys.specs.KeySparseBits.{leaf-cursors, leaf-room, leaf-does, leaf-none}
 use Rattle.build_keys.proofs.sparse.write_leaf.Statement.{statement}
 use Rattle.build_keys.proofs.sparse.write_leaf.Tie as tie
 

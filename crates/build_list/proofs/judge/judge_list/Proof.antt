@@ -2,7 +2,7 @@ use mathlib.Core.Path.{_≡_, sym, ap, _∙_, subst}
 use Prim.Native.Nat.{ℕ, _+_, _-_, _≤_}
 use Rattle.bits.specs.Bits.{key}
 use Rattle.build_list.specs.KeyList.{Record-judged, counted, key-list}
-use Rattle.build_list.specs.declared.Record.the-variants.{Key, Refused as Record-refused}
+use Rattle.build_list.specs.declared.KeyRecord.the-variants.{Key, Refused as Record-refused}
 use Rattle.build_list.specs.ListLaws.{judge-start, judge-end, judge-number, judge-more}
 use native.Mathlib.Omega.{arith}
 use borrow.Author.Needs.{needs}

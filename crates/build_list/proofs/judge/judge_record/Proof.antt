@@ -10,7 +10,7 @@ use Rattle.image.specs.Records.{tail-part}
 use Rattle.keys.specs.Order.{order}
 use Rattle.build_list.specs.KeyList.{Record-read}
 use Rattle.keys.proofs.OrderLaws.{order-is-below, order-not-below}
-use Rattle.build_list.specs.declared.Record.the-variants.{Key, Refused as Record-refused}
+use Rattle.build_list.specs.declared.KeyRecord.the-variants.{Key, Refused as Record-refused}
 use borrow.Author.Needs.{needs}
 use Rattle.build_list.proofs.judge.judge_record.Statement.{statement}
 use Rattle.build_list.proofs.judge.judge_record.Tie as tie

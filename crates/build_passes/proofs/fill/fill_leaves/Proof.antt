@@ -8,7 +8,7 @@ use Rattle.build_laws.specs.Passes.{entries-pass, key-bytes, pass-keys, Key-roo
 use Rattle.build_passes.specs.ListPass.{Filling, fill-key, fill-reads, fill-done, fill-start}
 use Rattle.build_laws.specs.declared.Kind.the-variants.{SC}
 use Rattle.build_laws.specs.KeyLaws.{key-length}
-use Rattle.build_keys.specs.KeyMarks.{leaves-ask, leaves-written}
+use Rattle.build_keys.specs.KeySparseBits.{leaves-ask, leaves-written}
 use native.Mathlib.Omega.{arith}
 use Rattle.build_passes.proofs.fill.fill_leaves.Statement.{statement}
 use Rattle.build_passes.proofs.fill.fill_leaves.Tie as tie

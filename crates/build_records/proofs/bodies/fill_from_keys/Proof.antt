@@ -27,26 +27,26 @@ returns c =
 clear-requires : tie.Need-clear-requires
 clear-requires c κs = search needs
 
-levels-of-requires : tie.Need-levels-of-requires
-levels-of-requires c κs = search needs
+level-range-requires : tie.Need-level-range-requires
+level-range-requires c κs = search needs
 
-start-levels-requires : tie.Need-start-levels-requires
-start-levels-requires c κs =
+set-offsets-requires : tie.Need-set-offsets-requires
+set-offsets-requires c κs =
     let pre = c .before .before .before .before .before .before .before .before .before .pre in
-    let levels-of = c .before .levels-of in
+    let level-range = c .before .level-range in
     let a = c .before .before .before .before .before .before .before .before .before .args in
-    (refl, sums-small (a .list .now) (a .plan) (pre .planned) (a .body) (a .cnt .now) (pre .counted) (levels-of .result) (levels-of .ensures))
+    (refl, sums-small (a .list .now) (a .plan) (pre .planned) (a .body) (a .cnt .now) (pre .counted) (level-range .result) (level-range .ensures))
 
 write-keys-requires : tie.Need-write-keys-requires
 write-keys-requires c κs =
-    let levels-of-known = c .before .before .before .before .levels-of in
+    let level-range-known = c .before .before .before .before .level-range in
     let a = c .before .before .before .before .before .before .before .before .before .before .before .before .args in
     let pre = c .before .before .before .before .before .before .before .before .before .before .before .before .pre in
     let cleared = c .before .before .before .before .before .before .before .clear in
-    let starts = c .before .before .start-levels in
-    let levels-of = levels-of-known in (
+    let starts = c .before .before .set-offsets in
+    let level-range = level-range-known in (
       (ready-list (a .list .now) (a .plan) (pre .planned), starts .ensures .1, pre .planned .ready .built .hash-range, pre .planned .ready .built .real-range),
-      pass-room (a .list .now) (a .plan) (pre .planned) (a .body) (a .cnt .now) (pre .counted) (levels-of .result) (levels-of .ensures) (starts .last .0) (starts .ensures .1) (starts .ensures .0)
+      pass-room (a .list .now) (a .plan) (pre .planned) (a .body) (a .cnt .now) (pre .counted) (level-range .result) (level-range .ensures) (starts .last .0) (starts .ensures .1) (starts .ensures .0)
           (length (cleared .last .0)) (omega (arith, pre .size, pre .room, cleared .kept .0)),
     )
 
@@ -66,11 +66,11 @@ returns-2 : tie.Need-returns-2
 returns-2 c =
     let a = c .before .before .before .before .before .before .before .before .before .before .before .before .before .before .before .before .before .before .before .before .before .args in
     let pre = c .before .before .before .before .before .before .before .before .before .before .before .before .before .before .before .before .before .before .before .before .before .pre in
-    let levels-of = c .before .before .before .before .before .before .before .before .before .before .before .before .before .levels-of in
-    let starts = c .before .before .before .before .before .before .before .before .before .before .before .start-levels in
+    let level-range = c .before .before .before .before .before .before .before .before .before .before .before .before .before .level-range in
+    let starts = c .before .before .before .before .before .before .before .before .before .before .before .set-offsets in
     let written = c .before .before .before .before .before .before .before .before .write-keys in
     body-again (a .list .now) (a .plan) (pre .planned) (a .body) (drop (a .len) (a .out .now)) (written .last .0) _ (sym (c .before .before .before .before .before .leaves-flipped .ensures) ∙ c .before .before .before .before .if2 .taken)
-    (pass-leaves (a .list .now) (a .plan) (pre .planned) (a .body) (a .cnt .now) (pre .counted) (levels-of .result) (levels-of .ensures) (starts .last .0) (starts .ensures .1) (starts .ensures .0)
+    (pass-leaves (a .list .now) (a .plan) (pre .planned) (a .body) (a .cnt .now) (pre .counted) (level-range .result) (level-range .ensures) (starts .last .0) (starts .ensures .1) (starts .ensures .0)
     (a .len) (drop (a .len) (a .out .now)) _ _ (pre .size) (small-of (written .last .0) (λ i. c .before .before .before .before .before .before .slice-known3 .given i .fits)) (bytes-drop (a .len) (a .out .now) (small-of (a .out .now) (λ i. c .before .before .before .before .before .before .before .before .before .before .before .before .before .before .before .before .before .before .before .before .slice-known .given i .fits)))
     (c .before .before .before .before .before .before .before .before .before .before .before .before .before .before .before .before .clear .ensures) (written .ensures))
     (c .before .before .flip .ensures)
@@ -82,11 +82,11 @@ returns-3 : tie.Need-returns-3
 returns-3 c =
     let a = c .before .before .before .before .before .before .before .before .before .before .before .before .before .before .before .before .before .args in
     let pre = c .before .before .before .before .before .before .before .before .before .before .before .before .before .before .before .before .before .pre in
-    let levels-of = c .before .before .before .before .before .before .before .before .before .levels-of in
-    let starts = c .before .before .before .before .before .before .before .start-levels in
+    let level-range = c .before .before .before .before .before .before .before .before .before .level-range in
+    let starts = c .before .before .before .before .before .before .before .set-offsets in
     let written = c .before .before .before .before .write-keys in
     body-whole (a .list .now) (a .plan) (pre .planned) (a .body) (drop (a .len) (a .out .now)) (written .last .0) (sym (c .before .leaves-flipped .ensures) ∙ c .if2 .left)
-    (pass-leaves (a .list .now) (a .plan) (pre .planned) (a .body) (a .cnt .now) (pre .counted) (levels-of .result) (levels-of .ensures) (starts .last .0) (starts .ensures .1) (starts .ensures .0)
+    (pass-leaves (a .list .now) (a .plan) (pre .planned) (a .body) (a .cnt .now) (pre .counted) (level-range .result) (level-range .ensures) (starts .last .0) (starts .ensures .1) (starts .ensures .0)
     (a .len) (drop (a .len) (a .out .now)) _ _ (pre .size) (small-of (written .last .0) (λ i. c .before .before .slice-known3 .given i .fits)) (bytes-drop (a .len) (a .out .now) (small-of (a .out .now) (λ i. c .before .before .before .before .before .before .before .before .before .before .before .before .before .before .before .before .slice-known .given i .fits)))
     (c .before .before .before .before .before .before .before .before .before .before .before .before .clear .ensures) (written .ensures))
 
@@ -96,8 +96,8 @@ fill-from-keys-spec =
     (tie.spec
     returns
     clear-requires
-    levels-of-requires
-    start-levels-requires
+    level-range-requires
+    set-offsets-requires
     write-keys-requires
     leaves-flipped-requires
     flip-requires

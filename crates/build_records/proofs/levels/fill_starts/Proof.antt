@@ -2,8 +2,8 @@
 use Prim.Native.Nat.{ℕ, _+_, _-_, _≤_}
 use mathlib.Core.Path.{_≡_, refl, sym, ap, _∙_}
 use lib.ListN.{length, getD}
-use Rattle.bits.specs.Bits.{placed}
-use Rattle.bits.specs.Placing.{placed-nil, placed-behind}
+use Rattle.bits.specs.Bits.{overlaid}
+use Rattle.bits.specs.Overlaying.{overlaid-nil, overlaid-behind}
 use Rattle.build_laws.specs.Cursors.{sums, sums-none}
 use Rattle.build_passes.specs.CounterSums.{sums-in, sums-le}
 use Rattle.build_records.specs.LevelRecord.{start-bytes, starts-below, starts-none, starts-more, starts-longer, starts-le, start-length}
@@ -15,7 +15,7 @@ use Rattle.build_records.proofs.levels.fill_starts.Tie as tie
 
 abbrev Inv-loop : tie.InvT-loop
 Inv-loop out₀ nodes first₀ at₀ d₀ out first at d =
-    (d ≤ 64) × (first ≡ sums nodes 0 d) × (at ≡ length (starts-below nodes d)) × (length out ≡ length out₀) × (out ≡ placed out₀ 0 (starts-below nodes d))
+    (d ≤ 64) × (first ≡ sums nodes 0 d) × (at ≡ length (starts-below nodes d)) × (length out ≡ length out₀) × (out ≡ overlaid out₀ 0 (starts-below nodes d))
 
 abbrev μ-loop : tie.MeasureT-loop
 μ-loop out₀ nodes first₀ at₀ d₀ out first at d = 64 - d
@@ -23,7 +23,7 @@ abbrev μ-loop : tie.MeasureT-loop
 loop-holds : tie.Need-loop-holds Inv-loop μ-loop
 loop-holds c =
     let a = c .before .args in
-    (omega arith, sym (sums-none (a .nodes .now) 0), sym (ap length (starts-none (a .nodes .now))), refl, placed-nil (a .out .now) 0 ∙ ap (placed (a .out .now) 0) (sym (starts-none (a .nodes .now))))
+    (omega arith, sym (sums-none (a .nodes .now) 0), sym (ap length (starts-none (a .nodes .now))), refl, overlaid-nil (a .out .now) 0 ∙ ap (overlaid (a .out .now) 0) (sym (starts-none (a .nodes .now))))
 
 mul-count : tie.Need-mul-count Inv-loop μ-loop
 mul-count c = search needs
@@ -74,9 +74,9 @@ loop-again c =
       omega (arith, l .inv .1, sums-in nodes 0 (l .d) (omega arith)),
       omega (arith, c .start-size .ensures, l .inv .2, more),
       omega (arith, start .kept .0, l .inv .3),
-      placed-behind (a .out .now) (l .out) _ (starts-below nodes (l .d)) (start-bytes w (sums nodes 0 (l .d))) 0 (l .at) (omega (arith, l .inv .2)) (omega (arith, c .before .before .before .before .before .before .before .before .before .before .pre .1, l .inv .2, more, room, start-length w (sums nodes 0 (l .d)))) (l .inv .4)
-          (start .ensures ∙ ap (λ (n : ℕ). placed (l .out) (l .at) (start-bytes w n)) (c .before .before .before .before .wide32 .ensures ∙ l .inv .1))
-          ∙ ap (placed (a .out .now) 0) (sym (starts-more nodes (l .d))),
+      overlaid-behind (a .out .now) (l .out) _ (starts-below nodes (l .d)) (start-bytes w (sums nodes 0 (l .d))) 0 (l .at) (omega (arith, l .inv .2)) (omega (arith, c .before .before .before .before .before .before .before .before .before .before .pre .1, l .inv .2, more, room, start-length w (sums nodes 0 (l .d)))) (l .inv .4)
+          (start .ensures ∙ ap (λ (n : ℕ). overlaid (l .out) (l .at) (start-bytes w n)) (c .before .before .before .before .wide32 .ensures ∙ l .inv .1))
+          ∙ ap (overlaid (a .out .now) 0) (sym (starts-more nodes (l .d))),
     )
 
 same-length : tie.Need-same-length Inv-loop μ-loop
@@ -87,7 +87,7 @@ returns c =
     let a = c .before .before .before .args in
     let l = c .before .loop in
     let e : l .d ≡ 64 = omega arith in
-    l .inv .4 ∙ ap (λ (d : ℕ). placed (a .out .now) 0 (starts-below (a .nodes .now) d)) e
+    l .inv .4 ∙ ap (λ (d : ℕ). overlaid (a .out .now) 0 (starts-below (a .nodes .now) d)) e
 
 pub fill-starts-spec : {M : Type 1} → statement M
 fill-starts-spec =

@@ -1,11 +1,11 @@
--- The mark and the length of LV are placed, and its body behind them.
+-- The mark and the length of LV are written, and its body behind them.
 use Prim.Native.Nat.{ℕ, _+_, _-_}
 use mathlib.Core.Path.{_≡_, sym, ap, _∙_}
 use borrow.Rule.Slice.PartMut.{putMid}
 use lib.ListN.{length, drop, length-drop}
 use lib.Seq.{length-take-le}
-use Rattle.bits.specs.Bits.{placed}
-use Rattle.bits.specs.Placing.{placed-nil, lent-placed}
+use Rattle.bits.specs.Bits.{overlaid}
+use Rattle.bits.specs.Overlaying.{overlaid-nil, lent-overlaid}
 use Rattle.build_records.specs.LevelRecord.{starts-below, levels-none, levels-some, levels-length}
 use Rattle.build_records.specs.RecordsWritten.{record-done}
 use borrow.Author.Needs.{needs}
@@ -16,7 +16,7 @@ use Rattle.build_records.proofs.levels.write_levels.Tie as tie
 returns : tie.Need-returns
 returns c =
     let a = c .before .before .args in
-    placed-nil (a .out .now) (a .at) ∙ ap (placed (a .out .now) (a .at)) (sym (levels-none (a .version) (a .nodes .now) (c .if1 .taken)))
+    overlaid-nil (a .out .now) (a .at) ∙ ap (overlaid (a .out .now) (a .at)) (sym (levels-none (a .version) (a .nodes .now) (c .if1 .taken)))
 
 mark-requires : tie.Need-mark-requires
 mark-requires c κs = search needs
@@ -73,8 +73,8 @@ returns-2 c =
     let z : a .at + 6 + 0 ≡ a .at + 6 = omega arith in
     let filled = c .before .before .fill-starts .ensures in
     record-done (a .out .now) o _ 12 (a .at) _ body _ (c .before .before .before .before .before .before .before .before .before .before .mark .ensures) (c .before .before .before .before .before .before .before .starts-size .ensures .0) (omega (arith, room, size)) (begin .ensures)
-    (ap (putMid (a .at + 6) (length o - (a .at + 6)) o) filled ∙ lent-placed o body (a .at + 6) 0 (omega (arith, room, size, begin .kept .0)) ∙ ap (λ (k : ℕ). placed o k body) z)
-    ∙ ap (placed (a .out .now) (a .at)) (sym (levels-some (a .version) (a .nodes .now) (c .before .before .before .before .before .before .before .before .before .before .before .if1 .left)))
+    (ap (putMid (a .at + 6) (length o - (a .at + 6)) o) filled ∙ lent-overlaid o body (a .at + 6) 0 (omega (arith, room, size, begin .kept .0)) ∙ ap (λ (k : ℕ). overlaid o k body) z)
+    ∙ ap (overlaid (a .out .now) (a .at)) (sym (levels-some (a .version) (a .nodes .now) (c .before .before .before .before .before .before .before .before .before .before .before .if1 .left)))
 
 pub write-levels-spec : {M : Type 1} → statement M
 write-levels-spec =

@@ -1,4 +1,4 @@
--- The mark and the length are placed, and the body behind them.
+-- The mark and the length are written, and the body behind them.
 use mathlib.Core.Path.{_≡_, sym, subst, _∙_}
 use mathlib.Core.List.{_++_}
 use lib.ListN.{length}

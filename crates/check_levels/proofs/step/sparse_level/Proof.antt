@@ -9,7 +9,7 @@ use Rattle.bits.specs.PartLaws.{bits-room, lent-part}
 use Rattle.bits.specs.RankLaws.{rank-le}
 use Rattle.image.specs.FrameOf.{within}
 use Rattle.check_levels.specs.Bodies.{dc-body, sc-body, sb-body, bodies-sized, dense-children}
-use Rattle.check_levels.specs.Levels.{entry-within, level-starts, level-children, entry-up, sparse-level}
+use Rattle.check_levels.specs.Levels.{entry-within, level-nodes, level-children, entry-up, sparse-level}
 use borrow.Author.Needs.{needs}
 use Rattle.check_levels.proofs.step.sparse_level.Statement.{statement}
 use Rattle.check_levels.proofs.step.sparse_level.Tie as tie
@@ -59,7 +59,7 @@ select-from-requires c κs =
     rw sb (
       bits-room (a .f .sparse .entries) (sb-body s (a .f)) (bodies-sized s (a .f) (p .0 .frame) .sb),
       entry-within s (a .f) (p .0) (a .from) (p .1),
-      excess .ensures ∙ level-starts s (a .f) (p .0) (a .from) (p .1),
+      excess .ensures ∙ level-nodes s (a .f) (p .0) (a .from) (p .1),
       rw (excess .ensures) (less (a .f .dense .nodes) (p .2 .from)),
     )
 

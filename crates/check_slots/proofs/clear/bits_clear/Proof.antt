@@ -1,4 +1,4 @@
--- The run is the bits before its whole bytes, these, and the bits behind them.
+-- The bits in a row are those before its whole bytes, these, and the bits behind them.
 use mathlib.Core.Path.{ap, ap₂, _∙_}
 use mathlib.Core.Bool.{Bool, _&&_}
 use Prim.Native.Nat.{ℕ, _*_, _/_}

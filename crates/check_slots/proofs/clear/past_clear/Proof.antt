@@ -10,7 +10,7 @@ use Rattle.spec.specs.Bytes.{Bytes}
 use Rattle.check_levels.specs.Positions.{bits}
 use Rattle.check_levels.specs.Ranges.{all-from, from-pass, from-fail, from-step, from-end}
 use Rattle.check_slots.specs.NodeSlots.{slot-clear}
-use Rattle.check_slots.specs.SlotBits.{slots-run, slot-fits, slot-within, slot-behind}
+use Rattle.check_slots.specs.SlotBits.{slots-in-row, slot-fits, slot-within, slot-behind}
 use borrow.Author.Tests.{not-true, not-false}
 use Rattle.check_slots.proofs.clear.past_clear.Statement.{statement}
 use Rattle.check_slots.proofs.clear.past_clear.Tie as tie
@@ -26,8 +26,8 @@ abbrev μ-loop : tie.MeasureT-loop
 μ-loop sv leaves width skip to v₀ v = to .0 - v
 
 -- the slots before one among so many have few bits
-run-fits : {v n w : ℕ} → v ≤ n → n ≤ 65535 → w ≤ 32 → Fits w64 (v * w)
-run-fits {v} {n} {w} h l m = record { fits = omega (arith, mul-le-mul {n₁ = v} {m₁ = w} {n₂ = 65535} {m₂ = 32} (omega arith) m) }
+bits-fit : {v n w : ℕ} → v ≤ n → n ≤ 65535 → w ≤ 32 → Fits w64 (v * w)
+bits-fit {v} {n} {w} h l m = record { fits = omega (arith, mul-le-mul {n₁ = v} {m₁ = w} {n₂ = 65535} {m₂ = 32} (omega arith) m) }
 
 few : {n : ℕ} (a w k : ℕ) → a + w ≤ n → n ≤ 2097120 → k < w → Fits w64 a × Fits w64 (a + k) × Fits w64 (a + w)
 few a w k h l m = (record { fits = omega arith }, record { fits = omega arith }, record { fits = omega arith })
@@ -45,10 +45,10 @@ behind : {w k : ℕ} (a : ℕ) → k < w → a + k ≤ a + w
 behind a h = omega arith
 
 mul-t10 : tie.Need-mul-t10 Inv-loop μ-loop
-mul-t10 c = let p = c .before .before .before .pre in run-fits (room (p .1) (p .2)) (p .0 .few-leaves) (p .0 .narrow)
+mul-t10 c = let p = c .before .before .before .pre in bits-fit (room (p .1) (p .2)) (p .0 .few-leaves) (p .0 .narrow)
 
 mul-t12 : tie.Need-mul-t12 Inv-loop μ-loop
-mul-t12 c = let p = c .before .before .before .before .pre in run-fits (p .2) (p .0 .few-leaves) (p .0 .narrow)
+mul-t12 c = let p = c .before .before .before .before .pre in bits-fit (p .2) (p .0 .few-leaves) (p .0 .narrow)
 
 bits-clear-requires : tie.Need-bits-clear-requires Inv-loop μ-loop
 bits-clear-requires c κs =
@@ -61,7 +61,7 @@ returns c =
     let a = c .before .before .before .before .before .args in
     let p = c .before .before .before .before .before .pre in
     let e = c .before .before .before .if1 .taken in
-    c .bits-clear .ensures ∙ slots-run (a .sv .now) (a .leaves) (a .width) (a .from .0) (a .to .0) (p .1) (p .2)
+    c .bits-clear .ensures ∙ slots-in-row (a .sv .now) (a .leaves) (a .width) (a .from .0) (a .to .0) (p .1) (p .2)
     ∙ ap (λ (k : ℕ). all-from (test (a .sv .now) (a .leaves) (a .width) k) (a .from .0) (a .to .0 - a .from .0)) (sym e)
 
 returns-2 : tie.Need-returns-2 Inv-loop μ-loop

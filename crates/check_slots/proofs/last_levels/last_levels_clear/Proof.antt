@@ -36,7 +36,7 @@ shallow h = (omega arith, omega arith)
 -- level 62 and the one below it
 module _ (s : Bytes) (f : Frame) (j : Passed-to-15 s f) (some : 0 < f .leaves) (l : Level) (a : Level-at s f 62 l) (m : l .node .0 < node-count f) (n : Level) (o : LevelOf s f n) (e : n .node .0 ≡ l .branches + 1) where
   low : (f .dense .levels ≤ 62) × (f .dense .levels ≤ 63)
-  low = shallow (j .frame .levels)
+  low = shallow (j .frame .dense-range)
 
   under : Level-at s f 63 n
   under = level-below s f j some 62 (omega arith) l a m n o e
@@ -50,7 +50,7 @@ module _ (s : Bytes) (f : Frame) (j : Passed-to-15 s f) (some : 0 < f .leaves) (
 find-level-requires : tie.Need-find-level-requires
 find-level-requires c κs =
     let p = c .before .pre in
-    (p .0, p .1, shallow (p .0 .frame .levels) .0, omega arith)
+    (p .0, p .1, shallow (p .0 .frame .dense-range) .0, omega arith)
 
 add-if1 : tie.Need-add-if1
 add-if1 c = let o = c .before .before .before .pre .0 .frame in nodes-fit (o .dense) (o .sparse)
@@ -66,7 +66,7 @@ level-below-requires c κs =
     let a = c .before .before .before .before .before .args in
     let p = c .before .before .before .before .before .pre in
     let r = c .before .before .before .find-level in
-    let low = shallow (p .0 .frame .levels) .0 in (
+    let low = shallow (p .0 .frame .dense-range) .0 in (
       p .0,
       p .1,
       next-behind (a .image .now) (a .f) (p .0) (p .1) 62 (omega arith) (r .result) (r .ensures) (c .if1 .left),
@@ -128,7 +128,7 @@ slots c =
     (c .before .before .before .before .first-slot .ensures ∙ t .0, c .before .before .before .first-slot2 .ensures ∙ t .1)
 
 add-past-clear : tie.Need-add-past-clear
-add-past-clear c = let o = entered (c .before) .pre .0 .frame in omega (arith, o .real, o .hash, o .width)
+add-past-clear c = let o = entered (c .before) .pre .0 .frame in omega (arith, o .real-range, o .hash-range, o .width)
 
 past-clear-requires : tie.Need-past-clear-requires
 past-clear-requires c κs =
@@ -148,7 +148,7 @@ returns-2 c =
     let s = image b in
     let f = frame b in
     ap₂ _&&_ (rw (lent b) at (c .before .past-clear .ensures)) (rw (lent b) at (c .past-clear2 .ensures))
-    ∙ ap₂ (λ (v w : ℕ). all-from (clear-at s f (f .hash + 8)) v (w - v) && all-from (clear-at s f (f .hash)) w (f .leaves - w)) (slots b .0) (slots b .1)
+    ∙ ap₂ (λ (v w : ℕ). all-from (clear-at s f (f .«hash_width» + 8)) v (w - v) && all-from (clear-at s f (f .«hash_width»)) w (f .leaves - w)) (slots b .0) (slots b .1)
 
 pub last-levels-clear-spec : {M : Type 1} → statement M
 last-levels-clear-spec =

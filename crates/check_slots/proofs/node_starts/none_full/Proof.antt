@@ -1,4 +1,4 @@
--- The loop: no label before the place is above the greatest.
+-- The loop: no label before the position is above the greatest.
 use mathlib.Core.Logic.{⊎-elim}
 use Prim.Native.Nat.{ℕ, _+_, _-_, _≤_, _<_}
 use native.Mathlib.Omega.{arith}

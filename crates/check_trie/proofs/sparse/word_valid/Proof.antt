@@ -4,7 +4,7 @@ use Prim.Native.Nat.{_*_, _^_, _<_}
 use Rattle.bits.specs.ValueLaws.{Small, word-lt}
 use Rattle.check_levels.specs.MaskLaws.{mask}
 use Rattle.check_trie.specs.WordEntries.{ascends, next-bits-lt, word-judged, word-ascends, word-lasts}
-use Rattle.check_trie.specs.MarkLaws.{none-descends}
+use Rattle.check_trie.specs.FlagLaws.{none-descends}
 use borrow.Author.Needs.{needs}
 use Rattle.check_trie.proofs.sparse.word_valid.Statement.{statement}
 use Rattle.check_trie.proofs.sparse.word_valid.Tie as tie

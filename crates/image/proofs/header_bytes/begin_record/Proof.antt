@@ -1,10 +1,10 @@
--- The length is placed behind the mark.
+-- The length is written behind the mark.
 use borrow.Author.Needs.{needs}
 use Rattle.spec.specs.Bytes.{le32}
-use Rattle.bits.specs.Bits.{placed}
+use Rattle.bits.specs.Bits.{overlaid}
 use Rattle.image.specs.Header.{mark-bytes}
-use Rattle.bits.specs.Placing.{placed-placed}
-use Rattle.bits.specs.Placing.{length-le32}
+use Rattle.bits.specs.Overlaying.{overlaid-overlaid}
+use Rattle.bits.specs.Overlaying.{length-le32}
 use mathlib.Core.Path.{refl, ap, _∙_}
 use mathlib.Core.List.{List}
 use Prim.Native.Nat.{ℕ, _+_}
@@ -29,8 +29,8 @@ returns c =
     let length = c .before .before in
     let mark = length .before .before .before .before in
     let a = mark .before .before .before .args in
-    length .write32 .ensures ∙ ap (λ (o : List ℕ). placed o (a .at + 2) (le32 (a .len))) (mark .write-mark .ensures)
-    ∙ placed-placed (a .out .now) (mark-bytes (a .mark .now)) (le32 (a .len)) (a .at) (a .at + 2) refl (omega (arith, length-le32 (a .len)))
+    length .write32 .ensures ∙ ap (λ (o : List ℕ). overlaid o (a .at + 2) (le32 (a .len))) (mark .write-mark .ensures)
+    ∙ overlaid-overlaid (a .out .now) (mark-bytes (a .mark .now)) (le32 (a .len)) (a .at) (a .at + 2) refl (omega (arith, length-le32 (a .len)))
 
 pub begin-record-spec : {M : Type 1} → statement M
 begin-record-spec =

@@ -1,6 +1,6 @@
 -- The first bytes are cleared one by one.
 use lib.ListN.{replicate, length-set, length, drop}
-use Rattle.bits.specs.Placing.{cleared-more}
+use Rattle.bits.specs.Overlaying.{cleared-more}
 use mathlib.Core.Path.{_≡_, refl, ap, _∙_}
 use mathlib.Core.List.{_++_}
 use Prim.Native.Nat.{ℕ, _-_, _≤_}

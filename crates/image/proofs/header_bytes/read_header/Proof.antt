@@ -60,7 +60,7 @@ returns c =
     record {
       settings = rw (v .0, d .0, n .0, h .0);
       counts = rw (l .0, dn .0, se .0, sn .0);
-      short = record { version = v .1; levels = d .1; real = n .1; hash = h .1; leaves = l .1; dense-nodes = dn .1; sparse-entries = se .1; sparse-nodes = sn .1 };
+      short = record { version = v .1; dense-range = d .1; real-range = n .1; hash-range = h .1; leaves = l .1; dense-nodes = dn .1; sparse-entries = se .1; sparse-nodes = sn .1 };
     }
 
 pub read-header-spec : {M : Type 1} → statement M

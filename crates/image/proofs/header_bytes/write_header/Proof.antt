@@ -1,12 +1,12 @@
--- Each count is placed behind what stands before it.
+-- Each count is written behind what stands before it.
 use borrow.Author.Needs.{needs}
 use lib.ListN.{length-append, length}
 use Rattle.spec.specs.Bytes.{le32}
 use Rattle.spec.specs.Image.{header}
-use Rattle.bits.specs.Bits.{placed}
+use Rattle.bits.specs.Bits.{overlaid}
 use Rattle.image.specs.Header.{first-bytes}
-use Rattle.bits.specs.Placing.{placed-behind}
-use Rattle.bits.specs.Placing.{length-le32}
+use Rattle.bits.specs.Overlaying.{overlaid-behind}
+use Rattle.bits.specs.Overlaying.{length-le32}
 use mathlib.Core.List.{append-assoc, List, _++_}
 use mathlib.Core.Path.{_≡_, refl, ap, _∙_}
 use Prim.Native.Nat.{ℕ}
@@ -60,7 +60,7 @@ returns c =
     let nodes = le32 (a .h .dense .nodes) in
     let entries = le32 (a .h .sparse .entries) in
     let sparse = le32 (a .h .sparse .nodes) in
-    let f : List ℕ = first-bytes (a .h .version) (a .h .dense .levels) (a .h .real) (a .h .hash) in
+    let f : List ℕ = first-bytes (a .h .version) (a .h .dense .levels) (a .h .«real_width») (a .h .«hash_width») in
     let la = length-le32 (a .h .leaves) in
     let lb = length-le32 (a .h .dense .nodes) in
     let lc = length-le32 (a .h .sparse .entries) in
@@ -71,11 +71,11 @@ returns c =
     let ly : length y ≡ 14 = length-append x nodes ∙ omega (arith, lx, lb) in
     let z : List ℕ = y ++ entries in
     let lz : length z ≡ 18 = length-append y entries ∙ omega (arith, ly, lc) in
-    let e₁ = placed-behind out _ _ f leaves 0 6 refl (omega (arith, la, room)) (settings .write-settings .ensures) (first .write32 .ensures) in
-    let e₂ = placed-behind out _ _ x nodes 0 10 (omega (arith, lx)) (omega (arith, lb, room)) e₁ (second .write322 .ensures) in
-    let e₃ = placed-behind out _ _ y entries 0 14 (omega (arith, ly)) (omega (arith, lc, room)) e₂ (third .write323 .ensures) in
-    let e₄ = placed-behind out _ _ z sparse 0 18 (omega (arith, lz)) (omega (arith, ld, room)) e₃ (fourth .write324 .ensures) in
-    e₄ ∙ ap (placed out 0) (append-assoc y entries sparse ∙ append-assoc x nodes (entries ++ sparse) ∙ append-assoc f leaves (nodes ++ (entries ++ sparse)))
+    let e₁ = overlaid-behind out _ _ f leaves 0 6 refl (omega (arith, la, room)) (settings .write-settings .ensures) (first .write32 .ensures) in
+    let e₂ = overlaid-behind out _ _ x nodes 0 10 (omega (arith, lx)) (omega (arith, lb, room)) e₁ (second .write322 .ensures) in
+    let e₃ = overlaid-behind out _ _ y entries 0 14 (omega (arith, ly)) (omega (arith, lc, room)) e₂ (third .write323 .ensures) in
+    let e₄ = overlaid-behind out _ _ z sparse 0 18 (omega (arith, lz)) (omega (arith, ld, room)) e₃ (fourth .write324 .ensures) in
+    e₄ ∙ ap (overlaid out 0) (append-assoc y entries sparse ∙ append-assoc x nodes (entries ++ sparse) ∙ append-assoc f leaves (nodes ++ (entries ++ sparse)))
 
 pub write-header-spec : {M : Type 1} → statement M
 write-header-spec =

@@ -1,9 +1,9 @@
--- Two stores place the mark.
+-- Two stores write the mark.
 use borrow.Author.Needs.{needs}
 use lib.ListN.{length-set}
 use lib.Seq.{sets, sets-eq}
 use native.Mathlib.Numerals.{add-one}
-use Rattle.bits.specs.Bits.{placed}
+use Rattle.bits.specs.Bits.{overlaid}
 use Rattle.image.specs.Header.{mark-bytes}
 use mathlib.Core.Path.{_≡_}
 use native.Mathlib.Omega.{arith}
@@ -31,7 +31,7 @@ same-length c = search needs
 returns : tie.Need-returns
 returns c =
     let a = (c .before .before .args) in
-    let e : sets (a .out .now) (a .at) (mark-bytes (a .mark .now)) ≡ placed (a .out .now) (a .at) (mark-bytes (a .mark .now)) = sets-eq (mark-bytes (a .mark .now)) (a .out .now) (a .at) (omega arith) in
+    let e : sets (a .out .now) (a .at) (mark-bytes (a .mark .now)) ≡ overlaid (a .out .now) (a .at) (mark-bytes (a .mark .now)) = sets-eq (mark-bytes (a .mark .now)) (a .out .now) (a .at) (omega arith) in
     rw add-one e
 
 pub write-mark-spec : {M : Type 1} → statement M

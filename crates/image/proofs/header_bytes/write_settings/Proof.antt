@@ -1,9 +1,9 @@
--- Four stores place what stands behind the mark.
+-- Four stores write what stands behind the mark.
 use borrow.Author.Needs.{needs}
 use lib.ListN.{length-set}
 use lib.Seq.{sets, sets-eq}
-use Rattle.bits.specs.Bits.{placed}
-use Rattle.bits.specs.Placing.{placed-placed}
+use Rattle.bits.specs.Bits.{overlaid}
+use Rattle.bits.specs.Overlaying.{overlaid-overlaid}
 use mathlib.Core.Path.{_≡_, refl, ap, _∙_}
 use mathlib.Core.List.{List, [], _∷_}
 use Prim.Native.Nat.{ℕ}
@@ -34,8 +34,8 @@ returns c =
     let a = (c .before .before .before .before .before .before .args) in
     let o = c .before .before .write-mark .last .0 in
     let rest : List ℕ = a .version ∷ a .dense ∷ a .n ∷ a .h ∷ [] in
-    let e : sets o 2 rest ≡ placed o 2 rest = sets-eq rest o 2 (omega arith) in
-    e ∙ ap (λ (z : List ℕ). placed z 2 rest) (c .before .before .write-mark .ensures) ∙ placed-placed (a .out .now) (72 ∷ 68 ∷ []) rest 0 2 refl (omega arith)
+    let e : sets o 2 rest ≡ overlaid o 2 rest = sets-eq rest o 2 (omega arith) in
+    e ∙ ap (λ (z : List ℕ). overlaid z 2 rest) (c .before .before .write-mark .ensures) ∙ overlaid-overlaid (a .out .now) (72 ∷ 68 ∷ []) rest 0 2 refl (omega arith)
 
 pub write-settings-spec : {M : Type 1} → statement M
 write-settings-spec =

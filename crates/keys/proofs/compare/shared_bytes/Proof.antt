@@ -1,4 +1,4 @@
--- The bytes before the place are shared.
+-- The bytes before the index are shared.
 use mathlib.Core.Path.{_≡_, refl, sym}
 use Prim.Native.Nat.{_-_, _≤_}
 use native.Mathlib.Omega.{arith}

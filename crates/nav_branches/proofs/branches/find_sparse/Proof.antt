@@ -1,4 +1,4 @@
-use Rattle.nav_nodes.specs.Positions.{branches, place, labels-room, place-sparse, branch-sparse, none-end, none-other, one-there}
+use Rattle.nav_nodes.specs.Positions.{branches, branch-index, labels-room, index-sparse, branch-sparse, none-end, none-other, one-there}
 use Rattle.image.specs.Records.{tail-part}
 use Rattle.nav_nodes.specs.Tables.{entries-ranked}
 use Rattle.nav_nodes.specs.Counting.{labels-below-le}
@@ -38,8 +38,8 @@ returns c =
     let at = c .before .before .search .result in
     let r = c .before .before .before .before .before .before .entries-of .ensures in
     let v = rw (tail-part (a .image .now) (a .f .sl)) at (c .before .before .search .ensures) in
-    let q = place-sparse (a .image .now) (a .f) (p .accepted) (a .m .0) (p .behind-dense) (p .inside) first (r .first-is) at (a .y) (v .0) (omega (arith, v .1, r .end-is)) (v .2) (λ k. v .3 (omega (arith, r .end-is))) in
-    let b = branch-sparse (a .image .now) (a .f) (p .accepted) (a .m .0) (p .behind-dense) (p .inside) first (r .first-is) (place (a .image .now) (a .f) (a .m .0) (a .y)) (labels-below-le (a .y) (branches (a .image .now) (a .f) (a .m .0))) (omega (arith, v .1, r .end-inside)) in
+    let q = index-sparse (a .image .now) (a .f) (p .accepted) (a .m .0) (p .behind-dense) (p .inside) first (r .first-is) at (a .y) (v .0) (omega (arith, v .1, r .end-is)) (v .2) (λ k. v .3 (omega (arith, r .end-is))) in
+    let b = branch-sparse (a .image .now) (a .f) (p .accepted) (a .m .0) (p .behind-dense) (p .inside) first (r .first-is) (branch-index (a .image .now) (a .f) (a .m .0) (a .y)) (labels-below-le (a .y) (branches (a .image .now) (a .f) (a .m .0))) (omega (arith, v .1, r .end-inside)) in
     record { kind-is = none-end (a .image .now) (a .f) (p .accepted) (a .m .0) (p .behind-dense) (p .inside) first (r .first-is) at (a .y) q (omega (arith, r .end-is)); at-is = rw (← q) at b; end-is = λ h. omega (arith, q, r .end-is) }
 
 add-i : tie.Need-add-i
@@ -61,8 +61,8 @@ returns-2 c =
     let at = c .before .before .before .before .before .search .result in
     let r = c .before .before .before .before .before .before .before .before .before .entries-of .ensures in
     let v = rw (tail-part (a .image .now) (a .f .sl)) at (c .before .before .before .before .before .search .ensures) in
-    let q = place-sparse (a .image .now) (a .f) (p .accepted) (a .m .0) (p .behind-dense) (p .inside) first (r .first-is) at (a .y) (v .0) (omega (arith, v .1, r .end-is)) (v .2) (λ k. v .3 (omega (arith, r .end-is))) in
-    let b = branch-sparse (a .image .now) (a .f) (p .accepted) (a .m .0) (p .behind-dense) (p .inside) first (r .first-is) (place (a .image .now) (a .f) (a .m .0) (a .y)) (labels-below-le (a .y) (branches (a .image .now) (a .f) (a .m .0))) (omega (arith, v .1, r .end-inside)) in
+    let q = index-sparse (a .image .now) (a .f) (p .accepted) (a .m .0) (p .behind-dense) (p .inside) first (r .first-is) at (a .y) (v .0) (omega (arith, v .1, r .end-is)) (v .2) (λ k. v .3 (omega (arith, r .end-is))) in
+    let b = branch-sparse (a .image .now) (a .f) (p .accepted) (a .m .0) (p .behind-dense) (p .inside) first (r .first-is) (branch-index (a .image .now) (a .f) (a .m .0) (a .y)) (labels-below-le (a .y) (branches (a .image .now) (a .f) (a .m .0))) (omega (arith, v .1, r .end-inside)) in
     record { kind-is = none-other (a .image .now) (a .f) (p .accepted) (a .m .0) (p .behind-dense) (p .inside) first (r .first-is) at (a .y) q (omega (arith, r .end-is)) (λ e. c .if2 .taken (c .before .wide .ensures .0 ∙ e)); at-is = rw (← q) at b; end-is = λ h. omega (arith, q, r .end-is) }
 
 sub-bit-at : tie.Need-sub-bit-at
@@ -90,8 +90,8 @@ returns-3 c =
     let at = c .before .before .before .before .before .before .before .before .search .result in
     let r = c .before .before .before .before .before .before .before .before .before .before .before .before .entries-of .ensures in
     let v = rw (tail-part (a .image .now) (a .f .sl)) at (c .before .before .before .before .before .before .before .before .search .ensures) in
-    let q = place-sparse (a .image .now) (a .f) (p .accepted) (a .m .0) (p .behind-dense) (p .inside) first (r .first-is) at (a .y) (v .0) (omega (arith, v .1, r .end-is)) (v .2) (λ k. v .3 (omega (arith, r .end-is))) in
-    let b = branch-sparse (a .image .now) (a .f) (p .accepted) (a .m .0) (p .behind-dense) (p .inside) first (r .first-is) (place (a .image .now) (a .f) (a .m .0) (a .y)) (labels-below-le (a .y) (branches (a .image .now) (a .f) (a .m .0))) (omega (arith, v .1, r .end-inside)) in
+    let q = index-sparse (a .image .now) (a .f) (p .accepted) (a .m .0) (p .behind-dense) (p .inside) first (r .first-is) at (a .y) (v .0) (omega (arith, v .1, r .end-is)) (v .2) (λ k. v .3 (omega (arith, r .end-is))) in
+    let b = branch-sparse (a .image .now) (a .f) (p .accepted) (a .m .0) (p .behind-dense) (p .inside) first (r .first-is) (branch-index (a .image .now) (a .f) (a .m .0) (a .y)) (labels-below-le (a .y) (branches (a .image .now) (a .f) (a .m .0))) (omega (arith, v .1, r .end-inside)) in
     record { kind-is = c .kind-there .ensures ∙ one-there (a .image .now) (a .f) (p .accepted) (a .m .0) (p .behind-dense) (p .inside) first (r .first-is) at (a .y) (c .before .bit-at .result) q (omega (arith, r .end-is)) (sym (c .before .before .before .before .wide .ensures .0) ∙ c .before .before .before .if2 .left) (c .before .bit-at .ensures ∙ ap (λ (z : List ℕ). bit-at z at) (tail-part (a .image .now) (a .f .sc))); at-is = rw (← q) at b; end-is = λ h. omega (arith, q, r .end-is) }
 
 pub find-sparse-spec : {M : Type 1} → statement M

@@ -1,4 +1,4 @@
-use Rattle.nav_nodes.specs.Positions.{labels-room, place-sparse}
+use Rattle.nav_nodes.specs.Positions.{labels-room, index-sparse}
 use Rattle.image.specs.Records.{tail-part}
 use Rattle.nav_nodes.specs.NextBranch.{sparse-next}
 use lib.ListN.{length-drop}
@@ -36,7 +36,7 @@ returns c =
     let r = e .ensures in
     let at = c .before .search .result in
     let v = rw (tail-part (a .image .now) (a .f .sl)) at (c .before .search .ensures) in
-    let q = place-sparse (a .image .now) (a .f) (p .accepted) (a .m .0) (p .behind-dense) (p .inside) (e .result .first .0) (r .first-is) at (a .y) (v .0) (omega (arith, v .1, r .end-is)) (v .2) (λ k. v .3 (omega (arith, r .end-is))) in
+    let q = index-sparse (a .image .now) (a .f) (p .accepted) (a .m .0) (p .behind-dense) (p .inside) (e .result .first .0) (r .first-is) at (a .y) (v .0) (omega (arith, v .1, r .end-is)) (v .2) (λ k. v .3 (omega (arith, r .end-is))) in
     sparse-next (a .image .now) (a .f) (p .accepted) (a .m .0) (a .y) at (e .result .first .0) (p .behind-dense) (p .inside) (r .first-is) q (e .result .end .0) (r .end-is) (r .end-inside) (c .entry-branch .result) (c .entry-branch .ensures)
 
 pub next-sparse-spec : {M : Type 1} → statement M

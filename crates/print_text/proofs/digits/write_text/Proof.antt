@@ -1,6 +1,6 @@
 -- The text is copied.
 use borrow.Author.Needs.{needs}
-use Rattle.print_text.specs.Writing.{written-placed}
+use Rattle.print_text.specs.Writing.{written-overlaid}
 use Rattle.print_text.proofs.digits.write_text.Statement.{statement}
 use Rattle.print_text.proofs.digits.write_text.Tie as tie
 
@@ -16,7 +16,7 @@ same-length c = search needs
 returns : tie.Need-returns
 returns c =
     let b = c .before .before .before .before .before .before in
-    written-placed (b .args .out .now) (b .args .at) (b .args .text .now) _ (b .pre) (c .before .before .write-bytes .ensures)
+    written-overlaid (b .args .out .now) (b .args .at) (b .args .text .now) _ (b .pre) (c .before .before .write-bytes .ensures)
 
 pub write-text-spec : {M : Type 1} → statement M
 write-text-spec = tie.close (tie.spec write-bytes-requires add-result same-length returns)

@@ -21,7 +21,7 @@ returns c =
     let s = c .before .before .before .before in
     let a = s .args in
     let n = hash-length (a .image .now) (a .f) (s .pre .0) (a .slot .0) (s .pre .1) in
-    sym (hash-none (hash-slot (a .image .now) (a .f) (a .slot .0)) (a .f .hash) (a .key .now) (omega (arith, n, c .if1 .taken)) (c .if1 .taken))
+    sym (hash-none (hash-slot (a .image .now) (a .f) (a .slot .0)) (a .f .«hash_width») (a .key .now) (omega (arith, n, c .if1 .taken)) (c .if1 .taken))
 
 slot-bits-requires : tie.Need-slot-bits-requires
 slot-bits-requires c κs =
@@ -34,7 +34,7 @@ shl-result c = omega (arith, c .before .before .before .before .before .before .
 rem-result : tie.Need-rem-result
 rem-result c =
     let s = c .before .before .before .before .before .before in
-    rw (one-shl 64 (s .args .f .hash) (omega (arith, s .pre .0 .hash-range))) (pow-pos (s .args .f .hash))
+    rw (one-shl 64 (s .args .f .«hash_width») (omega (arith, s .pre .0 .hash-range))) (pow-pos (s .args .f .«hash_width»))
 
 hash-number-requires : tie.Need-hash-number-requires
 hash-number-requires c κs = c .before .before .before .before .before .before .pre .0 .hash-range
@@ -44,7 +44,7 @@ returns-2 c =
     let s = c .before .before .before .before .before .before .before in
     let a = s .args in
     let p = s .pre in
-    let h = a .f .hash in
+    let h = a .f .«hash_width» in
     let t : Bits = slot-of (a .f .width) (nodes (a .image .now) (a .f)) (a .slot .0) in
     let n = hash-length (a .image .now) (a .f) (p .0) (a .slot .0) (p .1) in
     let x = c .before .before .slot-bits in

@@ -59,8 +59,8 @@ returns-2 c =
     let past = real-past (a .image .now) (a .f) (p .0) (a .slot .0) (p .1) (a .ones) in
     let n = c .before .smaller .result in
     let x = c .before .before .before .slot-bits in
-    let r = byte-filled (a .ones) n (drop (8 * a .i) t) (x .result) (omega arith) (λ j l. x .ensures (a .ones) j (omega (arith, p .0 .width-is)) ∙ ap (λ (m : ℕ). bit (getD (slot-of (a .f .width) (nodes (a .image .now) (a .f)) (a .slot .0)) m (a .ones))) (add-assoc (a .f .hash) (8 * a .i) j)
-    ∙ ap bit (sym (getD-drop (8 * a .i) t j (a .ones) ∙ getD-drop (a .f .hash) (slot-of (a .f .width) (nodes (a .image .now) (a .f)) (a .slot .0)) (8 * a .i + j) (a .ones)))) (λ j l k. getD-drop (8 * a .i) t j (a .ones) ∙ past (8 * a .i + j) (omega arith)) in
+    let r = byte-filled (a .ones) n (drop (8 * a .i) t) (x .result) (omega arith) (λ j l. x .ensures (a .ones) j (omega (arith, p .0 .width-is)) ∙ ap (λ (m : ℕ). bit (getD (slot-of (a .f .width) (nodes (a .image .now) (a .f)) (a .slot .0)) m (a .ones))) (add-assoc (a .f .«hash_width») (8 * a .i) j)
+    ∙ ap bit (sym (getD-drop (8 * a .i) t j (a .ones) ∙ getD-drop (a .f .«hash_width») (slot-of (a .f .width) (nodes (a .image .now) (a .f)) (a .slot .0)) (8 * a .i + j) (a .ones)))) (λ j l k. getD-drop (8 * a .i) t j (a .ones) ∙ past (8 * a .i + j) (omega arith)) in
     let e = c .filled-below2 .ensures ∙ ap (λ (z : ℕ). z / 2 ^ (8 - n) * 2 ^ (8 - n) + bit (a .ones) * (2 ^ (8 - n) - 1)) (c .before .before .reversed .ensures .0 ∙ mirrored-reversed (x .result)) ∙ r in
     (e, omega (arith, e, byte-lt (a .ones) (drop (8 * a .i) t)))
 

@@ -31,7 +31,7 @@ shl-result c = omega (arith, c .before .before .before .before .before .before .
 rem-result : tie.Need-rem-result
 rem-result c =
     let s = c .before .before .before .before .before .before in
-    rw (one-shl 64 (s .args .f .real) (omega (arith, s .pre .0 .real-range))) (pow-pos (s .args .f .real))
+    rw (one-shl 64 (s .args .f .«real_width») (omega (arith, s .pre .0 .real-range))) (pow-pos (s .args .f .«real_width»))
 
 real-number-requires : tie.Need-real-number-requires
 real-number-requires c κs =
@@ -46,9 +46,9 @@ returns-2 c =
     let t : Bits = slot-of (a .f .width) (nodes (a .image .now) (a .f)) (a .slot .0) in
     let n = real-length (a .image .now) (a .f) (p .0) (a .slot .0) (p .1) in
     let x = c .before .before .slot-bits in
-    rw (one-shl 64 (a .f .real) (omega (arith, p .0 .real-range)), c .real-number .ensures)
-    (suffix-same (real-slot (a .image .now) (a .f) (a .slot .0)) (a .f .real) (a .d) (x .result) (a .key .now) n
-    (λ j l. x .ensures false j (omega (arith, p .0 .width-is)) ∙ ap bit (sym (getD-drop (a .f .hash) t j false))))
+    rw (one-shl 64 (a .f .«real_width») (omega (arith, p .0 .real-range)), c .real-number .ensures)
+    (suffix-same (real-slot (a .image .now) (a .f) (a .slot .0)) (a .f .«real_width») (a .d) (x .result) (a .key .now) n
+    (λ j l. x .ensures false j (omega (arith, p .0 .width-is)) ∙ ap bit (sym (getD-drop (a .f .«hash_width») t j false))))
 
 pub real-equals-spec : {M : Type 1} → statement M
 real-equals-spec =

@@ -23,7 +23,7 @@ returns c =
     let v = slot-at (a .image .now) (a .f) (a .m .0) (a .at .0) in
     let n = real-length (a .image .now) (a .f) g v (s .pre .1) in
     let h = hash-length (a .image .now) (a .f) g v (s .pre .1) in
-    sym (ap₂ _&&_ (suffix-none (real-slot (a .image .now) (a .f) v) (drop (a .d) (a .key .now)) (omega (arith, n, c .if1 .taken, g .width-is))) (hash-none (hash-slot (a .image .now) (a .f) v) (a .f .hash) (a .key .now) (omega (arith, h, c .if1 .taken, g .width-is)) (omega (arith, c .if1 .taken, g .width-is))))
+    sym (ap₂ _&&_ (suffix-none (real-slot (a .image .now) (a .f) v) (drop (a .d) (a .key .now)) (omega (arith, n, c .if1 .taken, g .width-is))) (hash-none (hash-slot (a .image .now) (a .f) v) (a .f .«hash_width») (a .key .now) (omega (arith, h, c .if1 .taken, g .width-is)) (omega (arith, c .if1 .taken, g .width-is))))
 
 slot-requires : tie.Need-slot-requires
 slot-requires c κs = search needs
@@ -44,7 +44,7 @@ returns-2 c =
     let s = c .before .before .before .before .before .before .before in
     let a = s .args in
     let v = slot-at (a .image .now) (a .f) (a .m .0) (a .at .0) in
-    sym (ap (λ (b : Bool). b && same-bits (hash-bits (a .f .hash) (a .key .now)) (hash-slot (a .image .now) (a .f) v)) (sym (told (c .before)) ∙ not-true _ (c .if2 .taken)))
+    sym (ap (λ (b : Bool). b && same-bits (hash-bits (a .f .«hash_width») (a .key .now)) (hash-slot (a .image .now) (a .f) v)) (sym (told (c .before)) ∙ not-true _ (c .if2 .taken)))
 
 hash-equals-requires : tie.Need-hash-equals-requires
 hash-equals-requires c κs = search needs
@@ -53,8 +53,8 @@ returns-3 : tie.Need-returns-3
 returns-3 c =
     let s = c .before .before .before .before .before .before .before .before in
     let a = s .args in
-    c .hash-equals .ensures ∙ ap (λ (v : ℕ). same-bits (hash-bits (a .f .hash) (a .key .now)) (hash-slot (a .image .now) (a .f) v)) (c .before .before .before .slot .ensures)
-    ∙ ap (λ (b : Bool). b && same-bits (hash-bits (a .f .hash) (a .key .now)) (hash-slot (a .image .now) (a .f) (slot-at (a .image .now) (a .f) (a .m .0) (a .at .0)))) (sym (not-false _ (c .before .if2 .left)) ∙ told (c .before .before))
+    c .hash-equals .ensures ∙ ap (λ (v : ℕ). same-bits (hash-bits (a .f .«hash_width») (a .key .now)) (hash-slot (a .image .now) (a .f) v)) (c .before .before .before .slot .ensures)
+    ∙ ap (λ (b : Bool). b && same-bits (hash-bits (a .f .«hash_width») (a .key .now)) (hash-slot (a .image .now) (a .f) (slot-at (a .image .now) (a .f) (a .m .0) (a .at .0)))) (sym (not-false _ (c .before .if2 .left)) ∙ told (c .before .before))
 
 pub leaf-has-spec : {M : Type 1} → statement M
 leaf-has-spec = tie.close (tie.spec returns slot-requires real-equals-requires returns-2 hash-equals-requires returns-3)

@@ -1,7 +1,7 @@
 use Rattle.query_seek.specs.LeafKeys.{no-key}
 use Rattle.query_descent.specs.Seeks.{next-nowhere}
-use Rattle.query_seek.proofs.NextLaws.{placed-front}
-use Rattle.bits.specs.Placing.{length-placed}
+use Rattle.query_seek.proofs.NextLaws.{overlaid-front}
+use Rattle.bits.specs.Overlaying.{length-overlaid}
 use lib.ListN.{length, take}
 use mathlib.Core.Path.{refl, ap, _∙_}
 use native.Mathlib.Omega.{arith}
@@ -38,8 +38,8 @@ leaf-of-way-requires c κs =
     record {
       accepted = s .pre .0;
       short = s .pre .1;
-      key-size = ap length written ∙ length-placed (s .args .key .now) 0 (s .args .start .now) (omega (arith, s .pre .1, s .pre .2)) ∙ s .pre .2;
-      begins = ap (take (length (s .args .start .now))) written ∙ placed-front (s .args .key .now) (s .args .start .now);
+      key-size = ap length written ∙ length-overlaid (s .args .key .now) 0 (s .args .start .now) (omega (arith, s .pre .1, s .pre .2)) ∙ s .pre .2;
+      begins = ap (take (length (s .args .start .now))) written ∙ overlaid-front (s .args .key .now) (s .args .start .now);
       ended = c .before .follow-key .ensures;
     }
 

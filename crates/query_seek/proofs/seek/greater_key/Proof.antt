@@ -1,6 +1,6 @@
-use Rattle.query_seek.proofs.NextLaws.{placed-front}
+use Rattle.query_seek.proofs.NextLaws.{overlaid-front}
 use Rattle.query_seek.proofs.SeekLaws.{greater-below, greater-equal, greater-above}
-use Rattle.bits.specs.Placing.{length-placed}
+use Rattle.bits.specs.Overlaying.{length-overlaid}
 use lib.Seq.{length-take-le}
 use lib.ListN.{length, take}
 use native.Mathlib.Omega.{arith}
@@ -64,9 +64,9 @@ returns-3 c =
     let a = entered k .args in
     let p = entered k .pre in
     let written = c .before .before .write-bytes .ensures in (
-      ap (take (length (a .start .now))) written ∙ placed-front (a .key .now) (a .start .now) ∙ greater-above (a .start .now) (take (a .n) (a .key .now)) (sym (k .compare .ensures) ∙ o .enum-told3 .given .1),
+      ap (take (length (a .start .now))) written ∙ overlaid-front (a .key .now) (a .start .now) ∙ greater-above (a .start .now) (take (a .n) (a .key .now)) (sym (k .compare .ensures) ∙ o .enum-told3 .given .1),
       p .0,
-      ap length written ∙ length-placed (a .key .now) 0 (a .start .now) (omega (arith, p .0, p .1)) ∙ p .1,
+      ap length written ∙ length-overlaid (a .key .now) 0 (a .start .now) (omega (arith, p .0, p .1)) ∙ p .1,
     )
 
 pub greater-key-spec : {M : Type 1} → statement M

@@ -33,7 +33,7 @@ returns-2 : tie.Need-returns-2
 returns-2 c =
     let s = c .before .before .before .before in
     let a = s .args in
-    record { low-is = ap (λ (stop : LeafStop). low-of (a .f .hash) (a .f .width) (nodes (a .image .now) (a .f)) stop (take (a .depth) (a .key .now))) (c .enum-told2 .given .1); upto = s .pre .depth-in; key-size = s .pre .key-size }
+    record { low-is = ap (λ (stop : LeafStop). low-of (a .f .«hash_width») (a .f .width) (nodes (a .image .now) (a .f)) stop (take (a .depth) (a .key .now))) (c .enum-told2 .given .1); upto = s .pre .depth-in; key-size = s .pre .key-size }
 
 same-length : tie.Need-same-length
 same-length c = search needs

@@ -67,11 +67,11 @@ sum-below-requires c κs =
 
 -- the leaves that the start has passed, by the sum over all levels
 number : (c : tie.After-sum-below)
-    → (entered (known (there (c .before))) .args .starts ≤ c .sum-below .result) × (c .sum-below .result - entered (known (there (c .before))) .args .starts ≡ passed (real-leaves (entered (known (there (c .before))) .args .image .now) (entered (known (there (c .before))) .args .f)) (entered (known (there (c .before))) .args .start .now))
+    → (entered (known (there (c .before))) .args .base ≤ c .sum-below .result) × (c .sum-below .result - entered (known (there (c .before))) .args .base ≡ passed (real-leaves (entered (known (there (c .before))) .args .image .now) (entered (known (there (c .before))) .args .f)) (entered (known (there (c .before))) .args .start .now))
 number c =
     let e = there (c .before) in
     let s = entered (known e) in
-    passed-sums (s .args .image .now) (s .args .f) (s .pre .0) (s .args .start .now) (s .args .starts) (c .sum-below .result) (s .pre .2) (s .pre .1) (bound e .sums ∙ sym (c .sum-below .ensures .0))
+    passed-sums (s .args .image .now) (s .args .f) (s .pre .0) (s .args .start .now) (s .args .base) (c .sum-below .result) (s .pre .2) (s .pre .1) (bound e .sums ∙ sym (c .sum-below .ensures .0))
 
 sub-number : tie.Need-sub-number
 sub-number c = number c .0
@@ -88,7 +88,7 @@ returns-2 c =
     let g = k .greater-key in
     let l = k .before .before .before .before .lowest-key in (
       record {
-        answer = seek-found (s .args .image .now) (s .args .f) (s .pre .0) (s .args .start .now) (r .result .end .stop) _ (r .ensures .leaf .key-is .low-is) (c .sum-below .result - s .args .starts) _ _ (l .ensures .low-is) (g .ensures .0) (number c .1);
+        answer = seek-found (s .args .image .now) (s .args .f) (s .pre .0) (s .args .start .now) (r .result .end .stop) _ (r .ensures .leaf .key-is .low-is) (c .sum-below .result - s .args .base) _ _ (l .ensures .low-is) (g .ensures .0) (number c .1);
         key-in = g .ensures .1;
         number-in = omega (arith, number c .1, few-passed (s .args .image .now) (s .args .f) (s .pre .0) (s .args .start .now));
       },

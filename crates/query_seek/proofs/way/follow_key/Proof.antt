@@ -2,7 +2,7 @@
 use Rattle.query_descent.specs.Seeking.{Following, Higher-passed, Byte-passed, higher-same, higher-new, following-root, following-child, followed-none, followed-leaf, followed-end, leaf-slot, sum-small}
 use Rattle.nav_nodes.specs.FoundBranch.{Found-branch}
 use Rattle.nav_nodes.specs.NextLabel.{first-kind, is-there}
-use Rattle.nav_nodes.specs.Positions.{branches, place}
+use Rattle.nav_nodes.specs.Positions.{branches, branch-index}
 use lib.ListN.{length, getD, drop}
 use Prim.Native.Nat.{_+_, _-_, _<_}
 use mathlib.Core.Logic.{⊎-elim}
@@ -44,7 +44,7 @@ found c = rw (c .before .wide .ensures .0) at (c .find .ensures)
 
 -- whether it has a label above that byte
 above : (c : tie.After-has-higher Inv-loop μ-loop)
-    → c .has-higher .result ≡ is-there (first-kind (drop (place (entered (head (c .before)) .args .image .now) (entered (head (c .before)) .args .f) (head (c .before) .loop .level .node .0) (getD (entered (head (c .before)) .args .start .now) (head (c .before) .loop .level .depth) 0 + 1)) (branches (entered (head (c .before)) .args .image .now) (entered (head (c .before)) .args .f) (head (c .before) .loop .level .node .0))))
+    → c .has-higher .result ≡ is-there (first-kind (drop (branch-index (entered (head (c .before)) .args .image .now) (entered (head (c .before)) .args .f) (head (c .before) .loop .level .node .0) (getD (entered (head (c .before)) .args .start .now) (head (c .before) .loop .level .depth) 0 + 1)) (branches (entered (head (c .before)) .args .image .now) (entered (head (c .before)) .args .f) (head (c .before) .loop .level .node .0))))
 above c = rw (c .before .before .wide .ensures .0) at (c .has-higher .ensures)
 
 -- the last higher label with the node passed

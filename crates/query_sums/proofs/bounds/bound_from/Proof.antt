@@ -1,6 +1,6 @@
 -- The invariant: whatever sum the levels above have, the bytes passed lead to the bound's node with that sum and the bound's own.
 use Rattle.nav_nodes.specs.FoundBranch.{Found-branch}
-use Rattle.nav_nodes.specs.Positions.{place}
+use Rattle.nav_nodes.specs.Positions.{branch-index}
 use Rattle.query_descent.specs.Summed.{Leading, rest-slot}
 use Rattle.query_sums.specs.Bounds.{bound-end, bound-next, bound-none, bound-leaf}
 use lib.ListN.{length, getD}
@@ -68,7 +68,7 @@ add-sum c =
     let b = k .before in
     let l = head b in
     let s = entered l in
-    let few = rest-slot (s .args .image .now) (s .args .f) (s .pre .accepted) (l .loop .level .node .0) (place (s .args .image .now) (s .args .f) (l .loop .level .node .0) (getD (s .args .key .now) (l .loop .level .depth) 0)) in
+    let few = rest-slot (s .args .image .now) (s .args .f) (s .pre .accepted) (l .loop .level .node .0) (branch-index (s .args .image .now) (s .args .f) (l .loop .level .node .0) (getD (s .args .key .now) (l .loop .level .depth) 0)) in
     omega (arith, few, k .child-and-slot .ensures .slot-is, found b .at-is .slot-is, leads l .small, more b, s .pre .short)
 
 enum-told : tie.Need-enum-told Inv-loop μ-loop

@@ -1,53 +1,53 @@
--- Both bounds pass the run, or go to the next level.
+-- Both bounds pass the chain, or go to the next level.
 use mathlib.Core.Path.{_≡_, sym, ap, _∙_}
 use mathlib.Core.Bool.{true}
 use Prim.Native.Nat.{ℕ, _+_}
 use Rattle.theory.specs.Lists.{and-both}
-use Rattle.query_sums.specs.Runs.{Run-of}
-use Rattle.query_sums.specs.Levels.{On-run, run-passable, run-passed, lowered-next}
+use Rattle.query_sums.specs.Chains.{Chain-of}
+use Rattle.query_sums.specs.Levels.{On-chain, chain-passable, chain-passed, lowered-next}
 use borrow.Author.Needs.{needs}
 use Rattle.query_sums.proofs.levels.step_both.Statement.{statement}
 use Rattle.query_sums.proofs.levels.step_both.Tie as tie
 
-run-at-requires : tie.Need-run-at-requires
-run-at-requires c κs = search needs
+chain-at-requires : tie.Need-chain-at-requires
+chain-at-requires c κs = search needs
 
-on-run-requires : tie.Need-on-run-requires
-on-run-requires c κs = search needs
+on-chain-requires : tie.Need-on-chain-requires
+on-chain-requires c κs = search needs
 
-on-run-requires-2 : tie.Need-on-run-requires-2
-on-run-requires-2 c κs = search needs
+on-chain-requires-2 : tie.Need-on-chain-requires-2
+on-chain-requires-2 c κs = search needs
 
--- where the run was looked for
-abbrev found : tie.Then2 → tie.After-run-at
+-- where the chain was looked for
+abbrev found : tie.Then2 → tie.After-chain-at
 found c = c .before .before .before .before .before
 
--- both bounds stand on the run
-both : (c : tie.Then2) → (c .before .before .on-run .result ≡ true) × (c .before .on-run2 .result ≡ true)
-both c = and-both (c .before .before .on-run .result) (c .before .on-run2 .result) (c .if2 .taken)
+-- both bounds stand on the chain
+both : (c : tie.Then2) → (c .before .before .on-chain .result ≡ true) × (c .before .on-chain2 .result ≡ true)
+both c = and-both (c .before .before .on-chain .result) (c .before .on-chain2 .result) (c .if2 .taken)
 
-lower-stands : (c : tie.Then2) → On-run (found c .run-at .result) (found c .before .before .before .before .args .a .node .0) true
-lower-stands c = rw (both c .0) at (c .before .before .on-run .ensures)
+lower-stands : (c : tie.Then2) → On-chain (found c .chain-at .result) (found c .before .before .before .before .args .a .node .0) true
+lower-stands c = rw (both c .0) at (c .before .before .on-chain .ensures)
 
-upper-stands : (c : tie.Then2) → On-run (found c .run-at .result) (found c .before .before .before .before .args .b .node .0) true
-upper-stands c = rw (both c .1) at (c .before .on-run2 .ensures)
+upper-stands : (c : tie.Then2) → On-chain (found c .chain-at .result) (found c .before .before .before .before .args .b .node .0) true
+upper-stands c = rw (both c .1) at (c .before .on-chain2 .ensures)
 
--- the run starts on the upper bound's level too
-upper-run : (c : tie.After-run-at) → Run-of (c .before .before .before .before .args .image .now) (c .before .before .before .before .args .f) (c .before .before .before .before .args .b .depth) (c .run-at .result)
-upper-run c = rw (c .before .before .before .before .pre .2) at (c .run-at .ensures)
+-- the chain starts on the upper bound's level too
+upper-chain : (c : tie.After-chain-at) → Chain-of (c .before .before .before .before .args .image .now) (c .before .before .before .before .args .f) (c .before .before .before .before .args .b .depth) (c .chain-at .result)
+upper-chain c = rw (c .before .before .before .before .pre .2) at (c .chain-at .ensures)
 
-pass-run-requires : tie.Need-pass-run-requires
-pass-run-requires c κs =
+pass-chain-requires : tie.Need-pass-chain-requires
+pass-chain-requires c κs =
     let r = found c in
     let b = r .before .before .before .before in
-    run-passable (b .args .image .now) (b .args .f) (b .args .a) (b .pre .0) (r .run-at .result) (r .run-at .ensures) (lower-stands c)
+    chain-passable (b .args .image .now) (b .args .f) (b .args .a) (b .pre .0) (r .chain-at .result) (r .chain-at .ensures) (lower-stands c)
 
-pass-run-requires-2 : tie.Need-pass-run-requires-2
-pass-run-requires-2 c κs =
+pass-chain-requires-2 : tie.Need-pass-chain-requires-2
+pass-chain-requires-2 c κs =
     let t = c .before in
     let r = found t in
     let b = r .before .before .before .before in
-    run-passable (b .args .image .now) (b .args .f) (b .args .b) (b .pre .1) (r .run-at .result) (upper-run r) (upper-stands t)
+    chain-passable (b .args .image .now) (b .args .f) (b .args .b) (b .pre .1) (r .chain-at .result) (upper-chain r) (upper-stands t)
 
 returns : tie.Need-returns
 returns c =
@@ -55,9 +55,9 @@ returns c =
     let r = found t in
     let b = r .before .before .before .before in
     let a = b .args in (
-      rw (c .before .pass-run .ensures) (run-passed (a .image .now) (a .f) (a .a) (b .pre .0) (r .run-at .result) (r .run-at .ensures) (lower-stands t)),
-      rw (c .pass-run2 .ensures) (run-passed (a .image .now) (a .f) (a .b) (b .pre .1) (r .run-at .result) (upper-run r) (upper-stands t)),
-      rw (c .before .pass-run .ensures, c .pass-run2 .ensures) (ap (λ (d : ℕ). d + r .run-at .result .levels) (b .pre .2)),
+      rw (c .before .pass-chain .ensures) (chain-passed (a .image .now) (a .f) (a .a) (b .pre .0) (r .chain-at .result) (r .chain-at .ensures) (lower-stands t)),
+      rw (c .pass-chain2 .ensures) (chain-passed (a .image .now) (a .f) (a .b) (b .pre .1) (r .chain-at .result) (upper-chain r) (upper-stands t)),
+      rw (c .before .pass-chain .ensures, c .pass-chain2 .ensures) (ap (λ (d : ℕ). d + r .chain-at .result .levels) (b .pre .2)),
     )
 
 add-depth : tie.Need-add-depth
@@ -84,11 +84,11 @@ pub step-both-spec : {M : Type 1} → statement M
 step-both-spec =
     tie.close
     (tie.spec
-    run-at-requires
-    on-run-requires
-    on-run-requires-2
-    pass-run-requires
-    pass-run-requires-2
+    chain-at-requires
+    on-chain-requires
+    on-chain-requires-2
+    pass-chain-requires
+    pass-chain-requires-2
     returns
     add-depth
     go-down-requires

@@ -11,7 +11,7 @@ use Rattle.spec.specs.Bytes.{Bytes, blocks}
 use Rattle.bits.specs.Bits.{rank}
 use Rattle.bits.specs.ValueLaws.{Small}
 use Rattle.bits.specs.RankLaws.{rank-zero, rank-le}
-use Rattle.rank_tables.specs.Entries.{entry-right, all-below, all-none, all-more, table-agrees}
+use Rattle.rank_tables.specs.TableEntries.{table-entry-right, all-below, all-none, all-more, table-agrees}
 use Rattle.rank_tables.specs.Ranks.{block-begun, blocks-are}
 use Rattle.rank_tables.specs.Tables.{word-counted}
 use Rattle.rank_tables.proofs.rank_compare.count_ranks.Statement.{statement}
@@ -35,7 +35,7 @@ ranks body words b = rank body (64 * words * b)
 
 abbrev Inv-loop : tie.InvT-loop
 Inv-loop body n table words q₀ ones₀ b₀ start₀ agrees₀ q ones b start agrees =
-    (64 * q < n + 64) × (ones ≡ rank body (min (64 * q) n)) × (b ≤ blocks (64 * words) n) × (start ≡ words * b) × (q ≤ start) × (agrees ≡ all-below (entry-right (ranks body words) table) b)
+    (64 * q < n + 64) × (ones ≡ rank body (min (64 * q) n)) × (b ≤ blocks (64 * words) n) × (start ≡ words * b) × (q ≤ start) × (agrees ≡ all-below (table-entry-right (ranks body words) table) b)
 
 abbrev μ-loop : tie.MeasureT-loop
 μ-loop body n table words q₀ ones₀ b₀ start₀ agrees₀ q ones b start agrees = n - 64 * q
@@ -49,7 +49,7 @@ loop-holds c =
       omega arith,
       sym (mul-zero (a .words)),
       omega arith,
-      sym (all-none (entry-right (ranks (a .body .now) (a .words)) (a .table .now))),
+      sym (all-none (table-entry-right (ranks (a .body .now) (a .words)) (a .table .now))),
     )
 
 mul-loop : tie.Need-mul-loop Inv-loop μ-loop
@@ -125,7 +125,7 @@ loop-again c =
       omega (arith, begun (a .n) (a .words) (l .b) (l .q) (l .start) (p .some) (loop-test .taken) (l .inv .3) (if1 .taken)),
       omega (arith, l .inv .3, next (a .words) (l .b)),
       omega (arith, p .some, if1 .taken),
-      ap₂ _&&_ (l .inv .5) (ap₂ eqb (c .read32 .ensures .0) (ap (λ (k : ℕ). k % 4294967296) f)) ∙ sym (all-more (entry-right (ranks (a .body .now) (a .words)) (a .table .now)) (l .b)),
+      ap₂ _&&_ (l .inv .5) (ap₂ eqb (c .read32 .ensures .0) (ap (λ (k : ℕ). k % 4294967296) f)) ∙ sym (all-more (table-entry-right (ranks (a .body .now) (a .words)) (a .table .now)) (l .b)),
     )
 
 loop-less-2 : tie.Need-loop-less-2 Inv-loop μ-loop
@@ -148,7 +148,7 @@ returns c =
     let small : Small (a .table .now) = λ i. c .before .before .shared-slice-known2 .given i .fits in
     let w : min (64 * l .q) (a .n) ≡ a .n = omega (arith, c .loop-test .left) in
     let all : l .b ≡ blocks (64 * a .words) (a .n) = blocks-are (64 * a .words) (l .b) (a .n) (positive (p .some)) (l .inv .2) (omega (arith, c .loop-test .left, l .inv .4, bits-before (a .words) (l .b) (l .start) (l .inv .3))) in
-    (l .inv .1 ∙ ap (rank (a .body .now)) w, l .inv .5 ∙ ap (all-below (entry-right (ranks (a .body .now) (a .words)) (a .table .now))) all ∙ table-agrees (ranks (a .body .now) (a .words)) (blocks (64 * a .words) (a .n)) (a .table .now) small (p .sized))
+    (l .inv .1 ∙ ap (rank (a .body .now)) w, l .inv .5 ∙ ap (all-below (table-entry-right (ranks (a .body .now) (a .words)) (a .table .now))) all ∙ table-agrees (ranks (a .body .now) (a .words)) (blocks (64 * a .words) (a .n)) (a .table .now) small (p .sized))
 
 pub count-ranks-spec : {M : Type 1} → statement M
 count-ranks-spec =

@@ -7,10 +7,10 @@ use mathlib.Core.Path.{_≡_, sym, ap, ap₂, _∙_}
 use mathlib.Core.List.{List}
 use Prim.Native.Nat.{ℕ, _+_, _*_, _-_, _≤_}
 use lib.ListN.{length}
-use Rattle.bits.specs.Bits.{placed, rank, part}
+use Rattle.bits.specs.Bits.{overlaid, rank, part}
 use Rattle.bits.specs.RankLaws.{rank-zero}
 use Rattle.bits.specs.Parts.{length-part}
-use Rattle.rank_tables.specs.Entries.{rank-entries}
+use Rattle.rank_tables.specs.TableEntries.{rank-table}
 use Rattle.rank_tables.specs.Filling.{Filled, filled-none, filled-more}
 use Rattle.rank_tables.proofs.rank_write.fill_ranks.Statement.{statement}
 use Rattle.rank_tables.proofs.rank_write.fill_ranks.Tie as tie
@@ -118,7 +118,7 @@ returns c =
     let l = c .before .loop in
     let m : a .body .at + a .body .len - a .body .at ≡ a .body .len = omega arith in
     let n : l .b ≡ a .n = omega arith in
-    l .inv .1 .text ∙ ap₂ (λ (k i : ℕ). placed (a .out .now) (a .table) (rank-entries (64 * a .words) (part (a .out .now) (a .body .at) k) i)) m n
+    l .inv .1 .text ∙ ap₂ (λ (k i : ℕ). overlaid (a .out .now) (a .table) (rank-table (64 * a .words) (part (a .out .now) (a .body .at) k) i)) m n
 
 pub fill-ranks-spec : {M : Type 1} → statement M
 fill-ranks-spec =

@@ -10,7 +10,7 @@ use Rattle.spec.specs.Bytes.{blocks}
 use Rattle.bits.specs.Bits.{rank}
 use Rattle.bits.specs.ValueLaws.{Small}
 use Rattle.bits.specs.RankLaws.{rank-zero, rank-le}
-use Rattle.rank_tables.specs.Entries.{all-below, all-none, all-more}
+use Rattle.rank_tables.specs.TableEntries.{all-below, all-none, all-more}
 use Rattle.rank_tables.specs.Samples.{sampled, samples-agree}
 use Rattle.rank_tables.specs.Tables.{word-counted}
 use Rattle.rank_tables.proofs.sample_compare.count_samples.Statement.{statement}

@@ -4,10 +4,10 @@ use mathlib.Core.Path.{_≡_, refl, sym, ap, ap₂, _∙_}
 use mathlib.Core.List.{List}
 use lib.ListN.{length, length-drop}
 use Rattle.spec.specs.Bytes.{blocks}
-use Rattle.bits.specs.Bits.{placed, rank, select, part}
+use Rattle.bits.specs.Bits.{overlaid, rank, select, part}
 use Rattle.bits.specs.RankLaws.{rank-zero, rank-slow, rank-le}
 use Rattle.bits.specs.Parts.{length-part, mid-is}
-use Rattle.rank_tables.specs.Entries.{sample-entries}
+use Rattle.rank_tables.specs.TableEntries.{sample-table}
 use Rattle.rank_tables.specs.Filling.{Filled, filled-none, filled-more}
 use borrow.Author.Needs.{needs}
 use native.Mathlib.Omega.{arith}
@@ -244,8 +244,8 @@ returns c =
     let m : a .body .at + a .body .len - a .body .at ≡ a .body .len = omega arith in
     let e : l .at ≡ a .bits = omega arith in
     let n : l .t ≡ blocks 64 (rank (part (a .out .now) (a .body .at) (a .body .at + a .body .len - a .body .at)) (a .bits)) = l .inv .3 ∙ ap (blocks 64) (l .inv .2 ∙ ap (rank _) e) in
-    l .inv .1 .text ∙ ap (λ (i : ℕ). placed (a .out .now) (a .table) (sample-entries (part (a .out .now) (a .body .at) (a .body .at + a .body .len - a .body .at)) (a .bits) i)) n
-    ∙ ap (λ (k : ℕ). placed (a .out .now) (a .table) (sample-entries (part (a .out .now) (a .body .at) k) (a .bits) (blocks 64 (rank (part (a .out .now) (a .body .at) k) (a .bits))))) m
+    l .inv .1 .text ∙ ap (λ (i : ℕ). overlaid (a .out .now) (a .table) (sample-table (part (a .out .now) (a .body .at) (a .body .at + a .body .len - a .body .at)) (a .bits) i)) n
+    ∙ ap (λ (k : ℕ). overlaid (a .out .now) (a .table) (sample-table (part (a .out .now) (a .body .at) k) (a .bits) (blocks 64 (rank (part (a .out .now) (a .body .at) k) (a .bits))))) m
 
 pub fill-samples-spec : {M : Type 1} → statement M
 fill-samples-spec =

@@ -26,8 +26,8 @@ loop-of c = c .before .before .before .before .before .before
 abbrev chosen : tie.After-struct-known2 Inv-loop μ-loop → tie.After-take-branch Inv-loop μ-loop
 chosen c = c .before .before .before .before
 
-abbrev marked : tie.After-child Inv-loop μ-loop → tie.After-struct-known2 Inv-loop μ-loop
-marked c = c .before .before .before
+abbrev found : tie.After-child Inv-loop μ-loop → tie.After-struct-known2 Inv-loop μ-loop
+found c = c .before .before .before
 
 root-path-requires : tie.Need-root-path-requires Inv-loop μ-loop
 root-path-requires c κs = search needs
@@ -98,22 +98,22 @@ child-requires c κs =
     branch-position (a .image .now) (a .f) (b .pre .0) (a .place) (l .loop .p) (l .loop .d) (l .loop .skip) (l .loop .inv) (t .result) (t .ensures)
 
 mul-c : tie.Need-mul-c Inv-loop μ-loop
-mul-c c = omega (arith, loop-of (marked c) .loop .inv .deep)
+mul-c c = omega (arith, loop-of (found c) .loop .inv .deep)
 
 element-set-from-c : tie.Need-element-set-from-c Inv-loop μ-loop
 element-set-from-c c =
-    let l = loop-of (marked c) in
+    let l = loop-of (found c) in
     let b = start l in
     let a = b .args in
-    let t = chosen (marked c) .take-branch in
+    let t = chosen (found c) .take-branch in
     next-deep (a .image .now) (a .f) (b .pre .0) (a .place) (l .loop .p) (l .loop .d) (l .loop .skip) (l .loop .inv) (t .result) (t .ensures) (c .child .result) (c .child .ensures) (c .before .enum-told .given .1)
 
 is-exact-requires : tie.Need-is-exact-requires Inv-loop μ-loop
 is-exact-requires c κs =
-    let l = loop-of (marked c) in
+    let l = loop-of (found c) in
     let b = start l in
     let a = b .args in
-    let t = chosen (marked c) .take-branch in
+    let t = chosen (found c) .take-branch in
     let on = next-on (a .image .now) (a .f) (b .pre .0) (a .place) (l .loop .p) (l .loop .d) (l .loop .skip) (l .loop .inv) (t .result) (t .ensures) (c .child .result) (c .child .ensures) (c .before .enum-told .given .1) in
     record { accepted = b .pre .0; inside = node-in (a .image .now) (a .f) (b .pre .0) _ (c .child .result .0) on }
 
@@ -121,39 +121,39 @@ returns-2 : tie.Need-returns-2 Inv-loop μ-loop
 returns-2 c =
     let x = c .before .before in
     let n = x .before in
-    let l = loop-of (marked n) in
+    let l = loop-of (found n) in
     let b = start l in
     let a = b .args in
-    let t = chosen (marked n) .take-branch in
+    let t = chosen (found n) .take-branch in
     leads-exact (a .image .now) (a .f) (b .pre .0) (a .place) (l .loop .p) (l .loop .d) (l .loop .skip) (l .loop .inv) (t .result) (t .ensures) (n .child .result) (n .child .ensures) (n .before .enum-told .given .1) (sym (x .is-exact .ensures) ∙ c .before .if1 .taken) (c .if2 .taken)
 
 sub-skip-2 : tie.Need-sub-skip-2 Inv-loop μ-loop
 sub-skip-2 c = let z = c .if2 .left in omega arith
 
 loop-less : tie.Need-loop-less Inv-loop μ-loop
-loop-less c = omega (arith, loop-of (marked (c .before .before .before)) .loop .inv .deep)
+loop-less c = omega (arith, loop-of (found (c .before .before .before)) .loop .inv .deep)
 
 loop-again : tie.Need-loop-again Inv-loop μ-loop
 loop-again c =
     let x = c .before .before in
     let n = x .before in
-    let l = loop-of (marked n) in
+    let l = loop-of (found n) in
     let b = start l in
     let a = b .args in
-    let t = chosen (marked n) .take-branch in
+    let t = chosen (found n) .take-branch in
     own-passed (a .image .now) (a .f) (b .pre .0) (a .place) (l .loop .p) (l .loop .d) (l .loop .skip) (l .loop .inv) (t .result) (t .ensures) (n .child .result) (n .child .ensures) (n .before .enum-told .given .1) (sym (x .is-exact .ensures) ∙ c .before .if1 .taken) (c .if2 .left)
 
 loop-less-2 : tie.Need-loop-less-2 Inv-loop μ-loop
-loop-less-2 c = omega (arith, loop-of (marked (c .before .before)) .loop .inv .deep)
+loop-less-2 c = omega (arith, loop-of (found (c .before .before)) .loop .inv .deep)
 
 loop-again-2 : tie.Need-loop-again-2 Inv-loop μ-loop
 loop-again-2 c =
     let x = c .before in
     let n = x .before in
-    let l = loop-of (marked n) in
+    let l = loop-of (found n) in
     let b = start l in
     let a = b .args in
-    let t = chosen (marked n) .take-branch in
+    let t = chosen (found n) .take-branch in
     none-passed (a .image .now) (a .f) (b .pre .0) (a .place) (l .loop .p) (l .loop .d) (l .loop .skip) (l .loop .inv) (t .result) (t .ensures) (n .child .result) (n .child .ensures) (n .before .enum-told .given .1) (sym (x .is-exact .ensures) ∙ c .if1 .left)
 
 pub descend-to-spec : {M : Type 1} → statement M

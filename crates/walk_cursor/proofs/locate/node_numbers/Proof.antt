@@ -1,4 +1,4 @@
--- The nodes before place i have been copied.
+-- The nodes before index i have been copied.
 use Prim.Native.Nat.{ℕ, _+_, _-_, _<_, _≤_}
 use mathlib.Core.Path.{_≡_, refl, _∙_}
 use mathlib.Core.Bool.{Bool, true, false}

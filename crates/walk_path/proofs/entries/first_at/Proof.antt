@@ -1,4 +1,4 @@
--- A first FF with another entry behind it marks an exact leaf.
+-- A first FF with another entry behind it is the extra one of an exact leaf.
 use Prim.Native.Nat.{ℕ, _+_, _-_, _≤_, _<_}
 use mathlib.Core.Path.{_≡_, sym, _∙_}
 use native.Mathlib.Omega.{arith}
@@ -6,7 +6,7 @@ use lib.ListN.{drop}
 use Rattle.bits_select.specs.SelectLaws.{select-le}
 use Rattle.nav_nodes.specs.FoundBranch.{Is-sparse}
 use Rattle.walk_path.specs.Entries.{start-of}
-use Rattle.walk_path.specs.EntryLaws.{start-below, first-other, first-sole, first-marked}
+use Rattle.walk_path.specs.EntryLaws.{start-below, first-other, first-sole, first-extra}
 use borrow.Author.Needs.{needs}
 use Rattle.walk_path.proofs.entries.first_at.Statement.{statement}
 use Rattle.walk_path.proofs.entries.first_at.Tie as tie
@@ -19,8 +19,8 @@ starts : (c : tie.Else1) → c .before .before .before .before .args .at .0 ≡ 
 starts c = let n = c .if1 .left in c .before .before .before .before .pre .1 (omega arith)
 
 -- it has another entry behind the first where one goes on
-marked : (c : tie.Then3) → c .before .before .before .before .before .before .before .before .before .before .args .at .0 + 1 < start-of (c .before .before .before .before .before .before .before .before .before .before .args .image .now) (c .before .before .before .before .before .before .before .before .before .before .args .f) (c .before .before .before .before .before .before .before .before .before .before .args .m .0 + 1)
-marked c =
+extra : (c : tie.Then3) → c .before .before .before .before .before .before .before .before .before .before .args .at .0 + 1 < start-of (c .before .before .before .before .before .before .before .before .before .before .args .image .now) (c .before .before .before .before .before .before .before .before .before .before .args .f) (c .before .before .before .before .before .before .before .before .before .before .args .m .0 + 1)
+extra c =
     let a = c .before .before .before .before .before .before .before .before .before .before .args in
     let n = sparse (c .before .before .before .before .before .before) in
     c .before .goes-on .ensures .inside (a .m .0) n (omega (arith, starts (c .before .before .before .before .before .before), start-below (a .image .now) (a .f) (n .accepted) (a .m .0) (n .behind-dense) (n .inside))) (c .if3 .taken)
@@ -51,13 +51,13 @@ add-t11 : tie.Need-add-t11
 add-t11 c = let b = c .before .before .before .before .before .before .before .before .before .before .before in omega (arith, starts (c .before .before .before .before .before .before .before), few b (b .args .m .0), b .pre .0 .accepted .writable .few-entries, b .pre .0 .accepted .entry-size)
 
 branch-at-requires-2 : tie.Need-branch-at-requires-2
-branch-at-requires-2 c κs = let b = c .before .before .before .before .before .before .before .before .before .before .before in (b .pre .0 .accepted, omega (arith, marked (c .before), few b (b .args .m .0 + 1)))
+branch-at-requires-2 c κs = let b = c .before .before .before .before .before .before .before .before .before .before .before in (b .pre .0 .accepted, omega (arith, extra (c .before), few b (b .args .m .0 + 1)))
 
 returns-2 : tie.Need-returns-2
 returns-2 c =
     let a = c .before .before .before .before .before .before .before .before .before .before .before .before .args in
     let n = sparse (c .before .before .before .before .before .before .before .before) in
-    first-marked (a .image .now) (a .f) (n .accepted) (a .m .0) (n .behind-dense) (n .inside) (a .at .0) (starts (c .before .before .before .before .before .before .before .before)) (c .branch-at2 .result) (sym (c .before .before .before .before .before .before .before .branch-at .ensures .label-is) ∙ c .before .before .before .before .before .if2 .taken) (marked (c .before .before)) (c .branch-at2 .ensures)
+    first-extra (a .image .now) (a .f) (n .accepted) (a .m .0) (n .behind-dense) (n .inside) (a .at .0) (starts (c .before .before .before .before .before .before .before .before)) (c .branch-at2 .result) (sym (c .before .before .before .before .before .before .before .branch-at .ensures .label-is) ∙ c .before .before .before .before .before .if2 .taken) (extra (c .before .before)) (c .branch-at2 .ensures)
 
 returns-3 : tie.Need-returns-3
 returns-3 c =

@@ -1,4 +1,4 @@
--- The node starts behind the last one of its level, and its first branch stands at its start or behind the mark of an exact leaf.
+-- The node starts behind the last one of its level, and its first branch stands at its start or behind the extra FF of an exact leaf.
 use mathlib.Core.Path.{sym, _∙_}
 use native.Mathlib.Omega.{arith}
 use Rattle.walk_path.specs.LevelLaws.{enters-sparse}
