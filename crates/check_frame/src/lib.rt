@@ -101,7 +101,7 @@ fn settings_valid(h: Header) -> bool
 {
     let settings = Settings {
         version: h.version,
-        levels: h.dense.levels,
+        dense_levels: h.dense.levels,
         real_width: h.real_width,
         hash_width: h.hash_width,
     };

@@ -62,7 +62,7 @@ pub fn settings_in_range(settings: Settings) -> bool
     ensures { λ r. ⌜ r ≡ in-range (asked settings) ⌝ }
 {
     ((settings.version == FIRST_VERSION) | (settings.version == LEVELED_VERSION))
-        & (settings.levels <= MAX_DENSE_LEVELS)
+        & (settings.dense_levels <= MAX_DENSE_LEVELS)
         & (settings.real_width <= MAX_REAL_BITS)
         & (settings.hash_width <= MAX_HASH_BITS)
 }

@@ -24,11 +24,11 @@ abbrev pub Sample-table : ℕ → ℕ → Bytes → Bytes → Type 0
 Sample-table n total s ts = (n ≤ 8 * length s) × (rank s n ≡ total) × ((t : ℕ) → 64 * t < total → Sample s ts n t)
 
 -- A rank is counted on from block b, which starts before bit k.
-module _ (w n k b : ℕ) (s rt : Bytes) (h : Rank-table w n s rt) (l : k ≤ n) (m : w * b < k) where
+module _ (w b : ℕ) {n k : ℕ} (s rt : Bytes) (h : Rank-table w n s rt) (l : k ≤ n) (m : w * b < k) where
   -- the block's entry is in the table
-  pub entry-room : 4 * b + 4 ≤ length rt
-  entry-room = h .1 b (omega arith) .0
+  pub rank-room : 4 * b + 4 ≤ length rt
+  rank-room = h .1 b (omega arith) .0
 
   -- it says how many ones stand before the block's first word, from which the count goes on
-  pub entry-counts : (word before : ℕ) → w * b ≡ 64 * word → before ≡ table-entry rt b → (k ≤ 8 * length s) × (64 * word ≤ k) × (before ≡ rank s (64 * word))
-  entry-counts word before e r = (omega (arith, h .0), omega arith, r ∙ h .1 b (omega arith) .1 ∙ ap (rank s) e)
+  pub rank-counts : (word : ℕ) {before : ℕ} → w * b ≡ 64 * word → before ≡ table-entry rt b → (k ≤ 8 * length s) × (64 * word ≤ k) × (before ≡ rank s (64 * word))
+  rank-counts word e r = (omega (arith, h .0), omega arith, r ∙ h .1 b (omega arith) .1 ∙ ap (rank s) e)

@@ -1,7 +1,7 @@
 use Prim.Native.Nat.{_-_, _/_}
 use native.Mathlib.Omega.{arith}
 use Rattle.bits.specs.Bits.{rank}
-use Rattle.rank_tables.specs.Reading.{entry-room, entry-counts}
+use Rattle.rank_tables.specs.Reading.{rank-room, rank-counts}
 use borrow.Author.Needs.{needs}
 use Rattle.rank_tables.proofs.read.rank_512.Statement.{statement}
 use Rattle.rank_tables.proofs.read.rank_512.Tie as tie
@@ -17,19 +17,13 @@ mul-read32 : tie.Need-mul-read32
 mul-read32 c = search needs
 
 read32-requires : tie.Need-read32-requires
-read32-requires c κs =
-    let a = c .before .before .before .args in
-    let p = c .before .before .before .pre in
-    entry-room 512 (a .n) (a .k) ((a .k - 1) / 512) (a .bits .now) (a .table .now) (p .0) (p .1) (omega arith)
+read32-requires c κs = let b = c .before .before .before in rank-room 512 ((b .args .k - 1) / 512) _ _ (b .pre .0) (b .pre .1) (omega arith)
 
 mul-rank-from : tie.Need-mul-rank-from
 mul-rank-from c = search needs
 
 rank-from-requires : tie.Need-rank-from-requires
-rank-from-requires c κs =
-    let a = c .before .before .before .before .args in
-    let p = c .before .before .before .before .pre in
-    entry-counts 512 (a .n) (a .k) ((a .k - 1) / 512) (a .bits .now) (a .table .now) (p .0) (p .1) (omega arith) _ _ (omega arith) (c .read32 .ensures .0)
+rank-from-requires c κs = let b = c .before .before .before .before in rank-counts 512 ((b .args .k - 1) / 512) _ _ (b .pre .0) (b .pre .1) (omega arith) _ (omega arith) (c .read32 .ensures .0)
 
 returns-2 : tie.Need-returns-2
 returns-2 c = search needs

@@ -2,7 +2,7 @@ use mathlib.Core.Path.{refl}
 use Prim.Native.Nat.{_-_, _/_}
 use native.Mathlib.Omega.{arith}
 use Rattle.bits.specs.Bits.{rank}
-use Rattle.rank_tables.specs.Reading.{entry-room, entry-counts}
+use Rattle.rank_tables.specs.Reading.{rank-room, rank-counts}
 use borrow.Author.Needs.{needs}
 use Rattle.rank_tables.proofs.read.rank_64.Statement.{statement}
 use Rattle.rank_tables.proofs.read.rank_64.Tie as tie
@@ -18,16 +18,10 @@ mul-read32 : tie.Need-mul-read32
 mul-read32 c = search needs
 
 read32-requires : tie.Need-read32-requires
-read32-requires c κs =
-    let a = c .before .before .before .args in
-    let p = c .before .before .before .pre in
-    entry-room 64 (a .n) (a .k) ((a .k - 1) / 64) (a .bits .now) (a .table .now) (p .0) (p .1) (omega arith)
+read32-requires c κs = let b = c .before .before .before in rank-room 64 ((b .args .k - 1) / 64) _ _ (b .pre .0) (b .pre .1) (omega arith)
 
 rank-from-requires : tie.Need-rank-from-requires
-rank-from-requires c κs =
-    let a = c .before .before .before .before .args in
-    let p = c .before .before .before .before .pre in
-    entry-counts 64 (a .n) (a .k) ((a .k - 1) / 64) (a .bits .now) (a .table .now) (p .0) (p .1) (omega arith) _ _ refl (c .read32 .ensures .0)
+rank-from-requires c κs = let b = c .before .before .before .before in rank-counts 64 ((b .args .k - 1) / 64) _ _ (b .pre .0) (b .pre .1) (omega arith) _ refl (c .read32 .ensures .0)
 
 returns-2 : tie.Need-returns-2
 returns-2 c = search needs
