@@ -7,7 +7,7 @@ use mathlib.Core.Logic.{_⊎_, inl, inr}
 use native.Mathlib.Omega.{arith}
 use borrow.Author.Tests.{eqb-true, eqb-false, lt-ltb, le-ltb, ltb-true, ltb-false, eq-eqb, ne-eqb}
 use lib.ListN.{length, getD, take, drop, length-append, length-drop}
-use lib.Seq.{take-suc, take-all, length-take-le, getD-drop}
+use lib.Seq.{take-suc, length-take-le, getD-drop}
 use lib.Dec.{ltb, eqb}
 use lib.Pow.{shr-shr}
 use native.Mathlib.Nat.{pow-succ'}
@@ -318,13 +318,3 @@ print-refused b h n = print-is b ∙ ap₂ (λ (long ok : Bool). by-tests long o
 pub print-accepted : (b : Bytes) → length b ≤ longest-input → verdict b ≡ 0 → print b ≡ listing (read-leaves b)
 unfolding by-tests
 print-accepted b h e = print-is b ∙ ap₂ (λ (long ok : Bool). by-tests long ok b) (le-ltb longest-input (length b) h) (eq-eqb (verdict b) 0 e)
-
--- THE FIRST 65,537 BYTES OF AN INPUT DECIDE ITS TEXT, so that the printer need not read more.
-pub start-decides : (s : Bytes) → print (take (suc longest-input) s) ≡ print s
-start-decides s = by-length (ltb (suc longest-input) (length s)) refl
-  where
-    by-length : (b : Bool) → ltb (suc longest-input) (length s) ≡ b → print (take (suc longest-input) s) ≡ print s
-    by-length true e =
-        let l = ltb-true (suc longest-input) (length s) e in
-        print-too-long (take (suc longest-input) s) (omega (arith, length-take-le (suc longest-input) s (omega arith))) ∙ sym (print-too-long s (omega arith))
-    by-length false e = ap print (take-all (suc longest-input) s (ltb-false (suc longest-input) (length s) e))

@@ -3,7 +3,7 @@
 use Prim.Native.Nat.{ℕ, suc, _+_, _<_, _≤_, max}
 use mathlib.Core.Path.{_≡_, refl, sym, ap, ap₂, _∙_}
 use mathlib.Core.Bool.{Bool, true, false, cond, not, true≢false}
-use mathlib.Core.List.{List, [], _∷_, _++_, map}
+use mathlib.Core.List.{List, [], _∷_, map}
 use mathlib.Core.Logic.{_⊎_, inl, inr, ⊎-elim}
 use native.Mathlib.Omega.{arith}
 use lib.ListN.{length, take, replicate}
@@ -21,13 +21,6 @@ unfoldable pub next-shared : Bytes → List Bytes → ℕ
 unfolding shared
 next-shared k [] = 0
 next-shared k (m ∷ ms) = shared k m
-
--- what a key shares with the last of the keys before it, if there is one
-unfoldable pub previous-shared : List Bytes → Bytes → ℕ
-unfolding shared
-previous-shared [] k = 0
-previous-shared (m ∷ []) k = shared m k
-previous-shared (m ∷ o ∷ ms) k = previous-shared (o ∷ ms) k
 
 -- no key is empty
 abbrev pub Nonempty : List Bytes → Type 0
@@ -162,24 +155,9 @@ step ks k m ms p z w = record {
     kin o here = inr (w .asc .0 .0, omega (arith, shared-comm k m))
     kin o (there i) = inl i
 
--- the position of a key behind others
-position-behind : (ks before : List Bytes) (m k : Bytes) (after : List Bytes) (p : ℕ) → Nonempty (before ++ k ∷ after) → Position ks m (before ++ k ∷ after) p → Position ks k after (previous-shared (m ∷ before) k)
-unfolding previous-shared
-position-behind ks [] m k after p s w = step ks m k after p (s .0) w
-position-behind ks (o ∷ before) m k after p s w = position-behind ks before o k after (shared m o) (s .1) (step ks m o (before ++ k ∷ after) p (s .0) w)
-
 -- the position of the first key
 position-first : (k : Bytes) (ks : List Bytes) → 0 < length k → Ascending (k ∷ ks) → Position (k ∷ ks) k ks 0
 position-first k ks s a = record { some = s; into = λ o i. i; seen = λ o i. inl i; wit = inl refl; short = s; asc = a }
-
--- The longest prefix that a key of an ascending list shares with any other is shared with a neighbour.
-pub shared-with-neighbour : (before : List Bytes) (k : Bytes) (after : List Bytes) → Nonempty (before ++ k ∷ after) → Ascending (before ++ k ∷ after)
-    → maximum (map (shared k) (others (before ++ k ∷ after) k)) ≡ max (previous-shared before k) (next-shared k after)
-unfolding previous-shared
-shared-with-neighbour [] k after s a = shared-most (k ∷ after) k after 0 (position-first k after (s .0) a)
-shared-with-neighbour (m ∷ before) k after s a =
-    let ks : List Bytes = m ∷ before ++ k ∷ after in
-    shared-most ks k after (previous-shared (m ∷ before) k) (position-behind ks before m k after 0 (s .1) (position-first m (before ++ k ∷ after) (s .0) a))
 
 leaves-from : (h n : ℕ) (ks : List Bytes) (k : Bytes) (ms : List Bytes) (p : ℕ) → Nonempty (k ∷ ms) → Position ks k ms p → map (leaf h n ks) (k ∷ ms) ≡ neighbour-leaves h n p (k ∷ ms)
 unfolding neighbour-leaves next-shared

