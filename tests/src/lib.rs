@@ -1,6 +1,6 @@
 //! What the tests share: an implementation written from documents 01 and 02 to compare with,
-//! the calls of the proved library, the printer program, generators of inputs, published
-//! values, and the comparisons themselves.
+//! the calls of the proved library, the printer program, painted stacks, generators of inputs,
+//! published values, and the comparisons themselves.
 
 pub mod accepted;
 pub mod answer;
@@ -13,5 +13,6 @@ pub mod random;
 pub mod reference;
 pub mod refused;
 pub mod settings;
+pub mod stack;
 pub mod tally;
 pub mod vectors;
