@@ -44,12 +44,17 @@ static uint64_t print_leaves(const uint8_t *image, size_t length, unsigned width
     return place;
 }
 
-/* Shows one place of an accepted image after the other: a leaf, done, and one that is refused. */
+/*
+ * Shows one place of an accepted image after the other: a leaf, done, and one that is refused. A
+ * buffer shorter than a record gets no bytes, as done does.
+ */
 static void show_places(const uint8_t *image, size_t length) {
     uint8_t record[RANGE_FILTER_RECORD_SIZE];
     show("bytes at place 2", range_filter_accepted_walk(image, length, 2, record, sizeof record),
          RANGE_FILTER_RECORD_SIZE);
     print_leaf(2, record, 0);
+    show("bytes at place 2, one byte short",
+         range_filter_accepted_walk(image, length, 2, record, sizeof record - 1), 0);
     show("bytes at place 4", range_filter_accepted_walk(image, length, 4, record, sizeof record),
          0);
     show("bytes at place 5", range_filter_accepted_walk(image, length, 5, record, sizeof record),

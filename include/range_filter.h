@@ -271,10 +271,14 @@ uint64_t range_filter_ask(const uint8_t *image, size_t image_len, const uint8_t 
  *             for done
  *   records   gets a record of 70 bytes for each leaf, of as many leaves as it holds whole: the
  *             kind, the cut key's length, 64 bytes with the cut key and zeros behind it, and the
- *             suffix as a number of four bytes, the low one first
- * Answer: the bytes of records, 0 where the walk is done or the buffer is shorter than a record; or
- * the smallest of 11 to 16 that applies; then 17. The walk goes on at the place plus the number of
- * records that were written.
+ *             suffix as a number of four bytes, the low one first. Lend RANGE_FILTER_RECORD_SIZE
+ *             bytes or more
+ * Answer: the bytes of records; or the smallest of 11 to 16 that applies; then 17. The walk goes on
+ * at the place plus the number of records that were written.
+ * 0 bytes mean that the walk is done, or that the buffer has under RANGE_FILTER_RECORD_SIZE bytes:
+ * a shorter one is not refused, and holds no record whole. The answer does not tell the two apart,
+ * so that a loop which ends at 0 takes such a walk for done, with leaves left. With room for a
+ * record 0 means done alone.
  */
 uint64_t range_filter_walk(const uint8_t *image, size_t image_len, uint64_t place, uint8_t *records,
                            size_t records_len);
@@ -354,8 +358,8 @@ uint64_t range_filter_accepted_seek(const uint8_t *image, size_t image_len, cons
 
 /*
  * Writes the leaves of the image from a place on, as range_filter_walk does.
- * Answer: the bytes of records, 0 where the walk is done or the buffer is shorter than a record; or
- * 17.
+ * Answer: the bytes of records; or 17. 0 bytes mean that the walk is done, or that the buffer has
+ * under RANGE_FILTER_RECORD_SIZE bytes; with room for a record they mean done alone.
  */
 uint64_t range_filter_accepted_walk(const uint8_t *image, size_t image_len, uint64_t place,
                                     uint8_t *records, size_t records_len);

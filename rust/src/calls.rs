@@ -7,6 +7,7 @@
 //!
 //! Which numbers the library gives is proved, so that a number without a name here never comes.
 
+use crate::leaf::Record;
 use crate::{Refusal, Rule, Settings};
 
 /// The bytes of a seek's answer: a length byte and at most 64 bytes of a key.
@@ -258,11 +259,13 @@ impl<'a> Accepted<'a> {
         })
     }
 
-    /// Writes the records of the leaves from a place on, of as many as the buffer holds whole,
-    /// and gives the bytes written.
+    /// Writes the records of the leaves from a place on, as many as there is room for, and gives
+    /// the bytes written. 0 bytes mean that the walk is done or that there is no room for a record;
+    /// since room is lent in whole records, the second is so for an empty slice alone.
     #[inline]
-    pub(crate) fn walk(self, place: usize, records: &mut [u8]) -> Result<u32, Refusal> {
+    pub(crate) fn walk(self, place: usize, records: &mut [Record]) -> Result<u32, Refusal> {
         let image = self.0;
+        let records = records.as_flattened_mut();
         // SAFETY: the check accepted these bytes, which are borrowed unchanged since; pointers
         // and lengths are those of slices that live through the call, and the buffer is lent to
         // it alone.

@@ -1,7 +1,7 @@
 //! An accepted image, and the questions that are put to it one at a time.
 
 use crate::calls::{Accepted, FOUND_BYTES};
-use crate::leaf::RECORD_BYTES;
+use crate::leaf::{Record, RECORD_BYTES};
 use crate::{questions, Key, Leaf, Leaves, Refusal, Rule, Settings};
 use std::fmt;
 
@@ -260,7 +260,8 @@ impl<'a> Filter<'a> {
     }
 
     /// Gives the leaf at a place: its number in key order, from 0. Gives none where the place
-    /// is the number of leaves.
+    /// is the number of leaves, and for no other cause: the record is read into memory of this
+    /// function's own, so that there is no buffer that could be too short for it.
     ///
     /// # Errors
     ///
@@ -279,9 +280,10 @@ impl<'a> Filter<'a> {
     /// # Ok::<(), Refusal>(())
     /// ```
     pub fn leaf(&self, place: usize) -> Result<Option<Leaf>, Refusal> {
-        let mut record = [0; RECORD_BYTES];
-        let written = self.records(place, &mut record)?;
-        Ok(Leaf::read(&record[..written], place, self.settings()))
+        let mut records = [[0; RECORD_BYTES]];
+        let written = self.records(place, &mut records)?;
+        let record = records[..written].first();
+        Ok(record.and_then(|record| Leaf::read(record, place, self.settings())))
     }
 
     /// Gives the leaves one by one in key order.
@@ -328,11 +330,11 @@ impl<'a> Filter<'a> {
         bytes
     }
 
-    /// Writes the records of the leaves from a place on, of as many as the buffer holds whole,
-    /// and gives the bytes written.
-    pub(crate) fn records(&self, place: usize, records: &mut [u8]) -> Result<usize, Refusal> {
+    /// Writes the records of the leaves from a place on, as many as there is room for, and gives
+    /// their number. Where there is room for one, 0 says that the place is behind the last leaf.
+    pub(crate) fn records(&self, place: usize, records: &mut [Record]) -> Result<usize, Refusal> {
         let written = self.accepted.walk(place, records);
-        written.map(|bytes| bytes as usize)
+        written.map(|bytes| bytes as usize / RECORD_BYTES)
     }
 }
 

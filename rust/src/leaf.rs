@@ -7,6 +7,9 @@ use std::fmt;
 /// for the suffix.
 pub(crate) const RECORD_BYTES: usize = 70;
 
+/// A walk's record. Whoever lends room for records lends whole ones, so that none is cut off.
+pub(crate) type Record = [u8; RECORD_BYTES];
+
 /// The first of the four bytes of a record with the suffix.
 const SUFFIX_AT: usize = 66;
 
@@ -42,9 +45,9 @@ pub struct Leaf {
 impl Leaf {
     /// Reads the record of the leaf at a place of an image with these settings. Gives none for
     /// bytes that are no record.
-    pub(crate) fn read(record: &[u8], place: usize, settings: Settings) -> Option<Self> {
-        let exact = *record.first()? == EXACT;
-        let suffix = record.get(SUFFIX_AT..RECORD_BYTES)?;
+    pub(crate) fn read(record: &Record, place: usize, settings: Settings) -> Option<Self> {
+        let exact = record[0] == EXACT;
+        let suffix = &record[SUFFIX_AT..];
         let width = settings.hash_bits() + settings.real_bits();
         Some(Leaf {
             place,

@@ -1,6 +1,6 @@
 //! The leaves of an image one by one.
 
-use crate::leaf::RECORD_BYTES;
+use crate::leaf::{Record, RECORD_BYTES};
 use crate::{Filter, Leaf};
 use std::fmt;
 use std::iter::FusedIterator;
@@ -13,6 +13,11 @@ const BATCH: usize = 64;
 ///
 /// Leaves are fetched in batches, so that a walk over all of them is linear in the image.
 /// [`Iterator::nth`] and [`Iterator::skip`] go straight to their place.
+///
+/// A batch is memory of the iterator's own, with room for a whole leaf or more. So `None` means
+/// that all leaves have been given. The other cause for which the walk of the C header writes
+/// nothing, a buffer shorter than a record, does not come about here: no buffer is taken from the
+/// caller.
 ///
 /// ```
 /// use range_filter::{build, Filter, Leaves, Settings};
@@ -36,7 +41,7 @@ pub struct Leaves<'a> {
     /// The place of the first leaf that is fetched.
     first: usize,
     /// The records of the leaves that are fetched.
-    records: Vec<u8>,
+    records: Vec<Record>,
 }
 
 impl<'a> Leaves<'a> {
@@ -52,16 +57,16 @@ impl<'a> Leaves<'a> {
     }
 
     /// Gives the record of the next leaf, if it is fetched.
-    fn fetched(&self) -> Option<&[u8]> {
-        let at = (self.place - self.first) * RECORD_BYTES;
-        self.records.get(at..at + RECORD_BYTES)
+    fn fetched(&self) -> Option<&Record> {
+        self.records.get(self.place - self.first)
     }
 
-    /// Fetches a batch that starts at the next leaf. No place of a leaf is refused.
+    /// Fetches a batch that starts at the next leaf, which there is, so that there is room for at
+    /// least one record. No place of a leaf is refused.
     fn fetch(&mut self) {
         let leaves = BATCH.min(self.end - self.place);
         self.first = self.place;
-        self.records.resize(leaves * RECORD_BYTES, 0);
+        self.records.resize(leaves, [0; RECORD_BYTES]);
         let written = self.filter.records(self.place, &mut self.records);
         self.records.truncate(written.unwrap_or(0));
     }

@@ -111,6 +111,11 @@ fn list_a_is_walked() {
         assert_eq!(walk_from_everywhere(image), 4);
         assert_eq!(compare(image, 4, RECORD_BYTES), Answer::Written(0));
         assert_eq!(compare(image, 5, RECORD_BYTES), Answer::Refused(17));
+        for place in 0..=4 {
+            let short = compare(image, place, RECORD_BYTES - 1);
+            assert_eq!(short, Answer::Written(0), "as done");
+        }
+        assert_eq!(compare(image, 5, RECORD_BYTES - 1), Answer::Refused(17));
     }
 }
 
