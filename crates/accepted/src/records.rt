@@ -5,8 +5,8 @@ ghost use Rattle.spec.specs.WalkRecords.{walk-records};
 ghost use Rattle.image.specs.Outcomes.{outcome};
 use super::frame::accepted_frame;
 use image::Written;
-use walk::states::open_accepted;
 use walk_records::write_opened;
+use walk_states::open_accepted;
 
 // Writes the records of the leaves from a place on, as `write_records` does, over an image that is not checked again.
 pub fn write_accepted(image: &[u8], place: usize, out: &mut [u8]) -> Written

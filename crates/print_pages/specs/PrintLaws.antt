@@ -13,14 +13,14 @@ use Rattle.spec.specs.Print.{longest-input, line, lines, print}
 use Rattle.spec.specs.Walk.{open-walk}
 use Rattle.image.specs.Value.{leaf-of, value-of}
 use Rattle.walk_cursor.specs.LeafValues.{leaf-of-value}
-use Rattle.walk.specs.Opening.{refused-first}
+use Rattle.walk_states.specs.Opening.{refused-first}
 use Rattle.walk_cursor.specs.Places.{leaf-total}
-use Rattle.walk.specs.declared.states.Stand.the-variants as Stand
-use Rattle.walk.specs.declared.states.Standing.{Standing}
-use Rattle.walk.specs.declared.states.State.{State}
-use Rattle.walk.specs.declared.states.Status.the-variants as Status
-use Rattle.walk.specs.Walks.{Gives, Walks, Opens, Moved}
-use Rattle.walk.specs.StateLaws.{place-within, found-leaf, found-none, moved-on}
+use Rattle.walk_states.specs.declared.Stand.the-variants as Stand
+use Rattle.walk_states.specs.declared.Standing.{Standing}
+use Rattle.walk_states.specs.declared.State.{State}
+use Rattle.walk_states.specs.declared.Status.the-variants as Status
+use Rattle.walk_states.specs.Walks.{Gives, Walks, Opens, Moved}
+use Rattle.walk_states.specs.StateLaws.{place-within, found-leaf, found-none, moved-on}
 use Rattle.print_text.specs.Texts.{longest-line, head-text, refused-text, too-long-text, listing-is, length-head, length-pieces, length-line, lines-none, print-too-long, print-refused, print-accepted}
 use Rattle.print_pages.specs.Parts.{lines-between, between-none, between-more, between-rest}
 use Rattle.print_text.specs.Writing.{Written, written-none, written-append, written-as, written-front}

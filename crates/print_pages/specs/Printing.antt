@@ -6,9 +6,9 @@ use lib.ListN.{length, take, drop}
 use Rattle.spec.specs.Bytes.{Bytes}
 use Rattle.spec.specs.Nodes.{read-leaves}
 use Rattle.spec.specs.Print.{lines, print}
-use Rattle.walk.specs.declared.states.State.{State}
-use Rattle.walk.specs.declared.states.Status.the-variants as Status
-use Rattle.walk.specs.Walks.{Walks}
+use Rattle.walk_states.specs.declared.State.{State}
+use Rattle.walk_states.specs.declared.Status.the-variants as Status
+use Rattle.walk_states.specs.Walks.{Walks}
 use Rattle.print_text.specs.Texts.{longest-line}
 use Rattle.print_pages.specs.declared.opening.Follows.the-variants as Follows
 use Rattle.print_pages.specs.declared.opening.Opening.{Opening}

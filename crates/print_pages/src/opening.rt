@@ -6,9 +6,9 @@ ghost use Rattle.print_pages.specs.Printing.{Opened};
 use print_text::lines::write_head;
 use print_text::lines::write_refused;
 use print_text::lines::write_too_long;
-use walk::states::State;
-use walk::states::Status;
 use walk::walker::open_from;
+use walk_states::State;
+use walk_states::Status;
 
 // The bytes of the longest input that is taken for an image.
 const LONGEST_INPUT: usize = 65536;

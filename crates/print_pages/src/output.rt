@@ -9,7 +9,7 @@ use super::opening::Follows;
 use super::opening::open;
 use super::pages::write_page;
 use libc::STDOUT_FILENO;
-use walk::states::State;
+use walk_states::State;
 
 // The bytes of a page.
 const PAGE: usize = 16384;

@@ -2,16 +2,16 @@
 ghost use mathlib.Core.Path.{_≡_};
 ghost use Prim.Native.Nat.{_≤_};
 ghost use lib.ListN.{length};
-ghost use Rattle.walk.specs.Walks.{Walks};
+ghost use Rattle.walk_states.specs.Walks.{Walks};
 ghost use Rattle.print_text.specs.Texts.{longest-line};
 ghost use Rattle.print_pages.specs.Printing.{Paged};
 use print_text::lines::LONGEST_LINE;
 use print_text::lines::write_line;
-use walk::states::Stand;
-use walk::states::State;
-use walk::states::Status;
 use walk::walker::move_from;
 use walk::walker::stand_from;
+use walk_states::Stand;
+use walk_states::State;
+use walk_states::Status;
 
 // The bytes of a page, and the state at the leaf that the next page starts with.
 pub struct Page {

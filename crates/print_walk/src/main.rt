@@ -7,9 +7,9 @@ use print_text::lines::LONGEST_LINE;
 use print_text::lines::write_line;
 use print_text::lines::write_refused;
 use walk::next;
-use walk::states::Stand;
-use walk::states::Standing;
 use walk::walk;
+use walk_states::Stand;
+use walk_states::Standing;
 
 // The places that are asked: the four leaves of list A, done, and one behind it.
 const PLACES: usize = 6;

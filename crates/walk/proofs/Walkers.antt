@@ -30,14 +30,14 @@ use denote.Triple.Spec.{tripleOf}
 use denote.Triple.Walked.{says}
 use denote.Triple.Clauses.{ensured, lasts}
 use Rattle.spec.specs.Walk.{open-walk}
-use Rattle.walk.specs.Walks.{Gives, Walks, Opens, Moved}
-use Rattle.walk.specs.declared.states.Standing.{Standing}
-use Rattle.walk.specs.declared.states.State.{State}
+use Rattle.walk_states.specs.Walks.{Gives, Walks, Opens, Moved}
+use Rattle.walk_states.specs.declared.Standing.{Standing}
+use Rattle.walk_states.specs.declared.State.{State}
 use Rattle.walk.specs.declared.walker.Walker.{Walker}
 use Rattle.walk.proofs.walker.Walker as T
 use Rattle.walk.proofs.walker.Walker.Laws as T′
-use Rattle.walk.proofs.states.State as S
-use Rattle.walk.proofs.states.State.Laws as S′
+use Rattle.walk_states.proofs.State as S
+use Rattle.walk_states.proofs.State.Laws as S′
 use Rattle.walk.proofs.walker.open as opening
 use Rattle.walk.proofs.walker.Walker.next as move-on
 use Rattle.walk.proofs.walker.Walker.stand as stand

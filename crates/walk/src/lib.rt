@@ -1,12 +1,11 @@
 // The public walk over the leaves of an accepted image, in key order, through a walker: what it says at a place, and at the next.
 ghost use Rattle.spec.specs.Walk.{open-walk, next};
-ghost use Rattle.walk.specs.Walks.{Gives};
-use states::Standing;
+ghost use Rattle.walk_states.specs.Walks.{Gives};
+use walk_states::Standing;
 use walker::move_from;
 use walker::open_from;
 use walker::stand_from;
 
-pub mod states; // states.rt: where a walk stands, by value beside the slice of the image
 pub mod walker; // walker.rt: the walker, its methods, and the same over a slice and a state
 
 // What a walk that is opened at a place says there: a refusal's number, done, or the leaf whose number in key order is the place.

@@ -1,12 +1,12 @@
-// A walker holds the image's slice and where it stands; its functions call those of states.rt on the slice. The image is checked once, as the walker is opened.
+// A walker holds the image's slice and where it stands; its functions call those of `walk_states` on the slice. The image is checked once, as the walker is opened.
 ghost use mathlib.Core.Path.{_≡_};
 ghost use Rattle.spec.specs.Walk.{open-walk};
-ghost use Rattle.walk.specs.Walks.{Gives, Walks, Opens, Moved};
-use super::states::Standing;
-use super::states::State;
-use super::states::next_state;
-use super::states::open_state;
-use super::states::stand_state;
+ghost use Rattle.walk_states.specs.Walks.{Gives, Walks, Opens, Moved};
+use walk_states::Standing;
+use walk_states::State;
+use walk_states::next_state;
+use walk_states::open_state;
+use walk_states::stand_state;
 
 // The image and where the walk over it stands.
 pub struct Walker<'a> {

@@ -6,19 +6,19 @@ ghost use Rattle.spec.specs.WalkRecords.{kind-byte, walk-records};
 ghost use Rattle.bits.specs.Bits.{overlaid};
 ghost use Rattle.image.specs.Outcomes.{outcome};
 ghost use Rattle.walk_cursor.specs.LeafValues.{value-record};
-ghost use Rattle.walk.specs.Filling.{Fills};
-ghost use Rattle.walk.specs.Walks.{Walks, Opens};
-ghost use Rattle.walk.specs.Records.{Room};
+ghost use Rattle.walk_states.specs.Filling.{Fills};
+ghost use Rattle.walk_states.specs.Walks.{Walks, Opens};
+ghost use Rattle.walk_states.specs.Records.{Room};
 use bits::copy::write_bytes;
 use bits::numbers::write32;
 use image::Leaf;
 use image::Written;
-use walk::states::State;
-use walk::states::Status;
 use walk::walker::open_from;
 use walk_cursor::advance;
 use walk_cursor::leaf_of;
 use walk_cursor::values::padded;
+use walk_states::State;
+use walk_states::Status;
 
 // The bytes of a record: kind, length, cut key and suffix.
 pub const RECORD_SIZE: usize = 70;

@@ -6,11 +6,11 @@ use Rattle.spec.specs.Nodes.{read-leaves}
 use Rattle.spec.specs.WalkRecords.{record-size}
 use Rattle.bits.specs.Bits.{overlaid}
 use Rattle.image.specs.Value.{leaf-of}
-use Rattle.walk.specs.Filling.{Filled, filled-none, filled-length, filled-more, filled-full, filled-done}
+use Rattle.walk_states.specs.Filling.{Filled, filled-none, filled-length, filled-more, filled-full, filled-done}
 use Rattle.walk_cursor.specs.Stands.{Stands, At-leaf, Is-leaf, cursor-of}
 use Rattle.walk_cursor.specs.Places.{leaf-total, leaf-read}
-use Rattle.walk.specs.Walks.{At-place}
-use Rattle.walk.specs.StateLaws.{record-room, record-is}
+use Rattle.walk_states.specs.Walks.{At-place}
+use Rattle.walk_states.specs.StateLaws.{record-room, record-is}
 use Rattle.walk_records.proofs.write_leaves.Statement.{statement}
 use Rattle.walk_records.proofs.write_leaves.Tie as tie
 

@@ -1,5 +1,5 @@
 -- A refusal writes nothing; else the records of the leaves from the place on are written.
-use Rattle.walk.specs.StateLaws.{writes-refused, writes-records}
+use Rattle.walk_states.specs.StateLaws.{writes-refused, writes-records}
 use borrow.Author.Needs.{needs}
 use Rattle.walk_records.proofs.write_opened.Statement.{statement}
 use Rattle.walk_records.proofs.write_opened.Tie as tie

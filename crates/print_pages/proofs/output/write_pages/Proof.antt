@@ -7,7 +7,7 @@ use borrow.Author.Needs.{needs}
 use lib.ListN.{length}
 use lib.Seq.{length-take-le}
 use Rattle.spec.specs.Nodes.{read-leaves}
-use Rattle.walk.specs.StateLaws.{place-within}
+use Rattle.walk_states.specs.StateLaws.{place-within}
 use Rattle.print_pages.specs.Printing.{Progress}
 use Rattle.print_pages.specs.PrintLaws.{place-small, page-sent, all-sent, sent-within}
 use Rattle.print_pages.proofs.output.write_pages.Statement.{statement}

@@ -7,8 +7,8 @@ use borrow.Author.Needs.{needs}
 use denote.Enum.Declared.{tagOf}
 use lib.ListN.{length}
 use Rattle.spec.specs.Nodes.{read-leaves}
-use Rattle.walk.specs.StateLaws.{found-leaf, moved-on}
-use Rattle.walk.proofs.states.Stand as R
+use Rattle.walk_states.specs.StateLaws.{found-leaf, moved-on}
+use Rattle.walk_states.proofs.Stand as R
 use Rattle.print_pages.specs.Parts.{leaf-found}
 use Rattle.print_pages.specs.PrintLaws.{Filled, place-small, filled-none, filled-more, finished-full, finished-done}
 use Rattle.print_pages.proofs.pages.write_page.Statement.{statement}

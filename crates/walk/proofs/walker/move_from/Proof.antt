@@ -34,13 +34,13 @@ use denote.Triple.Table.{entered, cited}
 use denote.Triple.Walked.{says, needs, Stays, stay-none, stay-none-slice, walkOf, goes-none, goes-none-slice, Walks as Walked, ends-at, walked, walk-meets}
 use denote.Exit.{yes}
 use denote.Triple.Clauses.{ensured}
-use Rattle.walk.specs.Walks.{Walks, Moved}
-use Rattle.walk.specs.declared.states.State.{State}
+use Rattle.walk_states.specs.Walks.{Walks, Moved}
+use Rattle.walk_states.specs.declared.State.{State}
 use Rattle.walk.specs.declared.walker.Walker.{Walker}
 use Rattle.walk.proofs.walker.Walker as T
 use Rattle.walk.proofs.walker.Walker.Laws as T′
-use Rattle.walk.proofs.states.State as S
-use Rattle.walk.proofs.states.State.Laws as S′
+use Rattle.walk_states.proofs.State as S
+use Rattle.walk_states.proofs.State.Laws as S′
 use Rattle.walk.proofs.Walkers.{B, D, L, αᵉ, Next, slice, Own, Moved-on, to-next, goes-next, next-said, state, Own-state, made, walker, goes-made, state-of}
 use Rattle.walk.proofs.walker.Walker.next as move-on
 use Rattle.walk.proofs.walker.Walker.next.Symbol as move-def

@@ -37,16 +37,16 @@ use denote.Triple.Table.{entered, cited}
 use denote.Triple.Walked.{says, Stays, stay-none, stay-none-slice, walkOf, goes-none, goes-none-slice, Walks as Walked, ends-at, walked, walk-meets}
 use denote.Exit.{yes}
 use denote.Triple.Clauses.{ensured, lasts}
-use Rattle.walk.specs.Walks.{Opens}
-use Rattle.walk.specs.declared.states.State.{State}
+use Rattle.walk_states.specs.Walks.{Opens}
+use Rattle.walk_states.specs.declared.State.{State}
 use Rattle.walk.specs.declared.walker.Walker.{Walker}
 use Rattle.walk.proofs.Walkers.{D, L, slice}
-use Rattle.walk.proofs.states.State as S
-use Rattle.walk.proofs.states.State.Laws as S′
-use Rattle.walk.proofs.states.open_state as open-state
-use Rattle.walk.proofs.states.open_state.Symbol as open-state-def
-use Rattle.walk.proofs.states.open_state.Symbol.{name as #walk·open-state}
-use Rattle.walk.proofs.states.open_state.Met as open-state-thm
+use Rattle.walk_states.proofs.State as S
+use Rattle.walk_states.proofs.State.Laws as S′
+use Rattle.walk_states.proofs.open_state as open-state
+use Rattle.walk_states.proofs.open_state.Symbol as open-state-def
+use Rattle.walk_states.proofs.open_state.Symbol.{name as #walk·open-state}
+use Rattle.walk_states.proofs.open_state.Met as open-state-thm
 use Rattle.walk.proofs.walker.open.Key.{name as #walk·open}
 use Rattle.walk.proofs.walker.open as opening
 use Rattle.walk.proofs.walker.open.Statement as stated
@@ -145,4 +145,4 @@ open-spec 𝓤 H 𝓜 𝓖 𝓡 =
     entered 𝓤 H (tripleOf 𝓤 H (𝓖 .A) opening.signature (opening.spec 𝓤 H (𝓖 .A) (𝓜 .mem) (𝓡 .run)))
     (tables 𝓤 H 𝓜 𝓡 code.env .C) (tables 𝓤 H 𝓜 𝓡 code.env .Λ) #walk·open code.function (code.unfolded 𝓤 H 𝓜 𝓡)
     (open-meets 𝓤 H (𝓖 .A) (givenOf 𝓤 H 𝓜 𝓖) (𝓜 .mem) (𝓡 .run) (tablesOf 𝓤 H 𝓜 (tables 𝓤 H 𝓜 𝓡 code.env))
-    (cited 𝓤 H (Called 𝓤 H (𝓖 .A) (𝓜 .mem) (𝓡 .run)) 𝓜 𝓡 code.env #walk·open-state open-state-def.routine code.calls-walk·states·open-state (open-state-thm.met 𝓤 H 𝓜 𝓖 𝓡)))
+    (cited 𝓤 H (Called 𝓤 H (𝓖 .A) (𝓜 .mem) (𝓡 .run)) 𝓜 𝓡 code.env #walk·open-state open-state-def.routine code.calls-walk-states·open-state (open-state-thm.met 𝓤 H 𝓜 𝓖 𝓡)))

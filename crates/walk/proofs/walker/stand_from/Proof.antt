@@ -35,15 +35,15 @@ use denote.Triple.Walked.{says, needs, Stays, stay-none, stay-none-slice, walkOf
 use denote.Exit.{yes}
 use denote.Triple.Clauses.{ensured}
 use Rattle.spec.specs.Walk.{open-walk}
-use Rattle.walk.specs.Walks.{Gives, Walks}
-use Rattle.walk.specs.declared.states.Standing.{Standing}
-use Rattle.walk.specs.declared.states.State.{State}
+use Rattle.walk_states.specs.Walks.{Gives, Walks}
+use Rattle.walk_states.specs.declared.Standing.{Standing}
+use Rattle.walk_states.specs.declared.State.{State}
 use Rattle.walk.proofs.walker.Walker as T
 use Rattle.walk.proofs.walker.Walker.Laws as T′
-use Rattle.walk.proofs.states.State as S
-use Rattle.walk.proofs.states.State.Laws as S′
-use Rattle.walk.proofs.states.Standing as R
-use Rattle.walk.proofs.states.Standing.Laws as R′
+use Rattle.walk_states.proofs.State as S
+use Rattle.walk_states.proofs.State.Laws as S′
+use Rattle.walk_states.proofs.Standing as R
+use Rattle.walk_states.proofs.Standing.Laws as R′
 use Rattle.walk.proofs.Walkers.{B, D, L, αᵉ, Stand, slice, Own, Says, to-stand, goes-stand, stand-said, state, Own-state, made, walker, goes-made}
 use Rattle.walk.proofs.walker.Walker.stand as stand
 use Rattle.walk.proofs.walker.Walker.stand.Symbol as stand-def

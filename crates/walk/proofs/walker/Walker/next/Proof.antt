@@ -36,17 +36,17 @@ use denote.Triple.Table.{entered, cited}
 use denote.Triple.Walked.{says, needs, Stays, stay-none, walkOf, goes-none, Walks as Walked, ends-at, walked, walk-meets}
 use denote.Exit.{yes}
 use denote.Triple.Clauses.{ensured, lasts}
-use Rattle.walk.specs.Walks.{Walks, Moved}
-use Rattle.walk.specs.declared.states.State.{State}
+use Rattle.walk_states.specs.Walks.{Walks, Moved}
+use Rattle.walk_states.specs.declared.State.{State}
 use Rattle.walk.specs.declared.walker.Walker.{Walker}
 use Rattle.walk.proofs.walker.Walker.Laws as T′
 use Rattle.walk.proofs.Walkers.{B, D, L}
-use Rattle.walk.proofs.states.State as S
-use Rattle.walk.proofs.states.State.Laws as S′
-use Rattle.walk.proofs.states.next_state as next-state
-use Rattle.walk.proofs.states.next_state.Symbol as next-state-def
-use Rattle.walk.proofs.states.next_state.Symbol.{name as #walk·next-state}
-use Rattle.walk.proofs.states.next_state.Met as next-state-thm
+use Rattle.walk_states.proofs.State as S
+use Rattle.walk_states.proofs.State.Laws as S′
+use Rattle.walk_states.proofs.next_state as next-state
+use Rattle.walk_states.proofs.next_state.Symbol as next-state-def
+use Rattle.walk_states.proofs.next_state.Symbol.{name as #walk·next-state}
+use Rattle.walk_states.proofs.next_state.Met as next-state-thm
 use Rattle.walk.proofs.walker.Walker.next.Key.{name as #walk·method}
 use Rattle.walk.proofs.walker.Walker.next as method
 use Rattle.walk.proofs.walker.Walker.next.Statement as stated
@@ -156,4 +156,4 @@ next-spec 𝓤 H 𝓜 𝓖 𝓡 =
     entered 𝓤 H (tripleOf 𝓤 H (𝓖 .A) method.signature (method.spec 𝓤 H (𝓖 .A) (𝓜 .mem) (𝓡 .run)))
     (tables 𝓤 H 𝓜 𝓡 code.env .C) (tables 𝓤 H 𝓜 𝓡 code.env .Λ) #walk·method code.function (code.unfolded 𝓤 H 𝓜 𝓡)
     (next-meets 𝓤 H (𝓖 .A) (givenOf 𝓤 H 𝓜 𝓖) (𝓜 .mem) (𝓡 .run) (tablesOf 𝓤 H 𝓜 (tables 𝓤 H 𝓜 𝓡 code.env))
-    (cited 𝓤 H (Called 𝓤 H (𝓖 .A) (𝓜 .mem) (𝓡 .run)) 𝓜 𝓡 code.env #walk·next-state next-state-def.routine code.calls-walk·states·next-state (next-state-thm.met 𝓤 H 𝓜 𝓖 𝓡)))
+    (cited 𝓤 H (Called 𝓤 H (𝓖 .A) (𝓜 .mem) (𝓡 .run)) 𝓜 𝓡 code.env #walk·next-state next-state-def.routine code.calls-walk-states·next-state (next-state-thm.met 𝓤 H 𝓜 𝓖 𝓡)))

@@ -36,19 +36,19 @@ use denote.Triple.Walked.{says, needs, Stays, stay-none, walkOf, goes-none, Walk
 use denote.Exit.{yes}
 use denote.Triple.Clauses.{ensured, lasts}
 use Rattle.spec.specs.Walk.{open-walk}
-use Rattle.walk.specs.Walks.{Gives, Walks}
-use Rattle.walk.specs.declared.states.Standing.{Standing}
+use Rattle.walk_states.specs.Walks.{Gives, Walks}
+use Rattle.walk_states.specs.declared.Standing.{Standing}
 use Rattle.walk.specs.declared.walker.Walker.{Walker}
 use Rattle.walk.proofs.walker.Walker.Laws as T′
 use Rattle.walk.proofs.Walkers.{B, D, L}
-use Rattle.walk.proofs.states.State as S
-use Rattle.walk.proofs.states.State.Laws as S′
-use Rattle.walk.proofs.states.Standing as R
-use Rattle.walk.proofs.states.Standing.Laws as R′
-use Rattle.walk.proofs.states.stand_state as stand
-use Rattle.walk.proofs.states.stand_state.Symbol as stand-def
-use Rattle.walk.proofs.states.stand_state.Symbol.{name as #walk·stand}
-use Rattle.walk.proofs.states.stand_state.Met as stand-thm
+use Rattle.walk_states.proofs.State as S
+use Rattle.walk_states.proofs.State.Laws as S′
+use Rattle.walk_states.proofs.Standing as R
+use Rattle.walk_states.proofs.Standing.Laws as R′
+use Rattle.walk_states.proofs.stand_state as stand
+use Rattle.walk_states.proofs.stand_state.Symbol as stand-def
+use Rattle.walk_states.proofs.stand_state.Symbol.{name as #walk·stand}
+use Rattle.walk_states.proofs.stand_state.Met as stand-thm
 use Rattle.walk.proofs.walker.Walker.stand.Key.{name as #walk·method}
 use Rattle.walk.proofs.walker.Walker.stand as method
 use Rattle.walk.proofs.walker.Walker.stand.Statement as stated
@@ -146,4 +146,4 @@ stand-spec 𝓤 H 𝓜 𝓖 𝓡 =
     entered 𝓤 H (tripleOf 𝓤 H (𝓖 .A) method.signature (method.spec 𝓤 H (𝓖 .A) (𝓜 .mem) (𝓡 .run)))
     (tables 𝓤 H 𝓜 𝓡 code.env .C) (tables 𝓤 H 𝓜 𝓡 code.env .Λ) #walk·method code.function (code.unfolded 𝓤 H 𝓜 𝓡)
     (stand-meets 𝓤 H (𝓖 .A) (givenOf 𝓤 H 𝓜 𝓖) (𝓜 .mem) (𝓡 .run) (tablesOf 𝓤 H 𝓜 (tables 𝓤 H 𝓜 𝓡 code.env))
-    (cited 𝓤 H (Called 𝓤 H (𝓖 .A) (𝓜 .mem) (𝓡 .run)) 𝓜 𝓡 code.env #walk·stand stand-def.routine code.calls-walk·states·stand-state (stand-thm.met 𝓤 H 𝓜 𝓖 𝓡)))
+    (cited 𝓤 H (Called 𝓤 H (𝓖 .A) (𝓜 .mem) (𝓡 .run)) 𝓜 𝓡 code.env #walk·stand stand-def.routine code.calls-walk-states·stand-state (stand-thm.met 𝓤 H 𝓜 𝓖 𝓡)))

@@ -26,18 +26,18 @@ use Rattle.spec.specs.Answer.{Outcome, written, refuse, success}
 use Rattle.theory.specs.WalkRecordLaws.{records-refused, records-written}
 use Rattle.image.specs.declared.Written.the-variants as Written
 use Rattle.image.specs.Outcomes.{outcome}
-use Rattle.walk.specs.Filling.{Fills}
+use Rattle.walk_states.specs.Filling.{Fills}
 use Rattle.walk_cursor.specs.LeafValues.{value-record, value-record-is}
-use Rattle.walk.specs.Opening.{check-refuses, place-refused, at-leaf, at-done, next-leaf, next-stays, next-at, next-refused}
+use Rattle.walk_states.specs.Opening.{check-refuses, place-refused, at-leaf, at-done, next-leaf, next-stays, next-at, next-refused}
 use Rattle.walk_cursor.specs.declared.Cursor.{Cursor}
 use Rattle.walk_cursor.specs.Stands.{At-leaf, Stands-at}
 use Rattle.walk_cursor.specs.Places.{leaf-total, found-at}
-use Rattle.walk.specs.declared.states.Stand.the-variants as Stand
-use Rattle.walk.specs.declared.states.Standing.{Standing}
-use Rattle.walk.specs.declared.states.Status.the-variants as Status
-use Rattle.walk.specs.declared.states.State.{State}
-use Rattle.walk.specs.Records.{Room}
-use Rattle.walk.specs.Walks.{no-leaf, standing-of, Gives, At-place, Walks, Opens, Moved}
+use Rattle.walk_states.specs.declared.Stand.the-variants as Stand
+use Rattle.walk_states.specs.declared.Standing.{Standing}
+use Rattle.walk_states.specs.declared.Status.the-variants as Status
+use Rattle.walk_states.specs.declared.State.{State}
+use Rattle.walk_states.specs.Records.{Room}
+use Rattle.walk_states.specs.Walks.{no-leaf, standing-of, Gives, At-place, Walks, Opens, Moved}
 
 -- ---- a leaf of an accepted image
 

@@ -1,8 +1,8 @@
 -- What is said, by the status.
 use borrow.Author.Needs.{needs}
-use Rattle.walk.specs.StateLaws.{says-refused}
-use Rattle.walk.proofs.states.stand_state.Statement.{statement}
-use Rattle.walk.proofs.states.stand_state.Tie as tie
+use Rattle.walk_states.specs.StateLaws.{says-refused}
+use Rattle.walk_states.proofs.stand_state.Statement.{statement}
+use Rattle.walk_states.proofs.stand_state.Tie as tie
 
 enum-known-status : tie.Need-enum-known-status
 enum-known-status c = search needs

@@ -3,9 +3,9 @@ use borrow.Author.Needs.{needs}
 use Rattle.image.specs.declared.Frame.{Frame}
 use Rattle.image.specs.declared.Framed.the-variants.{At, Refused}
 use Rattle.check_image.specs.Answers.{Checked-as}
-use Rattle.walk.specs.StateLaws.{opened-unchecked, checked}
-use Rattle.walk.proofs.states.open_state.Statement.{statement}
-use Rattle.walk.proofs.states.open_state.Tie as tie
+use Rattle.walk_states.specs.StateLaws.{opened-unchecked, checked}
+use Rattle.walk_states.proofs.open_state.Statement.{statement}
+use Rattle.walk_states.proofs.open_state.Tie as tie
 
 accept-requires : tie.Need-accept-requires
 accept-requires c κs = search needs

@@ -3,7 +3,7 @@ ghost use mathlib.Core.Path.{_≡_};
 ghost use Rattle.spec.specs.Check.{verdict};
 ghost use Rattle.spec.specs.Walk.{open-walk};
 ghost use Rattle.nav_nodes.specs.Accepted.{Accepted};
-ghost use Rattle.walk.specs.Walks.{no-leaf, Gives, Walks, Opens, Moved};
+ghost use Rattle.walk_states.specs.Walks.{no-leaf, Gives, Walks, Opens, Moved};
 use check_image::accept;
 use image::Dense;
 use image::DenseTotals;

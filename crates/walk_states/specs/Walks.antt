@@ -11,10 +11,10 @@ use Rattle.image.specs.declared.Leaf.{Leaf as Value}
 use Rattle.image.specs.Value.{Sized, value-of}
 use Rattle.nav_nodes.specs.Accepted.{Accepted}
 use Rattle.walk_cursor.specs.Stands.{Stands}
-use Rattle.walk.specs.declared.states.Stand.the-variants as Stand
-use Rattle.walk.specs.declared.states.Standing.{Standing}
-use Rattle.walk.specs.declared.states.Status.the-variants as Status
-use Rattle.walk.specs.declared.states.State.{State}
+use Rattle.walk_states.specs.declared.Stand.the-variants as Stand
+use Rattle.walk_states.specs.declared.Standing.{Standing}
+use Rattle.walk_states.specs.declared.Status.the-variants as Status
+use Rattle.walk_states.specs.declared.State.{State}
 
 -- ---- what a walk says
 

@@ -1,9 +1,9 @@
 -- A refusal and done stay; from a leaf the cursor steps.
 use native.Mathlib.Omega.{arith}
 use borrow.Author.Needs.{needs}
-use Rattle.walk.specs.StateLaws.{stays-refused, stays-done, place-small, can-step, steps}
-use Rattle.walk.proofs.states.next_state.Statement.{statement}
-use Rattle.walk.proofs.states.next_state.Tie as tie
+use Rattle.walk_states.specs.StateLaws.{stays-refused, stays-done, place-small, can-step, steps}
+use Rattle.walk_states.proofs.next_state.Statement.{statement}
+use Rattle.walk_states.proofs.next_state.Tie as tie
 
 enum-told : tie.Need-enum-told
 enum-told c = search needs

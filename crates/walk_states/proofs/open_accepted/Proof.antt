@@ -1,8 +1,8 @@
 -- 17, or the cursor at the place.
 use borrow.Author.Needs.{needs}
-use Rattle.walk.specs.StateLaws.{opened-past, opened-at}
-use Rattle.walk.proofs.states.open_accepted.Statement.{statement}
-use Rattle.walk.proofs.states.open_accepted.Tie as tie
+use Rattle.walk_states.specs.StateLaws.{opened-past, opened-at}
+use Rattle.walk_states.proofs.open_accepted.Statement.{statement}
+use Rattle.walk_states.proofs.open_accepted.Tie as tie
 
 refused-requires : tie.Need-refused-requires
 refused-requires c κs = search needs

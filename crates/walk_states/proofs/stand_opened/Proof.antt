@@ -1,9 +1,9 @@
 -- What is said, by the place.
 use borrow.Author.Needs.{needs}
 use Rattle.image.specs.Value.{leaf-of}
-use Rattle.walk.specs.StateLaws.{says-done, can-step, says-leaf}
-use Rattle.walk.proofs.states.stand_opened.Statement.{statement}
-use Rattle.walk.proofs.states.stand_opened.Tie as tie
+use Rattle.walk_states.specs.StateLaws.{says-done, can-step, says-leaf}
+use Rattle.walk_states.proofs.stand_opened.Statement.{statement}
+use Rattle.walk_states.proofs.stand_opened.Tie as tie
 
 no-leaf-requires : tie.Need-no-leaf-requires
 no-leaf-requires c κs = search needs
