@@ -3,7 +3,7 @@ use Rattle.std.specs.Prelude.{ℕ, suc, ◌/◌, ◌+◌, ◌<◌, ◌≤◌, �
 use Rattle.std.proofs.Math.Path.{refl}
 use Rattle.std.proofs.Common.{sym, ap, ap₂, subst, ◌∙◌, true≢false, arith}
 use Rattle.std.proofs.Math.Option.{some}
-use Rattle.std.proofs.Math.Logic.{Iff·trans}
+use mathlib.Core.Logic.Iff
 use Rattle.spec.specs.Bytes.{Bytes, count, begins}
 use Rattle.spec.specs.Keys.{below, keys, write_keys, keys_of, within}
 use Rattle.spec.specs.Leaves.{Leaf, leaves, reals}
@@ -378,18 +378,18 @@ module _ (b : Bytes) (o : Accept.ImageOfLeaves b) (file out : Bytes) (small : Is
       range = λ i lo hi e.
           let r = proper i (QR lo hi) e in
           rw (range_on i lo hi e)
-          (Iff·trans (range_denied p.leaves lo hi (good c p no-hash-width) (sized c p no-hash-width) r.lower r.order) (every c p no-hash-width (λ ks. (k : Bytes) → In k ks → within lo hi k ≡ false)));
+          (Iff.trans (range_denied p.leaves lo hi (good c p no-hash-width) (sized c p no-hash-width) r.lower r.order) (every c p no-hash-width (λ ks. (k : Bytes) → In k ks → within lo hi k ≡ false)));
       stem = λ i stem e.
           rw (stem_on i stem e)
-          (Iff·trans (begins_denied p.leaves stem (good c p no-hash-width) (sized c p no-hash-width) (proper i (QB stem) e)) (every c p no-hash-width (λ ks. (k : Bytes) → In k ks → begins stem k ≡ false)));
+          (Iff.trans (begins_denied p.leaves stem (good c p no-hash-width) (sized c p no-hash-width) (proper i (QB stem) e)) (every c p no-hash-width (λ ks. (k : Bytes) → In k ks → begins stem k ≡ false)));
       count = λ i lo hi e.
           let r = proper i (QC lo hi) e in
           rw (count_on i lo hi e) (count_lists c p no-hash-width lo hi (counted p.leaves lo hi) (count_correct p.leaves lo hi (good c p no-hash-width) (sized c p no-hash-width) r.lower r.order));
       none = λ i start e.
           let r = proper i (QS start) e in
           rw (sought_on i start e)
-          (Iff·trans (none_is (seek p.leaves start) (λ j k h. found_place c p no-hash-width start j k (found_at c p no-hash-width start r j k h)))
-          (Iff·trans (seek_none p.leaves start (good c p no-hash-width) (sized c p no-hash-width) r) (every c p no-hash-width (λ ks. (k : Bytes) → In k ks → below k start ≡ true))));
+          (Iff.trans (none_is (seek p.leaves start) (λ j k h. found_place c p no-hash-width start j k (found_at c p no-hash-width start r j k h)))
+          (Iff.trans (seek_none p.leaves start (good c p no-hash-width) (sized c p no-hash-width) r) (every c p no-hash-width (λ ks. (k : Bytes) → In k ks → below k start ≡ true))));
       next = λ i start e f.
           let x = sought_on i start e in
           rw x (found_reply c p no-hash-width start (proper i (QS start) e) (λ z. f (rw x z)));
@@ -400,12 +400,12 @@ module _ (b : Bytes) (o : Accept.ImageOfLeaves b) (file out : Bytes) (small : Is
     range_one i lo hi e =
         let r = proper i (QR lo hi) e in
         rw (range_on i lo hi e)
-        (Iff·trans (range_held p.leaves lo hi (good c p no-hash-width) (sized c p no-hash-width) r.lower r.order) (some_list c p no-hash-width (λ ks. (k : Bytes) × In k ks × (within lo hi k ≡ true))))
+        (Iff.trans (range_held p.leaves lo hi (good c p no-hash-width) (sized c p no-hash-width) r.lower r.order) (some_list c p no-hash-width (λ ks. (k : Bytes) × In k ks × (within lo hi k ≡ true))))
 
     stem_one : (i : ℕ) (stem : Bytes) → question_at file i ≡ some (QB stem) → ((reply_at i (ask b file out).final).number ≡ 1) ↔ ((list : Bytes) × Builds list c × HasWithStem list stem)
     stem_one i stem e =
         rw (stem_on i stem e)
-        (Iff·trans (begins_held p.leaves stem (good c p no-hash-width) (sized c p no-hash-width) (proper i (QB stem) e)) (some_list c p no-hash-width (λ ks. (k : Bytes) × In k ks × (begins stem k ≡ true))))
+        (Iff.trans (begins_held p.leaves stem (good c p no-hash-width) (sized c p no-hash-width) (proper i (QB stem) e)) (some_list c p no-hash-width (λ ks. (k : Bytes) × In k ks × (begins stem k ≡ true))))
 
     -- if the lists that build the image build c too
     stored_told : ((list : Bytes) → Builds list b → Builds list c) → StoredTold b file (ask b file out).final
@@ -425,7 +425,7 @@ module _ (b : Bytes) (o : Accept.ImageOfLeaves b) (file out : Bytes) (small : Is
 
   replies_valid : o.settings.hash_width ≡ 0 → RepliesCorrect b file (ask b file out).final
   replies_valid z = record {
-    key = λ i k e. rw (point_on z i k e) (Iff·trans (point_denied o.leaves k (good b o z) (sized b o z) (proper i (QP k) e)) (every b o z (λ ks. In k ks → ⊥)));
+    key = λ i k e. rw (point_on z i k e) (Iff.trans (point_denied o.leaves k (good b o z) (sized b o z) (proper i (QP k) e)) (every b o z (λ ks. In k ks → ⊥)));
     rules = rules_valid;
     others = lists_told b o z (no_hash b o z);
     stored = stored_told b o z (no_hash b o z) (λ list w. w);
@@ -551,7 +551,7 @@ demand_3 = record {
 
 -- the numbers of a walk over an accepted image
 accepted_walk_refuses : (b : Bytes) → check b ≡ accepted → (place : ℕ) (out : Bytes) (r : ℕ) → ((walk_records b place out).answer ≡ Answer.refused r) ↔ ((r ≡ 17) × (length (read_leaves b) < place))
-accepted_walk_refuses b c place out r = Iff·trans (walk_records_refuses b place out r) (to, λ w. rw w.0 (place_refused c w.1))
+accepted_walk_refuses b c place out r = Iff.trans (walk_records_refuses b place out r) (to, λ w. rw w.0 (place_refused c w.1))
   where
     to : {r : ℕ} → WalkRefusal b place r → (r ≡ 17) × (length (read_leaves b) < place)
     to (refused_image e n) = let z : ◌≡◌ {A = ℕ} 0 1 = cc in absurd (omega arith)

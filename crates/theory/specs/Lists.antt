@@ -308,6 +308,7 @@ in_map f (there i) = there (in_map f i)
 pub map_in : {A : Type 0} {B : Type 0} (f : A → B) {b : B} (xs : List A) → In b (map f xs) → (a : A) × In a xs × (b ≡ f a)
 map_in f (x ∷ xs) here = (x, here, refl)
 map_in f (x ∷ xs) (there i) = let r = map_in f xs i in (r.0, there r.1, r.2)
+map_in {A = A} {B = B} f {b = b} [] x' = elim x' [ ]
 
 -- ---- parts of lists
 

@@ -72,6 +72,7 @@ after : (k : Bytes) {o : Bytes} (ms : List Bytes) → BelowAll k ms → Ascendin
 unfolding next_shared
 after k (m ∷ ms) a s here = omega arith
 after k {o} (m ∷ ms) a s (there i) = far_left k m o a.0 (all_in (λ o. below m o ≡ true) s.0 i)
+after k {o = o} [] a s x3 = elim x3 [ ]
 
 no_share : (k : Bytes) → 0 ≡ next_shared k []
 unfolding next_shared

@@ -38,6 +38,7 @@ held_possible : {n : ℕ} {k : Bytes} {ls : List Leaf} {ks : List Bytes} → All
 unfolding any
 held_possible {k = k} o a (also {l = l} {ls = ls} p ps) here = rw (split_possible l k o.0.slot a.0.fits p)
 held_possible {k = k} o a (also {l = l} p ps) (there i) = rw (held_possible o.1 a.1 ps i) (or-true (possible l k))
+held_possible {n = n} {k = k} o a done x10 = elim x10 [ ]
 
 -- a test that the first member, or one behind it, passes
 any_first : {A : Type 0} (p : A → Bool) (x : A) (xs : List A) → p x ≡ true → any p (x ∷ xs) ≡ true
@@ -82,6 +83,7 @@ point_stored {h} {n} {k} {ls} {ks} o a p i = ap bit (go o a p i)
     go : {ls : List Leaf} {ks : List Bytes} → AllWellSized (h + n) ls → Keys ks → PossibleKeys h n ls ks → In k ks → any (may_hold h k) ls ≡ true
     go o a (also {l = l} {ls = ls} p ps) here = any_first (may_hold h k) l ls (one l o.0 a.0.fits p)
     go o a (also {l = l} {ls = ls} p ps) (there i) = any_rest (may_hold h k) l ls (go o.1 a.1 ps i)
+    go o a done x10 = elim x10 [ ]
 
 -- the key k for each leaf that has it, the lowest for the others
 choose_point : Bytes → Leaf → Bytes

@@ -1,7 +1,7 @@
 -- Begins-with over a leaf list, and the key lists that have these leaves: a stem's range has just the keys that begin with the stem (stem_exactly).
 use Rattle.std.specs.Prelude.{ℕ, ◌-◌, ◌≤◌, ◌≡◌, refl, Bool, true, false, List, [], ◌++◌, ◌↔◌, length, take, drop, replicate}
 use Rattle.std.proofs.Common.{sym, ap, ◌∙◌, append-nil, arith, length-drop, take_all}
-use Rattle.std.proofs.Math.Logic.{Iff·trans}
+use mathlib.Core.Logic.Iff
 use Rattle.std.proofs.lemmas.List.{length-replicate}
 use Rattle.spec.specs.Bytes.{Bytes, begins}
 use Rattle.spec.specs.Keys.{below, within}
@@ -55,7 +55,7 @@ keys_with_stem ls stem ks w k i = let q = all_in Key w.keys i in stem_exactly st
 -- A stem's reply is 1 exactly when some list that has the leaves has a key that begins with it.
 pub begins_held : {n : ℕ} (ls : List Leaf) (stem : Bytes) → Realizable n ls → AllRealSized n ls → Bound stem → (begins_with ls stem ≡ 1) ↔ SomeBegins n ls stem
 unfolding begins_with
-begins_held ls stem g o q = Iff·trans (range_held ls stem (stem_end stem) g o q (stem_order stem)) (
+begins_held ls stem g o q = Iff.trans (range_held ls stem (stem_end stem) g o q (stem_order stem)) (
   λ a. (a.0, a.1, (a.2.0, a.2.1, sym (keys_with_stem ls stem a.0 a.1 a.2.0 a.2.1) ∙ a.2.2)),
   λ a. (a.0, a.1, (a.2.0, a.2.1, keys_with_stem ls stem a.0 a.1 a.2.0 a.2.1 ∙ a.2.2)),
 )
@@ -64,7 +64,7 @@ begins_held ls stem g o q = Iff·trans (range_held ls stem (stem_end stem) g o q
 pub begins_denied : {n : ℕ} (ls : List Leaf) (stem : Bytes) → Realizable n ls → AllRealSized n ls → Bound stem
     → (begins_with ls stem ≡ 0) ↔ ((ks : List Bytes) → HasLeaves n ks ls → (k : Bytes) → In k ks → begins stem k ≡ false)
 unfolding begins_with
-begins_denied ls stem g o q = Iff·trans (range_denied ls stem (stem_end stem) g o q (stem_order stem)) (
+begins_denied ls stem g o q = Iff.trans (range_denied ls stem (stem_end stem) g o q (stem_order stem)) (
   λ f ks w k i. sym (keys_with_stem ls stem ks w k i) ∙ f ks w k i,
   λ f ks w k i. keys_with_stem ls stem ks w k i ∙ f ks w k i,
 )

@@ -1,7 +1,7 @@
 -- A realizable leaf list is a trie's group to the depth of its cut keys (`realizable_trie_group`), so its trie has just these leaves (`trie_leaves`).
 -- Used wherever a realizable leaf list's trie is taken: the literal image, numbering, the tests of a builder's trie, reading back.
 use Rattle.std.specs.Prelude.{ℕ, ◌<◌, suc, ◌≤◌, zero, ◌≡◌, refl, Bool, cond, true, false, ◌∷◌, List, [], map, ◌++◌, ◌⊎◌, length, T, eqb}
-use Rattle.std.proofs.Common.{sym, ◌∙◌, ap, true≢false, append-nil, inl, inr, ⊎_elim, arith, eqb-true, ne_eqb}
+use Rattle.std.proofs.Common.{sym, subst, ◌∙◌, ap, true≢false, append-nil, inl, inr, ⊎_elim, arith, eqb-true, ne_eqb}
 use Rattle.std.proofs.Math.Option.{none, some}
 use Rattle.std.proofs.lemmas.Bool.{eqb-false}
 use Rattle.spec.specs.Bytes.{Bytes, shared, begins, equal, Bits, filter, any, maximum, concat}
@@ -55,7 +55,9 @@ splits_insert x l f (splits_cons {x = y} {u = m ∷ u} {rest = rest} {bs = bs} o
     first_inv f = first_bytes f.0
 
     hit : (z : ℕ) → x ≡ z → BeforeAll (prefix x l) (map (prefix z) (m ∷ u) ++ rest) → FirstAbove z rest → Splits (prefix x l ∷ map (prefix z) (m ∷ u) ++ rest) (subtree z (l ∷ m ∷ u) ∷ bs)
-    hit z e f v = rw (← e) (splits_cons {x = x} {u = l ∷ m ∷ u} {rest = rest} (first_same x l (m ∷ u) rest (rw (← e) at f), o) has_leaf (rw (← e) at v) r)
+    hit z e f v =
+        subst (λ y. BeforeAll (prefix x l) (map (prefix y) (m ∷ u) ++ rest) → FirstAbove y rest → Splits (prefix x l ∷ map (prefix y) (m ∷ u) ++ rest) (subtree y (l ∷ m ∷ u) ∷ bs)) e
+            (λ f v. splits_cons {x = x} {u = l ∷ m ∷ u} {rest = rest} (first_same x l (m ∷ u) rest f, o) has_leaf v r) f v
 
     go : (b : Bool) → eqb x y ≡ b → BeforeAll (prefix x l) (map (prefix y) (m ∷ u) ++ rest)
         → Splits (prefix x l ∷ map (prefix y) (m ∷ u) ++ rest) (cond b (subtree y (l ∷ m ∷ u) ∷ bs) (subtree x (l ∷ []) ∷ subtree y (m ∷ u) ∷ bs))
@@ -63,6 +65,7 @@ splits_insert x l f (splits_cons {x = y} {u = m ∷ u} {rest = rest} {bs = bs} o
     go false e f =
         let less-than : x < y = ⊎_elim (λ h. h) (λ p. absurd (eqb-false x y e p.0)) (first_inv f) in
         splits_cons {x = x} {u = l ∷ []} {rest = map (prefix y) (m ∷ u) ++ rest} (tt, tt) has_leaf (first_above_map x y (m ∷ u) rest less-than (first_above_less less-than v)) (splits_cons {x = y} {u = m ∷ u} o a v r)
+splits_insert x l f (splits_cons {x = y} {u = []} {rest = rest} {bs = bs} o a v r) = elim a [ ]
 
 -- Ordered leaves that have a byte split into their subtrees.
 pub splits : {g : Group} → NonemptyCuts g → Ordered g → Splits g (subtrees g)
@@ -98,6 +101,7 @@ OtherByte x (y ∷ c) = y ≡ x → ⊥
 above_other : {m : Leaf} {x : ℕ} {g : Group} → FirstAbove x g → In m g → OtherByte x m.cut
 above_other (first_above {y = y} h r) here = λ q. omega arith
 above_other (first_above h r) (there i) = above_other r i
+above_other {m = m} none_above x4 = elim x4 [ ]
 
 other_shared : (x : ℕ) (c d : Bytes) → OtherByte x d → shared (x ∷ c) d ≡ 0
 unfolding shared
@@ -255,6 +259,7 @@ sole_continues_node a o w = go (node_group a o w) o w
         one [] e s w = absurd (lone_witness (record { cut = x ∷ []; exact = e; suffix = s }) w.0.other w.0.mem w.0.apart)
         one (y ∷ c) e s w = tt
     end x (l ∷ m ∷ u) a w = tt
+    end x [] a w = elim a [ ]
 
     covered : {g : Group} {bs : List Subtree} → Splits g bs → HasLeaf g → All (Witness g) g → SoleContinues (node none (map branch_of bs))
     covered splits_nil a w = elim a [ ]
@@ -316,6 +321,7 @@ lone_trie_group n f l t =
 pub realizable_trie_group : {n : ℕ} (f : ℕ) (ls : Group) → HasLeaf ls → Realizable n ls → DepthAtMost (suc f) ls → TrieGroup (suc f) ls
 realizable_trie_group {n} f (l ∷ []) a g q = lone_trie_group n f l g.shortest.0
 realizable_trie_group {n} f (l ∷ m ∷ ls) a g q = witnesses_trie_group (suc f) (l ∷ m ∷ ls) a g.ordered (realizable_witnesses l m ls g) q
+realizable_trie_group {n = n} f [] a g q = elim a [ ]
 
 -- The trie of a realizable leaf list, of cut keys of at most 64 bytes, has just these leaves.
 pub trie_leaves : {n : ℕ} (ls : List Leaf) → Realizable n ls → DepthAtMost 64 ls → leaves_of (trie ls) ≡ ls

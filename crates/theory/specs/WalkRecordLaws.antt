@@ -4,7 +4,7 @@ use Rattle.std.proofs.Math.Path.{refl, ap}
 use Rattle.std.proofs.Common.{sym, subst, ◌∙◌, arith, length-append, length-take, length-drop}
 use mathlib.Core.List.{List, [], ◌∷◌, ◌++◌}
 use Rattle.std.proofs.Math.Option.{Option, none, some}
-use Rattle.std.proofs.Math.Logic.{Iff·trans}
+use mathlib.Core.Logic.Iff
 use Rattle.std.proofs.Math.ListN.{get_elem?}
 use Rattle.std.proofs.lemmas.List.{length-replicate}
 use Rattle.std.proofs.Math.Seq.{take-nil, drop-nil}
@@ -129,7 +129,7 @@ module _ (b : Bytes) (place : ℕ) (out : Bytes) where
 
   -- The call refuses with the number with which the walk refuses to be opened, and with no other.
   pub walk_records_refuses : (r : ℕ) → ((walk_records b place out).answer ≡ Answer.refused r) ↔ WalkRefusal b place r
-  walk_records_refuses r = Iff·trans (to, from) (walk_refuses b place r)
+  walk_records_refuses r = Iff.trans (to, from) (walk_refuses b place r)
     where
       from : open_walk b place ≡ Walk.refused r → (walk_records b place out).answer ≡ Answer.refused r
       from e = (refuse_answer r r out _ (records_refused r e)).1 refl
