@@ -57,7 +57,7 @@ splits_insert x l f (splits_cons {x = y} {u = m ∷ u} {rest = rest} {bs = bs} o
     hit : (z : ℕ) → x ≡ z → BeforeAll (prefix x l) (map (prefix z) (m ∷ u) ++ rest) → FirstAbove z rest → Splits (prefix x l ∷ map (prefix z) (m ∷ u) ++ rest) (subtree z (l ∷ m ∷ u) ∷ bs)
     hit z e f v =
         subst (λ y. BeforeAll (prefix x l) (map (prefix y) (m ∷ u) ++ rest) → FirstAbove y rest → Splits (prefix x l ∷ map (prefix y) (m ∷ u) ++ rest) (subtree y (l ∷ m ∷ u) ∷ bs)) e
-            (λ f v. splits_cons {x = x} {u = l ∷ m ∷ u} {rest = rest} (first_same x l (m ∷ u) rest f, o) has_leaf v r) f v
+        (λ f v. splits_cons {x = x} {u = l ∷ m ∷ u} {rest = rest} (first_same x l (m ∷ u) rest f, o) has_leaf v r) f v
 
     go : (b : Bool) → eqb x y ≡ b → BeforeAll (prefix x l) (map (prefix y) (m ∷ u) ++ rest)
         → Splits (prefix x l ∷ map (prefix y) (m ∷ u) ++ rest) (cond b (subtree y (l ∷ m ∷ u) ∷ bs) (subtree x (l ∷ []) ∷ subtree y (m ∷ u) ∷ bs))
