@@ -1,4 +1,6 @@
 // One question at a time over an image that the check has accepted, without a question file. What is required of the image is the check's verdict alone; any key is taken or refused.
+
+#![tactic(auto)]
 ghost use Rattle.std.specs.Prelude.{◌≡◌, ◌≤◌, length};
 ghost use Rattle.spec.specs.Check.{verdict};
 ghost use Rattle.spec.specs.Frame.{read_settings};
@@ -26,7 +28,7 @@ pub mod records; // records.rt: the leaves from a place on as records
 pub const FOUND_BYTES: usize = 65;
 
 // A number of the reply to a question, or the number with which the question is refused.
-#[derive(Drop)]
+#[derive(Clone, Copy)]
 pub enum Number {
     Of(usize),
     Refused(u32),

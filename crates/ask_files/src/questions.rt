@@ -15,14 +15,14 @@ use keys::compare::{Order, compare};
 const MAX_QUESTIONS: usize = 1024;
 
 // A key, two bounds or a question, read at an offset: the offset behind it, or the number that turns the file down.
-#[derive(Drop)]
+#[derive(Clone, Copy)]
 pub enum Read {
     End(usize),
     Refused(u32),
 }
 
 // How many keys the second letter of a mark asks for.
-#[derive(Drop)]
+#[derive(Clone, Copy)]
 pub enum Keys {
     One,
     Two,
@@ -30,14 +30,14 @@ pub enum Keys {
 }
 
 // A question file: how many questions it has, or the number that turns it down.
-#[derive(Drop)]
+#[derive(Clone, Copy)]
 pub enum QuestionFile {
     Questions(usize),
     Refused(u32),
 }
 
 // A question's kind, and where its keys stand in the file: the offset and the length of each.
-#[derive(Drop)]
+#[derive(Clone, Copy)]
 pub enum QuestionAt {
     Point(usize, usize),
     Seek(usize, usize),
@@ -47,7 +47,7 @@ pub enum QuestionAt {
 }
 
 // A question, and the offset of the next one.
-#[derive(Drop)]
+#[derive(Clone, Copy)]
 pub struct Asked {
     pub question: QuestionAt,
     pub next: usize,

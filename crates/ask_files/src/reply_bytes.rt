@@ -12,7 +12,7 @@ use bits::numbers::write32;
 pub const REPLY_HEAD: usize = 8;
 
 // A reply by value, its key in a buffer: the letter, the number, and how many bytes of the buffer are the key.
-#[derive(Drop)]
+#[derive(Clone, Copy)]
 pub struct Answered {
     pub letter: u8,
     pub number: usize,

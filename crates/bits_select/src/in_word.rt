@@ -31,7 +31,7 @@ fn paired(n: u64, w: usize, mask: u64) -> u64
 }
 
 // The ones of each field of 2, 4, 8, 16 and 32 bits of a word, counted for all fields at once.
-#[derive(Drop)]
+#[derive(Clone, Copy)]
 struct FieldCounts {
     of_2: u64,
     of_4: u64,
@@ -59,7 +59,7 @@ fn field_counts(x: u64) -> FieldCounts
 }
 
 // The field that holds the one that is sought: its first bit, and the ones below that one in the field.
-#[derive(Drop)]
+#[derive(Clone, Copy)]
 struct Field {
     at: usize,
     left: usize,

@@ -61,7 +61,7 @@ fn ones_step(s: &[u8], q: usize) -> usize
 }
 
 // Where a search for a one stands: at a word, with so many ones to pass from that word on.
-#[derive(Drop)]
+#[derive(Clone, Copy)]
 struct Ahead {
     word: usize,
     ones: usize,

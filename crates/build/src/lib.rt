@@ -1,4 +1,6 @@
 // Building in two public calls: a key list and settings give the image's length; with that length and an output they give the answer, and the image in the output.
+
+#![tactic(auto)]
 ghost use Rattle.std.specs.Prelude.{◌≡◌};
 ghost use Rattle.spec.specs.Build.{image_length, build};
 ghost use Rattle.image.specs.Header.{asked};
@@ -15,14 +17,14 @@ use layout::{build_image, measure_image};
 pub mod layout; // layout.rt: the plan of an image, its length, its header and its records
 
 // The length of an image: so many bytes, or a refusal's number.
-#[derive(Drop)]
+#[derive(Clone, Copy)]
 pub enum Length {
     Bytes(usize),
     Refused(u32),
 }
 
 // What judging says of list and settings: the number of keys of an accepted list, the settings being in range; or a refusal's number.
-#[derive(Drop)]
+#[derive(Clone, Copy)]
 pub enum Judged {
     Accepted(usize),
     Refused(u32),

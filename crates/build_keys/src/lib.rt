@@ -1,5 +1,7 @@
 // One key of an accepted list: its numbers, its entries, and what it writes into the body of each record at the cursors of its levels.
 
+#![tactic(auto)]
+
 pub mod numbers; // numbers.rt: small functions on numbers, and those of a key
 pub mod put; // put.rt: a byte or a bit at a level's cursor
 pub mod entries; // entries.rt: a key's entries, and their labels in S-Labels

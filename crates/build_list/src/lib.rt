@@ -1,5 +1,7 @@
 // A key list's records: judged one by one, which gives the numbers 1 to 4, and read again by the passes of the builder.
 
+#![tactic(auto)]
+
 pub mod judge; // judge.rt: a key list, judged record by record
 pub mod read; // read.rt: the key of a record, what it shares with the next, and whether all keys are long
 
@@ -7,14 +9,14 @@ pub mod read; // read.rt: the key of a record, what it shares with the next, and
 const BEFORE_KEY: usize = 3;
 
 // A record of a key list: a key of so many bytes, or the number that turns the list down.
-#[derive(Drop)]
+#[derive(Clone, Copy)]
 pub enum KeyRecord {
     Key(usize),
     Refused(u32),
 }
 
 // A key list: how many keys it has, or the number that turns it down.
-#[derive(Drop)]
+#[derive(Clone, Copy)]
 pub enum KeyList {
     Keys(usize),
     Refused(u32),

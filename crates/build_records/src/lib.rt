@@ -1,4 +1,6 @@
 // The records of an image, written by the table of the records: each its mark, the length of its body, and its body.
+
+#![tactic(auto)]
 use build_laws::Body;
 use image::{Header, STARTS};
 
@@ -7,7 +9,7 @@ pub mod records; // records.rt: a record, and all records, one behind the other
 pub mod levels; // levels.rt: the records behind the twelve, by the nodes of each level
 
 // Where a record's body comes from: a pass over the keys; the ranks of an earlier record's body, by that record's number and the words of a block; or the samples of an earlier record's body.
-#[derive(Drop)]
+#[derive(Clone, Copy)]
 pub enum Source {
     Keys(Body),
     Ranks(usize, usize),
@@ -15,7 +17,7 @@ pub enum Source {
 }
 
 // What is known of an image before a byte is written: its header, and where each record starts and the last one ends.
-#[derive(Drop)]
+#[derive(Clone, Copy)]
 pub struct Plan {
     pub header: Header,
     pub starts: [usize; STARTS],

@@ -1,5 +1,7 @@
 // The frame of an image: the header and the records behind it, by their offsets. Judges the numbers 11 and 12 of the check.
 // Used by the check and by every call that reads an accepted image.
+
+#![tactic(auto)]
 ghost use Rattle.std.specs.Prelude.{◌≡◌, ◌≤◌, ◌<◌, length};
 ghost use Rattle.spec.specs.Image.{rows};
 ghost use Rattle.spec.specs.Frame.{rows_of};
@@ -18,7 +20,7 @@ use image::table::{BEFORE_BODY, HEADER, MARK_BYTES, RECORDS, body_size, mark, re
 use image::{DENSE_BLOCK_WORDS, DenseTotals, Frame, Header, LEVELED_VERSION, ROW_BITS, Settings};
 
 // Where the record at an offset ends, or that no such record stands there.
-#[derive(Drop)]
+#[derive(Clone, Copy)]
 pub enum RecordEnd {
     At(usize),
     Missing,
@@ -110,7 +112,7 @@ fn lengths_valid(image: &[u8], h: Header) -> bool
 }
 
 // What is counted of the dense nodes, and whether their rank tables are right.
-#[derive(Drop)]
+#[derive(Clone, Copy)]
 pub struct DenseCounts {
     pub totals: DenseTotals,
     pub agrees: bool,
@@ -137,7 +139,7 @@ fn count_dense(image: &[u8], f: Frame) -> DenseCounts
 }
 
 // A frame, and whether the rank tables of its dense nodes are right, which is judged later.
-#[derive(Drop)]
+#[derive(Clone, Copy)]
 pub struct RankedFrame {
     pub frame: Frame,
     pub agrees: bool,
@@ -206,7 +208,7 @@ fn laid_out(image: &[u8], h: Header) -> RankedFrame
 }
 
 // What reading an image gives: its frame, or the number with which it is refused.
-#[derive(Drop)]
+#[derive(Clone, Copy)]
 pub enum FrameRead {
     At(RankedFrame),
     Refused(u32),

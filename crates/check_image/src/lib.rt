@@ -1,4 +1,6 @@
 // The public call check, and the frame of an accepted image for the calls that read one.
+
+#![tactic(auto)]
 ghost use Rattle.std.specs.Prelude.{◌≡◌};
 ghost use Rattle.spec.specs.Check.{check};
 ghost use Rattle.check_frame.specs.Found.{RankedFrame};
@@ -14,7 +16,7 @@ use image::Framed;
 use image::refusals::{SLOT_WRONG, SPARE_BIT_SET, TABLE_WRONG, TRIE_WRONG};
 
 // What check says of an image: accepted, or refused with the first of 11 to 16 that applies.
-#[derive(Drop)]
+#[derive(Clone, Copy)]
 pub enum Checked {
     Accepted,
     Refused(u32),

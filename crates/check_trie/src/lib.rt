@@ -1,6 +1,8 @@
 // Number 14 of the check: whether the bits and labels of an image are a builder's trie.
 // Each test is a function of the bodies; the laws say that together they are document 01's.
 
+#![tactic(auto)]
+
 pub mod cover; // cover.rt: one bitmap within another
 pub mod dense; // dense.rt: the dense nodes, by words
 pub mod label_masks; // label_masks.rt: masks of 64 labels

@@ -1,4 +1,6 @@
 // The 64-bit FNV-1a hash of a byte string: what the hash bits of a slot are taken from (document 02, order 4).
+
+#![tactic(auto)]
 ghost use Rattle.std.specs.Prelude.{◌≡◌, ◌*◌, ◌%◌, ◌^◌};
 ghost use Rattle.spec.specs.Fnv.{offset_basis, prime, hash_step, hash};
 
@@ -8,7 +10,7 @@ use std::num::wrapping_add_u64;
 const HALF: u64 = 4294967296;
 
 // The hash of the bytes that it has taken so far.
-#[derive(Drop)]
+#[derive(Clone, Copy)]
 pub struct Fnv1a {
     pub state: u64,
 }

@@ -1,5 +1,7 @@
 // An image: the three kinds of positions, what a header says, the frame, the answers of the calls that read one and of those that write, a leaf by value; and what the builder shares with the check and the questions: the table of the records, the range of the settings, and a key's suffix bits as a number.
 
+#![tactic(auto)]
+
 pub mod table; // table.rt: marks, body lengths and starts of the records
 pub mod header_bytes; // header_bytes.rt: settings judged, the header read and written, the beginning of a record, and cleared bytes
 pub mod suffix; // suffix.rt: a key's suffix bits as a number
@@ -46,19 +48,19 @@ pub const SAMPLE_RATE: usize = 64;
 pub const STARTS: usize = 13;
 
 // A bit position.
-#[derive(Drop)]
+#[derive(Clone, Copy)]
 pub struct BitPos(pub usize);
 
 // A node's number in level order.
-#[derive(Drop)]
+#[derive(Clone, Copy)]
 pub struct NodeNum(pub usize);
 
 // A value position: a suffix slot's number in level order.
-#[derive(Drop)]
+#[derive(Clone, Copy)]
 pub struct ValuePos(pub usize);
 
 // The settings of an image that is to be built, in range or not: the version, the dense levels, and how many real bits and hash bits a suffix slot has.
-#[derive(Drop)]
+#[derive(Clone, Copy)]
 pub struct Settings {
     pub version: usize,
     pub dense_levels: usize,
@@ -67,21 +69,21 @@ pub struct Settings {
 }
 
 // The dense nodes by the header: on how many levels they are, and how many there are.
-#[derive(Drop)]
+#[derive(Clone, Copy)]
 pub struct Dense {
     pub levels: usize,
     pub nodes: usize,
 }
 
 // The sparse nodes by the header: how many there are, and how many entries they have.
-#[derive(Drop)]
+#[derive(Clone, Copy)]
 pub struct Sparse {
     pub nodes: usize,
     pub entries: usize,
 }
 
 // What a header says: the version, how many real bits and hash bits a suffix slot has, the leaves, and the dense and sparse nodes.
-#[derive(Drop)]
+#[derive(Clone, Copy)]
 pub struct Header {
     pub version: usize,
     pub real_width: usize,
@@ -92,14 +94,14 @@ pub struct Header {
 }
 
 // The continuing branches of all dense nodes, and their entries: branches and exact leaves together.
-#[derive(Drop)]
+#[derive(Clone, Copy)]
 pub struct DenseTotals {
     pub children: usize,
     pub entries: usize,
 }
 
 // The frame of an image: what its header says, the width of a suffix slot, which is its hash bits and real bits together, the totals of its dense nodes, and the offset of each record's body. LV's goes up to the end of the image; where the version has none, its offset is that end.
-#[derive(Drop)]
+#[derive(Clone, Copy)]
 pub struct Frame {
     pub version: usize,
     pub real_width: usize,
@@ -125,14 +127,14 @@ pub struct Frame {
 }
 
 // What reading an image gives: its frame, or the number with which it is refused.
-#[derive(Drop)]
+#[derive(Clone, Copy)]
 pub enum Framed {
     At(Frame),
     Refused(u32),
 }
 
 // A leaf by value: the cut key is the first len bytes of cut; the suffix bits are the low width bits of suffix, the first one lowest, as the suffix slots hold them.
-#[derive(Drop)]
+#[derive(Clone, Copy)]
 pub struct Leaf {
     pub cut: [u8; MAX_LEVELS],
     pub len: usize,
@@ -142,7 +144,7 @@ pub struct Leaf {
 }
 
 // The answer of a call that writes into a buffer: so many bytes written, or a refusal's number.
-#[derive(Drop)]
+#[derive(Clone, Copy)]
 pub enum Written {
     Bytes(usize),
     Refused(u32),

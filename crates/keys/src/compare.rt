@@ -9,7 +9,7 @@ use bits::numbers::{read64, smaller};
 const WINDOW: usize = 40;
 
 // How a key stands to another.
-#[derive(Drop)]
+#[derive(Clone, Copy)]
 pub enum Order {
     Below,
     Equal,

@@ -1,5 +1,7 @@
 // Keys in byte slices: what two keys share, and their order. The builder and the questions rest on these.
 
+#![tactic(auto)]
+
 pub mod compare; // compare.rt: the prefix that two keys share, and their order
 
 // No key has more bytes.

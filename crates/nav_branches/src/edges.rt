@@ -27,7 +27,7 @@ pub fn next_higher(image: &[u8], f: Frame, m: NodeNum, y: usize, b: Found) -> Ne
 }
 
 // Whether a node has a label above y, and, if it has none, the branch at y.
-#[derive(Drop)]
+#[derive(Clone, Copy)]
 pub struct LastBranch {
     pub higher: bool,
     pub kind: BranchKind,

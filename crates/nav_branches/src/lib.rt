@@ -1,4 +1,6 @@
 // Branches of the nodes of an accepted image, and paths from its root. The questions and the walk rest on these.
+
+#![tactic(auto)]
 use image::{MAX_LEVELS, NodeNum, ValuePos};
 
 pub mod branches; // branches.rt: branches by their label, and those of a sparse node by their entry
@@ -9,7 +11,7 @@ pub mod path_higher; // path_higher.rt: the next higher branch of a path
 pub mod path_leaf; // path_leaf.rt: a path that ends at a leaf
 
 // The leaf where a way from the root ends: none, the exact leaf that the last node is, or the open leaf with a slot.
-#[derive(Drop)]
+#[derive(Clone, Copy)]
 pub enum LeafStop {
     Nowhere,
     Exact,
@@ -17,14 +19,14 @@ pub enum LeafStop {
 }
 
 // The leaf where a way from the root ends, and how many labels lead to it.
-#[derive(Drop)]
+#[derive(Clone, Copy)]
 pub struct LeafEnd {
     pub depth: usize,
     pub stop: LeafStop,
 }
 
 // A path from the root: its node on each level, and the label that is taken there.
-#[derive(Drop)]
+#[derive(Clone, Copy)]
 pub struct Path {
     pub nodes: [NodeNum; MAX_LEVELS],
     pub labels: [u8; MAX_LEVELS],

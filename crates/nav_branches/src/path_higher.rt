@@ -2,7 +2,7 @@
 use nav_nodes::NextBranch;
 
 // The next higher branch of a path: the depth of its node, and the branch itself, which is absent where none is left.
-#[derive(Drop)]
+#[derive(Clone, Copy)]
 pub struct Higher {
     pub depth: usize,
     pub branch: NextBranch,

@@ -2,7 +2,7 @@
 use super::{LeafStop, Path};
 
 // A path that ends at a leaf: its nodes and labels, the leaf, and how many labels lead to it.
-#[derive(Drop)]
+#[derive(Clone, Copy)]
 pub struct PathEnd {
     pub path: Path,
     pub stop: LeafStop,

@@ -31,7 +31,7 @@ pub fn slot(image: &[u8], f: Frame, m: NodeNum, at: BitPos) -> ValuePos
 }
 
 // The child behind a branch that continues, and the slot of the leaf behind one that ends.
-#[derive(Drop)]
+#[derive(Clone, Copy)]
 pub struct Behind {
     pub child: NodeNum,
     pub slot: ValuePos,

@@ -1,4 +1,6 @@
 // Nodes of an accepted image: ranks by its tables, what stands before a node and what lies behind one of its branches. The questions and the walk rest on these.
+
+#![tactic(auto)]
 use image::BitPos;
 
 pub mod ranks; // ranks.rt: ranks by the image's tables, and where a sparse node starts
@@ -6,7 +8,7 @@ pub mod nodes; // nodes.rt: what stands before a node, the entries of a sparse o
 pub mod behind; // behind.rt: the child and the slot behind a branch
 
 // The kind of a branch: there is none, it ends at an open leaf, or it continues to a child.
-#[derive(Drop)]
+#[derive(Clone, Copy)]
 pub enum BranchKind {
     Absent,
     Leaf,
@@ -14,7 +16,7 @@ pub enum BranchKind {
 }
 
 // What a node has at a label: the kind of the branch, its position or that of the next branch, and the position behind the node's last branch.
-#[derive(Drop)]
+#[derive(Clone, Copy)]
 pub struct Found {
     pub kind: BranchKind,
     pub at: BitPos,
@@ -22,7 +24,7 @@ pub struct Found {
 }
 
 // The first branch of a node from a label on: its kind, its label and its position.
-#[derive(Drop)]
+#[derive(Clone, Copy)]
 pub struct NextBranch {
     pub kind: BranchKind,
     pub label: usize,
@@ -30,7 +32,7 @@ pub struct NextBranch {
 }
 
 // Whether a node is an exact leaf, and its first branch.
-#[derive(Drop)]
+#[derive(Clone, Copy)]
 pub struct FirstBranch {
     pub exact: bool,
     pub branch: NextBranch,

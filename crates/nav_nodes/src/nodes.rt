@@ -13,7 +13,7 @@ use bits::ranks::bit_at;
 use image::{BitPos, EXTRA_LABEL, Frame, NodeNum, ROW_BITS};
 
 // The continuing branches and the leaves of the nodes before a node.
-#[derive(Drop)]
+#[derive(Clone, Copy)]
 pub struct CountsBefore {
     pub children: usize,
     pub leaves: usize,
@@ -74,7 +74,7 @@ pub fn entries_before(image: &[u8], f: Frame, m: NodeNum) -> usize
 }
 
 // The entries of a sparse node: whether the first is the extra one of an exact leaf, the first entry of its branches, and the entry behind the last.
-#[derive(Drop)]
+#[derive(Clone, Copy)]
 pub struct Entries {
     pub exact: bool,
     pub first: BitPos,

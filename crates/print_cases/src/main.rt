@@ -1,4 +1,6 @@
 // Prints the leaves of each file of data/, under the file's name.
+
+#![tactic(auto)]
 use libc::STDOUT_FILENO;
 
 // A file's name, and then what the leaf printer writes for the file.

@@ -1,4 +1,6 @@
 // The leaf printer: prints the leaves of the image on standard input.
+
+#![tactic(auto)]
 use libc::STDIN_FILENO;
 
 fn main() {

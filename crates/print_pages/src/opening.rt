@@ -11,14 +11,14 @@ use walk_states::{State, Status};
 const LONGEST_INPUT: usize = 65536;
 
 // What follows the opening of a text: the leaves' lines, or nothing.
-#[derive(Drop)]
+#[derive(Clone, Copy)]
 pub enum Follows {
     Lines,
     Nothing,
 }
 
 // How a text opens: the bytes written, what follows them, and the state of a walk that is opened at the input's first leaf.
-#[derive(Drop)]
+#[derive(Clone, Copy)]
 pub struct Opening {
     pub len: usize,
     pub follows: Follows,

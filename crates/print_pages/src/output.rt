@@ -17,7 +17,7 @@ const PAGE: usize = 16384;
 const INPUT: usize = 65537;
 
 // How much of a text has been handed on: its first bytes, and whether they are all.
-#[derive(Drop)]
+#[derive(Clone, Copy)]
 pub struct Sent {
     pub bytes: usize,
     pub all: bool,

@@ -9,7 +9,7 @@ use walk::walker::{move_from, stand_from};
 use walk_states::{Stand, State, Status};
 
 // The bytes of a page, and the state at the leaf that the next page starts with.
-#[derive(Drop)]
+#[derive(Clone, Copy)]
 pub struct Page {
     pub len: usize,
     pub next: State,

@@ -1,4 +1,6 @@
 // Prints what a walk over the image on standard input says at each place from 0 to 5, and behind each what it says after its next move. Done stays done, and a place behind it is refused.
+
+#![tactic(auto)]
 ghost use Rattle.std.specs.Prelude.{◌^◌, ◌<◌};
 ghost use Rattle.image.specs.Value.{Sized};
 

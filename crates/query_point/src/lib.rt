@@ -1,11 +1,13 @@
 // The questions that one descent answers: point and begins-with.
 
+#![tactic(auto)]
+
 pub mod point; // point.rt: the rule behind a point, and what it says
 pub mod stem_suffix; // stem_suffix.rt: the suffix of an open leaf against a stem
 pub mod stem; // stem.rt: begins-with
 
 // The rule behind a point's reply, a case for each of order 3.
-#[derive(Drop)]
+#[derive(Clone, Copy)]
 pub enum Rule {
     BranchMissing,
     KeyEnded,

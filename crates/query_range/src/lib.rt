@@ -1,5 +1,7 @@
 // The range question over an accepted image, decided where the bounds part.
 
+#![tactic(auto)]
+
 pub mod sides; // sides.rt: each bound alone, from a node or a branch
 pub mod together; // together.rt: the way along both bounds
 pub mod range; // range.rt: the range question

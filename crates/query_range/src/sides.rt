@@ -12,7 +12,7 @@ use nav_nodes::nodes::is_exact;
 use query_descent::suffix::{high_below, low_above};
 
 // A branch of a node: its kind and its position.
-#[derive(Drop)]
+#[derive(Clone, Copy)]
 pub struct Branch {
     pub kind: BranchKind,
     pub at: BitPos,

@@ -18,7 +18,7 @@ use query_descent::{BoundEnd, LastHigher};
 use query_sums::levels::{AT_ROOT, LevelSum};
 
 // The first leaf that a start has not passed, and the start's bound on the level below its last branch, from which the leaves that it has passed can be counted.
-#[derive(Drop)]
+#[derive(Clone, Copy)]
 pub struct NextLeaf {
     pub end: LeafEnd,
     pub level: LevelSum,

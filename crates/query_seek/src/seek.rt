@@ -66,7 +66,7 @@ fn greater_key(start: &[u8], key: &mut [u8], n: usize) -> usize
 }
 
 // What a seek finds: the leaf, if there is one, and how many bytes of a buffer are its key.
-#[derive(Drop)]
+#[derive(Clone, Copy)]
 pub struct Sought {
     pub leaf: SoughtLeaf,
     pub n: usize,

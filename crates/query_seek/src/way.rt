@@ -16,7 +16,7 @@ use query_sums::bounds::Bound;
 use query_sums::levels::{AT_ROOT, LevelSum};
 
 // The bound of a start, and the last higher label that was passed: an open leaf that the start has passed counts in the bound's sum, and the bound ends at no leaf there.
-#[derive(Drop)]
+#[derive(Clone, Copy)]
 pub struct Way {
     pub bound: Bound,
     pub higher: LastHigher,

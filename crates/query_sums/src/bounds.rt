@@ -14,7 +14,7 @@ use query_descent::BoundEnd;
 use query_descent::suffix::{high_below, low_above};
 
 // The bound of a key that has ended, behind its last branch, and where it ends: a node there is that of the level.
-#[derive(Drop)]
+#[derive(Clone, Copy)]
 pub struct Bound {
     pub level: LevelSum,
     pub end: BoundEnd,

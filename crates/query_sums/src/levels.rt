@@ -12,7 +12,7 @@ use image::{Frame, LEVELED_VERSION, MAX_LEVELS, NodeNum};
 use nav_nodes::nodes::{counts_before, entries_before};
 
 // A bound on the level `depth`: the first node there that does not lie before it, and the sum of its slot numbers on the levels above.
-#[derive(Drop)]
+#[derive(Clone, Copy)]
 pub struct LevelSum {
     pub node: NodeNum,
     pub depth: usize,
@@ -127,7 +127,7 @@ pub fn empty_key_sum(image: &[u8], f: Frame) -> usize
 const LEVELS_A_LOOK: usize = 4;
 
 // Two bounds on one level.
-#[derive(Drop)]
+#[derive(Clone, Copy)]
 pub struct TwoBounds {
     pub lower: LevelSum,
     pub upper: LevelSum,
@@ -157,7 +157,7 @@ fn step_both(image: &[u8], f: Frame, a: LevelSum, b: LevelSum) -> TwoBounds
 }
 
 // The sums of two bounds, of which only the difference counts.
-#[derive(Drop)]
+#[derive(Clone, Copy)]
 pub struct BoundSums {
     pub lower: usize,
     pub upper: usize,

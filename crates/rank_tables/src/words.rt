@@ -5,7 +5,7 @@ ghost use Rattle.bits.specs.Bits.{rank};
 use bits::ranks::{ones_before, ones_word};
 
 // What a pass over a body finds: its ones, and whether its table is right.
-#[derive(Drop)]
+#[derive(Clone, Copy)]
 pub struct Counted {
     pub ones: usize,
     pub agrees: bool,

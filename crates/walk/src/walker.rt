@@ -6,7 +6,7 @@ ghost use Rattle.walk_states.specs.Walks.{Gives, Walks, Opens, Moved};
 use walk_states::{Standing, State, next_state, open_state, stand_state};
 
 // The image and where the walk over it stands.
-#[derive(Drop)]
+#[derive(Clone, Copy)]
 pub struct Walker<'a> {
     pub image: &'a [u8],
     pub at: State,

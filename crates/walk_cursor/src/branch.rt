@@ -15,7 +15,7 @@ use query_sums::levels::{LevelSum, sum_below};
 const LABELS: usize = 256;
 
 // A range of a node's labels: the position of the node's first branch, the branch at the low end of the range, how many leaves of the node stand before that branch, and the label behind the range.
-#[derive(Drop)]
+#[derive(Clone, Copy)]
 pub struct Range {
     pub first: BitPos,
     pub low: NextBranch,

@@ -1,4 +1,6 @@
 // The leaf cursor of a walk: from leaf to leaf of an accepted image in key order. It keeps the path from the root and where it stands on each level, so that a whole walk goes down and up each branch once, and takes neither rank nor select where a level was visited before.
+
+#![tactic(auto)]
 ghost use Rattle.std.specs.Prelude.{◌≡◌, ◌+◌, ◌<◌};
 ghost use Rattle.spec.specs.Bytes.{low_bits};
 ghost use Rattle.nav_nodes.specs.Slots.{slot_of};
@@ -18,7 +20,7 @@ pub mod locate; // locate.rt: the cursor at a place, straight from the root
 pub mod values; // values.rt: a leaf by value, with zeros for what it does not settle
 
 // A place of a walk: the path to the leaf, whose labels are the cut key, what is kept of its levels, and the leaf's number in key order. Behind the last leaf the path ends nowhere.
-#[derive(Drop)]
+#[derive(Clone, Copy)]
 pub struct Cursor {
     pub path: [usize; 64],
     pub entries: [usize; 128],

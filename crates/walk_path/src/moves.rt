@@ -14,14 +14,14 @@ use nav_branches::{LeafEnd, LeafStop};
 use nav_nodes::{BranchKind, FirstBranch, NextBranch};
 
 // Where the search for the next leaf starts: the depth of a node of the path, and the first of its labels that is not behind.
-#[derive(Drop)]
+#[derive(Clone, Copy)]
 pub struct Resume {
     pub depth: usize,
     pub from: usize,
 }
 
 // The first branch of a node that is entered, and its entry with the child from it on.
-#[derive(Drop)]
+#[derive(Clone, Copy)]
 pub struct Entered {
     pub first: FirstBranch,
     pub entry: Entry,

@@ -1,5 +1,7 @@
 // Leaves as records of bytes, for programs in other languages: the kind (1 exact, 2 open), the cut key's length, 64 bytes with the cut key and zeros behind it,
 // and the suffix as a number of four bytes, the low one first, whose lowest bit is the suffix's first: hash bits stand below real bits.
+
+#![tactic(auto)]
 ghost use Rattle.std.specs.Prelude.{◌≡◌};
 ghost use Rattle.spec.specs.Nodes.{read_leaves};
 ghost use Rattle.spec.specs.WalkRecords.{kind_byte, walk_records};

@@ -1,4 +1,6 @@
 // Where a walk over an image stands, by value beside the image's slice, and what it says there.
+
+#![tactic(auto)]
 ghost use Rattle.std.specs.Prelude.{◌≡◌};
 ghost use Rattle.spec.specs.Check.{verdict};
 ghost use Rattle.spec.specs.Walk.{open_walk};
@@ -13,7 +15,7 @@ use walk_cursor::values::padded;
 use walk_cursor::{Cursor, at_no_leaf, leaf_at, step};
 
 // What a walk says at a place: a refusal's number, a leaf, or done.
-#[derive(Drop)]
+#[derive(Clone, Copy)]
 pub enum Stand {
     Refused(u32),
     Leaf,
@@ -21,21 +23,21 @@ pub enum Stand {
 }
 
 // What a walk says, with the leaf by value; without one, all of the leaf is zero.
-#[derive(Drop)]
+#[derive(Clone, Copy)]
 pub struct Standing {
     pub stand: Stand,
     pub leaf: Leaf,
 }
 
 // Whether a walk is refused, and with which number.
-#[derive(Drop)]
+#[derive(Clone, Copy)]
 pub enum Status {
     Opened,
     Refused(u32),
 }
 
 // Where a walk stands: its status and its place; of a walk that is not refused, the image's frame and the cursor at the place.
-#[derive(Drop)]
+#[derive(Clone, Copy)]
 pub struct State {
     pub status: Status,
     pub place: usize,
