@@ -1,0 +1,26 @@
+-- The lengths of both bounds, then their order.
+use mathlib.Core.Path.{sym, ◌∙◌}
+use mathlib.Core.Logic.{inl, inr}
+use Rattle.keys.proofs.OrderLaws.{order_is_below, order_not_below}
+use Rattle.theory.specs.OneQuestionLaws.{lower_long, upper_long, bounds_reversed, bounds_fit}
+use Rattle.accepted.proofs.bounds_refusal.Goals as goal
+
+pub returns-then-lo-gt-MAX_KEY_BYTES : goal.returns-then-lo-gt-MAX_KEY_BYTES
+returns-then-lo-gt-MAX_KEY_BYTES c =
+    sym (lower_long c.args.lo.now c.args.hi.now c.if-lo-gt-MAX_KEY_BYTES.true)
+
+pub returns-then-hi-gt-MAX_KEY_BYTES : goal.returns-then-hi-gt-MAX_KEY_BYTES
+returns-then-hi-gt-MAX_KEY_BYTES c =
+    sym (upper_long c.args.lo.now c.args.hi.now c.if-lo-gt-MAX_KEY_BYTES.false c.if-hi-gt-MAX_KEY_BYTES.true)
+
+pub returns-in-Below : goal.returns-in-Below
+returns-in-Below c =
+    judged c (λ l h. sym (bounds_reversed _ _ l h (order_is_below _ _ (sym c.compare-order.ensures ∙ c.enum_told-1.given.1))))
+
+pub returns-in-Equal : goal.returns-in-Equal
+returns-in-Equal c =
+    judged c (λ l h. sym (bounds_fit _ _ l h (order_not_below _ _ (inl (sym c.compare-order.ensures ∙ c.enum_told-in-Equal-1.given.1)))))
+
+pub returns-in-Above : goal.returns-in-Above
+returns-in-Above c =
+    judged c (λ l h. sym (bounds_fit _ _ l h (order_not_below _ _ (inr (sym c.compare-order.ensures ∙ c.enum_told-in-Above-1.given.1)))))

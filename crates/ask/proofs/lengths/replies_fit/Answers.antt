@@ -1,0 +1,32 @@
+-- Room for 72 bytes a question is room for all replies; else their length decides.
+use mathlib.Core.Path.{sym, ap}
+use Prim.Native.Nat.{ℕ}
+use native.Mathlib.Omega.{arith}
+use borrow.Author.Tests.{le-leb}
+use lib.ListN.{length}
+use lib.Dec.{leb}
+use Rattle.spec.specs.Nodes.{read_leaves}
+use Rattle.spec.specs.Questions.{questions_of}
+use Rattle.nav_nodes.specs.Accepted.{real_sized}
+use Rattle.query_descent.specs.Answers.{all_small}
+use Rattle.ask_files.specs.FileLaws.{few_questions}
+use Rattle.theory.specs.LengthBounds.{replies_bound}
+use Rattle.ask_replies.specs.Replies.{file_replies}
+use Rattle.ask.proofs.lengths.replies_fit.Goals as goal
+
+pub overflow_mul-count : goal.overflow_mul-count
+overflow_mul-count c =
+    let p = c.requires in
+    omega (arith, p.2, few_questions c.args.file.now (questions_of c.args.file.now) p.1)
+
+pub returns-then-count-room : goal.returns-then-count-room
+returns-then-count-room c =
+    let a = c.args in
+    let p = c.requires in
+    let small = all_small a.file.now (λ i. omega (arith, c.shared_slice_known-2-1.given i)) in
+    let most = replies_bound a.f.hash_width a.f.real_width (read_leaves a.image.now) a.file.now (questions_of a.file.now) (real_sized a.image.now a.f p.0) small p.1 in
+    sym (le-leb (length (file_replies a.f.hash_width a.image.now a.file.now)) a.room (omega (arith, p.2, c.if-count-room.true, most)))
+
+pub returns : goal.returns
+returns c =
+    ap (λ (n : ℕ). leb n c.args.room) c.replies_length.ensures

@@ -1,0 +1,25 @@
+-- The rule's number goes to the front of the buffer, and what the rule says is the reply's number.
+use Prim.Native.Nat.{ℕ, ◌<◌}
+use mathlib.Core.Path.{◌≡◌, refl, ap, ◌∙◌}
+use mathlib.Core.List.{[], ◌∷◌}
+use native.Mathlib.Omega.{arith}
+use lib.ListN.{length, take, set, length-set}
+use Rattle.spec.specs.Bytes.{Bytes}
+use Rattle.spec.specs.Nodes.{read_leaves}
+use Rattle.spec.specs.Rules.{rule_number, rule_says}
+use Rattle.ask_files.proofs.AnswerLaws.{point_answered}
+use Rattle.ask_replies.proofs.point_reply.Goals as goal
+
+-- the byte that is written to the front
+front : (s : Bytes) (x : ℕ) → 0 < length s → take 1 (set s 0 x) ≡ x ∷ []
+front [] x h = absurd (omega arith)
+front (y ∷ s) x h = refl
+
+pub returns : goal.returns
+returns c =
+    let k = c.args.key.now in
+    let w = c.requires.0 in (
+      record { small = omega arith; buffer = length-set k 0 c.rule_number.result ∙ c.requires.2 },
+      point_answered c.args.f.hash_width (read_leaves c.args.image.now) w.realizable w.well_sized c.args.point.now c.requires.1 _ (set k 0 c.rule_number.result) refl (c.rule_says.ensures ∙ ap rule_says c.descend-rule.ensures) refl
+          (front k c.rule_number.result (omega (arith, c.requires.2)) ∙ ap (λ (x : ℕ). x ∷ []) (c.rule_number.ensures ∙ ap rule_number c.descend-rule.ensures)),
+    )

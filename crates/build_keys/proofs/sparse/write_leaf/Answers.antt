@@ -1,0 +1,44 @@
+-- The cursors up to the leaf's level move on, and the bit there is set.
+use Prim.Native.Nat.{ℕ}
+use mathlib.Core.Path.{subst, sym, ◌∙◌}
+use native.Mathlib.Omega.{arith}
+use lib.ListN.{length}
+use Rattle.build_laws.specs.PassEmissions.{KeyNumbers}
+use Rattle.build_keys.specs.KeySparseBits.{leaf_cursors, leaf_room, leaf_does, leaf_none}
+use Rattle.build_keys.proofs.sparse.write_leaf.Goals as goal
+
+pub leaf_level-d-requires : goal.leaf_level-d-requires
+leaf_level-d-requires c =
+    subst (λ (p : ℕ). KeyNumbers p c.args.k.next c.args.k.len) (sym c.one_less-b.ensures) c.requires.0
+
+pub move_on-requires : goal.move_on-requires
+move_on-requires c =
+    let a = c.args in
+    let b = c.one_less-b in
+    let d = c.leaf_level-d in
+    leaf_cursors a.l a.k b.result d.result b.ensures d.ensures.0 (omega (arith, b.ensures, c.requires.0.before)) c.larger.result c.smaller.result c.larger.ensures c.smaller.ensures
+    (length a.out.now) a.cur.now c.requires.1
+
+pub put_bit-requires : goal.put_bit-requires
+put_bit-requires c =
+    let a = c.args in
+    let b = c.one_less-b in
+    let d = c.leaf_level-d in
+    leaf_room a.l a.k b.result d.result b.ensures d.ensures.0 (omega (arith, b.ensures, c.requires.0.before)) c.larger.result c.smaller.result c.larger.ensures c.smaller.ensures
+    (length a.out.now) a.cur.now _ c.requires.1 c.move_on.ensures (sym c.is_among.ensures ∙ c.if-is_among.true)
+
+pub returns-then-is_among : goal.returns-then-is_among
+returns-then-is_among c =
+    let a = c.args in
+    let b = c.one_less-b in
+    let d = c.leaf_level-d in
+    leaf_does a.l a.k b.result d.result b.ensures d.ensures.0 (omega (arith, b.ensures, c.requires.0.before)) c.larger.result c.smaller.result c.larger.ensures c.smaller.ensures
+    a.out.now a.cur.now _ _ c.move_on.ensures (sym c.is_among.ensures ∙ c.if-is_among.true) c.put_bit.ensures
+
+pub returns-else-is_among : goal.returns-else-is_among
+returns-else-is_among c =
+    let a = c.args in
+    let b = c.one_less-b in
+    let d = c.leaf_level-d in
+    leaf_none a.l a.k b.result d.result b.ensures d.ensures.0 (omega (arith, b.ensures, c.requires.0.before)) c.larger.result c.smaller.result c.larger.ensures c.smaller.ensures
+    a.out.now a.cur.now _ c.move_on.ensures (sym c.is_among.ensures ∙ c.if-is_among.false)

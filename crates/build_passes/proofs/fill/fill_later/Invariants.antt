@@ -1,0 +1,16 @@
+-- What the keys left do gives what all keys do, and there is room for it.
+use Prim.Native.Nat.{◌-◌}
+use mathlib.Core.Path.{◌≡◌}
+use lib.ListN.{length}
+use Rattle.spec.specs.Keys.{keys_of}
+use Rattle.build_laws.specs.BytePass.{byte_state}
+use Rattle.build_laws.specs.Passes.{entries_pass, pass_keys}
+use Rattle.build_passes.specs.ListPass.{Filling}
+use Rattle.build_laws.specs.declared.Kind.TheVariants.{SB}
+use Rattle.build_passes.proofs.fill.fill_later.Given as goal
+
+abbrev pub invariant-loop-at : goal.invariant-loop-at
+invariant-loop-at l = (length l.l.out ≡ length l.l.initial.out) × Filling (entries_pass SB l.l) l.l.s (length l.l.initial.out) l.l.at l.l.first (byte_state l.l.out l.l.cur) (pass_keys (entries_pass SB l.l) 0 (keys_of l.l.s) (byte_state l.l.initial.out l.l.initial.cur))
+
+abbrev pub decreases-loop-at : goal.decreases-loop-at
+decreases-loop-at l = length l.l.s - l.l.at

@@ -1,0 +1,47 @@
+-- Each body in its turn.
+use Rattle.build_laws.specs.declared.Kind.{Kind}
+use Rattle.build_laws.specs.declared.Body.{Body}
+use Rattle.build_laws.specs.declared.Body.TheVariants.{Entries}
+use Rattle.build_records.specs.BodyChoice.{level_range}
+use mathlib.Core.Path.{sym, ap, ◌∙◌}
+use Rattle.build_records.proofs.bodies.level_range.Goals as goal
+
+pub returns-in-Slots : goal.returns-in-Slots
+returns-in-Slots c =
+    ap (λ (b : Body). level_range b c.args.dense) (sym c.enum_told-1.given.1)
+
+pub returns-in-DL : goal.returns-in-DL
+returns-in-DL c =
+    let args = c.args in
+    let body = c.body-1 in
+    sym (ap (λ (b : Body). level_range b args.dense) body.given.1 ∙ ap (λ (k : Kind). level_range (Entries k) args.dense) c.enum_told-in-DL-1.given.1)
+
+pub returns-in-DC : goal.returns-in-DC
+returns-in-DC c =
+    let args = c.args in
+    let body = c.body-1 in
+    sym (ap (λ (b : Body). level_range b args.dense) body.given.1 ∙ ap (λ (k : Kind). level_range (Entries k) args.dense) c.enum_told-in-DC-1.given.1)
+
+pub returns-in-DP : goal.returns-in-DP
+returns-in-DP c =
+    let args = c.args in
+    let body = c.body-1 in
+    sym (ap (λ (b : Body). level_range b args.dense) body.given.1 ∙ ap (λ (k : Kind). level_range (Entries k) args.dense) c.enum_told-in-DP-1.given.1)
+
+pub returns-in-SL : goal.returns-in-SL
+returns-in-SL c =
+    let args = c.args in
+    let body = c.body-1 in
+    sym (ap (λ (b : Body). level_range b args.dense) body.given.1 ∙ ap (λ (k : Kind). level_range (Entries k) args.dense) c.enum_told-in-SL-1.given.1)
+
+pub returns-in-SC : goal.returns-in-SC
+returns-in-SC c =
+    let args = c.args in
+    let body = c.body-1 in
+    sym (ap (λ (b : Body). level_range b args.dense) body.given.1 ∙ ap (λ (k : Kind). level_range (Entries k) args.dense) c.enum_told-in-SC-1.given.1)
+
+pub returns-in-SB : goal.returns-in-SB
+returns-in-SB c =
+    let args = c.args in
+    let body = c.body-1 in
+    sym (ap (λ (b : Body). level_range b args.dense) body.given.1 ∙ ap (λ (k : Kind). level_range (Entries k) args.dense) c.enum_told-in-SB-1.given.1)

@@ -1,0 +1,11 @@
+-- The first of the bits, where there is one.
+use borrow.Author.Tests.{eq-eqb, ne_eqb}
+use Rattle.check_trie.proofs.trie.first_set.Goals as goal
+
+pub returns-then-n-eq0 : goal.returns-then-n-eq0
+returns-then-n-eq0 c =
+    rw (eq-eqb c.args.n 0 c.if-n-eq0.true)
+
+pub returns : goal.returns
+returns c =
+    rw (ne_eqb c.args.n 0 c.if-n-eq0.false, c.bit_at.ensures)

@@ -1,0 +1,29 @@
+use mathlib.Core.Path.{ap, sym}
+use Rattle.spec.specs.Rules.{rule_says}
+use Rattle.query_point.specs.declared.Rule.{Rule}
+use Rattle.query_point.specs.Rules.{rule_of}
+use Rattle.query_point.proofs.point.rule_says.Goals as goal
+
+pub returns-in-BranchMissing : goal.returns-in-BranchMissing
+returns-in-BranchMissing c =
+    ap (λ (r : Rule). rule_says (rule_of r)) (sym c.enum_told-1.given.1)
+
+pub returns-in-KeyEnded : goal.returns-in-KeyEnded
+returns-in-KeyEnded c =
+    ap (λ (r : Rule). rule_says (rule_of r)) (sym c.enum_told-in-KeyEnded-1.given.1)
+
+pub returns-in-ExactLeaf : goal.returns-in-ExactLeaf
+returns-in-ExactLeaf c =
+    ap (λ (r : Rule). rule_says (rule_of r)) (sym c.enum_told-in-ExactLeaf-1.given.1)
+
+pub returns-in-SuffixEqual : goal.returns-in-SuffixEqual
+returns-in-SuffixEqual c =
+    ap (λ (r : Rule). rule_says (rule_of r)) (sym c.enum_told-in-SuffixEqual-1.given.1)
+
+pub returns-in-SuffixOther : goal.returns-in-SuffixOther
+returns-in-SuffixOther c =
+    ap (λ (r : Rule). rule_says (rule_of r)) (sym c.enum_told-in-SuffixOther-1.given.1)
+
+pub returns-in-NoNodes : goal.returns-in-NoNodes
+returns-in-NoNodes c =
+    ap (λ (r : Rule). rule_says (rule_of r)) (sym c.enum_told-in-NoNodes-1.given.1)

@@ -1,0 +1,88 @@
+use Rattle.query_range.specs.RangeWays.{KeyBranch, key_node, next_nothing, next_under, next_upto, next_over, next_own, met_crossed, met_inside}
+use Rattle.query_range.proofs.ApartLaws.{from_not, from_not_false, apart_lower, apart_left, apart_upper}
+use Rattle.nav_nodes.specs.declared.BranchKind.TheVariants.{Absent}
+use Rattle.nav_nodes.specs.NextBranch.{NextBranch}
+use Rattle.nav_nodes.specs.NextLabel.{there_not, not_there}
+use borrow.Author.Tests.{ltb-true, ltb-false}
+use lib.ListN.{get_or}
+use Prim.Native.Nat.{◌+◌, ◌≤◌}
+use mathlib.Core.Logic.{⊎_elim}
+use mathlib.Core.Path.{◌≡◌, sym, ◌∙◌}
+use native.Mathlib.Omega.{arith}
+use Rattle.query_range.proofs.together.apart.Goals as goal
+
+pub returns-then-b-a : goal.returns-then-b-a
+returns-then-b-a c =
+    let p = c.requires in
+    sym (met_crossed p.lower p.upper p.lo_more p.hi_more (omega (arith, c.if-b-a.true, c.wide-a.ensures.0, c.wide-b.ensures.0)))
+
+pub find-found-requires : goal.find-found-requires
+find-found-requires c =
+    (key_node c.requires.lower, c.wide-a.ensures.1)
+
+pub next_higher-next-requires : goal.next_higher-next-requires
+next_higher-next-requires c =
+    (key_node c.requires.lower, c.wide-a.ensures.1, c.find-found.ensures)
+
+pub left_behind-requires : goal.left_behind-requires
+left_behind-requires c =
+    let lower : KeyBranch c.args.image.now c.args.f c.args.lo.now c.args.node.0 c.args.depth c.find-found.result.kind c.find-found.result.at.0 = let r = rw c.wide-a.ensures.0 at c.find-found.ensures in
+    record { from = c.requires.lower; more = c.requires.lo_more; kind_is = r.kind_is; at_is = r.at_is } in
+    lower
+
+pub returns-then-not-is_there : goal.returns-then-not-is_there
+returns-then-not-is_there c =
+    let below : get_or c.args.lo.now c.args.depth 0 + 1 ≤ get_or c.args.hi.now c.args.depth 0 = omega (arith, c.if-b-a.false, c.requires.differ, c.wide-a.ensures.0, c.wide-b.ensures.0) in
+    let next : NextBranch c.args.image.now c.args.f c.args.node.0 (get_or c.args.lo.now c.args.depth 0 + 1) c.next_higher-next.result.kind c.next_higher-next.result.label c.next_higher-next.result.at.0 = rw c.wide-a.ensures.0 at c.next_higher-next.ensures in
+    let p = c.requires in
+    c.left_behind.ensures
+    ∙ sym (⊎_elim
+    (λ t. let e = next_nothing p.upper p.hi_more next below (not_there c.next_higher-next.result.kind (sym c.is_there.ensures ∙ from_not c.is_there.result t.taken)) in apart_lower p.lower p.upper p.lo_more p.hi_more e.0 e.1)
+    (λ t. let h = there (record { before = c; if2 = t.0 }) in
+    let a = ltb-true c.wide-b.result c.next_higher-next.result.label t.2.taken in
+    let b = c.wide-b.ensures.0 in
+    apart_lower p.lower p.upper p.lo_more p.hi_more (next_upto p.upper p.hi_more next below h (omega arith)) (next_over p.upper p.hi_more next below h (omega arith))) c.if-not-is_there.branch)
+
+pub returns-then-next-b : goal.returns-then-next-b
+returns-then-next-b c =
+    let below : get_or c.args.lo.now c.args.depth 0 + 1 ≤ get_or c.args.hi.now c.args.depth 0 = omega (arith, c.if-b-a.false, c.requires.differ, c.wide-a.ensures.0, c.wide-b.ensures.0) in
+    let next : NextBranch c.args.image.now c.args.f c.args.node.0 (get_or c.args.lo.now c.args.depth 0 + 1) c.next_higher-next.result.kind c.next_higher-next.result.label c.next_higher-next.result.at.0 = rw c.wide-a.ensures.0 at c.next_higher-next.ensures in
+    let there : c.next_higher-next.result.kind ≡ Absent → ⊥ = there_not c.next_higher-next.result.kind (sym c.is_there.ensures ∙ from_not_false c.is_there.result c.if-not-is_there.false) in
+    let p = c.requires in
+    sym (met_inside p.lower p.upper p.lo_more p.hi_more (next_under p.upper p.hi_more next below there (omega (arith, c.if-next-b.true, c.wide-b.ensures.0))))
+
+pub left_behind-requires-2 : goal.left_behind-requires-2
+left_behind-requires-2 c =
+    let lower : KeyBranch c.args.image.now c.args.f c.args.lo.now c.args.node.0 c.args.depth c.find-found.result.kind c.find-found.result.at.0 = let r = rw c.wide-a.ensures.0 at c.find-found.ensures in
+    record { from = c.requires.lower; more = c.requires.lo_more; kind_is = r.kind_is; at_is = r.at_is } in
+    lower
+
+pub returns-then-left_behind : goal.returns-then-left_behind
+returns-then-left_behind c =
+    let below : get_or c.args.lo.now c.args.depth 0 + 1 ≤ get_or c.args.hi.now c.args.depth 0 = omega (arith, c.if-b-a.false, c.requires.differ, c.wide-a.ensures.0, c.wide-b.ensures.0) in
+    let next : NextBranch c.args.image.now c.args.f c.args.node.0 (get_or c.args.lo.now c.args.depth 0 + 1) c.next_higher-next.result.kind c.next_higher-next.result.label c.next_higher-next.result.at.0 = rw c.wide-a.ensures.0 at c.next_higher-next.ensures in
+    let there : c.next_higher-next.result.kind ≡ Absent → ⊥ = there_not c.next_higher-next.result.kind (sym c.is_there.ensures ∙ from_not_false c.is_there.result c.if-not-is_there.false) in
+    let own : c.wide-b.result ≤ c.next_higher-next.result.label → c.next_higher-next.result.label ≡ get_or c.args.hi.now c.args.depth 0 = λ h. omega (arith, ltb-false c.wide-b.result c.next_higher-next.result.label c.if-b-next.false, c.wide-b.ensures.0) in
+    let p = c.requires in
+    let o = own (omega (arith, c.if-next-b.false)) in
+    sym (apart_left p.lower p.upper p.lo_more p.hi_more (next_upto p.upper p.hi_more next below there (omega arith)) (sym c.left_behind-2.ensures ∙ c.if-left_behind.true))
+
+pub reached_behind-requires : goal.reached_behind-requires
+reached_behind-requires c =
+    let below : get_or c.args.lo.now c.args.depth 0 + 1 ≤ get_or c.args.hi.now c.args.depth 0 = omega (arith, c.if-b-a.false, c.requires.differ, c.wide-a.ensures.0, c.wide-b.ensures.0) in
+    let next : NextBranch c.args.image.now c.args.f c.args.node.0 (get_or c.args.lo.now c.args.depth 0 + 1) c.next_higher-next.result.kind c.next_higher-next.result.label c.next_higher-next.result.at.0 = rw c.wide-a.ensures.0 at c.next_higher-next.ensures in
+    let there : c.next_higher-next.result.kind ≡ Absent → ⊥ = there_not c.next_higher-next.result.kind (sym c.is_there.ensures ∙ from_not_false c.is_there.result c.if-not-is_there.false) in
+    let own : c.wide-b.result ≤ c.next_higher-next.result.label → c.next_higher-next.result.label ≡ get_or c.args.hi.now c.args.depth 0 = λ h. omega (arith, ltb-false c.wide-b.result c.next_higher-next.result.label c.if-b-next.false, c.wide-b.ensures.0) in
+    let p = c.requires in
+    next_own p.upper p.hi_more next below there (own (omega (arith, c.if-next-b.false)))
+
+pub returns : goal.returns
+returns c =
+    let below : get_or c.args.lo.now c.args.depth 0 + 1 ≤ get_or c.args.hi.now c.args.depth 0 = omega (arith, c.if-b-a.false, c.requires.differ, c.wide-a.ensures.0, c.wide-b.ensures.0) in
+    let next : NextBranch c.args.image.now c.args.f c.args.node.0 (get_or c.args.lo.now c.args.depth 0 + 1) c.next_higher-next.result.kind c.next_higher-next.result.label c.next_higher-next.result.at.0 = rw c.wide-a.ensures.0 at c.next_higher-next.ensures in
+    let there : c.next_higher-next.result.kind ≡ Absent → ⊥ = there_not c.next_higher-next.result.kind (sym c.is_there.ensures ∙ from_not_false c.is_there.result c.if-not-is_there.false) in
+    let own : c.wide-b.result ≤ c.next_higher-next.result.label → c.next_higher-next.result.label ≡ get_or c.args.hi.now c.args.depth 0 = λ h. omega (arith, ltb-false c.wide-b.result c.next_higher-next.result.label c.if-b-next.false, c.wide-b.ensures.0) in
+    let p = c.requires in
+    let o = own (omega (arith, c.if-next-b.false)) in
+    c.reached_behind.ensures
+    ∙ sym (apart_upper p.lower p.upper p.lo_more p.hi_more (next_upto p.upper p.hi_more next below there (omega arith)) (sym c.left_behind-2.ensures ∙ c.if-left_behind.false))

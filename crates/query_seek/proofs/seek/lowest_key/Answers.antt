@@ -1,0 +1,26 @@
+use Rattle.query_descent.specs.Seeks.{low_of}
+use Rattle.nav_branches.specs.declared.LeafStop.{LeafStop}
+use Rattle.nav_nodes.specs.Accepted.{nodes}
+use lib.ListN.{take}
+use mathlib.Core.Path.{ap}
+use Rattle.query_seek.proofs.seek.lowest_key.Goals as goal
+
+pub append_real-requires : goal.append_real-requires
+append_real-requires c =
+    let stop = c.stop-1.given in
+    let p = c.requires in
+    (p.accepted, p.slot_in stop.0.0 stop.1, p.key_size, p.depth_in)
+
+pub returns-in-Nowhere : goal.returns-in-Nowhere
+returns-in-Nowhere c =
+    absurd (c.requires.there c.enum_told-1.given.1)
+
+pub returns-in-Exact : goal.returns-in-Exact
+returns-in-Exact c =
+    let a = c.args in
+    record { low_is = ap (λ (stop : LeafStop). low_of a.f.hash_width a.f.width (nodes a.image.now a.f) stop (take a.depth a.key.now)) c.enum_told-in-Exact-1.given.1; upto = c.requires.depth_in; key_size = c.requires.key_size }
+
+pub returns-in-Open : goal.returns-in-Open
+returns-in-Open c =
+    let e = c.append_real.ensures in
+    record { low_is = rw c.stop-1.given.1 e.low_is; upto = e.upto; key_size = e.key_size }

@@ -1,0 +1,13 @@
+-- No leaf is passed on the way up: a node without a branch left is left for the one above it.
+use Prim.Native.Nat.{◌-◌, ◌≤◌}
+use mathlib.Core.Path.{◌≡◌}
+use Rattle.nav_nodes.specs.Accepted.{nodes}
+use Rattle.nav_branches.specs.Paths.{onward}
+use Rattle.walk_path.specs.Levels.{numbered, Levels}
+use Rattle.walk_path.proofs.moves.climb.Given as goal
+
+abbrev pub invariant-loop-f : goal.invariant-loop-f
+invariant-loop-f l = (l.d ≤ l.initial.d) × (l.y ≤ 256) × (onward (nodes l.image l.f) (numbered l.path) l.labels l.initial.d l.initial.y ≡ onward (nodes l.image l.f) (numbered l.path) l.labels l.d l.y) × Levels l.image l.f l.path l.entries l.labels l.d l.y
+
+abbrev pub decreases-loop-f : goal.decreases-loop-f
+decreases-loop-f l = l.d

@@ -1,0 +1,11 @@
+-- A refusal writes nothing; else the records of the leaves from the place on are written.
+use Rattle.walk_states.specs.StateLaws.{writes_refused, writes_records}
+use Rattle.walk_records.proofs.write_opened.Goals as goal
+
+pub returns-in-Refused : goal.returns-in-Refused
+returns-in-Refused c =
+    writes_refused c.args.image.now c.args.at.place c.args.out.now c.args.at c.requires _ c.status-1.given.1
+
+pub returns-in-Opened : goal.returns-in-Opened
+returns-in-Opened c =
+    writes_records c.args.image.now c.args.at.place c.args.out.now c.args.at c.requires c.enum_told-1.given.1 _ _ c.write_leaves.ensures
