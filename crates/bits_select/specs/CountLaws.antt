@@ -71,7 +71,7 @@ counts_paired w (suc c) n x p h =
         rw f (more {c = c} (low t (w + w) l ∙ ap₂ (λ (u v : ℕ). u + v) a b ∙ sym (ones_behind x w w)) (rw (high t (w + w) l) (rest behind)))
 
 -- the counts of the fields of 2, 4, 8, 16 and 32 bits of a word
-pub record FieldCounts (x of-2 of-4 of-8 of-16 of-32 : ℕ) : Type 0 where
+pub record CountedFields (x of-2 of-4 of-8 of-16 of-32 : ℕ) : Type 0 where
   pub pairs : Counts 2 32 of-2 x
   pub fours : Counts 4 16 of-4 x
   pub eights : Counts 8 8 of-8 x
@@ -80,7 +80,7 @@ pub record FieldCounts (x of-2 of-4 of-8 of-16 of-32 : ℕ) : Type 0 where
 
 -- as they are found: each from those of half the width, by the mask of that width
 pub field_counts : (x n2 n4 n8 n16 n32 : ℕ) → n2 ≡ paired 1 (every_other 1 32) x → n4 ≡ paired 2 (every_other 2 16) n2 → n8 ≡ paired 4 (every_other 4 8) n4
-    → n16 ≡ paired 8 (every_other 8 4) n8 → n32 ≡ paired 16 (every_other 16 2) n16 → FieldCounts x n2 n4 n8 n16 n32
+    → n16 ≡ paired 8 (every_other 8 4) n8 → n32 ≡ paired 16 (every_other 16 2) n16 → CountedFields x n2 n4 n8 n16 n32
 field_counts x n2 n4 n8 n16 n32 a b c d e =
     let two : Counts 2 32 n2 x = rw a (counts_paired 1 32 x x (omega arith) (counts_digits 64 x)) in
     let four : Counts 4 16 n4 x = rw b (counts_paired 2 16 n2 x (omega arith) two) in

@@ -1,7 +1,7 @@
 // The position of a one inside a word: the field that holds it is halved by the counts of ones in all fields, which are found at once, down to a pair of bits, whose positions are in the table. A one among ones that stand side by side from the lowest bit on is at its number.
 ghost use Rattle.std.specs.Prelude.{◌≡◌, ℕ, ◌+◌, ◌%◌, ◌^◌, ◌≤◌, ◌<◌};
 ghost use Rattle.std.specs.Int.Count.{ones};
-ghost use Rattle.bits_select.specs.CountLaws.{Counts, FieldCounts, paired};
+ghost use Rattle.bits_select.specs.CountLaws.{Counts, CountedFields, paired};
 ghost use Rattle.bits_select.specs.NarrowLaws.{Narrowed};
 
 use super::byte_ones::select_in_pair;
@@ -42,7 +42,7 @@ struct FieldCounts {
 
 // The ones of the fields of x.
 fn field_counts(x: u64) -> FieldCounts
-    ensures { FieldCounts x result.of_2 result.of_4 result.of_8 result.of_16 result.of_32 }
+    ensures { CountedFields x result.of_2 result.of_4 result.of_8 result.of_16 result.of_32 }
 {
     let of_2 = paired(x, 1, BITS);
     let of_4 = paired(of_2, 2, PAIRS);

@@ -1,6 +1,6 @@
 -- The loop: so many ones stand in the i words from word q on.
 use mathlib.Core.Path.{◌≡◌, ap}
-use Prim.Native.Nat.{◌+◌, ◌*◌, ◌-◌}
+use Prim.Native.Nat.{◌+◌, ◌*◌}
 use native.Mathlib.Omega.{arith}
 use Rattle.bits.specs.Bits.{rank}
 use Rattle.bits_select.proofs.select.ones_step.Goals as goal

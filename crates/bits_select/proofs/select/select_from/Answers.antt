@@ -2,7 +2,7 @@ use mathlib.Core.Path.{◌≡◌, ap, ◌∙◌}
 use Prim.Native.Nat.{ℕ, ◌+◌, ◌*◌, ◌/◌, ◌%◌, ◌^◌}
 use native.Mathlib.Nat.{div-le_self}
 use native.Mathlib.Omega.{arith}
-use lib.Count.{ones, ones-le}
+use lib.Count.{ones-le}
 use Rattle.bits.specs.Bits.{rank, select}
 use Rattle.bits.specs.ValueLaws.{Small}
 use Rattle.bits_select.specs.WordLaws.{one_reached, word_room, rank_rest, select_word}
