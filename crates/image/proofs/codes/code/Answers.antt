@@ -8,8 +8,8 @@ use Rattle.image.proofs.codes.code.Goals as goal
 
 pub returns-in-Bytes : goal.returns-in-Bytes
 returns-in-Bytes c =
-    omega (arith, ap (λ (w : Written). answer_code (answer_of w)) c.answer-1.given.1)
+    omega (arith, ap (λ (w : Written). answer_code (answer_of w)) c.in-Bytes.is)
 
 pub returns-in-Refused : goal.returns-in-Refused
 returns-in-Refused c =
-    omega (arith, ap (λ (w : Written). answer_code (answer_of w)) c.answer-in-Refused-1.given.1)
+    omega (arith, ap (λ (w : Written). answer_code (answer_of w)) c.in-Refused.is)

@@ -28,7 +28,7 @@ shape_of-out c =
 pub returns : goal.returns
 returns c =
     let a = c.args in
-    let o = c.write_mark.new.0 in
+    let o = c.write_mark.new.out in
     let rest : List ℕ = a.version ∷ a.dense ∷ a.n ∷ a.h ∷ [] in
     let e : sets o 2 rest ≡ overlaid o 2 rest = sets-eq rest o 2 (omega arith) in
     e ∙ ap (λ (z : List ℕ). overlaid z 2 rest) c.write_mark.ensures ∙ overlaid_overlaid a.out.now (72 ∷ 68 ∷ []) rest 0 2 refl (omega arith)
