@@ -73,4 +73,4 @@ returns-in-10 c =
 pub returns-in_default : goal.returns-in_default
 unfolding row_at rows
 returns-in_default c =
-    let e : c.args.i ≡ 11 = last_row c.args.i c.requires.1 c.in_default-own.rest in (rw e c.table_size-in_default.ensures, table_bound c.requires.0.sparse_nodes c.table_size-in_default.ensures)
+    let e : c.args.i ≡ 11 = last_row c.args.i c.requires.1 c.in_default.in_default-own.rest in (rw e c.table_size-in_default.ensures, table_bound c.requires.0.sparse_nodes c.table_size-in_default.ensures)

@@ -68,4 +68,4 @@ returns-in-11 c =
 pub returns-in_default : goal.returns-in_default
 unfolding level_row row_at rows
 returns-in_default c =
-    let e : c.args.i ≡ 12 = level_row_last c.args.i c.requires c.in_default-own.rest in rw e
+    let e : c.args.i ≡ 12 = level_row_last c.args.i c.requires c.in_default.in_default-own.rest in rw e
