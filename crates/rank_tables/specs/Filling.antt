@@ -1,6 +1,6 @@
 -- A table of 32-bit entries, written entry by entry behind the finished body that it is counted in. Used by the writers of ranks and of samples.
 use Rattle.std.specs.Prelude.{ℕ, ◌+◌, ◌-◌, ◌*◌, ◌≤◌, ◌≡◌, refl, length}
-use Rattle.std.proofs.Common.{sym, ap, ap₂, ◌∙◌, arith}
+use Rattle.std.proofs.Common.{sym, ap, ◌∙◌, arith}
 use borrow.Rule.Slice.PartMut.{put_mid, mid_of}
 use Rattle.spec.specs.Bytes.{Bytes, le32}
 use Rattle.bits.specs.Bits.{part, overlaid}

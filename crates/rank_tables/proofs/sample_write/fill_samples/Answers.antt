@@ -129,7 +129,7 @@ pub loop-at-preserved-then-t-r : goal.loop-at-preserved-then-t-r
 loop-at-preserved-then-t-r c =
     let loop-test = c.loop-at-test in
     let if1 = c.if-t-r in
-    let Select-in = c.Select-in in
+    let found = c.select_in-p in
     let write32 = c.write32 in
     let a = c.args in
     let l = c.loop-at in
@@ -146,7 +146,7 @@ loop-at-preserved-then-t-r c =
     let room = ap (λ (k : ℕ). rank (part a.out.now from k) a.bits) q in
     let w = word_start l.at (l.invariant.4 loop-test.true) in
     let b : rank (part l.out from m) (64 * (l.at / 64)) + (64 * l.t - l.r) ≡ 64 * l.t = omega (arith, ap₂ rank l.invariant.1.kept w, l.invariant.2, l.invariant.3) in
-    let v = Select-in.ensures.0 ∙ ap₂ (λ (z : List ℕ) (k : ℕ). select z a.bits k) l.invariant.1.kept b in (
+    let v = found.ensures.0 ∙ ap₂ (λ (z : List ℕ) (k : ℕ). select z a.bits k) l.invariant.1.kept b in (
       omega (arith, next.ensures),
       filled_more a.out.now from m a.table (samples s a.bits) l.t l.out _ _ (omega (arith, c.requires.behind)) (omega (arith, n, room, c.requires.room)) l.invariant.1 v write32.ensures,
       e,
