@@ -17,11 +17,23 @@ DECLARED = re.compile(
     r"^\s*(?:(?:pub|unfoldable|abbrev|pattern|axiom) )*(" + WORD + r")\s*:\s+(?!tie\.Need-|tie\.invariant|tie\.decreases)\S"
 )
 TYPE = re.compile(r"^\s*(?:pub )?(?:data|record|ruleset) (" + WORD + r")")
+# definitions that would have the name of a struct of src/
+OTHERWISE = {
+    "Counts-before": "IsCountsBefore",
+    "Field-counts": "CountedFields",
+    "First-branch": "IsFirstBranch",
+    "Last-branch": "IsLastBranch",
+    "Next-branch": "IsNextBranch",
+    "Next-leaf": "IsNextLeaf",
+    "Ranked-frame": "IsRankedFrame",
+}
 # words of the documents that are prose in comments as well as names
 PROSE = {"begins-with", "Begins-with", "read-back", "on-level"}
 
 
 def spelled(name):
+    if name in OTHERWISE:
+        return OTHERWISE[name]
     parts = name.split("-")
     if name[0].isupper() and not all(p.isupper() or p.isdigit() for p in parts[1:] if p):
         return "".join(p[:1].upper() + p[1:] for p in parts)

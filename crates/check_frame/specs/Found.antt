@@ -38,10 +38,10 @@ level_found s e h v (At m) q = ap some q.1 ∙ sym (end_level s e h v true q.0)
 level_found s e h v Missing q = sym (end_level s e h v false q)
 
 -- a frame of the image, and whether the rank tables of its dense nodes are right
-abbrev pub RankedFrame : Bytes → RankedFrame → Type 0
-RankedFrame s r = FrameOf s r.frame × (r.agrees ≡ dense_agrees s r.frame)
+abbrev pub IsRankedFrame : Bytes → RankedFrame → Type 0
+IsRankedFrame s r = FrameOf s r.frame × (r.agrees ≡ dense_agrees s r.frame)
 
 -- what reading the frame gives: a frame of the image; or 11 or 12, the number with which the check refuses it
 abbrev pub ReadAs : Bytes → FrameRead → Type 0
-ReadAs s (read.At r) = RankedFrame s r
+ReadAs s (read.At r) = IsRankedFrame s r
 ReadAs s (read.Refused n) = From 11 12 n × CheckRefusal s n

@@ -3,7 +3,7 @@
 #![tactic(auto)]
 ghost use Rattle.std.specs.Prelude.{◌≡◌};
 ghost use Rattle.spec.specs.Check.{check};
-ghost use Rattle.check_frame.specs.Found.{RankedFrame};
+ghost use Rattle.check_frame.specs.Found.{IsRankedFrame};
 ghost use Rattle.check_image.specs.Answers.{answer, CheckedAs};
 
 use check_frame::{FrameRead, RankedFrame, read_frame};
@@ -24,7 +24,7 @@ pub enum Checked {
 
 // The frame, if none of the numbers 13 to 16 applies, or the number of the refusal. The ranks are compared where the ones are counted, and judged in their turn.
 fn judge(image: &[u8], read: RankedFrame) -> Framed
-    requires { RankedFrame image.now read }
+    requires { IsRankedFrame image.now read }
     ensures { CheckedAs image.now result }
 {
     let f = read.frame;

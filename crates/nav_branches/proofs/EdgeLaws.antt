@@ -21,13 +21,13 @@ use Rattle.nav_nodes.specs.Accepted.{nodes}
 use Rattle.nav_nodes.specs.Counting.{labels_below_le}
 use Rattle.nav_nodes.specs.FoundBranch.{IsSparse, FoundBranch, EntriesAt}
 use Rattle.nav_nodes.specs.LabelMaps.{matches}
-use Rattle.nav_nodes.specs.NextBranch.{NextBranch, EntryBranch, sparse_next}
+use Rattle.nav_nodes.specs.NextBranch.{IsNextBranch, EntryBranch, sparse_next}
 use Rattle.nav_nodes.specs.NextLabel.{first_kind, kind_with, kind_there, is_there, with_there, there_before, labels_next, own_index}
 use Rattle.nav_nodes.specs.Positions.{branches, branch_index, child_at, slot_at, BranchAt, end_sparse, rising, label_sparse, branch_sparse, index_sparse, none_end, one_there}
 use Rattle.nav_nodes.specs.Slots.{node_at}
 use Rattle.nav_nodes.specs.SparsePositions.{label_high}
 use Rattle.nav_branches.specs.declared.edges.LastBranch.{LastBranch}
-use Rattle.nav_branches.specs.EdgeContracts.{LastBranch}
+use Rattle.nav_branches.specs.EdgeContracts.{IsLastBranch}
 
 -- the first entry of a sparse node's branches
 abbrev first_entry : Bytes → Frame → ℕ → ℕ
@@ -65,7 +65,7 @@ module _ (s : Bytes) (f : Frame) (m : ℕ) (n : IsSparse s f m) where
     end_room = omega (arith, found_at, r.end_is n.behind_dense, room)
 
     -- The first branch with a label above y stands behind the branch at y, or, where y has none, at its position.
-    pub higher_there : (p : ℕ) → p ≡ b.at.0 + bit (is_there b.kind) → (c : NextBranch) → EntryBranch s f p b.end.0 c → NextBranch s f m (y + 1) c.kind c.label c.at.0
+    pub higher_there : (p : ℕ) → p ≡ b.at.0 + bit (is_there b.kind) → (c : NextBranch) → EntryBranch s f p b.end.0 c → IsNextBranch s f m (y + 1) c.kind c.label c.at.0
     higher_there p e =
         let t : is_there b.kind ≡ matches y (drop (branch_index s f m y) (branches s f m)) = ap is_there r.kind_is ∙ with_there y (drop (branch_index s f m y) (branches s f m)) in
         let next = labels_next y (branches s f m) (rising s f n.accepted m n.behind_dense n.inside) in
@@ -89,7 +89,7 @@ module _ (s : Bytes) (f : Frame) (m : ℕ) (n : IsSparse s f m) where
     entry_at p h = rw h (branch_sparse s f n.accepted m n.behind_dense n.inside first r.first_is (branch_index s f m y) (labels_below_le y (branches s f m)) (omega (arith, r.end_is, r.end_inside, labels_below_le y (branches s f m))))
 
     -- A node without branches.
-    pub last_none : (b : LastBranch) → b ≡ record { higher = false; kind = Absent; at = record { 0 = end } } → end ≤ first → LastBranch s f m y b
+    pub last_none : (b : LastBranch) → b ≡ record { higher = false; kind = Absent; at = record { 0 = end } } → end ≤ first → IsLastBranch s f m y b
     last_none b e h =
         let none : first < end → get_or s (f.sl + (end - 1)) 0 < y = λ k. absurd (omega arith) in
         let above : first < end → get_or s (f.sl + (end - 1)) 0 < y + 1 = λ k. absurd (omega arith) in
@@ -103,7 +103,7 @@ module _ (s : Bytes) (f : Frame) (m : ℕ) (n : IsSparse s f m) where
           ∙ ap (λ (z : ℕ). get_or (drop f.sl s) z 0) (sym e) ∙ get_or-drop f.sl s (end - 1) 0 ∙ sym is
 
       -- The last label is another than y.
-      pub last_other : (b : LastBranch) → b ≡ record { higher = ltb y x; kind = Absent; at = record { 0 = end } } → (x ≡ y → ⊥) → LastBranch s f m y b
+      pub last_other : (b : LastBranch) → b ≡ record { higher = ltb y x; kind = Absent; at = record { 0 = end } } → (x ≡ y → ⊥) → IsLastBranch s f m y b
       last_other b e h = rw e (record { higher_is = go (ltb y x) refl; kind_is = λ q. end_kind (past y (low q)); at_is = λ q. entry_at end (past y (low q)) })
         where
           low : ltb y x ≡ false → first < end → get_or s (f.sl + (end - 1)) 0 < y
@@ -119,7 +119,7 @@ module _ (s : Bytes) (f : Frame) (m : ℕ) (n : IsSparse s f m) where
           go false q = no_higher (past (y + 1) (λ k. omega (arith, low q k)))
 
       -- The last label is y.
-      pub last_own : (b : LastBranch) (c : ℕ) → b ≡ record { higher = false; kind = kind_there (eqb c 1); at = record { 0 = end - 1 } } → x ≡ y → c ≡ bit_at (drop f.sc s) (end - 1) → LastBranch s f m y b
+      pub last_own : (b : LastBranch) (c : ℕ) → b ≡ record { higher = false; kind = kind_there (eqb c 1); at = record { 0 = end - 1 } } → x ≡ y → c ≡ bit_at (drop f.sc s) (end - 1) → IsLastBranch s f m y b
       last_own b c e h q =
           let o : branch_index s f m y ≡ length (branches s f m) - 1 =
           ap (λ (z : ℕ). branch_index s f m z) (sym (last_label ∙ h)) ∙ own_index (branches s f m) (length (branches s f m) - 1) (rising s f n.accepted m n.behind_dense n.inside) (omega (arith, r.end_is)) in

@@ -16,7 +16,7 @@ use Rattle.nav_nodes.specs.NextLabel.{kind_end, label_first, own_index}
 use Rattle.nav_nodes.specs.NumberBounds.{kind_slot}
 use Rattle.nav_nodes.specs.Accepted.{Accepted, nodes, dense_nodes, sparse_nodes}
 use Rattle.nav_nodes.specs.Positions.{branches, branch_index, child_at, slot_at}
-use Rattle.nav_nodes.specs.NextBranch.{NextBranch}
+use Rattle.nav_nodes.specs.NextBranch.{IsNextBranch}
 use Rattle.nav_nodes.specs.FoundBranch.{node_count}
 use Rattle.theory.specs.LinkedLevels.{Ascends}
 use Rattle.nav_branches.specs.Below.{OnLevel, level_left, level_node, level_rising, level_branch, level_child}
@@ -26,7 +26,7 @@ use Rattle.nav_branches.specs.Paths.{node_on, onward, downward, standing, OnLeve
 
 -- the first branch of node m whose label is not below y
 abbrev pub BranchFrom : Bytes → Frame → ℕ → ℕ → NextBranch → Type 0
-BranchFrom s f m y b = NextBranch s f m y b.kind b.label b.at.0
+BranchFrom s f m y b = IsNextBranch s f m y b.kind b.label b.at.0
 
 -- Node m at depth d has this branch, with its own label, and stands on its level.
 pub record NodeBranch (s : Bytes) (f : Frame) (m d : ℕ) (b : NextBranch) : Type 0 where

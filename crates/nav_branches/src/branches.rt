@@ -2,7 +2,7 @@
 ghost use Rattle.std.specs.Prelude.{◌≡◌, ◌+◌, ◌-◌, ◌≤◌, ◌<◌, length, get_or, drop, eqb};
 ghost use Rattle.nav_nodes.specs.Accepted.{Accepted};
 ghost use Rattle.nav_nodes.specs.NextLabel.{first_kind, kind_there, is_there};
-ghost use Rattle.nav_nodes.specs.NextBranch.{NextBranch, EntryRead, EntryBranch};
+ghost use Rattle.nav_nodes.specs.NextBranch.{IsNextBranch, EntryRead, EntryBranch};
 ghost use Rattle.nav_nodes.specs.FoundBranch.{IsNode, IsSparse, FoundBranch};
 ghost use Rattle.nav_nodes.specs.Positions.{branches, branch_index};
 
@@ -157,7 +157,7 @@ pub fn find(image: &[u8], f: Frame, m: NodeNum, y: usize) -> Found
 // The first branch of a dense node whose label is not below y: the next one of its label map.
 fn next_dense(image: &[u8], f: Frame, m: NodeNum, y: usize) -> NextBranch
     requires { Accepted image.now f × (m.0 < f.dense.nodes) × (y ≤ 256) }
-    ensures { NextBranch image.now f m.0 y result.kind result.label result.at.0 }
+    ensures { IsNextBranch image.now f m.0 y result.kind result.label result.at.0 }
 {
     let first = ROW_BITS * m.0;
     let from = first + y;
@@ -183,7 +183,7 @@ fn next_dense(image: &[u8], f: Frame, m: NodeNum, y: usize) -> NextBranch
 // The first branch of a sparse node whose label is not below y.
 fn next_sparse(image: &[u8], f: Frame, m: NodeNum, y: usize) -> NextBranch
     requires { IsSparse image.now f m.0 }
-    ensures { NextBranch image.now f m.0 y result.kind result.label result.at.0 }
+    ensures { IsNextBranch image.now f m.0 y result.kind result.label result.at.0 }
 {
     let e = entries_of(image, f, m);
     let first = e.first;
@@ -196,7 +196,7 @@ fn next_sparse(image: &[u8], f: Frame, m: NodeNum, y: usize) -> NextBranch
 // The first branch of a node whose label is not below y.
 pub fn next_branch(image: &[u8], f: Frame, m: NodeNum, y: usize) -> NextBranch
     requires { IsNode image.now f m.0 × (y ≤ 256) }
-    ensures { NextBranch image.now f m.0 y result.kind result.label result.at.0 }
+    ensures { IsNextBranch image.now f m.0 y result.kind result.label result.at.0 }
 {
     if m.0 < f.dense.nodes {
         return next_dense(image, f, m, y);

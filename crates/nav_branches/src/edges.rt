@@ -1,8 +1,8 @@
 // Branches of a node that are found with no search of a sparse node's labels: the one behind a branch that is known, and the last.
 ghost use Rattle.std.specs.Prelude.{◌+◌, ◌<◌};
 ghost use Rattle.nav_nodes.specs.FoundBranch.{IsNode, IsSparse, FoundBranch};
-ghost use Rattle.nav_nodes.specs.NextBranch.{NextBranch};
-ghost use Rattle.nav_branches.specs.EdgeContracts.{LastBranch};
+ghost use Rattle.nav_nodes.specs.NextBranch.{IsNextBranch};
+ghost use Rattle.nav_branches.specs.EdgeContracts.{IsLastBranch};
 
 use super::branches::{entry_branch, find, has_higher, is_there, kind_there, next_branch};
 use bits::numbers::{one_if, wide};
@@ -14,7 +14,7 @@ use nav_nodes::{BranchKind, Found, NextBranch};
 // The first branch of a node whose label is above y, where b is what it has at y. In a sparse node the branch's position tells; a dense one is searched.
 pub fn next_higher(image: &[u8], f: Frame, m: NodeNum, y: usize, b: Found) -> NextBranch
     requires { IsNode image.now f m.0 × (y < 256) × FoundBranch image.now f m.0 y b }
-    ensures { NextBranch image.now f m.0 (y + 1) result.kind result.label result.at.0 }
+    ensures { IsNextBranch image.now f m.0 (y + 1) result.kind result.label result.at.0 }
 {
     if m.0 < f.dense.nodes {
         return next_branch(image, f, m, y + 1);
@@ -37,7 +37,7 @@ pub struct LastBranch {
 // What the last label of a sparse node says of y.
 fn last_sparse(image: &[u8], f: Frame, m: NodeNum, y: usize) -> LastBranch
     requires { IsSparse image.now f m.0 }
-    ensures { LastBranch image.now f m.0 y result }
+    ensures { IsLastBranch image.now f m.0 y result }
 {
     let e = entries_of(image, f, m);
     let first = e.first;
@@ -73,7 +73,7 @@ fn last_sparse(image: &[u8], f: Frame, m: NodeNum, y: usize) -> LastBranch
 // Whether a node has a label above y, and, if it has none, the branch at y. The last label of a sparse node tells both; a dense one is searched.
 pub fn last_branch(image: &[u8], f: Frame, m: NodeNum, y: usize) -> LastBranch
     requires { IsNode image.now f m.0 × (y < 256) }
-    ensures { LastBranch image.now f m.0 y result }
+    ensures { IsLastBranch image.now f m.0 y result }
 {
     if m.0 < f.dense.nodes {
         let b = find(image, f, m, y);

@@ -1,5 +1,5 @@
 // The first branch of a node of an accepted image, and whether the node is an exact leaf, from one look at the node.
-ghost use Rattle.nav_nodes.specs.FoundBranch.{IsNode, IsSparse, FirstBranch};
+ghost use Rattle.nav_nodes.specs.FoundBranch.{IsNode, IsSparse, IsFirstBranch};
 
 use super::branches::{entry_branch, next_branch};
 use image::{Frame, NodeNum};
@@ -9,7 +9,7 @@ use nav_nodes::nodes::{entries_of, is_exact};
 // The first branch of a sparse node: the one at its first entry.
 fn first_sparse(image: &[u8], f: Frame, m: NodeNum) -> FirstBranch
     requires { IsSparse image.now f m.0 }
-    ensures { FirstBranch image.now f m.0 result }
+    ensures { IsFirstBranch image.now f m.0 result }
 {
     let e = entries_of(image, f, m);
     let exact = e.exact;
@@ -20,7 +20,7 @@ fn first_sparse(image: &[u8], f: Frame, m: NodeNum) -> FirstBranch
 // The first branch of a node.
 pub fn first_branch(image: &[u8], f: Frame, m: NodeNum) -> FirstBranch
     requires { IsNode image.now f m.0 }
-    ensures { FirstBranch image.now f m.0 result }
+    ensures { IsFirstBranch image.now f m.0 result }
 {
     if m.0 < f.dense.nodes {
         let branch = next_branch(image, f, m, 0);

@@ -13,7 +13,7 @@ use Rattle.nav_nodes.specs.LabelMaps.{matches}
 use Rattle.nav_nodes.specs.NextLabel.{first_kind, kind_with, is_there, with_there, there_before, labels_next}
 use Rattle.nav_nodes.specs.Accepted.{Accepted, nodes}
 use Rattle.nav_nodes.specs.Positions.{branches, branch_index, child_at, slot_at, Within, BranchAt, rising}
-use Rattle.nav_nodes.specs.NextBranch.{NextBranch}
+use Rattle.nav_nodes.specs.NextBranch.{IsNextBranch}
 
 -- how many nodes an image has, by its frame
 abbrev pub node_count : Frame → ℕ
@@ -36,7 +36,7 @@ pub record IsPosition (s : Bytes) (f : Frame) (m p : ℕ) : Type 0 where
   pub within : Within s f m p
 
 -- So many continuing branches and leaves have the nodes before node m.
-pub record CountsBefore (s : Bytes) (f : Frame) (m children leaves : ℕ) : Type 0 where
+pub record IsCountsBefore (s : Bytes) (f : Frame) (m children leaves : ℕ) : Type 0 where
   pub children_are : children ≡ children_before (nodes s f) m
   pub leaves_are : leaves ≡ leaves_before (nodes s f) m
 
@@ -59,9 +59,9 @@ pub record BehindBranch (s : Bytes) (f : Frame) (m p child slot : ℕ) : Type 0 
   pub slot_is : slot ≡ slot_at s f m p
 
 -- Whether node m is an exact leaf, and its first branch.
-pub record FirstBranch (s : Bytes) (f : Frame) (m : ℕ) (b : FirstBranch) : Type 0 where
+pub record IsFirstBranch (s : Bytes) (f : Frame) (m : ℕ) (b : FirstBranch) : Type 0 where
   pub exact_is : b.exact ≡ is_exact (node_at (nodes s f) m)
-  pub branch_is : NextBranch s f m 0 b.branch.kind b.branch.label b.branch.at.0
+  pub branch_is : IsNextBranch s f m 0 b.branch.kind b.branch.label b.branch.at.0
 
 -- Whether a sparse node has a label above y: a branch stands behind the one at y, or, where y has none, from its position on.
 pub higher_found : (s : Bytes) (f : Frame) (m y : ℕ) (b : Found) → IsSparse s f m → FoundBranch s f m y b

@@ -24,7 +24,7 @@ pub record NamedBranch (s : Bytes) (f : Frame) (m y label p : ℕ) : Type 0 wher
   pub at_is : BranchAt s f m (branch_index s f m y) p
 
 -- The first branch of node m whose label is not below y: its kind, and, if there is one, its label and its position.
-pub record NextBranch (s : Bytes) (f : Frame) (m y : ℕ) (kind : BranchKind) (label p : ℕ) : Type 0 where
+pub record IsNextBranch (s : Bytes) (f : Frame) (m y : ℕ) (kind : BranchKind) (label p : ℕ) : Type 0 where
   pub kind_is : kind ≡ first_kind (drop (branch_index s f m y) (branches s f m))
   pub there : (kind ≡ Absent → ⊥) → NamedBranch s f m y label p
 
@@ -58,7 +58,7 @@ module _ (s : Bytes) (f : Frame) (a : Accepted s f) where
         is ∙ (next_none (dense_nodes s f) (sparse_nodes s f) (drop f.dl s) (drop f.dc s) (drop f.dp s) a.DL.1 a.DC.1 a.DP.1 a.writable.dense_labelled a.writable.dense_bytes m y inside l (rw (← the_node) at k))
 
     -- no one is left of the node's bits
-    pub dense_none : 256 * m + 256 ≤ p → NextBranch s f m y Absent 0 p
+    pub dense_none : 256 * m + 256 ≤ p → IsNextBranch s f m y Absent 0 p
     dense_none k = record { kind_is = go (ltb (branch_index s f m y) (length (branches s f m))) refl; there = λ n. absurd (n refl) }
       where
         go : (b : Bool) → ltb (branch_index s f m y) (length (branches s f m)) ≡ b → Absent ≡ first_kind (drop (branch_index s f m y) (branches s f m))
@@ -66,10 +66,10 @@ module _ (s : Bytes) (f : Frame) (a : Accepted s f) where
         go false e = kind_end (branches s f m) (branch_index s f m y) (ltb-false (branch_index s f m y) (length (branches s f m)) e)
 
     -- the next one is a branch
-    pub dense_some : p < 256 * m + 256 → (c : ℕ) → c ≡ bit_at (drop f.dc s) p → NextBranch s f m y (kind_there (eqb c 1)) (p - 256 * m) p
+    pub dense_some : p < 256 * m + 256 → (c : ℕ) → c ≡ bit_at (drop f.dc s) p → IsNextBranch s f m y (kind_there (eqb c 1)) (p - 256 * m) p
     dense_some k c e = go (ltb (branch_index s f m y) (length (branches s f m))) refl
       where
-        go : (b : Bool) → ltb (branch_index s f m y) (length (branches s f m)) ≡ b → NextBranch s f m y (kind_there (eqb c 1)) (p - 256 * m) p
+        go : (b : Bool) → ltb (branch_index s f m y) (length (branches s f m)) ≡ b → IsNextBranch s f m y (kind_there (eqb c 1)) (p - 256 * m) p
         go true t =
             let i : ℕ = branch_index s f m y in
             let x : ℕ = get_or (map label_of (branches s f m)) (branch_index s f m y) 0 in
@@ -91,11 +91,11 @@ module _ (s : Bytes) (f : Frame) (a : Accepted s f) where
   module _ (m y p first : ℕ) (h : f.dense.nodes ≤ m) (l : m < f.dense.nodes + f.sparse.nodes) (starts : first ≡ select (drop f.sb s) f.sparse.entries (m - f.dense.nodes) + bit (is_exact (node_at (nodes s f) m)))
       (stands : p ≡ first + branch_index s f m y) where
     -- no entry is left of the node's
-    pub sparse_none : first + length (branches s f m) ≤ p → NextBranch s f m y Absent 0 p
+    pub sparse_none : first + length (branches s f m) ≤ p → IsNextBranch s f m y Absent 0 p
     sparse_none k = record { kind_is = kind_end (branches s f m) (branch_index s f m y) (omega arith); there = λ n. absurd (n refl) }
 
     -- the next one is a branch
-    pub sparse_some : p < first + length (branches s f m) → p ≤ f.sparse.entries → (b : NextBranch) → EntryRead s f p b → NextBranch s f m y b.kind b.label b.at.0
+    pub sparse_some : p < first + length (branches s f m) → p ≤ f.sparse.entries → (b : NextBranch) → EntryRead s f p b → IsNextBranch s f m y b.kind b.label b.at.0
     sparse_some k r b e =
         let q : branch_index s f m y < length (branches s f m) = omega arith in
         let c = child_sparse s f a m h l first starts (branch_index s f m y) q in
@@ -111,10 +111,10 @@ module _ (s : Bytes) (f : Frame) (a : Accepted s f) where
         }
 
     -- The branch at the entry, or none where the node's entries end there.
-    pub sparse_next : (end : ℕ) → end ≡ first + length (branches s f m) → end ≤ f.sparse.entries → (b : NextBranch) → EntryBranch s f p end b → NextBranch s f m y b.kind b.label b.at.0
+    pub sparse_next : (end : ℕ) → end ≡ first + length (branches s f m) → end ≤ f.sparse.entries → (b : NextBranch) → EntryBranch s f p end b → IsNextBranch s f m y b.kind b.label b.at.0
     sparse_next end e u b r = go (ltb p end) refl
       where
-        go : (t : Bool) → ltb p end ≡ t → NextBranch s f m y b.kind b.label b.at.0
+        go : (t : Bool) → ltb p end ≡ t → IsNextBranch s f m y b.kind b.label b.at.0
         go true q = let k = ltb-true p end q in sparse_some (omega arith) (omega arith) b (r.read k)
         go false q =
             let k = ltb-false p end q in

@@ -4,7 +4,7 @@ ghost use Rattle.spec.specs.Nodes.{is_exact};
 ghost use Rattle.nav_nodes.specs.Slots.{node_at, leaves_before};
 ghost use Rattle.nav_nodes.specs.Descent.{children_before};
 ghost use Rattle.nav_nodes.specs.Accepted.{Accepted, nodes};
-ghost use Rattle.nav_nodes.specs.FoundBranch.{node_count, IsNode, IsSparse, CountsBefore, EntriesAt};
+ghost use Rattle.nav_nodes.specs.FoundBranch.{node_count, IsNode, IsSparse, IsCountsBefore, EntriesAt};
 
 use super::ranks::{
     child_rank, entry_rank, exact_rank, label_rank, next_start, node_start, select_at,
@@ -22,7 +22,7 @@ pub struct CountsBefore {
 // What stands before a dense node, or before the first sparse one.
 fn dense_before(image: &[u8], f: Frame, m: NodeNum) -> CountsBefore
     requires { Accepted image.now f × (m.0 ≤ f.dense.nodes) }
-    ensures { CountsBefore image.now f m.0 result.children result.leaves }
+    ensures { IsCountsBefore image.now f m.0 result.children result.leaves }
 {
     let at = BitPos(ROW_BITS * m.0);
     let labels = label_rank(image, f, at);
@@ -37,7 +37,7 @@ fn dense_before(image: &[u8], f: Frame, m: NodeNum) -> CountsBefore
 // What stands before a sparse node, or behind the last one: the totals of the dense nodes, and the entries before its start.
 fn sparse_before(image: &[u8], f: Frame, m: NodeNum) -> CountsBefore
     requires { Accepted image.now f × (f.dense.nodes ≤ m.0) × (m.0 ≤ node_count f) }
-    ensures { CountsBefore image.now f m.0 result.children result.leaves }
+    ensures { IsCountsBefore image.now f m.0 result.children result.leaves }
 {
     let first = m.0 - f.dense.nodes;
     let start = select_at(image, f.sb, f.ts, f.sparse.entries, f.sparse.nodes, first);
@@ -51,7 +51,7 @@ fn sparse_before(image: &[u8], f: Frame, m: NodeNum) -> CountsBefore
 // What stands before a node, or behind the last one.
 pub fn counts_before(image: &[u8], f: Frame, m: NodeNum) -> CountsBefore
     requires { Accepted image.now f × (m.0 ≤ node_count f) }
-    ensures { CountsBefore image.now f m.0 result.children result.leaves }
+    ensures { IsCountsBefore image.now f m.0 result.children result.leaves }
 {
     if m.0 <= f.dense.nodes {
         return dense_before(image, f, m);

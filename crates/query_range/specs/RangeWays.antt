@@ -19,7 +19,7 @@ use Rattle.nav_nodes.specs.Accepted.{Accepted, nodes, real_leaves, real_realizab
 use Rattle.nav_branches.specs.Below.{below, OnLevel, Root, level_child, level_node, level_left, level_branch}
 use Rattle.nav_nodes.specs.Counting.{counts}
 use Rattle.nav_nodes.specs.FoundBranch.{node_count, IsNode}
-use Rattle.nav_nodes.specs.NextBranch.{NextBranch}
+use Rattle.nav_nodes.specs.NextBranch.{IsNextBranch}
 use Rattle.nav_nodes.specs.NextLabel.{first_kind, kind_with, is_there}
 use Rattle.nav_branches.specs.PathSteps.{node_in}
 use Rattle.nav_nodes.specs.Positions.{branches, branch_index, child_at, slot_at, Within, BranchAt}
@@ -186,7 +186,7 @@ module _ {s : Bytes} {f : Frame} {key : Bytes} {m d : ℕ} (n : KeyAt s f key m 
 
     -- ---- the first branch from a label on, the key's byte no lower
 
-    module _ {y label p : ℕ} {kind : BranchKind} (b : NextBranch s f m y kind label p) (upto : y ≤ get_or key d 0) where
+    module _ {y label p : ℕ} {kind : BranchKind} (b : IsNextBranch s f m y kind label p) (upto : y ≤ get_or key d 0) where
       -- there is none
       pub next_nothing : kind ≡ Absent → (size_from (nodes s f) (64 - (d + 1)) m (get_or key d 0) ≡ size_from (nodes s f) (64 - (d + 1)) m y) × (group_behind s f key m d ≡ [])
       next_nothing h = ahead_none (nodes s f) (64 - (d + 1)) m on y kind b.kind_is h (get_or key d 0) upto
@@ -214,7 +214,7 @@ module _ {s : Bytes} {f : Frame} {key : Bytes} {m d : ℕ} (n : KeyAt s f key m 
         }
 
   -- The first branch of the node is there.
-  pub first_there : {label p : ℕ} {kind : BranchKind} → NextBranch s f m 0 kind label p → kind ≡ Absent → ⊥
+  pub first_there : {label p : ℕ} {kind : BranchKind} → IsNextBranch s f m 0 kind label p → kind ≡ Absent → ⊥
   first_there b h = level_branch (nodes s f) (64 - d) m n.level (sym b.kind_is ∙ h)
 
   module _ (ended : length key ≤ d) where

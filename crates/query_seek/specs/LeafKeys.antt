@@ -16,7 +16,7 @@ use Rattle.nav_branches.specs.declared.LeafStop.TheVariants.{Nowhere, Exact, Ope
 use Rattle.nav_nodes.specs.declared.NextBranch.{NextBranch}
 use Rattle.nav_nodes.specs.Accepted.{Accepted, nodes}
 use Rattle.nav_branches.specs.Below.{OnLevel, level_left}
-use Rattle.nav_nodes.specs.FoundBranch.{FirstBranch}
+use Rattle.nav_nodes.specs.FoundBranch.{IsFirstBranch}
 use Rattle.nav_branches.specs.PathSteps.{BranchFrom, NodeBranch, own_branch, first_there, leaf_slot, child_on}
 use Rattle.nav_nodes.specs.Positions.{child_at, slot_at}
 use Rattle.nav_nodes.specs.Slots.{slot_of}
@@ -99,7 +99,7 @@ module _ {s : Bytes} {f : Frame} {leaf : Option Leaf} {key : Bytes} {m d : ℕ} 
   below_deep : d < 64
   below_deep = omega (arith, level_left (nodes s f) (64 - d) m w.level)
 
-  module _ (first : FirstBranch) (n : FirstBranch s f m first) where
+  module _ (first : FirstBranch) (n : IsFirstBranch s f m first) where
     -- the node is an exact leaf
     pub exact_reached : first.exact ≡ true → Reached s f leaf key (record { depth = d; stop = Exact })
     exact_reached e =

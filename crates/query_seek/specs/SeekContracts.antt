@@ -37,7 +37,7 @@ pub record WayFollowed (s : Bytes) (f : Frame) (start : Bytes) (way : Way) (key 
   pub ended : KeyFollowed s f start way.bound.end way.higher way.bound.level.node.0 way.bound.level.depth way.bound.level.sum
 
 -- The first leaf that the start has not passed, with its cut key at the front of a key, and the start's bound.
-pub record NextLeaf (s : Bytes) (f : Frame) (start key : Bytes) (r : NextLeaf) : Type 0 where
+pub record IsNextLeaf (s : Bytes) (f : Frame) (start key : Bytes) (r : NextLeaf) : Type 0 where
   pub leaf : Reached s f (next_leaf f.hash_width (read_leaves s) start) key r.end
   -- where there is a leaf, the bound is that of the start
   pub bound : (r.end.stop ≡ Nowhere → ⊥) → Summed s f start r.level.node.0 r.level.depth r.level.sum

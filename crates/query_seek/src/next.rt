@@ -5,7 +5,7 @@ ghost use Rattle.nav_nodes.specs.Accepted.{Accepted, nodes};
 ghost use Rattle.query_seek.specs.LeafKeys.{Reached};
 ghost use Rattle.query_descent.specs.Ordered.{next_leaf};
 ghost use Rattle.query_descent.specs.Seeking.{higher_leaf};
-ghost use Rattle.query_seek.specs.SeekContracts.{leaf_there, PassedHigher, WayFollowed, NextLeaf};
+ghost use Rattle.query_seek.specs.SeekContracts.{leaf_there, PassedHigher, WayFollowed, IsNextLeaf};
 
 use super::leaf::{first_behind, first_below};
 use super::way::{Way, follow_key};
@@ -79,7 +79,7 @@ fn leaf_of_way(image: &[u8], f: Frame, start: &[u8], way: Way, key: &mut [u8]) -
 // The first leaf that a start has not passed, if there is one.
 pub fn next_leaf(image: &[u8], f: Frame, start: &[u8], key: &mut [u8]) -> NextLeaf
     requires { Accepted image.now f × (length start.now ≤ 64) × (length key.old ≡ 64) }
-    ensures { NextLeaf image.now f start.now key.new result }
+    ensures { IsNextLeaf image.now f start.now key.new result }
 {
     if f.dense.nodes + f.sparse.nodes == 0 {
         return NextLeaf {

@@ -10,7 +10,7 @@ use Rattle.nav_branches.specs.declared.LeafStop.TheVariants as Stop
 use Rattle.nav_nodes.specs.declared.NextBranch.{NextBranch}
 use Rattle.nav_nodes.specs.Accepted.{Accepted, nodes}
 use Rattle.nav_nodes.specs.Positions.{branch_index, child_at, slot_at}
-use Rattle.nav_nodes.specs.NextBranch.{NamedBranch, NextBranch}
+use Rattle.nav_nodes.specs.NextBranch.{NamedBranch, IsNextBranch}
 use Rattle.nav_nodes.specs.NumberBounds.{child_range}
 use Rattle.nav_branches.specs.Below.{OnLevel, level_branch}
 use Rattle.nav_branches.specs.Paths.{node_on}
@@ -51,7 +51,7 @@ module _ (s : Bytes) (f : Frame) (a : Accepted s f) (ns₀ : List ℕ) (cut₀ :
   inside : get_or ns d 0 < node_count f
   inside = node_in s f a (64 - d) (get_or ns d 0) on_level
 
-  branch_is : NextBranch s f (get_or ns d 0) b.label b.kind b.label b.at.0
+  branch_is : IsNextBranch s f (get_or ns d 0) b.label b.kind b.label b.at.0
   branch_is = rw (numbered_at ns d) at g.descends.branch.branch_is
 
   -- the branch has a label and a position

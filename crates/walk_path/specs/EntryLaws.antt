@@ -14,8 +14,8 @@ use Rattle.nav_nodes.specs.Slots.{node_at}
 use Rattle.nav_nodes.specs.Accepted.{Accepted, nodes}
 use Rattle.nav_nodes.specs.Positions.{branches, branch_index, end_sparse, sole_plain, other_plain, first_exact}
 use Rattle.nav_nodes.specs.Tables.{start_found}
-use Rattle.nav_nodes.specs.NextBranch.{NextBranch, EntryRead, sparse_none, sparse_some}
-use Rattle.nav_nodes.specs.FoundBranch.{node_count, FirstBranch}
+use Rattle.nav_nodes.specs.NextBranch.{IsNextBranch, EntryRead, sparse_none, sparse_some}
+use Rattle.nav_nodes.specs.FoundBranch.{node_count, IsFirstBranch}
 use Rattle.walk_path.specs.Entries.{start_of}
 
 module _ (s : Bytes) (f : Frame) (a : Accepted s f) (m : ℕ) (h : f.dense.nodes ≤ m) (l : m < node_count f) where
@@ -55,11 +55,11 @@ module _ (s : Bytes) (f : Frame) (a : Accepted s f) (m : ℕ) (h : f.dense.nodes
     entry_reached = omega (arith, end_sparse s f a m h l, labels_below_le y (branches s f m))
 
     -- the entry is the next node's: no branch is left
-    pub next_gone : start_of s f (m + 1) ≤ p → NextBranch s f m y Absent 0 p
+    pub next_gone : start_of s f (m + 1) ≤ p → IsNextBranch s f m y Absent 0 p
     next_gone k = sparse_none s f a m y p (start_of s f m + bit (is_exact (node_at (nodes s f) m))) h l refl is (omega (arith, end_sparse s f a m h l))
 
     -- it is the node's own: the branch that it tells
-    pub next_there : p < start_of s f (m + 1) → (b : NextBranch) → EntryRead s f p b → NextBranch s f m y b.kind b.label b.at.0
+    pub next_there : p < start_of s f (m + 1) → (b : NextBranch) → EntryRead s f p b → IsNextBranch s f m y b.kind b.label b.at.0
     next_there k b r =
         sparse_some s f a m y p (start_of s f m + bit (is_exact (node_at (nodes s f) m))) h l refl is (omega (arith, end_sparse s f a m h l))
         (omega (arith, (select_is (drop f.sb s) f.sparse.entries (m + 1 - f.dense.nodes)).0)) b r
@@ -67,19 +67,19 @@ module _ (s : Bytes) (f : Frame) (a : Accepted s f) (m : ℕ) (h : f.dense.nodes
   -- ---- the first branch
 
   module _ (p : ℕ) (is : p ≡ start_of s f m) (b : NextBranch) where
-    plain : is_exact (node_at (nodes s f) m) ≡ false → EntryRead s f p b → FirstBranch s f m (record { exact = false; branch = b })
+    plain : is_exact (node_at (nodes s f) m) ≡ false → EntryRead s f p b → IsFirstBranch s f m (record { exact = false; branch = b })
     plain e r = record { exact_is = sym e; branch_is = next_there 0 p (omega (arith, is, ap bit e, none_below_zero (branches s f m))) (omega (arith, start_below)) b r }
 
     -- a first label that is no FF
-    pub first_other : (get_or s (f.sl + p) 0 ≡ 255 → ⊥) → EntryRead s f p b → FirstBranch s f m (record { exact = false; branch = b })
+    pub first_other : (get_or s (f.sl + p) 0 ≡ 255 → ⊥) → EntryRead s f p b → IsFirstBranch s f m (record { exact = false; branch = b })
     first_other n = plain (other_plain s f a m h l p is n)
 
     -- an entry that is alone
-    pub first_sole : start_of s f (m + 1) ≤ p + 1 → EntryRead s f p b → FirstBranch s f m (record { exact = false; branch = b })
+    pub first_sole : start_of s f (m + 1) ≤ p + 1 → EntryRead s f p b → IsFirstBranch s f m (record { exact = false; branch = b })
     first_sole n = plain (sole_plain s f a m h l p (start_of s f (m + 1)) is refl (omega arith))
 
     -- an FF that is not alone
-    pub first_extra : get_or s (f.sl + p) 0 ≡ 255 → p + 1 < start_of s f (m + 1) → EntryRead s f (p + 1) b → FirstBranch s f m (record { exact = true; branch = b })
+    pub first_extra : get_or s (f.sl + p) 0 ≡ 255 → p + 1 < start_of s f (m + 1) → EntryRead s f (p + 1) b → IsFirstBranch s f m (record { exact = true; branch = b })
     first_extra e n r =
         let t = first_exact s f a m h l p (start_of s f (m + 1)) is refl (omega arith) e in
         record { exact_is = sym t; branch_is = next_there 0 (p + 1) (omega (arith, is, ap bit t, none_below_zero (branches s f m))) n b r }

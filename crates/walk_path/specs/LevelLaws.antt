@@ -23,8 +23,8 @@ use Rattle.nav_nodes.specs.NextLabel.{is_there, kind_there, kind_at, there_befor
 use Rattle.nav_nodes.specs.SparsePositions.{matches_at}
 use Rattle.nav_nodes.specs.Accepted.{Accepted, nodes}
 use Rattle.nav_nodes.specs.Positions.{branches, branch_index, child_at, slot_at, BranchAt, end_sparse, rising, branch_sparse, child_sparse, before_sparse, dense_kids}
-use Rattle.nav_nodes.specs.FoundBranch.{node_count, FirstBranch}
-use Rattle.nav_nodes.specs.NextBranch.{NextBranch}
+use Rattle.nav_nodes.specs.FoundBranch.{node_count, IsFirstBranch}
+use Rattle.nav_nodes.specs.NextBranch.{IsNextBranch}
 use Rattle.nav_branches.specs.Paths.{node_on}
 use Rattle.walk_path.specs.declared.entries.Entry.{Entry}
 use Rattle.nav_branches.specs.declared.LeafEnd.{LeafEnd}
@@ -94,7 +94,7 @@ module _ (s : Bytes) (f : Frame) (a : Accepted s f) (m : ℕ) (h : f.dense.nodes
       omega (arith, c, (before_sparse s f a m h (omega arith)).0, dense_kids s f a)
 
   -- the node is entered at its start
-  pub enters_sparse : OnNode s f m → (b : FirstBranch) → FirstBranch s f m b → (e : Entry) → StartsAt s f m e → Enters s f m (record { first = b; entry = record { at = b.branch.at; child = e.child } })
+  pub enters_sparse : OnNode s f m → (b : FirstBranch) → IsFirstBranch s f m b → (e : Entry) → StartsAt s f m e → Enters s f m (record { first = b; entry = record { at = b.branch.at; child = e.child } })
   enters_sparse on b n e t =
       let none = none_below_zero (branches s f m) in
       let p = n.branch_is.there (λ q. on.there (sym n.branch_is.kind_is ∙ q)) in
@@ -109,7 +109,7 @@ module _ (s : Bytes) (f : Frame) (a : Accepted s f) (m : ℕ) (h : f.dense.nodes
       }
 
   -- behind the branch with label x
-  module _ (b : NextBranch) (is : NextBranch s f m b.label b.kind b.label b.at.0) (there : b.kind ≡ Kind.Absent → ⊥) where
+  module _ (b : NextBranch) (is : IsNextBranch s f m b.label b.kind b.label b.at.0) (there : b.kind ≡ Kind.Absent → ⊥) where
     before : branch_index s f m b.label < length (branches s f m)
     before = go (ltb (branch_index s f m b.label) (length (branches s f m))) refl
       where
@@ -151,7 +151,7 @@ module _ (s : Bytes) (f : Frame) (a : Accepted s f) (m : ℕ) (h : f.dense.nodes
 -- ---- up
 
 -- a node with no branch left is behind
-pub left_behind : (s : Bytes) (f : Frame) (a : Accepted s f) (ns es : List ℕ) (d y : ℕ) → get_or ns d 0 < node_count f → Taken s f (get_or ns d 0) (entry_on es d) y → (b : NextBranch) → NextBranch s f (get_or ns d 0) y b.kind b.label b.at.0 → b.kind ≡ Kind.Absent
+pub left_behind : (s : Bytes) (f : Frame) (a : Accepted s f) (ns es : List ℕ) (d y : ℕ) → get_or ns d 0 < node_count f → Taken s f (get_or ns d 0) (entry_on es d) y → (b : NextBranch) → IsNextBranch s f (get_or ns d 0) y b.kind b.label b.at.0 → b.kind ≡ Kind.Absent
     → BehindNode s f (get_or ns d 0) (entry_on es d)
 left_behind s f a ns es d y inside t b n gone =
     let m : ℕ = get_or ns d 0 in
@@ -164,7 +164,7 @@ left_behind s f a ns es d y inside t b n gone =
     }
 
 -- the levels from the node above on
-pub levels_up : (s : Bytes) (f : Frame) (a : Accepted s f) (ns es : List ℕ) (cut : Bytes) (d y : ℕ) → Levels s f ns es cut d y → get_or ns d 0 < node_count f → (b : NextBranch) → NextBranch s f (get_or ns d 0) y b.kind b.label b.at.0 → b.kind ≡ Kind.Absent
+pub levels_up : (s : Bytes) (f : Frame) (a : Accepted s f) (ns es : List ℕ) (cut : Bytes) (d y : ℕ) → Levels s f ns es cut d y → get_or ns d 0 < node_count f → (b : NextBranch) → IsNextBranch s f (get_or ns d 0) y b.kind b.label b.at.0 → b.kind ≡ Kind.Absent
     → (d ≡ 0 → ⊥) → Levels s f ns es cut (d - 1) (get_or cut (d - 1) 0 + 1)
 levels_up s f a ns es cut d y l inside b n gone deep = record {
   rows = record { above = λ i h. l.rows.above i (omega arith); below = λ i h k. go i h k (ltb d i) refl };

@@ -12,7 +12,7 @@ use Rattle.nav_branches.specs.declared.Path.{Path}
 use Rattle.nav_nodes.specs.Accepted.{Accepted, nodes}
 use Rattle.nav_nodes.specs.NextLabel.{first_kind}
 use Rattle.nav_nodes.specs.Positions.{branches, branch_index, child_at}
-use Rattle.nav_nodes.specs.FoundBranch.{node_count, FirstBranch}
+use Rattle.nav_nodes.specs.FoundBranch.{node_count, IsFirstBranch}
 use Rattle.nav_branches.specs.Paths.{onward}
 use Rattle.nav_branches.specs.PathSteps.{HasBranch}
 use Rattle.nav_branches.specs.declared.path_higher.Higher.{Higher}
@@ -103,7 +103,7 @@ pub record OnNode (s : Bytes) (f : Frame) (m : ℕ) : Type 0 where
 
 -- Node m is entered: its first branch, the entry and the child there.
 pub record Enters (s : Bytes) (f : Frame) (m : ℕ) (r : Entered) : Type 0 where
-  pub first_is : FirstBranch s f m r.first
+  pub first_is : IsFirstBranch s f m r.first
   pub child_is : r.entry.child.0 ≡ child_at s f m r.first.branch.at.0
   -- where the entry is known, the node is sparse and has no branch before it
   pub next : r.first.exact ≡ true → NextEntry s f m 0 r.entry.at.0

@@ -12,7 +12,7 @@ use Rattle.nav_nodes.specs.declared.NextBranch.{NextBranch}
 use Rattle.nav_branches.specs.declared.Path.{Path}
 use Rattle.nav_nodes.specs.Accepted.{Accepted, nodes}
 use Rattle.nav_nodes.specs.Positions.{child_at, slot_at}
-use Rattle.nav_nodes.specs.FoundBranch.{FirstBranch}
+use Rattle.nav_nodes.specs.FoundBranch.{IsFirstBranch}
 use Rattle.nav_branches.specs.Paths.{node_on, onward, downward, OnLevels, downward_exact, downward_plain}
 use Rattle.nav_branches.specs.Below.{OnLevel}
 use Rattle.nav_branches.specs.PathSteps.{BranchFrom, HasBranch, ends_exact, ends_open, branch_found, branch_onward, first_there, leaf_onward, leaf_slot, child_on, child_deep, child_node, child_levels, child_downward}
@@ -62,7 +62,7 @@ module _ (s : Bytes) (f : Frame) (a : Accepted s f) (path : Path) (depth y : ℕ
     next_leaves : onward (nodes s f) path.nodes path.labels depth y ≡ downward (nodes s f) (set p.nodes (d + 1) c) (set p.labels d b.label) (d + 1)
     next_leaves = w.leaves_are ∙ child_downward s f a p.nodes p.labels d b w.branch c is continues w.nodes_room w.labels_room
 
-    module _ (first : FirstBranch) (n : FirstBranch s f c.0 first) where
+    module _ (first : FirstBranch) (n : IsFirstBranch s f c.0 first) where
       -- the node is an exact leaf
       pub exact_reached : first.exact ≡ true
           → Reaches s f path depth (onward (nodes s f) path.nodes path.labels depth y) (record { path = record { nodes = set p.nodes (d + 1) c; labels = set p.labels d b.label }; stop = Stop.Exact; depth = d + 1 })

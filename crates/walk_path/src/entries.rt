@@ -2,9 +2,9 @@
 // Position 0 stands for a position that is not known, and dense nodes have none: there navigation looks it up. A walk that keeps its entries rests on these.
 ghost use Rattle.std.specs.Prelude.{◌≡◌, ◌≤◌, ◌<◌};
 ghost use Rattle.nav_nodes.specs.Positions.{child_at, slot_at};
-ghost use Rattle.nav_nodes.specs.NextBranch.{NextBranch};
+ghost use Rattle.nav_nodes.specs.NextBranch.{IsNextBranch};
 ghost use Rattle.nav_nodes.specs.Accepted.{Accepted};
-ghost use Rattle.nav_nodes.specs.FoundBranch.{IsNode, IsPosition, FirstBranch};
+ghost use Rattle.nav_nodes.specs.FoundBranch.{IsNode, IsPosition, IsFirstBranch};
 ghost use Rattle.walk_path.specs.Entries.{start_of, child_from, TellsEnd, NextEntry, BehindNode, StartsAt};
 
 use bits::ranks::bit_at;
@@ -40,7 +40,7 @@ fn goes_on(image: &[u8], f: Frame, at: BitPos) -> bool
 // The first branch of a node whose label is not below y; `at` is the entry where it stands, if it is there, and is behind the first entry of the node.
 pub fn next_at(image: &[u8], f: Frame, m: NodeNum, y: usize, at: BitPos) -> NextBranch
     requires { IsNode image.now f m.0 × (y ≤ 256) × NextEntry image.now f m.0 y at.0 }
-    ensures { NextBranch image.now f m.0 y result.kind result.label result.at.0 }
+    ensures { IsNextBranch image.now f m.0 y result.kind result.label result.at.0 }
 {
     if at.0 == 0 {
         return next_branch(image, f, m, y);
@@ -58,7 +58,7 @@ pub fn next_at(image: &[u8], f: Frame, m: NodeNum, y: usize, at: BitPos) -> Next
 // The first branch of a node, and whether it is an exact leaf; a sparse node starts at the entry `at`.
 pub fn first_at(image: &[u8], f: Frame, m: NodeNum, at: BitPos) -> FirstBranch
     requires { IsNode image.now f m.0 × (f.dense.nodes ≤ m.0 → at.0 ≡ start_of image.now f m.0) }
-    ensures { FirstBranch image.now f m.0 result }
+    ensures { IsFirstBranch image.now f m.0 result }
 {
     if m.0 < f.dense.nodes {
         return first_branch(image, f, m);

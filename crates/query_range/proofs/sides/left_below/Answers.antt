@@ -1,5 +1,5 @@
 use Rattle.query_range.specs.RangeWays.{KeyBranch, group_below, group_behind, left_of, key_node, child_key, open_in, left_above, left_on, left_nothing, left_leaf, left_child, left_stop}
-use Rattle.nav_branches.specs.EdgeContracts.{LastBranch}
+use Rattle.nav_branches.specs.EdgeContracts.{IsLastBranch}
 use lib.ListN.{length, get_or}
 use Prim.Native.Nat.{◌+◌, ◌-◌, ◌<◌}
 use mathlib.Core.Bool.{false, not}
@@ -18,7 +18,7 @@ last_branch-last-requires c =
 pub returns-then-last : goal.returns-then-last
 returns-then-last c =
     let more : c.loop-d.d < length c.args.lo.now = omega arith in
-    let last : LastBranch c.args.image.now c.args.f c.loop-d.m.0 (get_or c.args.lo.now c.loop-d.d 0) c.last_branch-last.result = rw c.wide.ensures.0 at c.last_branch-last.ensures in
+    let last : IsLastBranch c.args.image.now c.args.f c.loop-d.m.0 (get_or c.args.lo.now c.loop-d.d 0) c.last_branch-last.result = rw c.wide.ensures.0 at c.last_branch-last.ensures in
     sym (c.loop-d.invariant.1 ∙ left_above c.loop-d.invariant.0 more (sym last.higher_is ∙ c.if-last.true))
 
 pub overflow_add-d : goal.overflow_add-d
@@ -29,7 +29,7 @@ overflow_add-d c =
 pub returns-in-Absent : goal.returns-in-Absent
 returns-in-Absent c =
     let more : c.loop-d.d < length c.args.lo.now = omega arith in
-    let last : LastBranch c.args.image.now c.args.f c.loop-d.m.0 (get_or c.args.lo.now c.loop-d.d 0) c.last_branch-last.result = rw c.wide.ensures.0 at c.last_branch-last.ensures in
+    let last : IsLastBranch c.args.image.now c.args.f c.loop-d.m.0 (get_or c.args.lo.now c.loop-d.d 0) c.last_branch-last.result = rw c.wide.ensures.0 at c.last_branch-last.ensures in
     let branch : c.last_branch-last.result.higher ≡ false
     → KeyBranch c.args.image.now c.args.f c.args.lo.now c.loop-d.m.0 c.loop-d.d c.last_branch-last.result.kind c.last_branch-last.result.at.0 = λ h. record { from = c.loop-d.invariant.0; more = more; kind_is = last.kind_is h; at_is = last.at_is h } in
     let on : c.last_branch-last.result.higher ≡ false
@@ -41,7 +41,7 @@ returns-in-Absent c =
 pub slot-requires : goal.slot-requires
 slot-requires c =
     let more : c.loop-d.d < length c.args.lo.now = omega arith in
-    let last : LastBranch c.args.image.now c.args.f c.loop-d.m.0 (get_or c.args.lo.now c.loop-d.d 0) c.last_branch-last.result = rw c.wide.ensures.0 at c.last_branch-last.ensures in
+    let last : IsLastBranch c.args.image.now c.args.f c.loop-d.m.0 (get_or c.args.lo.now c.loop-d.d 0) c.last_branch-last.result = rw c.wide.ensures.0 at c.last_branch-last.ensures in
     let branch : c.last_branch-last.result.higher ≡ false
     → KeyBranch c.args.image.now c.args.f c.args.lo.now c.loop-d.m.0 c.loop-d.d c.last_branch-last.result.kind c.last_branch-last.result.at.0 = λ h. record { from = c.loop-d.invariant.0; more = more; kind_is = last.kind_is h; at_is = last.at_is h } in
     record { accepted = c.loop-d.invariant.0.accepted; within = (branch c.if-last.false).at_is.within }
@@ -49,7 +49,7 @@ slot-requires c =
 pub high_below-requires : goal.high_below-requires
 high_below-requires c =
     let more : c.loop-d.d < length c.args.lo.now = omega arith in
-    let last : LastBranch c.args.image.now c.args.f c.loop-d.m.0 (get_or c.args.lo.now c.loop-d.d 0) c.last_branch-last.result = rw c.wide.ensures.0 at c.last_branch-last.ensures in
+    let last : IsLastBranch c.args.image.now c.args.f c.loop-d.m.0 (get_or c.args.lo.now c.loop-d.d 0) c.last_branch-last.result = rw c.wide.ensures.0 at c.last_branch-last.ensures in
     let branch : c.last_branch-last.result.higher ≡ false
     → KeyBranch c.args.image.now c.args.f c.args.lo.now c.loop-d.m.0 c.loop-d.d c.last_branch-last.result.kind c.last_branch-last.result.at.0 = λ h. record { from = c.loop-d.invariant.0; more = more; kind_is = last.kind_is h; at_is = last.at_is h } in
     let n = c.loop-d.invariant.0 in
@@ -58,7 +58,7 @@ high_below-requires c =
 pub returns-in-Leaf : goal.returns-in-Leaf
 returns-in-Leaf c =
     let more : c.loop-d.d < length c.args.lo.now = omega arith in
-    let last : LastBranch c.args.image.now c.args.f c.loop-d.m.0 (get_or c.args.lo.now c.loop-d.d 0) c.last_branch-last.result = rw c.wide.ensures.0 at c.last_branch-last.ensures in
+    let last : IsLastBranch c.args.image.now c.args.f c.loop-d.m.0 (get_or c.args.lo.now c.loop-d.d 0) c.last_branch-last.result = rw c.wide.ensures.0 at c.last_branch-last.ensures in
     let branch : c.last_branch-last.result.higher ≡ false
     → KeyBranch c.args.image.now c.args.f c.args.lo.now c.loop-d.m.0 c.loop-d.d c.last_branch-last.result.kind c.last_branch-last.result.at.0 = λ h. record { from = c.loop-d.invariant.0; more = more; kind_is = last.kind_is h; at_is = last.at_is h } in
     let on : c.last_branch-last.result.higher ≡ false
@@ -71,7 +71,7 @@ returns-in-Leaf c =
 pub child-m-requires : goal.child-m-requires
 child-m-requires c =
     let more : c.loop-d.d < length c.args.lo.now = omega arith in
-    let last : LastBranch c.args.image.now c.args.f c.loop-d.m.0 (get_or c.args.lo.now c.loop-d.d 0) c.last_branch-last.result = rw c.wide.ensures.0 at c.last_branch-last.ensures in
+    let last : IsLastBranch c.args.image.now c.args.f c.loop-d.m.0 (get_or c.args.lo.now c.loop-d.d 0) c.last_branch-last.result = rw c.wide.ensures.0 at c.last_branch-last.ensures in
     let branch : c.last_branch-last.result.higher ≡ false
     → KeyBranch c.args.image.now c.args.f c.args.lo.now c.loop-d.m.0 c.loop-d.d c.last_branch-last.result.kind c.last_branch-last.result.at.0 = λ h. record { from = c.loop-d.invariant.0; more = more; kind_is = last.kind_is h; at_is = last.at_is h } in
     record { accepted = c.loop-d.invariant.0.accepted; within = (branch c.if-last.false).at_is.within }
@@ -84,7 +84,7 @@ loop-d-smaller c =
 pub loop-d-preserved : goal.loop-d-preserved
 loop-d-preserved c =
     let more : c.loop-d.d < length c.args.lo.now = omega arith in
-    let last : LastBranch c.args.image.now c.args.f c.loop-d.m.0 (get_or c.args.lo.now c.loop-d.d 0) c.last_branch-last.result = rw c.wide.ensures.0 at c.last_branch-last.ensures in
+    let last : IsLastBranch c.args.image.now c.args.f c.loop-d.m.0 (get_or c.args.lo.now c.loop-d.d 0) c.last_branch-last.result = rw c.wide.ensures.0 at c.last_branch-last.ensures in
     let branch : c.last_branch-last.result.higher ≡ false
     → KeyBranch c.args.image.now c.args.f c.args.lo.now c.loop-d.m.0 c.loop-d.d c.last_branch-last.result.kind c.last_branch-last.result.at.0 = λ h. record { from = c.loop-d.invariant.0; more = more; kind_is = last.kind_is h; at_is = last.at_is h } in
     let on : c.last_branch-last.result.higher ≡ false

@@ -1,7 +1,7 @@
 use Rattle.query_range.specs.RangeWays.{KeyBranch, key_node, next_nothing, next_under, next_upto, next_over, next_own, met_crossed, met_inside}
 use Rattle.query_range.proofs.ApartLaws.{from_not, from_not_false, apart_lower, apart_left, apart_upper}
 use Rattle.nav_nodes.specs.declared.BranchKind.TheVariants.{Absent}
-use Rattle.nav_nodes.specs.NextBranch.{NextBranch}
+use Rattle.nav_nodes.specs.NextBranch.{IsNextBranch}
 use Rattle.nav_nodes.specs.NextLabel.{there_not, not_there}
 use borrow.Author.Tests.{ltb-true, ltb-false}
 use lib.ListN.{get_or}
@@ -33,7 +33,7 @@ left_behind-requires c =
 pub returns-then-not-is_there : goal.returns-then-not-is_there
 returns-then-not-is_there c =
     let below : get_or c.args.lo.now c.args.depth 0 + 1 ≤ get_or c.args.hi.now c.args.depth 0 = omega (arith, c.if-b-a.false, c.requires.differ, c.wide-a.ensures.0, c.wide-b.ensures.0) in
-    let next : NextBranch c.args.image.now c.args.f c.args.node.0 (get_or c.args.lo.now c.args.depth 0 + 1) c.next_higher-next.result.kind c.next_higher-next.result.label c.next_higher-next.result.at.0 = rw c.wide-a.ensures.0 at c.next_higher-next.ensures in
+    let next : IsNextBranch c.args.image.now c.args.f c.args.node.0 (get_or c.args.lo.now c.args.depth 0 + 1) c.next_higher-next.result.kind c.next_higher-next.result.label c.next_higher-next.result.at.0 = rw c.wide-a.ensures.0 at c.next_higher-next.ensures in
     let p = c.requires in
     c.left_behind.ensures
     ∙ sym (⊎_elim
@@ -46,7 +46,7 @@ returns-then-not-is_there c =
 pub returns-then-next-b : goal.returns-then-next-b
 returns-then-next-b c =
     let below : get_or c.args.lo.now c.args.depth 0 + 1 ≤ get_or c.args.hi.now c.args.depth 0 = omega (arith, c.if-b-a.false, c.requires.differ, c.wide-a.ensures.0, c.wide-b.ensures.0) in
-    let next : NextBranch c.args.image.now c.args.f c.args.node.0 (get_or c.args.lo.now c.args.depth 0 + 1) c.next_higher-next.result.kind c.next_higher-next.result.label c.next_higher-next.result.at.0 = rw c.wide-a.ensures.0 at c.next_higher-next.ensures in
+    let next : IsNextBranch c.args.image.now c.args.f c.args.node.0 (get_or c.args.lo.now c.args.depth 0 + 1) c.next_higher-next.result.kind c.next_higher-next.result.label c.next_higher-next.result.at.0 = rw c.wide-a.ensures.0 at c.next_higher-next.ensures in
     let there : c.next_higher-next.result.kind ≡ Absent → ⊥ = there_not c.next_higher-next.result.kind (sym c.is_there.ensures ∙ from_not_false c.is_there.result c.if-not-is_there.false) in
     let p = c.requires in
     sym (met_inside p.lower p.upper p.lo_more p.hi_more (next_under p.upper p.hi_more next below there (omega (arith, c.if-next-b.true, c.wide-b.ensures.0))))
@@ -60,7 +60,7 @@ left_behind-requires-2 c =
 pub returns-then-left_behind : goal.returns-then-left_behind
 returns-then-left_behind c =
     let below : get_or c.args.lo.now c.args.depth 0 + 1 ≤ get_or c.args.hi.now c.args.depth 0 = omega (arith, c.if-b-a.false, c.requires.differ, c.wide-a.ensures.0, c.wide-b.ensures.0) in
-    let next : NextBranch c.args.image.now c.args.f c.args.node.0 (get_or c.args.lo.now c.args.depth 0 + 1) c.next_higher-next.result.kind c.next_higher-next.result.label c.next_higher-next.result.at.0 = rw c.wide-a.ensures.0 at c.next_higher-next.ensures in
+    let next : IsNextBranch c.args.image.now c.args.f c.args.node.0 (get_or c.args.lo.now c.args.depth 0 + 1) c.next_higher-next.result.kind c.next_higher-next.result.label c.next_higher-next.result.at.0 = rw c.wide-a.ensures.0 at c.next_higher-next.ensures in
     let there : c.next_higher-next.result.kind ≡ Absent → ⊥ = there_not c.next_higher-next.result.kind (sym c.is_there.ensures ∙ from_not_false c.is_there.result c.if-not-is_there.false) in
     let own : c.wide-b.result ≤ c.next_higher-next.result.label → c.next_higher-next.result.label ≡ get_or c.args.hi.now c.args.depth 0 = λ h. omega (arith, ltb-false c.wide-b.result c.next_higher-next.result.label c.if-b-next.false, c.wide-b.ensures.0) in
     let p = c.requires in
@@ -70,7 +70,7 @@ returns-then-left_behind c =
 pub reached_behind-requires : goal.reached_behind-requires
 reached_behind-requires c =
     let below : get_or c.args.lo.now c.args.depth 0 + 1 ≤ get_or c.args.hi.now c.args.depth 0 = omega (arith, c.if-b-a.false, c.requires.differ, c.wide-a.ensures.0, c.wide-b.ensures.0) in
-    let next : NextBranch c.args.image.now c.args.f c.args.node.0 (get_or c.args.lo.now c.args.depth 0 + 1) c.next_higher-next.result.kind c.next_higher-next.result.label c.next_higher-next.result.at.0 = rw c.wide-a.ensures.0 at c.next_higher-next.ensures in
+    let next : IsNextBranch c.args.image.now c.args.f c.args.node.0 (get_or c.args.lo.now c.args.depth 0 + 1) c.next_higher-next.result.kind c.next_higher-next.result.label c.next_higher-next.result.at.0 = rw c.wide-a.ensures.0 at c.next_higher-next.ensures in
     let there : c.next_higher-next.result.kind ≡ Absent → ⊥ = there_not c.next_higher-next.result.kind (sym c.is_there.ensures ∙ from_not_false c.is_there.result c.if-not-is_there.false) in
     let own : c.wide-b.result ≤ c.next_higher-next.result.label → c.next_higher-next.result.label ≡ get_or c.args.hi.now c.args.depth 0 = λ h. omega (arith, ltb-false c.wide-b.result c.next_higher-next.result.label c.if-b-next.false, c.wide-b.ensures.0) in
     let p = c.requires in
@@ -79,7 +79,7 @@ reached_behind-requires c =
 pub returns : goal.returns
 returns c =
     let below : get_or c.args.lo.now c.args.depth 0 + 1 ≤ get_or c.args.hi.now c.args.depth 0 = omega (arith, c.if-b-a.false, c.requires.differ, c.wide-a.ensures.0, c.wide-b.ensures.0) in
-    let next : NextBranch c.args.image.now c.args.f c.args.node.0 (get_or c.args.lo.now c.args.depth 0 + 1) c.next_higher-next.result.kind c.next_higher-next.result.label c.next_higher-next.result.at.0 = rw c.wide-a.ensures.0 at c.next_higher-next.ensures in
+    let next : IsNextBranch c.args.image.now c.args.f c.args.node.0 (get_or c.args.lo.now c.args.depth 0 + 1) c.next_higher-next.result.kind c.next_higher-next.result.label c.next_higher-next.result.at.0 = rw c.wide-a.ensures.0 at c.next_higher-next.ensures in
     let there : c.next_higher-next.result.kind ≡ Absent → ⊥ = there_not c.next_higher-next.result.kind (sym c.is_there.ensures ∙ from_not_false c.is_there.result c.if-not-is_there.false) in
     let own : c.wide-b.result ≤ c.next_higher-next.result.label → c.next_higher-next.result.label ≡ get_or c.args.hi.now c.args.depth 0 = λ h. omega (arith, ltb-false c.wide-b.result c.next_higher-next.result.label c.if-b-next.false, c.wide-b.ensures.0) in
     let p = c.requires in
