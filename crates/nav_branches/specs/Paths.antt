@@ -10,7 +10,7 @@ use native.Mathlib.Omega.{arith}
 use Rattle.std.proofs.Math.Numerals.{add-one}
 use Rattle.std.proofs.Math.ListN.{take}
 use Rattle.std.proofs.Math.Seq.{take-set-le, get_or-set_same}
-use Rattle.spec.specs.Bytes.{Bytes, bit}
+use Rattle.spec.specs.Bytes.{Bytes}
 use Rattle.spec.specs.Leaves.{Leaf}
 use Rattle.spec.specs.Nodes.{Group, Node, node, branches_of, is_exact, exact_slot, prefix, exact_leaf}
 use Rattle.image.specs.declared.NodeNum.{NodeNum}

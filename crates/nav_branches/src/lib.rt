@@ -1,6 +1,7 @@
 // Branches of the nodes of an accepted image, and paths from its root. The questions and the walk rest on these.
 
 #![tactic(auto)]
+
 use image::{MAX_LEVELS, NodeNum, ValuePos};
 
 pub mod branches; // branches.rt: branches by their label, and those of a sparse node by their entry

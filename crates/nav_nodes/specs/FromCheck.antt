@@ -20,7 +20,7 @@ use Rattle.theory.specs.LeafLists.{Realizable, AllWellSized, SpareClear}
 use Rattle.theory.specs.Terms.{IsBytes, All}
 use Rattle.theory.specs.ReadBack.{read_back}
 use Rattle.theory.specs.ImageParts.{Writable, node_image_bodies, parts_of_nodes, parts_back, nodes_back, image_holds}
-use Rattle.theory.specs.NodeBits.{node_image, version_bodies, bodies, bodies_of, dense_labels, dense_has_child, sparse_labels, sparse_has_child, louds, slots, bodies_bits}
+use Rattle.theory.specs.NodeBits.{node_image, version_bodies, bodies_of, dense_labels, dense_has_child, sparse_labels, sparse_has_child, louds, slots, bodies_bits}
 use Rattle.theory.specs.LevelTrie.{trie}
 use Rattle.theory.specs.LevelStarts.{starts_from, children_to, trie_level_starts}
 use Rattle.theory.specs.TrieTests.{realizable_trie}

@@ -1,7 +1,7 @@
 -- Node numbers and counts of leaves stay in range.
 use Rattle.spec.specs.Leaves.{Leaf}
 use Prim.Native.Nat.{ℕ, zero, suc, ◌+◌, ◌-◌, ◌<◌, ◌≤◌}
-use Rattle.std.specs.Prelude.{◌≡◌, refl, true, false, length, drop}
+use Rattle.std.specs.Prelude.{◌≡◌, refl, true, length, drop}
 use Rattle.std.proofs.Common.{sym, ap, ◌∙◌, true≢false, length-append}
 use mathlib.Core.List.{List, [], ◌∷◌}
 use native.Mathlib.Omega.{arith}

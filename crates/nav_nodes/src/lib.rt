@@ -1,6 +1,7 @@
 // Nodes of an accepted image: ranks by its tables, what stands before a node and what lies behind one of its branches. The questions and the walk rest on these.
 
 #![tactic(auto)]
+
 use image::BitPos;
 
 pub mod ranks; // ranks.rt: ranks by the image's tables, and where a sparse node starts
