@@ -18,7 +18,7 @@ returns-then-not-write_all c =
 pub write_pages-requires : goal.write_pages-requires
 write_pages-requires c =
     let o = c.«open» in
-    (o.ensures.listing c.enum_told-in-Lines-1.given.1, omega (arith, o.auto.1.0))
+    (o.ensures.listing c.in-Lines.is, omega (arith, o.auto.1.0))
 
 pub returns-in-Nothing : goal.returns-in-Nothing
 returns-in-Nothing c =
