@@ -1,7 +1,7 @@
 use Rattle.query_descent.specs.Leads.{AtByte, Leads, root, next}
 use Rattle.query_descent.specs.Followed.{leads_way}
 use mathlib.Core.Path.{refl, subst}
-use Prim.Native.Nat.{ℕ, ◌-◌, ◌<◌}
+use Prim.Native.Nat.{ℕ, ◌<◌}
 use native.Mathlib.Omega.{arith}
 use Rattle.query_descent.proofs.follow.follow.Goals as goal
 
