@@ -1,6 +1,6 @@
 -- The first leaf that a key has not passed, over the leaves at or below a node: what one byte of the key leaves behind its own label, and the first leaf behind a higher one.
 use Prim.Native.Nat.{ℕ, zero, suc, ◌+◌, ◌<◌, ◌≤◌}
-use Rattle.std.proofs.Math.Path.{◌≡◌, refl, sym, ap, ap₂}
+use Rattle.std.proofs.Math.Path.{◌≡◌, refl, sym, ap, ap₂, subst}
 use Rattle.std.proofs.Common.{◌∙◌, length-append}
 use Rattle.std.specs.Prelude.{Bool, ◌&&◌, take, drop}
 use Rattle.std.proofs.Math.Bool.{true, false, cond}
@@ -139,7 +139,7 @@ module _ (q : Bits → Bytes → Bool) (f : ℕ → Group) (y : ℕ) (k : Bytes)
   same_prefixed : (x : ℕ) (g : Group) → x ≡ y → next_of (counts false q (y ∷ k)) (map (prefix x) g) ≡ behind_each (x ∷ []) (next_of (counts false q k) g)
   unfolding next_of
   same_prefixed x [] z = refl
-  same_prefixed x (l ∷ g) z = rw (← z) (rw (counts_same false q x l k) (go (counts false q k l) (rw (← z) at (same_prefixed x g z))))
+  same_prefixed x (l ∷ g) z = subst (λ (w : ℕ). next_of (counts false q (w ∷ k)) (map (prefix x) (l ∷ g)) ≡ behind_each (x ∷ []) (next_of (counts false q k) (l ∷ g))) z (rw (counts_same false q x l k) (go (counts false q k l) (rw (← z) at (same_prefixed x g z))))
     where
       go : (b : Bool) → next_of (counts false q (x ∷ k)) (map (prefix x) g) ≡ behind_each (x ∷ []) (next_of (counts false q k) g)
           → cond b (next_of (counts false q (x ∷ k)) (map (prefix x) g)) (some (prefix x l)) ≡ behind_each (x ∷ []) (cond b (next_of (counts false q k) g) (some l))

@@ -1,6 +1,7 @@
 // What the questions over an accepted image share: where the bytes of a key lead, and the suffix of an open leaf against a key.
 
 #![tactic(auto)]
+
 use image::{BitPos, NodeNum, ValuePos};
 use nav_nodes::Found;
 

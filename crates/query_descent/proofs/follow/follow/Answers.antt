@@ -1,7 +1,7 @@
 use Rattle.query_descent.specs.Leads.{AtByte, Leads, root, next}
 use Rattle.query_descent.specs.Followed.{leads_way}
 use mathlib.Core.Path.{refl, subst}
-use Prim.Native.Nat.{ℕ, ◌-◌, ◌<◌}
+use Prim.Native.Nat.{ℕ, ◌<◌}
 use native.Mathlib.Omega.{arith}
 use Rattle.query_descent.proofs.follow.follow.Goals as goal
 
@@ -26,19 +26,19 @@ pub returns-in-Absent : goal.returns-in-Absent
 returns-in-Absent c =
     let more : c.loop-depth.depth < c.args.n = c.loop-depth-test.true in
     let here : AtByte c.args.image.now c.args.f c.args.key.now c.loop-depth.depth c.loop-depth.node.0 c.find-found.result = record { more = omega (arith, more, c.requires.1); found = rw c.wide.ensures.0 at c.find-found.ensures } in
-    record { depth = c.loop-depth.depth; node = c.loop-depth.node.0; leads = c.loop-depth.invariant.1; inside = more; branch = c.find-found.result; here = here; absent = c.enum_told-1.given.1 }
+    record { depth = c.loop-depth.depth; node = c.loop-depth.node.0; leads = c.loop-depth.invariant.1; inside = more; branch = c.find-found.result; here = here; absent = c.in-Absent.is }
 
 pub returns-in-Leaf : goal.returns-in-Leaf
 returns-in-Leaf c =
     let more : c.loop-depth.depth < c.args.n = c.loop-depth-test.true in
     let here : AtByte c.args.image.now c.args.f c.args.key.now c.loop-depth.depth c.loop-depth.node.0 c.find-found.result = record { more = omega (arith, more, c.requires.1); found = rw c.wide.ensures.0 at c.find-found.ensures } in
-    record { depth = c.loop-depth.depth; passed = refl; leads = c.loop-depth.invariant.1; inside = more; branch = c.find-found.result; here = here; ends = c.enum_told-in-Leaf-1.given.1; at_is = refl }
+    record { depth = c.loop-depth.depth; passed = refl; leads = c.loop-depth.invariant.1; inside = more; branch = c.find-found.result; here = here; ends = c.in-Leaf.is; at_is = refl }
 
 pub loop-depth-preserved : goal.loop-depth-preserved
 loop-depth-preserved c =
     let more : c.loop-depth.depth < c.args.n = c.loop-depth-test.true in
     let here : AtByte c.args.image.now c.args.f c.args.key.now c.loop-depth.depth c.loop-depth.node.0 c.find-found.result = record { more = omega (arith, more, c.requires.1); found = rw c.wide.ensures.0 at c.find-found.ensures } in
-    (omega (arith, more), next c.loop-depth.invariant.1 (record { branch = c.find-found.result; here = here; continues = c.enum_told-in-Child-1.given.1; child_is = c.child-node.ensures }))
+    (omega (arith, more), next c.loop-depth.invariant.1 (record { branch = c.find-found.result; here = here; continues = c.in-Child.is; child_is = c.child-node.ensures }))
 
 pub returns : goal.returns
 returns c =

@@ -1,6 +1,5 @@
 use Rattle.nav_nodes.specs.Accepted.{real_slot}
 use Rattle.query_descent.specs.SuffixBytes.{high_whole, high_ended, high_byte_less, high_byte_more, high_byte_same}
-use Prim.Native.Nat.{◌-◌}
 use native.Mathlib.Omega.{arith}
 use mathlib.Core.Path.{sym, ◌∙◌}
 use Rattle.query_descent.proofs.suffix.high_below.Goals as goal

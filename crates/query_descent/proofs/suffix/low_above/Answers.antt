@@ -2,7 +2,6 @@ use Rattle.nav_nodes.specs.Accepted.{real_slot}
 use Rattle.query_descent.specs.SuffixBytes.{real_length, low_whole, low_ended, low_byte_less, low_byte_more, low_byte_same}
 use mathlib.Core.Logic.{inl, inr}
 use mathlib.Core.Bool.{not}
-use Prim.Native.Nat.{◌-◌}
 use native.Mathlib.Omega.{arith}
 use mathlib.Core.Path.{ap, ◌∙◌}
 use Rattle.query_descent.proofs.suffix.low_above.Goals as goal
