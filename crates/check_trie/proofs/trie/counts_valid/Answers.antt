@@ -37,7 +37,7 @@ pub returns-then-not-sums_valid : goal.returns-then-not-sums_valid
 returns-then-not-sums_valid c =
     let a = c.args in
     let e = ap (λ (k : ℕ). sums_test a.f (a.f.totals.children + k)) c.requires.1.children in
-    sym (sums_fail a.image.now a.f c.requires.0.frame (some_nodes (node_count a.f) c.if-f-eq0.false) (sym (c.sums_valid.ensures ∙ e) ∙ not-true _ c.if-not-sums_valid.true))
+    sym (sums_fail a.image.now a.f c.requires.0.frame (some_nodes (node_count a.f) c.if-f-eq0.false) (sym (c.sums_valid.ensures ∙ e) ∙ c.if-not-sums_valid.true))
 
 pub levels_valid-requires : goal.levels_valid-requires
 levels_valid-requires c =
@@ -48,4 +48,4 @@ returns c =
     let a = c.args in
     let e = ap (λ (k : ℕ). sums_test a.f (a.f.totals.children + k)) c.requires.1.children in
     c.levels_valid.ensures
-    ∙ sym (sums_pass a.image.now a.f c.requires.0.frame (some_nodes (node_count a.f) c.if-f-eq0.false) (sym (c.sums_valid.ensures ∙ e) ∙ not-false _ c.if-not-sums_valid.false))
+    ∙ sym (sums_pass a.image.now a.f c.requires.0.frame (some_nodes (node_count a.f) c.if-f-eq0.false) (sym (c.sums_valid.ensures ∙ e) ∙ c.if-not-sums_valid.false))
