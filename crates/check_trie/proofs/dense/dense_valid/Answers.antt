@@ -1,9 +1,7 @@
 -- The loop: the nodes before i are judged.
 use mathlib.Core.Path.{◌≡◌, sym, ◌∙◌}
 use Prim.Native.Nat.{ℕ, ◌+◌, ◌*◌, ◌-◌, ◌≤◌, ◌<◌}
-use mathlib.Core.Bool.{true}
 use native.Mathlib.Omega.{arith}
-use borrow.Author.Tests.{not-true, not-false}
 use Rattle.bits.specs.Parts.{length_part}
 use Rattle.check_levels.specs.Ranges.{from_fail, from_step, from_end}
 use Rattle.check_trie.specs.DensePositions.{dense_node_valid, dense_all, row_judged}

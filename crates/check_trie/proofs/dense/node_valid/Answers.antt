@@ -3,7 +3,6 @@ use mathlib.Core.Path.{sym, ap, ◌∙◌}
 use mathlib.Core.Bool.{Bool, not, ◌||◌}
 use Prim.Native.Nat.{ℕ}
 use lib.Dec.{eqb}
-use borrow.Author.Tests.{not-true, not-false}
 use Rattle.check_trie.specs.DensePositions.{row_stray, row_none, row_root, row_kept, row_leaves}
 use Rattle.check_trie.proofs.dense.node_valid.Goals as goal
 

@@ -2,7 +2,6 @@
 use mathlib.Core.Path.{refl, sym, ◌∙◌}
 use Prim.Native.Nat.{ℕ, ◌+◌, ◌-◌, ◌≤◌, ◌<◌}
 use native.Mathlib.Omega.{arith}
-use borrow.Author.Tests.{not-true, not-false}
 use Rattle.check_levels.specs.Ranges.{from_fail, from_step, from_end}
 use Rattle.check_trie.specs.WordEntries.{later_entry_valid, entry_judged}
 use Rattle.check_trie.proofs.sparse.range_valid.Goals as goal

@@ -2,7 +2,6 @@
 use mathlib.Core.Path.{◌≡◌, refl, sym, ap, ◌∙◌}
 use Prim.Native.Nat.{◌*◌, ◌-◌}
 use native.Mathlib.Omega.{arith}
-use borrow.Author.Tests.{not-true, not-false}
 use Rattle.check_levels.specs.Ranges.{from_none}
 use Rattle.check_trie.specs.WordEntries.{later_entry_valid, range_valid, word_fails, word_passes}
 use Rattle.check_trie.proofs.sparse.words_valid.Goals as goal

@@ -1,7 +1,6 @@
 -- Where S-LOUDS passes, the other tests are those of number 14.
 use mathlib.Core.Path.{◌≡◌, sym, ap, ap₂, ◌∙◌}
 use mathlib.Core.Bool.{Bool, true, ◌&&◌}
-use borrow.Author.Tests.{not-true, not-false}
 use Rattle.check_levels.specs.BodyTests.{louds_test, louds_valid, louds_fails, louds_passes}
 use Rattle.spec.specs.Trie.{builders_trie}
 use Rattle.image.specs.FrameOf.{frame_parts}
