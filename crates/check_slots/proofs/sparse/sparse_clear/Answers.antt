@@ -102,7 +102,7 @@ word_clear-requires c =
 pub returns-then-not-word_clear : goal.returns-then-not-word_clear
 returns-then-not-word_clear c =
     let l = c.loop-number in
-    sym (l.invariant.0 ∙ c.word_clear.ensures.failed (not-true _ c.if-not-word_clear.true))
+    sym (l.invariant.0 ∙ c.word_clear.ensures.failed (c.if-not-word_clear.true))
 
 pub overflow_add-number : goal.overflow_add-number
 overflow_add-number c =
