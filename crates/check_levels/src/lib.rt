@@ -7,7 +7,7 @@ pub mod judge; // judge.rt: the tests of the levels
 
 // A level of the trie: the number of its first node, or of all nodes where no level is so deep; where the sparse entries of that node begin, 0 for a dense node;
 // and how many branches continue before it.
-#[derive(Drop)]
+#[derive(Clone, Copy)]
 pub struct Level {
     pub node: NodeNum,
     pub entry: BitPos,

@@ -16,7 +16,7 @@ use check_levels::tables::children_before;
 use image::{BitPos, EXTRA_LABEL, Frame, ValuePos};
 
 // By what the slot of a sparse entry is found and read: the counts of leaves and of sparse entries, the width of a slot, and the slot of the first sparse leaf.
-#[derive(Drop)]
+#[derive(Clone, Copy)]
 pub struct SparseSlots {
     pub leaves: usize,
     pub width: usize,
@@ -25,7 +25,7 @@ pub struct SparseSlots {
 }
 
 // A word of 64 entries by its number, and the entries that continue before it.
-#[derive(Drop)]
+#[derive(Clone, Copy)]
 pub struct EntryWord {
     pub number: usize,
     pub children: usize,

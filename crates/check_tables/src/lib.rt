@@ -4,7 +4,7 @@ pub mod spare; // spare.rt: number 13
 pub mod judge; // judge.rt: the ones of a body, and number 15
 
 // What one pass over S-LOUDS and one over S-HasChild count: the entries that start a node, and those that continue; and whether the tables of both are right.
-#[derive(Drop)]
+#[derive(Clone, Copy)]
 pub struct SparseCounts {
     pub starts: usize,
     pub children: usize,

@@ -46,15 +46,15 @@ pub const SAMPLE_RATE: usize = 64;
 pub const STARTS: usize = 13;
 
 // A bit position.
-#[derive(Drop)]
+#[derive(Clone, Copy)]
 pub struct BitPos(pub usize);
 
 // A node's number in level order.
-#[derive(Drop)]
+#[derive(Clone, Copy)]
 pub struct NodeNum(pub usize);
 
 // A value position: a suffix slot's number in level order.
-#[derive(Drop)]
+#[derive(Clone, Copy)]
 pub struct ValuePos(pub usize);
 
 // The settings of an image that is to be built, in range or not: the version, the dense levels, and how many real bits and hash bits a suffix slot has.
@@ -67,21 +67,21 @@ pub struct Settings {
 }
 
 // The dense nodes by the header: on how many levels they are, and how many there are.
-#[derive(Drop)]
+#[derive(Clone, Copy)]
 pub struct Dense {
     pub levels: usize,
     pub nodes: usize,
 }
 
 // The sparse nodes by the header: how many there are, and how many entries they have.
-#[derive(Drop)]
+#[derive(Clone, Copy)]
 pub struct Sparse {
     pub nodes: usize,
     pub entries: usize,
 }
 
 // What a header says: the version, how many real bits and hash bits a suffix slot has, the leaves, and the dense and sparse nodes.
-#[derive(Drop)]
+#[derive(Clone, Copy)]
 pub struct Header {
     pub version: usize,
     pub real_width: usize,
@@ -92,14 +92,14 @@ pub struct Header {
 }
 
 // The continuing branches of all dense nodes, and their entries: branches and exact leaves together.
-#[derive(Drop)]
+#[derive(Clone, Copy)]
 pub struct DenseTotals {
     pub children: usize,
     pub entries: usize,
 }
 
 // The frame of an image: what its header says, the width of a suffix slot, which is its hash bits and real bits together, the totals of its dense nodes, and the offset of each record's body. LV's goes up to the end of the image; where the version has none, its offset is that end.
-#[derive(Drop)]
+#[derive(Clone, Copy)]
 pub struct Frame {
     pub version: usize,
     pub real_width: usize,
@@ -132,7 +132,7 @@ pub enum Framed {
 }
 
 // A leaf by value: the cut key is the first len bytes of cut; the suffix bits are the low width bits of suffix, the first one lowest, as the suffix slots hold them.
-#[derive(Drop)]
+#[derive(Clone, Copy)]
 pub struct Leaf {
     pub cut: [u8; MAX_LEVELS],
     pub len: usize,

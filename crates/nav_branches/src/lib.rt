@@ -9,7 +9,7 @@ pub mod path_higher; // path_higher.rt: the next higher branch of a path
 pub mod path_leaf; // path_leaf.rt: a path that ends at a leaf
 
 // The leaf where a way from the root ends: none, the exact leaf that the last node is, or the open leaf with a slot.
-#[derive(Drop)]
+#[derive(Clone, Copy)]
 pub enum LeafStop {
     Nowhere,
     Exact,
@@ -17,7 +17,7 @@ pub enum LeafStop {
 }
 
 // The leaf where a way from the root ends, and how many labels lead to it.
-#[derive(Drop)]
+#[derive(Clone, Copy)]
 pub struct LeafEnd {
     pub depth: usize,
     pub stop: LeafStop,

@@ -6,7 +6,7 @@ pub mod nodes; // nodes.rt: what stands before a node, the entries of a sparse o
 pub mod behind; // behind.rt: the child and the slot behind a branch
 
 // The kind of a branch: there is none, it ends at an open leaf, or it continues to a child.
-#[derive(Drop)]
+#[derive(Clone, Copy)]
 pub enum BranchKind {
     Absent,
     Leaf,
@@ -22,7 +22,7 @@ pub struct Found {
 }
 
 // The first branch of a node from a label on: its kind, its label and its position.
-#[derive(Drop)]
+#[derive(Clone, Copy)]
 pub struct NextBranch {
     pub kind: BranchKind,
     pub label: usize,

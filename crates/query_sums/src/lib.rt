@@ -5,7 +5,7 @@ pub mod levels; // levels.rt: the sum of a bound's slot numbers on the levels be
 pub mod bounds; // bounds.rt: the bound of a key from where its way parts from another's
 
 // A chain of levels on which every node has one branch alone, which continues: the first node of its first level, the nodes of each level, how many levels they are, and the leaves before that node. None has no levels.
-#[derive(Drop)]
+#[derive(Clone, Copy)]
 pub struct Chain {
     pub start: usize,
     pub width: usize,

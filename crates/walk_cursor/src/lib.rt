@@ -18,7 +18,7 @@ pub mod locate; // locate.rt: the cursor at a place, straight from the root
 pub mod values; // values.rt: a leaf by value, with zeros for what it does not settle
 
 // A place of a walk: the path to the leaf, whose labels are the cut key, what is kept of its levels, and the leaf's number in key order. Behind the last leaf the path ends nowhere.
-#[derive(Drop)]
+#[derive(Clone, Copy)]
 pub struct Cursor {
     pub path: [usize; 64],
     pub entries: [usize; 128],

@@ -19,7 +19,7 @@ use nav_nodes::{BranchKind, FirstBranch, NextBranch};
 const EXTRA: usize = EXTRA_LABEL as usize;
 
 // A sparse entry, and the node to which the first continuing entry from it on leads.
-#[derive(Drop)]
+#[derive(Clone, Copy)]
 pub struct Entry {
     pub at: BitPos,
     pub child: NodeNum,

@@ -28,14 +28,14 @@ pub struct Standing {
 }
 
 // Whether a walk is refused, and with which number.
-#[derive(Drop)]
+#[derive(Clone, Copy)]
 pub enum Status {
     Opened,
     Refused(u32),
 }
 
 // Where a walk stands: its status and its place; of a walk that is not refused, the image's frame and the cursor at the place.
-#[derive(Drop)]
+#[derive(Clone, Copy)]
 pub struct State {
     pub status: Status,
     pub place: usize,
