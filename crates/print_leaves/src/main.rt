@@ -1,6 +1,6 @@
 // The leaf printer: prints the leaves of the image on standard input.
-use libc::STDIN_FILENO;
+use std::io;
 
-fn main() {
-    print_pages::output::print(STDIN_FILENO);
+fn main(rt: HostRuntime) -> io::Result<()> {
+    print_pages::output::print(&mut rt.stdin(), &mut rt.stdout())
 }

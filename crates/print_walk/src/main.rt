@@ -2,8 +2,10 @@
 ghost use Rattle.std.specs.Prelude.{◌^◌, ◌<◌};
 ghost use Rattle.image.specs.Value.{Sized};
 
-use libc::{STDIN_FILENO, STDOUT_FILENO};
+use print_pages::input::read_full;
 use print_text::lines::{LONGEST_LINE, write_line, write_refused};
+use std::io;
+use std::io::Write;
 use walk::{next, walk};
 use walk_states::{Stand, Standing};
 
@@ -11,7 +13,7 @@ use walk_states::{Stand, Standing};
 const PLACES: usize = 6;
 
 // What a walk says, as a line: its leaf with a number, `done`, or `refused` and the number of the refusal.
-fn print_said(s: Standing, number: usize)
+fn print_said<W: Write>(writer: &mut W, s: Standing, number: usize) -> io::Result<()>
     requires { Sized s.leaf × (number < 10 ^ 10) }
 {
     let mut line = [0u8; LONGEST_LINE];
@@ -20,25 +22,25 @@ fn print_said(s: Standing, number: usize)
         Stand::Leaf => {
             let l = s.leaf;
             let n = write_line(&mut line, 0, number, l);
-            io::write_all(STDOUT_FILENO, &line[..n]);
+            writer.write_all(&line[..n])
         }
-        Stand::Done => {
-            io::write_all(STDOUT_FILENO, b"done\n");
-        }
+        Stand::Done => writer.write_all(b"done\n"),
         Stand::Refused(r) => {
             let n = write_refused(&mut line, 0, r as usize);
-            io::write_all(STDOUT_FILENO, &line[..n]);
+            writer.write_all(&line[..n])
         }
     }
 }
 
-fn main() {
+fn main(rt: HostRuntime) -> io::Result<()> {
     let mut input = [0u8; 256];
-    let len = io::read_full(STDIN_FILENO, &mut input);
+    let len = read_full(&mut rt.stdin(), &mut input)?;
+    let mut writer = rt.stdout();
     let mut place = 0usize;
     while place < PLACES {
-        print_said(walk(&input[..len], place), place);
-        print_said(next(&input[..len], place), place + 1);
+        print_said(&mut writer, walk(&input[..len], place), place)?;
+        print_said(&mut writer, next(&input[..len], place), place + 1)?;
         place = place + 1;
     }
+    Ok(())
 }
