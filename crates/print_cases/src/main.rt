@@ -1,4 +1,6 @@
 // Prints the leaves of each file of data/, under the file's name.
+#![tactic(auto)]
+
 use std::fs::File;
 use std::io;
 use std::rt::Files;

@@ -1,4 +1,6 @@
 // The leaf printer: prints the leaves of the image on standard input.
+#![tactic(auto)]
+
 use std::io;
 
 fn main(rt: HostRuntime) -> io::Result<()> {

@@ -1,4 +1,6 @@
 // Prints what a walk over the image on standard input says at each place from 0 to 5, and behind each what it says after its next move. Done stays done, and a place behind it is refused.
+#![tactic(auto)]
+
 ghost use Rattle.std.specs.Prelude.{◌^◌, ◌<◌};
 ghost use Rattle.image.specs.Value.{Sized};
 
@@ -36,11 +38,9 @@ fn main(rt: HostRuntime) -> io::Result<()> {
     let mut input = [0u8; 256];
     let len = read_full(&mut rt.stdin(), &mut input)?;
     let mut writer = rt.stdout();
-    let mut place = 0usize;
-    while place < PLACES {
+    for place in 0..PLACES {
         print_said(&mut writer, walk(&input[..len], place), place)?;
         print_said(&mut writer, next(&input[..len], place), place + 1)?;
-        place = place + 1;
     }
     Ok(())
 }
