@@ -4,7 +4,7 @@ use Rattle.nav_nodes.specs.Positions.{branch_index}
 use Rattle.query_descent.specs.Summed.{Leading, rest_slot}
 use Rattle.query_sums.specs.Bounds.{bound_end, bound_next, bound_none, bound_leaf}
 use lib.ListN.{length, get_or}
-use Prim.Native.Nat.{◌+◌, ◌-◌, ◌<◌}
+use Prim.Native.Nat.{◌+◌, ◌<◌}
 use mathlib.Core.Path.{refl}
 use native.Mathlib.Omega.{arith}
 use Rattle.query_sums.proofs.bounds.bound_from.Goals as goal

@@ -1,11 +1,11 @@
-use Rattle.std.proofs.Common.{◌≡◌, ℕ, ◌+◌, ◌-◌, ◌*◌, ◌≤◌, ◌<◌, refl, subst, arith}
+use Rattle.std.proofs.Common.{◌≡◌, ℕ, ◌+◌, ◌-◌, ◌*◌, ◌<◌, refl, subst, arith}
 use Rattle.spec.specs.Bytes.{Bytes}
 use Rattle.image.specs.declared.Frame.{Frame}
 use Rattle.nav_nodes.specs.Accepted.{nodes}
 use Rattle.nav_nodes.specs.Slots.{leaves_before}
 use Rattle.nav_nodes.specs.Descent.{children_before}
 use Rattle.nav_nodes.specs.FoundBranch.{node_count}
-use Rattle.query_descent.specs.Summed.{rest_few, rest_node, rest_leaves}
+use Rattle.query_descent.specs.Summed.{rest_node, rest_leaves}
 use Rattle.query_sums.specs.declared.levels.LevelSum.{LevelSum}
 use Rattle.query_sums.specs.Levels.{DownTo, GoneDown, down_none, down_next, down_full, down_again, gone_again}
 use Rattle.query_sums.proofs.levels.+go_down.Goals as goal
