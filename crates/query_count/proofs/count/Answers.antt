@@ -40,13 +40,13 @@ pub returns-in-NoNodes : goal.returns-in-NoNodes
 returns-in-NoNodes c =
     let led : (end : KeyEnd) → c.follow-end.result ≡ end → LeadsTo c.args.image.now c.args.f c.args.lo.now c.shared-n.result end = λ end e. subst (λ (x : KeyEnd). LeadsTo c.args.image.now c.args.f c.args.lo.now c.shared-n.result x) e c.follow-end.ensures in
     let shared_led : (end : KeyEnd) → c.follow-end.result ≡ end → LeadsTo c.args.image.now c.args.f c.args.lo.now (shared c.args.lo.now c.args.hi.now) end = λ end e. subst (λ (n : ℕ). LeadsTo c.args.image.now c.args.f c.args.lo.now n end) c.shared-n.ensures (led end e) in
-    sym (count_nowhere c.args.image.now c.args.f c.requires.0 c.args.lo.now c.args.hi.now c.requires.1 c.requires.2 (shared_led End.NoNodes c.enum_told-1.given.1))
+    sym (count_nowhere c.args.image.now c.args.f c.requires.0 c.args.lo.now c.args.hi.now c.requires.1 c.requires.2 (shared_led End.NoNodes c.in-NoNodes.is))
 
 pub returns-in-NoBranch : goal.returns-in-NoBranch
 returns-in-NoBranch c =
     let led : (end : KeyEnd) → c.follow-end.result ≡ end → LeadsTo c.args.image.now c.args.f c.args.lo.now c.shared-n.result end = λ end e. subst (λ (x : KeyEnd). LeadsTo c.args.image.now c.args.f c.args.lo.now c.shared-n.result x) e c.follow-end.ensures in
     let shared_led : (end : KeyEnd) → c.follow-end.result ≡ end → LeadsTo c.args.image.now c.args.f c.args.lo.now (shared c.args.lo.now c.args.hi.now) end = λ end e. subst (λ (n : ℕ). LeadsTo c.args.image.now c.args.f c.args.lo.now n end) c.shared-n.ensures (led end e) in
-    sym (count_absent c.args.image.now c.args.f c.requires.0 c.args.lo.now c.args.hi.now c.requires.1 c.requires.2 (shared_led End.NoBranch c.enum_told-in-NoBranch-1.given.1))
+    sym (count_absent c.args.image.now c.args.f c.requires.0 c.args.lo.now c.args.hi.now c.requires.1 c.requires.2 (shared_led End.NoBranch c.in-NoBranch.is))
 
 pub returns-in-Leaf : goal.returns-in-Leaf
 returns-in-Leaf c =

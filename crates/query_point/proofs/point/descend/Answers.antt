@@ -26,13 +26,13 @@ leaf_rule-requires c =
 pub returns-in-NoNodes : goal.returns-in-NoNodes
 returns-in-NoNodes c =
     let leads : (e : KeyEnd) → c.follow-end.result ≡ e → LeadsTo c.args.image.now c.args.f c.args.key.now (length c.args.key.now) e = λ e h. subst (λ (z : KeyEnd). LeadsTo c.args.image.now c.args.f c.args.key.now (length c.args.key.now) z) h c.follow-end.ensures in
-    sym (rule_nowhere c.args.image.now c.args.f c.requires.0 c.args.key.now (leads End.NoNodes c.enum_told-1.given.1))
+    sym (rule_nowhere c.args.image.now c.args.f c.requires.0 c.args.key.now (leads End.NoNodes c.in-NoNodes.is))
 
 pub returns-in-NoBranch : goal.returns-in-NoBranch
 returns-in-NoBranch c =
     let leads : (e : KeyEnd) → c.follow-end.result ≡ e → LeadsTo c.args.image.now c.args.f c.args.key.now (length c.args.key.now) e = λ e h. subst (λ (z : KeyEnd). LeadsTo c.args.image.now c.args.f c.args.key.now (length c.args.key.now) z) h c.follow-end.ensures in
     let b = bound c.args.key.now (λ i. omega (arith, c.shared_slice_known-2-1.given i)) c.requires.1 in
-    sym (rule_missing c.args.image.now c.args.f c.requires.0 c.args.key.now b (leads End.NoBranch c.enum_told-in-NoBranch-1.given.1))
+    sym (rule_missing c.args.image.now c.args.f c.requires.0 c.args.key.now b (leads End.NoBranch c.in-NoBranch.is))
 
 pub returns-in-Node : goal.returns-in-Node
 returns-in-Node c =

@@ -32,19 +32,19 @@ pub returns-in-NoNodes : goal.returns-in-NoNodes
 returns-in-NoNodes c =
     let small : (i : ℕ) → get_or c.args.stem.now i 0 < 256 = λ i. omega (arith, c.shared_slice_known-2-1.given i) in
     let led : (end : KeyEnd) → c.follow.result ≡ end → LeadsTo c.args.image.now c.args.f c.args.stem.now (length c.args.stem.now) end = λ end e. rw e at c.follow.ensures in
-    sym (stem_nowhere c.args.image.now c.args.f c.requires.0 c.args.stem.now (bound c.args.stem.now small c.requires.1) (led _ c.enum_told-1.given.1))
+    sym (stem_nowhere c.args.image.now c.args.f c.requires.0 c.args.stem.now (bound c.args.stem.now small c.requires.1) (led _ c.in-NoNodes.is))
 
 pub returns-in-NoBranch : goal.returns-in-NoBranch
 returns-in-NoBranch c =
     let small : (i : ℕ) → get_or c.args.stem.now i 0 < 256 = λ i. omega (arith, c.shared_slice_known-2-1.given i) in
     let led : (end : KeyEnd) → c.follow.result ≡ end → LeadsTo c.args.image.now c.args.f c.args.stem.now (length c.args.stem.now) end = λ end e. rw e at c.follow.ensures in
-    sym (stem_none c.args.image.now c.args.f c.requires.0 c.args.stem.now (bound c.args.stem.now small c.requires.1) (led _ c.enum_told-in-NoBranch-1.given.1))
+    sym (stem_none c.args.image.now c.args.f c.requires.0 c.args.stem.now (bound c.args.stem.now small c.requires.1) (led _ c.in-NoBranch.is))
 
 pub returns-in-Node : goal.returns-in-Node
 returns-in-Node c =
     let small : (i : ℕ) → get_or c.args.stem.now i 0 < 256 = λ i. omega (arith, c.shared_slice_known-2-1.given i) in
     let led : (end : KeyEnd) → c.follow.result ≡ end → LeadsTo c.args.image.now c.args.f c.args.stem.now (length c.args.stem.now) end = λ end e. rw e at c.follow.ensures in
-    sym (stem_ended c.args.image.now c.args.f c.requires.0 c.args.stem.now (bound c.args.stem.now small c.requires.1) (led _ c.enum_told-in-Node-1.given.1))
+    sym (stem_ended c.args.image.now c.args.f c.requires.0 c.args.stem.now (bound c.args.stem.now small c.requires.1) (led _ c.in-Node.is))
 
 pub returns-in-Leaf : goal.returns-in-Leaf
 returns-in-Leaf c =
