@@ -15,7 +15,7 @@ loop-i-init c =
 pub returns-then-i-d : goal.returns-then-i-d
 returns-then-i-d c =
     let n = real_length c.args.image.now c.args.f c.requires.0 c.args.slot.0 c.requires.1 in
-    sym (ap bit (c.loop-i.invariant.2 ∙ agrees_past (real_slot c.args.image.now c.args.f c.args.slot.0) c.args.stem.now c.args.d c.loop-i.i (omega (arith, n)) (all_small c.args.stem.now (λ i. omega (arith, c.shared_slice_known-2-1.given i)))))
+    sym (ap bit (c.loop-i.invariant.2 ∙ agrees_past (real_slot c.args.image.now c.args.f c.args.slot.0) c.args.stem.now c.args.d c.loop-i.i (omega (arith, n)) (all_small c.args.stem.now (λ i. omega (arith, c.type_inv.stem i)))))
 
 pub real_byte-requires : goal.real_byte-requires
 real_byte-requires c =
