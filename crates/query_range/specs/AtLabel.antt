@@ -10,7 +10,7 @@ use Rattle.std.proofs.lemmas.List.{length-map}
 use Rattle.std.proofs.Math.Dec.{leb, eqb}
 use borrow.Author.Tests.{eqb-true, eqb-false, leb-true, leb-false}
 use Rattle.spec.specs.Bytes.{Bytes, Bits, bit, count}
-use Rattle.spec.specs.Nodes.{Group, Branch, to_node, to_leaf, Node, node, label_of, has_child, prefix, children, exact_leaf}
+use Rattle.spec.specs.Nodes.{Group, Branch, to_node, to_leaf, Node, label_of, has_child, prefix, children, exact_leaf}
 use Rattle.nav_nodes.specs.declared.BranchKind.{BranchKind}
 use Rattle.nav_nodes.specs.declared.BranchKind.TheVariants.{Absent, Leaf as Ends, Child}
 use Rattle.nav_nodes.specs.Counting.{labels_below, below_low, below_high, counts, counts_same, prefixed_low, branches_high, count_append, exact_counted}

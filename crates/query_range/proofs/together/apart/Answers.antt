@@ -36,15 +36,15 @@ returns-then-not-is_there c =
     let p = c.requires in
     let a = c.args in
     let lower_decides : met_of a.f a.lo.now a.hi.now a.depth (group_below a.image.now a.f a.node.0 a.depth) ≡ left_of a.f a.lo.now (a.depth + 1) (group_behind a.image.now a.f a.lo.now a.node.0 a.depth) =
-        elim c.then-not-is_there.branch [
-          then-not-is_there-via-then-not-is_there w ↦
-              let e = next_nothing p.upper p.hi_more next below (not_there c.next_higher-next.result.kind (sym c.is_there.ensures ∙ w.if-not-is_there.true)) in
-              apart_lower p.lower p.upper p.lo_more p.hi_more e.0 e.1
-        | then-not-is_there-via-else-not-is_there+then-b-next w ↦
-              let there : c.next_higher-next.result.kind ≡ Absent → ⊥ = there_not c.next_higher-next.result.kind (sym c.is_there.ensures ∙ w.if-not-is_there.false) in
-              let beyond : get_or a.hi.now a.depth 0 < c.next_higher-next.result.label = omega (arith, w.if-b-next.true, c.wide-b.ensures.0) in
-              apart_lower p.lower p.upper p.lo_more p.hi_more (next_upto p.upper p.hi_more next below there (omega (arith, beyond))) (next_over p.upper p.hi_more next below there (omega (arith, beyond)))
-        ]
+    elim c.then-not-is_there.branch [
+      | then-not-is_there-via-then-not-is_there w ↦
+          let e = next_nothing p.upper p.hi_more next below (not_there c.next_higher-next.result.kind (sym c.is_there.ensures ∙ w.if-not-is_there.true)) in
+          apart_lower p.lower p.upper p.lo_more p.hi_more e.0 e.1
+      | then-not-is_there-via-else-not-is_there+then-b-next w ↦
+          let there : c.next_higher-next.result.kind ≡ Absent → ⊥ = there_not c.next_higher-next.result.kind (sym c.is_there.ensures ∙ w.if-not-is_there.false) in
+          let beyond : get_or a.hi.now a.depth 0 < c.next_higher-next.result.label = omega (arith, w.if-b-next.true, c.wide-b.ensures.0) in
+          apart_lower p.lower p.upper p.lo_more p.hi_more (next_upto p.upper p.hi_more next below there (omega (arith, beyond))) (next_over p.upper p.hi_more next below there (omega (arith, beyond)))
+    ]
     in
     c.left_behind.ensures ∙ sym lower_decides
 
