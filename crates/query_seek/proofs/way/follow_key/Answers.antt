@@ -11,7 +11,7 @@ use Rattle.query_descent.specs.declared.LastHigher.{LastHigher}
 use Rattle.query_descent.specs.declared.LastHigher.TheVariants.{At}
 use Rattle.query_descent.specs.Seeking.{Following, HigherPassed, BytePassed, higher_same, higher_new, following_root, following_child, followed_none, followed_leaf, followed_end, leaf_slot, sum_small}
 use lib.ListN.{length, get_or, drop}
-use Prim.Native.Nat.{ℕ, ◌+◌, ◌-◌, ◌<◌, ◌≤◌}
+use Prim.Native.Nat.{ℕ, ◌+◌, ◌<◌, ◌≤◌}
 use mathlib.Core.Bool.{Bool, true, false}
 use mathlib.Core.Logic.{◌⊎◌, inl, inr}
 use mathlib.Core.Path.{◌≡◌, refl, sym, ◌∙◌}
