@@ -2,7 +2,7 @@
 
 use std::env;
 
-/// The static libraries, which `rt staticlib NAME` makes: the public calls, and the calls over an accepted image.
+/// The static libraries, which `./archives` makes: the public calls, and the calls over an accepted image.
 const LIBRARIES: [&str; 2] = ["range_filter", "range_filter_accepted"];
 
 /// Links the static libraries below the repository root.

@@ -1,4 +1,4 @@
-//! The leaf printer's program, which `rt check print_leaves` makes.
+//! The leaf printer's program, which `rt ci` makes, or `rt run` in its folder.
 
 use std::io::{ErrorKind, Write};
 use std::path::PathBuf;
@@ -32,10 +32,12 @@ pub fn print_in_pieces(input: &[u8], piece: usize) -> String {
 
 /// Gives the path of the program below the repository root.
 fn program() -> PathBuf {
-    let path = PathBuf::from(env!("CARGO_MANIFEST_DIR")).join("../target/bin/print_leaves");
+    let folder = PathBuf::from(env!("CARGO_MANIFEST_DIR")).join("../crates/print_leaves");
+    let path = folder.join("out/print_leaves");
     assert!(
         path.is_file(),
-        "target/bin/print_leaves is missing: `rt check print_leaves` makes it"
+        "{} is missing: `rt run <stdin` in crates/print_leaves makes it",
+        path.display()
     );
     path
 }

@@ -166,12 +166,13 @@ fn the_package_has_the_names() {
     assert_eq!(found, names());
 }
 
-/// Gives the files of Rattle in a folder and in those below it.
+/// Gives the files of Rattle in a folder and in those below it, but for the copies that rt makes in
+/// folders named out.
 fn sources(folder: &Path) -> Vec<PathBuf> {
     let mut found = Vec::new();
     for entry in fs::read_dir(folder).expect("the folder can be read") {
         let path = entry.expect("the folder can be read").path();
-        if path.is_dir() {
+        if path.is_dir() && !path.ends_with("out") {
             found.extend(sources(&path));
         } else if path.extension().is_some_and(|ending| ending == "rt") {
             found.push(path);

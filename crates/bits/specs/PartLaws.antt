@@ -1,7 +1,7 @@
 -- A part of a byte string: its bytes and bits, and the ranks in it.
 use Rattle.std.specs.Prelude.{◌≡◌, Bool, true, false, length, get_or, drop, ltb}
 use Rattle.std.proofs.Math.Path.{refl, ap₂}
-use Rattle.std.proofs.Common.{ap, ◌∙◌, arith, length-drop, length-take, length-take-le, get_or-take, get_or-drop, ltb-true, ltb-false}
+use Rattle.std.proofs.Common.{ap, ◌∙◌, arith, length-take, get_or-take, get_or-drop, ltb-true, ltb-false}
 use Prim.Native.Nat.{ℕ, zero, suc, ◌+◌, ◌*◌, ◌-◌, ◌/◌, ◌≤◌, ◌<◌}
 use Rattle.std.proofs.Math.ListN.{get_or-eq_default}
 use Rattle.spec.specs.Bytes.{Bytes, blocks}

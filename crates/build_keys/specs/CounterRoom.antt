@@ -79,11 +79,11 @@ length_slots w p (k ∷ ks) = ap suc (length_slots w (suc (next_shared k ks)) ks
 
 starts_few : (ks : List Bytes) (d : ℕ) → length (level_values d (start_emissions 0 0 ks)) ≤ 2 * length ks
 unfolding start_emissions
-starts_few ks d = keys_few 0 64 _ true 0 ks d
+starts_few ks d = keys_few 0 64 (λ p q k d. leb p d) true 0 ks d
 
 starts_below : (ks : List Bytes) → Keys ks → Ascending ks → LevelsBelow 64 (start_emissions 0 0 ks)
 unfolding start_emissions
-starts_below ks s a = emissions_below 0 64 _ true 0 ks (first_longer ks s) s a
+starts_below ks s a = emissions_below 0 64 (λ p q k d. leb p d) true 0 ks (first_longer ks s) s a
 
 -- ---- room
 

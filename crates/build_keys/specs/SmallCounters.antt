@@ -1,5 +1,5 @@
 -- Counters of a pass stay small, and a function of the emitted values needs no more room.
-use Rattle.std.specs.Prelude.{ℕ, suc, ◌+◌, ◌-◌, ◌*◌, ◌≤◌, ◌≡◌, refl, Bool, true, false, cond, ◌&&◌, List, [], ◌∷◌, length, get_or, set, leb, ltb, eqb}
+use Rattle.std.specs.Prelude.{ℕ, suc, ◌+◌, ◌*◌, ◌≤◌, ◌≡◌, refl, Bool, true, false, cond, ◌&&◌, List, [], ◌∷◌, length, get_or, set, leb, ltb, eqb}
 use Rattle.std.proofs.Common.{ap, arith, length-append, leb-true, leb-false, ltb-true, ltb-false}
 use Rattle.spec.specs.Bytes.{Bytes}
 use Rattle.build_laws.specs.LevelEntries.{pred}

@@ -1,6 +1,6 @@
 -- The bodies of a key list's image that are filled by a pass over the keys: SL, SC, SB, SV, DL, DC, DP. For each, the law that turns what the pass leaves into the body of document 01,
 -- and that there is room for all that it writes. Used by the builder's fillers.
-use Rattle.std.specs.Prelude.{ℕ, ◌*◌, ◌≤◌, ◌≡◌, refl, Bool, cond, not, List, [], ◌∷◌, ◌++◌, map, length, drop, replicate}
+use Rattle.std.specs.Prelude.{ℕ, ◌*◌, ◌≤◌, ◌≡◌, refl, Bool, cond, not, List, [], ◌∷◌, ◌++◌, map, length, drop, replicate, leb}
 use Rattle.std.proofs.Common.{sym, ap, ap₂, ◌∙◌, inl, inr, ⊎_elim, arith}
 use Rattle.std.proofs.Math.Bool.{true, false}
 use Rattle.std.proofs.lemmas.Simd.{map-map}
@@ -8,7 +8,6 @@ use Rattle.std.proofs.Math.ListN.{get_or}
 use Rattle.std.proofs.lemmas.List.{length-map}
 use Rattle.spec.specs.Bytes.{Bytes, Bits, concat, blocks, pack, unpack}
 use Rattle.spec.specs.Image.{Settings, slot_width, Bodies, has, positions}
-use Rattle.spec.specs.Image as Literal
 use Rattle.spec.specs.Nodes.{Node}
 use Rattle.spec.specs.Trie.{leaf_count}
 use Rattle.build_laws.specs.SlotWidths.{slot_bits}
@@ -18,9 +17,10 @@ use Rattle.build_laws.specs.Cursors.{sum_of, sums, level_offset, offset_sum, off
 use Rattle.build_laws.specs.SetBits.{positions_below}
 use Rattle.build_laws.specs.BitPass.{BitState, bit_state, write_all_bits, write_all_is, emitted_ones, cursor_ones, Started, ones_by_level, ones_of_bits, every, Room, room_of}
 use Rattle.build_laws.specs.NodeBodies.{leaves_slotted, labels_slotted, children_slotted, starts_slotted, slots_slotted, slotted_wide}
-use Rattle.build_laws.specs.DenseRows.{cell_step, cell_ones, label_cell, child_cell, exact_cell, on_entry, label_ones, child_ones, exact_ones}
+use Rattle.build_laws.specs.DenseRows.{cell, cell_step, cell_ones, label_cell, child_cell, exact_cell, on_entry, label_ones, child_ones, exact_ones}
 use Rattle.build_laws.specs.BytePass.{byte_state, put_bytes, put_bytes_is, one_step, at_cursor, byte_room}
 use Rattle.build_laws.specs.PackedBody.{filled_body}
+use Rattle.build_laws.specs.KeyEntries.{continues_at}
 use Rattle.build_laws.specs.PassEmissions.{label_emissions, leaf_emissions, later_emissions, dense_label_emissions, dense_child_emissions, dense_exact_emissions, slot_emissions, label_of_slotted, leaf_of_slotted, later_of_slotted, label_cells_of_slotted, child_cells_of_slotted, exact_cells_of_slotted, emissions_below, first_longer, slots_below}
 use Rattle.build_laws.specs.SlotEntries.{leaf_slots, values_slots, slots_concat, sum_slots}
 use Rattle.build_laws.specs.TrieFacts.{dense_nodes, sparse_nodes, nodes_both}
@@ -133,11 +133,11 @@ module _ (st : Settings) (ks : List Bytes) (b : BuiltFrom st ks) where
 
   leaves_below : LevelsBelow 64 (leaf_emissions st.dense_levels 0 ks)
   unfolding leaf_emissions
-  leaves_below = emissions_below st.dense_levels 64 _ true 0 ks (first_longer ks b.keys) b.keys b.up
+  leaves_below = emissions_below st.dense_levels 64 (λ p q k d. not (continues_at p q (length k) d)) true 0 ks (first_longer ks b.keys) b.keys b.up
 
   later_below : LevelsBelow 64 (later_emissions st.dense_levels 0 ks)
   unfolding later_emissions
-  later_below = emissions_below st.dense_levels 64 _ false 0 ks (first_longer ks b.keys) b.keys b.up
+  later_below = emissions_below st.dense_levels 64 (λ p q k d. not (leb p d)) false 0 ks (first_longer ks b.keys) b.keys b.up
 
   module _ (cur : List ℕ) (w : length cur ≡ counters) (c : CursorsAt (entry_counts ks) st.dense_levels cur) where
     leaves_started : Started one_step bit_at (leaf_emissions st.dense_levels 0 ks) cur
@@ -231,15 +231,15 @@ module _ (st : Settings) (ks : List Bytes) (b : BuiltFrom st ks) where
 
   label_cells_below : LevelsBelow 64 (dense_label_emissions st.dense_levels 0 ks)
   unfolding dense_label_emissions
-  label_cells_below = emissions_below 0 st.dense_levels _ _ 0 ks (first_longer ks b.keys) b.keys b.up
+  label_cells_below = emissions_below 0 st.dense_levels (λ p q k d. cell (leb p d) true (get_or k d 0)) (cell true false 255) 0 ks (first_longer ks b.keys) b.keys b.up
 
   child_cells_below : LevelsBelow 64 (dense_child_emissions st.dense_levels 0 ks)
   unfolding dense_child_emissions
-  child_cells_below = emissions_below 0 st.dense_levels _ _ 0 ks (first_longer ks b.keys) b.keys b.up
+  child_cells_below = emissions_below 0 st.dense_levels (λ p q k d. cell (leb p d) (continues_at p q (length k) d) (get_or k d 0)) (cell true false 255) 0 ks (first_longer ks b.keys) b.keys b.up
 
   exact_cells_below : LevelsBelow 64 (dense_exact_emissions st.dense_levels 0 ks)
   unfolding dense_exact_emissions
-  exact_cells_below = emissions_below 0 st.dense_levels _ _ 0 ks (first_longer ks b.keys) b.keys b.up
+  exact_cells_below = emissions_below 0 st.dense_levels (λ p q k d. cell (leb p d) false 0) (cell true true 0) 0 ks (first_longer ks b.keys) b.keys b.up
 
   module _ (cur : List ℕ) (w : length cur ≡ counters) (c : CursorsAt (node_counts ks) 0 cur) where
     label_cells_started : Started cell_step (cell_ones 256) (dense_label_emissions st.dense_levels 0 ks) cur

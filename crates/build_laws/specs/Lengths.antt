@@ -6,7 +6,6 @@ use Rattle.std.proofs.Math.Nat.{sub-zero}
 use Rattle.std.proofs.Math.ListN.{length, length-map}
 use Rattle.spec.specs.Bytes.{Bytes, concat, blocks, ones}
 use Rattle.spec.specs.Image.{Settings, slot_width, Bodies, nodes}
-use Rattle.spec.specs.Image as Literal
 use Rattle.spec.specs.Nodes.{is_exact}
 use Rattle.build_laws.specs.SlotWidths.{slot_bits}
 use Rattle.build_laws.specs.TrieEntries.{Slotted, slotted_of, slotted_between, slotted_first, slotted_rest}

@@ -264,18 +264,18 @@ exact_next e s (m ∷ ms) q j = refl
 exact_first : (e : Bool) (s : Bits) (ls : Group) → AllFollow (record { cut = []; exact = e; suffix = s } ∷ ls) → e ≡ true
     → level_entries 0 0 (record { cut = []; exact = e; suffix = s } ∷ ls) ≡ entries_below 0 (record { cut = []; exact = e; suffix = s } ∷ ls)
 unfolding entries_below node_entries node_of exact_of child_groups level_entries leaf_entries subtrees insert_cut
-exact_first e s ls c n = rw (exact_next e s ls n c.0, n) (ap (λ (z : List Tagged). tagged true true (to_leaf 255 s) ∷ z) (first_divided 1 (omega arith) (divided ls c.1 (follow_some _ ls c))))
+exact_first e s ls c n = rw (exact_next e s ls n c.0, n) (ap (λ (z : List Tagged). tagged true true (to_leaf 255 s) ∷ z) (first_divided 1 (omega arith) (divided ls c.1 (follow_some (record { cut = []; exact = e; suffix = s }) ls c))))
 
 exact_deeper : (d : ℕ) → Below d → (e : Bool) (s : Bits) (ls : Group) → AllFollow (record { cut = []; exact = e; suffix = s } ∷ ls) → e ≡ true
     → level_entries (suc d) 0 (record { cut = []; exact = e; suffix = s } ∷ ls) ≡ entries_below (suc d) (record { cut = []; exact = e; suffix = s } ∷ ls)
 unfolding entries_below child_groups level_entries leaf_entries subtrees insert_cut
-exact_deeper d b e s ls c n = rw (exact_next e s ls n c.0, n, leb-zero (suc (suc d)), leb-suc-zero (suc d), eqb-suc-zero d) (deeper_divided d 1 refl b (divided ls c.1 (follow_some _ ls c)))
+exact_deeper d b e s ls c n = rw (exact_next e s ls n c.0, n, leb-zero (suc (suc d)), leb-suc-zero (suc d), eqb-suc-zero d) (deeper_divided d 1 refl b (divided ls c.1 (follow_some (record { cut = []; exact = e; suffix = s }) ls c)))
 
 level : (d : ℕ) → ((k : ℕ) → suc k ≡ d → Below k) → (k : Bytes) (e : Bool) (s : Bits) (ls : Group) → AllFollow (record { cut = k; exact = e; suffix = s } ∷ ls) → NodeLeaf e k
     → level_entries d 0 (record { cut = k; exact = e; suffix = s } ∷ ls) ≡ entries_below d (record { cut = k; exact = e; suffix = s } ∷ ls)
 unfolding entries_below node_entries node_of exact_of child_groups
-level zero f (x ∷ k) e s ls c n = first_divided 0 (omega arith) (divided (record { cut = x ∷ k; exact = e; suffix = s } ∷ ls) c (tt, follow_some _ ls c))
-level (suc d) f (x ∷ k) e s ls c n = deeper_divided d 0 refl (f d refl) (divided (record { cut = x ∷ k; exact = e; suffix = s } ∷ ls) c (tt, follow_some _ ls c))
+level zero f (x ∷ k) e s ls c n = first_divided 0 (omega arith) (divided (record { cut = x ∷ k; exact = e; suffix = s } ∷ ls) c (tt, follow_some (record { cut = x ∷ k; exact = e; suffix = s }) ls c))
+level (suc d) f (x ∷ k) e s ls c n = deeper_divided d 0 refl (f d refl) (divided (record { cut = x ∷ k; exact = e; suffix = s } ∷ ls) c (tt, follow_some (record { cut = x ∷ k; exact = e; suffix = s }) ls c))
 level zero f [] e s ls c n = exact_first e s ls c n
 level (suc d) f [] e s ls c n = exact_deeper d (f d refl) e s ls c n
 

@@ -2,7 +2,7 @@
 use Rattle.std.specs.Prelude.{ℕ, zero, suc, ◌+◌, ◌-◌, ◌*◌, ◌<◌, ◌≡◌, refl, false, List, [], ◌∷◌, ◌++◌, length, get_or, take, drop, replicate}
 use Rattle.std.proofs.Common.{sym, ap, ap₂, ◌∙◌, append_assoc, arith, length-drop, take-append-drop}
 use Rattle.std.proofs.lemmas.List.{replicate-append-replicate}
-use Rattle.spec.specs.Bytes.{Bytes, Bits, blocks, low_first, packed, pack, low_bits, unpack}
+use Rattle.spec.specs.Bytes.{Bytes, Bits, blocks, low_first, pack, low_bits, unpack}
 use Rattle.spec.specs.Image.{has, positions}
 use Rattle.spec.specs.Check.{no_spare}
 use Rattle.build_laws.specs.SetBits.{set_bits, set_zeros}

@@ -2,6 +2,7 @@
 // Used by the check and by every call that reads an accepted image.
 
 #![tactic(auto)]
+
 ghost use Rattle.std.specs.Prelude.{◌≡◌, ◌≤◌, ◌<◌, length};
 ghost use Rattle.spec.specs.Image.{rows};
 ghost use Rattle.spec.specs.Frame.{rows_of};

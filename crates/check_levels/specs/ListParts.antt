@@ -1,5 +1,5 @@
 -- Parts of a list: the members from one position to another, and a total over them.
-use Rattle.std.specs.Prelude.{ℕ, zero, suc, ◌+◌, ◌-◌, ◌≡◌, List, [], ◌∷◌, take, drop}
+use Rattle.std.specs.Prelude.{ℕ, zero, suc, ◌+◌, ◌≡◌, List, [], ◌∷◌, take, drop}
 use Rattle.std.proofs.Common.{ap, ap₂, ◌∙◌, arith, take-take}
 use Rattle.std.proofs.Math.Seq.{take-nil}
 use Rattle.spec.specs.Nodes.{total}

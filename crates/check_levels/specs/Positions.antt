@@ -1,7 +1,7 @@
 -- The first n bits of a body, by position: single bits, counts of ones, and where a one stands.
 use Rattle.std.specs.Prelude.{ℕ, zero, suc, ◌+◌, ◌*◌, ◌<◌, ◌≤◌, ◌≡◌, refl, Bool, true, false, [], ◌∷◌, length, get_or, take, drop, eqb, ltb}
 use Rattle.std.proofs.Common.{sym, ap, ◌∙◌, arith, length-take-le, take_all, take-take, get_or-take, drop-cons, ltb-true, ltb-false}
-use Rattle.spec.specs.Bytes.{Bytes, Bits, bit, ones, unpack}
+use Rattle.spec.specs.Bytes.{Bytes, Bits, ones, unpack}
 use Rattle.bits.specs.Bits.{bit_at, rank, select}
 use Rattle.bits.specs.UnpackLaws.{length_unpack, bit_unpack, rank_unpack}
 use Rattle.bits_select.specs.SelectLaws.{select_here, select_all}

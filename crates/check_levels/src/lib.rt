@@ -1,6 +1,7 @@
 // The levels of an image by their first nodes: how one is found from another or by the tables, and number 14's tests of them. Used for the numbers 14, 15 and 16.
 
 #![tactic(auto)]
+
 use image::{BitPos, NodeNum};
 
 pub mod step; // step.rt: a level from one before it

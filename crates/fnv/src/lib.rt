@@ -1,6 +1,7 @@
 // The 64-bit FNV-1a hash of a byte string: what the hash bits of a slot are taken from (document 02, order 4).
 
 #![tactic(auto)]
+
 ghost use Rattle.std.specs.Prelude.{◌≡◌, ◌*◌, ◌%◌, ◌^◌};
 ghost use Rattle.spec.specs.Fnv.{offset_basis, prime, hash_step, hash};
 

@@ -1,8 +1,8 @@
 // The leaf printer: prints the leaves of the image on standard input.
-
 #![tactic(auto)]
-use libc::STDIN_FILENO;
 
-fn main() {
-    print_pages::output::print(STDIN_FILENO);
+use std::io;
+
+fn main(rt: HostRuntime) -> io::Result<()> {
+    print_pages::output::print(&mut rt.stdin(), &mut rt.stdout())
 }

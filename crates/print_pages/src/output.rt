@@ -1,13 +1,15 @@
-// Reading the input, and writing its text. No contract can say which bytes a system call reads or writes;
+// Reading the input, and writing its text. No contract can say which bytes the system gives or takes;
 // what is handed on is, page after page, the text of the input, which the loop that writes the pages keeps as its invariant.
 ghost use Rattle.std.specs.Prelude.{◌≤◌, length};
 ghost use Rattle.print_text.specs.Texts.{longest_line};
 ghost use Rattle.print_pages.specs.Printing.{Progress};
 ghost use Rattle.print_pages.specs.Handing.{Handed};
 
+use super::input::read_full;
 use super::opening::{Follows, open};
 use super::pages::write_page;
-use libc::STDOUT_FILENO;
+use std::io;
+use std::io::{Read, Write};
 use walk_states::State;
 
 // The bytes of a page.
@@ -23,10 +25,16 @@ pub struct Sent {
     pub all: bool,
 }
 
-// The lines of an image's leaves from a state's on, page after page, until all are written or a page cannot be. The first bytes of the text, `sent` of them, have been written before.
-fn write_pages(image: &[u8], from: State, sent: usize, page: &mut [u8]) -> Sent
+// The lines of an image's leaves from a state's on, page after page, until all are written or a page cannot be. The first bytes of the text, `sent` of them, have been written before. Gives how much of the text has been handed on, also where a write failed, and why one failed.
+fn write_pages<W: Write>(
+    image: &[u8],
+    from: State,
+    sent: usize,
+    page: &mut [u8],
+    writer: &mut W,
+) -> (Sent, io::Result<()>)
     requires { Progress image.now from sent × (longest_line ≤ length page.old) }
-    ensures { Handed image.now result }
+    ensures { Handed image.now result.0 }
 {
     let mut at = from;
     let mut bytes = sent;
@@ -34,44 +42,49 @@ fn write_pages(image: &[u8], from: State, sent: usize, page: &mut [u8]) -> Sent
         let written = write_page(image, at, page);
         let len = written.len;
         if len == 0 {
-            return Sent { bytes, all: true };
+            return (Sent { bytes, all: true }, Ok(()));
         }
-        if !io::write_all(STDOUT_FILENO, &page[..len]) {
-            return Sent { bytes, all: false };
+        if let Err(error) = writer.write_all(&page[..len]) {
+            return (Sent { bytes, all: false }, Err(error));
         }
         bytes = bytes + len;
         at = written.next;
     }
 }
 
-// The text of an input.
-fn write_text(input: &[u8]) -> Sent
-    ensures { Handed input.now result }
+// The text of an input. Gives what `write_pages` does.
+fn write_text<W: Write>(input: &[u8], writer: &mut W) -> (Sent, io::Result<()>)
+    ensures { Handed input.now result.0 }
 {
     let mut page = [0u8; PAGE];
     let opening = open(input, &mut page);
     let len = opening.len;
     let follows = opening.follows;
     let at = opening.at;
-    if !io::write_all(STDOUT_FILENO, &page[..len]) {
-        return Sent {
+    if let Err(error) = writer.write_all(&page[..len]) {
+        let sent = Sent {
             bytes: 0,
             all: false,
         };
+        return (sent, Err(error));
     }
     match follows {
-        Follows::Nothing => Sent {
-            bytes: len,
-            all: true,
-        },
-        Follows::Lines => write_pages(input, at, len, &mut page),
+        Follows::Nothing => {
+            let sent = Sent {
+                bytes: len,
+                all: true,
+            };
+            (sent, Ok(()))
+        }
+        Follows::Lines => write_pages(input, at, len, &mut page, writer),
     }
 }
 
-// Prints the leaves of the image that a file descriptor gives: its text goes to standard output.
-// The buffers take 86,017 bytes of stack: the input, a page, and the 4,096 bytes through which `io` moves what one call has left.
-pub fn print(fd: i32) {
+// Prints the leaves of the image that a reader gives: its text goes to a writer.
+// The buffers take 81,921 bytes of stack: the input and a page.
+pub fn print<R: Read, W: Write>(reader: &mut R, writer: &mut W) -> io::Result<()> {
     let mut input = [0u8; INPUT];
-    let len = io::read_full(fd, &mut input);
-    write_text(&input[..len]);
+    let len = read_full(reader, &mut input)?;
+    let (_, written) = write_text(&input[..len], writer);
+    written
 }

@@ -1,11 +1,13 @@
 // Prints what a walk over the image on standard input says at each place from 0 to 5, and behind each what it says after its next move. Done stays done, and a place behind it is refused.
-
 #![tactic(auto)]
+
 ghost use Rattle.std.specs.Prelude.{◌^◌, ◌<◌};
 ghost use Rattle.image.specs.Value.{Sized};
 
-use libc::{STDIN_FILENO, STDOUT_FILENO};
+use print_pages::input::read_full;
 use print_text::lines::{LONGEST_LINE, write_line, write_refused};
+use std::io;
+use std::io::Write;
 use walk::{next, walk};
 use walk_states::{Stand, Standing};
 
@@ -13,7 +15,7 @@ use walk_states::{Stand, Standing};
 const PLACES: usize = 6;
 
 // What a walk says, as a line: its leaf with a number, `done`, or `refused` and the number of the refusal.
-fn print_said(s: Standing, number: usize)
+fn print_said<W: Write>(writer: &mut W, s: Standing, number: usize) -> io::Result<()>
     requires { Sized s.leaf × (number < 10 ^ 10) }
 {
     let mut line = [0u8; LONGEST_LINE];
@@ -22,25 +24,23 @@ fn print_said(s: Standing, number: usize)
         Stand::Leaf => {
             let l = s.leaf;
             let n = write_line(&mut line, 0, number, l);
-            io::write_all(STDOUT_FILENO, &line[..n]);
+            writer.write_all(&line[..n])
         }
-        Stand::Done => {
-            io::write_all(STDOUT_FILENO, b"done\n");
-        }
+        Stand::Done => writer.write_all(b"done\n"),
         Stand::Refused(r) => {
             let n = write_refused(&mut line, 0, r as usize);
-            io::write_all(STDOUT_FILENO, &line[..n]);
+            writer.write_all(&line[..n])
         }
     }
 }
 
-fn main() {
+fn main(rt: HostRuntime) -> io::Result<()> {
     let mut input = [0u8; 256];
-    let len = io::read_full(STDIN_FILENO, &mut input);
-    let mut place = 0usize;
-    while place < PLACES {
-        print_said(walk(&input[..len], place), place);
-        print_said(next(&input[..len], place), place + 1);
-        place = place + 1;
+    let len = read_full(&mut rt.stdin(), &mut input)?;
+    let mut writer = rt.stdout();
+    for place in 0..PLACES {
+        print_said(&mut writer, walk(&input[..len], place), place)?;
+        print_said(&mut writer, next(&input[..len], place), place + 1)?;
     }
+    Ok(())
 }

@@ -21,7 +21,7 @@ use Rattle.theory.specs.LevelTrie.{NodeGroup, trie, trie_dense, trie_sparse}
 use Rattle.theory.specs.LinkedLevels.{levels_back}
 use Rattle.theory.specs.Levels.{levels_of_concat, node_group_leaf}
 use Rattle.theory.specs.TrieTests.{TrieValid, root_nodes_valid, root_first_width, nodes_valid_none, realizable_trie, EmptyOrValid, empty_list, valid_trie}
-use Rattle.theory.specs.NodeBits.{bodies, bodies_bits, bodies_of, dense_labels, dense_has_child, sparse_labels, sparse_has_child, louds, slots, node_image, version_bodies, node_counts}
+use Rattle.theory.specs.NodeBits.{bodies_bits, bodies_of, dense_labels, dense_has_child, sparse_labels, sparse_has_child, louds, slots, node_image, version_bodies, node_counts}
 use Rattle.theory.specs.LevelStarts.{level_bodies_pass}
 use Rattle.theory.specs.LiteralImage.{Buildable, image_of_trie}
 use Rattle.theory.specs.DenseBits.{length_dl, length_dc, dense_covered}

@@ -5,7 +5,7 @@ use Rattle.std.proofs.Common.{sym, ap, ap₂, subst, ◌∙◌, true≢false, ar
 use Rattle.std.proofs.Math.Option.{some}
 use mathlib.Core.Logic.Iff
 use Rattle.spec.specs.Bytes.{Bytes, count, begins}
-use Rattle.spec.specs.Keys.{below, keys, write_keys, keys_of, within}
+use Rattle.spec.specs.Keys.{below, write_keys, keys_of, within}
 use Rattle.spec.specs.Leaves.{Leaf, leaves, reals}
 use Rattle.spec.specs.Image.{Settings, slot_width, image}
 use Rattle.spec.specs.Frame.{read_settings}

@@ -12,7 +12,6 @@ use Rattle.spec.specs.Bytes.{Bytes, any, maximum, equal, begins, shared, Bits, l
 use Rattle.spec.specs.Fnv.{hash}
 use Rattle.spec.specs.Keys.{below}
 use Rattle.spec.specs.Leaves.{Leaf, others, hash_bits, bits_behind, suffix_bits, leaf, leaves, real, reals, possible, lowest, highest}
-use Rattle.spec.specs.Questions.{none}
 use Rattle.theory.specs.Terms.{All, BelowAll, Ascending, Key, Keys, In, here, there, IsBytes}
 use Rattle.theory.specs.Lists.{any_none, all_in, maximum_below, maximum_bound, in_filter, bytes_take}
 use Rattle.theory.specs.Order.{shared_le, below_unequal, equal_comm, shared_lt, shared_comm}

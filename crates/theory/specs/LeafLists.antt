@@ -9,7 +9,7 @@ use Rattle.spec.specs.Keys.{below}
 use Rattle.spec.specs.Leaves.{Leaf, others, leaf, leaves, suffix_bits}
 use Rattle.theory.specs.Terms.{Ascending, All, BelowAll, Key}
 use Rattle.theory.specs.Lists.{eqb_self, gt_eqb, lt_eqb}
-use Rattle.theory.specs.Order.{equal_self, prefix_append}
+use Rattle.theory.specs.Order.{equal_self}
 
 -- A leaf with cut key c, exact where e, stands before one with cut key d: c begins d, and is exact; or they part at a byte of both.
 pub data Before (e : Bool) : Bytes → Bytes → Type 0 where

@@ -3,10 +3,8 @@ use Rattle.std.specs.Prelude.{ℕ, ◌<◌, ◌≤◌, ◌≡◌, refl, Bool, tr
 use Rattle.std.proofs.Common.{ap, ◌∙◌, arith, length-append, length-drop, ltb-true, ltb-false, lt-ltb, le-ltb}
 use Rattle.std.proofs.Math.Seq.{take-append_seam, drop-append_seam}
 use Rattle.spec.specs.Bytes.{Bytes}
-use Rattle.spec.specs.Keys.{refused}
 use Rattle.spec.specs.Answer.{Answer, written, Outcome, refuse, success, write}
 use Rattle.theory.specs.Demands.{Kept}
-use Rattle.spec.specs.Answer as Answer
 
 -- bytes that fit are written
 pub write_fits : (r : ℕ) (b out : Bytes) → length b ≤ length out → write r b out ≡ success b out

@@ -19,8 +19,8 @@ returns-in-Below c =
 
 pub returns-in-Equal : goal.returns-in-Equal
 returns-in-Equal c =
-    judged c (λ l h. sym (bounds_fit _ _ l h (order_not_below _ _ (inl (sym c.compare-order.ensures ∙ c.enum_told-in-Equal-1.given.1)))))
+    judged c (λ l h. sym (bounds_fit _ _ l h (order_not_below _ _ (inl (sym c.compare-order.ensures ∙ c.in-Equal.is)))))
 
 pub returns-in-Above : goal.returns-in-Above
 returns-in-Above c =
-    judged c (λ l h. sym (bounds_fit _ _ l h (order_not_below _ _ (inr (sym c.compare-order.ensures ∙ c.enum_told-in-Above-1.given.1)))))
+    judged c (λ l h. sym (bounds_fit _ _ l h (order_not_below _ _ (inr (sym c.compare-order.ensures ∙ c.in-Above.is)))))

@@ -23,7 +23,7 @@ returns-then-not-replies_fit c =
     let a = c.args in
     let p = c.requires in
     let t = file_taken a.questions.now _ (sym c.count-1.given.1 ∙ c.judge_file.ensures) in
-    let short = leb-false _ _ (sym c.replies_fit.ensures ∙ not-true _ c.if-not-replies_fit.true) in
+    let short = leb-false _ _ (sym c.replies_fit.ensures ∙ c.if-not-replies_fit.true) in
     let h = hash_read a.image.now a.f p.0 in
     sym ((ask_joined a.image.now a.questions.now a.replies.now).too_long (questions_of a.questions.now) p.1 t.0 (rw h short))
 
@@ -32,7 +32,7 @@ write_replies-n-requires c =
     let a = c.args in
     let p = c.requires in
     let t = file_taken a.questions.now _ (sym c.count-1.given.1 ∙ c.judge_file.ensures) in
-    (checked_accepted a.image.now a.f (all_small a.image.now (λ i. omega (arith, c.shared_slice_known-1.given i))) p.0 p.1, t.0, leb-true _ _ (sym c.replies_fit.ensures ∙ not-false _ c.if-not-replies_fit.false))
+    (checked_accepted a.image.now a.f (all_small a.image.now (λ i. omega (arith, c.shared_slice_known-1.given i))) p.0 p.1, t.0, leb-true _ _ (sym c.replies_fit.ensures ∙ c.if-not-replies_fit.false))
 
 pub returns-in-Refused : goal.returns-in-Refused
 returns-in-Refused c =
@@ -45,7 +45,7 @@ returns-else-not-replies_fit c =
     let a = c.args in
     let p = c.requires in
     let t = file_taken a.questions.now _ (sym c.count-1.given.1 ∙ c.judge_file.ensures) in
-    let room = leb-true (length (file_replies a.f.hash_width a.image.now a.questions.now)) (length a.replies.now) (sym c.replies_fit.ensures ∙ not-false _ c.if-not-replies_fit.false) in
+    let room = leb-true (length (file_replies a.f.hash_width a.image.now a.questions.now)) (length a.replies.now) (sym c.replies_fit.ensures ∙ c.if-not-replies_fit.false) in
     let w = c.write_replies-n.ensures in
     let h = hash_read a.image.now a.f p.0 in
     sym ((ask_joined a.image.now a.questions.now a.replies.now).answered (questions_of a.questions.now) _ _ p.1 t.0 (rw h w.sized) (omega (arith, w.sized, room)) (rw h w.bytes))

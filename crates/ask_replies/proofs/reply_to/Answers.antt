@@ -10,27 +10,27 @@ key_at-requires c =
 
 pub key_at-requires-in-Seek : goal.key_at-requires-in-Seek
 key_at-requires-in-Seek c =
-    inside_matched c.args.file.now c.question-in-Seek-1.given.1 c.requires.2
+    inside_matched c.args.file.now c.in-Seek.is c.requires.2
 
 pub key_at-requires-in-Begins : goal.key_at-requires-in-Begins
 key_at-requires-in-Begins c =
-    inside_matched c.args.file.now c.question-in-Begins-1.given.1 c.requires.2
+    inside_matched c.args.file.now c.in-Begins.is c.requires.2
 
 pub key_at-requires-in-Range : goal.key_at-requires-in-Range
 key_at-requires-in-Range c =
-    (inside_matched c.args.file.now c.question-in-Range-1.given.1 c.requires.2).0
+    (inside_matched c.args.file.now c.in-Range.is c.requires.2).0
 
 pub key_at-requires-in-Range-2 : goal.key_at-requires-in-Range-2
 key_at-requires-in-Range-2 c =
-    (inside_matched c.args.file.now c.question-in-Range-1.given.1 c.requires.2).1
+    (inside_matched c.args.file.now c.in-Range.is c.requires.2).1
 
 pub key_at-requires-in-Count : goal.key_at-requires-in-Count
 key_at-requires-in-Count c =
-    (inside_matched c.args.file.now c.question-in-Count-1.given.1 c.requires.2).0
+    (inside_matched c.args.file.now c.in-Count.is c.requires.2).0
 
 pub key_at-requires-in-Count-2 : goal.key_at-requires-in-Count-2
 key_at-requires-in-Count-2 c =
-    (inside_matched c.args.file.now c.question-in-Count-1.given.1 c.requires.2).1
+    (inside_matched c.args.file.now c.in-Count.is c.requires.2).1
 
 pub returns-in-Point : goal.returns-in-Point
 returns-in-Point c =

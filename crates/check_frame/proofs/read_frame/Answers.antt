@@ -4,7 +4,6 @@ use mathlib.Core.Path.{sym, ap, ◌∙◌}
 use mathlib.Core.Option.{some}
 use native.Mathlib.Omega.{arith}
 use lib.ListN.{length}
-use borrow.Author.Tests.{not-true, not-false}
 use Rattle.check_frame.specs.FrameLaws.{header_short, header_first, header_second, header_stands, records_standing, records_absent, records_short, FrameStands, settings_wrong, lengths_wrong}
 use Rattle.check_frame.specs.Found.{end_found}
 use Rattle.check_frame.proofs.read_frame.Goals as goal
@@ -24,32 +23,29 @@ returns-then-image-ne68 c =
 pub returns-in_default : goal.returns-in_default
 returns-in_default c =
     let long : 22 ≤ length c.args.image.now = c.if-image-lt-HEADER.false in
-    (omega arith, records_absent c.args.image.now long (sym c.last_end.ensures ∙ ap end_found c.enum_told-1.given.1))
+    (omega arith, records_absent c.args.image.now long (sym c.last_end.ensures ∙ ap end_found c.in_default.is))
 
 pub returns-then-end-image : goal.returns-then-end-image
 returns-then-end-image c =
     let long : 22 ≤ length c.args.image.now = c.if-image-lt-HEADER.false in
-    let e = c.end-1.given in
-    (omega arith, records_short c.args.image.now e.0.0 long (sym c.last_end.ensures ∙ ap end_found e.1) c.if-end-image.true)
+    (omega arith, records_short c.args.image.now c.in-At.end long (sym c.last_end.ensures ∙ ap end_found c.in-At.is) c.if-end-image.true)
 
 pub returns-then-not-settings_valid : goal.returns-then-not-settings_valid
 returns-then-not-settings_valid c =
     let long : 22 ≤ length c.args.image.now = c.if-image-lt-HEADER.false in
-    let stood : FrameStands c.args.image.now c.read_header-h.result = let e = c.end-1.given in
-    record {
-      header = header_stands c.args.image.now long c.if-image-ne72.left c.if-image-ne68.left;
-      records = records_standing c.args.image.now long (sym c.last_end.ensures ∙ ap end_found e.1 ∙ ap some c.if-end-image.false);
+    let stood : FrameStands c.args.image.now c.read_header-h.result = record {
+      header = header_stands c.args.image.now long c.if-image-ne72.false c.if-image-ne68.false;
+      records = records_standing c.args.image.now long (sym c.last_end.ensures ∙ ap end_found c.in-At.is ∙ ap some c.if-end-image.false);
       reads = c.read_header-h.ensures;
     } in
-    (omega arith, settings_wrong c.args.image.now c.read_header-h.result stood (sym c.settings_valid.ensures ∙ not-true _ c.if-not-settings_valid.true))
+    (omega arith, settings_wrong c.args.image.now c.read_header-h.result stood (sym c.settings_valid.ensures ∙ c.if-not-settings_valid.true))
 
 pub lengths_valid-requires : goal.lengths_valid-requires
 lengths_valid-requires c =
     let long : 22 ≤ length c.args.image.now = c.if-image-lt-HEADER.false in
-    let stood : FrameStands c.args.image.now c.read_header-h.result = let e = c.end-1.given in
-    record {
-      header = header_stands c.args.image.now long c.if-image-ne72.left c.if-image-ne68.left;
-      records = records_standing c.args.image.now long (sym c.last_end.ensures ∙ ap end_found e.1 ∙ ap some c.if-end-image.false);
+    let stood : FrameStands c.args.image.now c.read_header-h.result = record {
+      header = header_stands c.args.image.now long c.if-image-ne72.false c.if-image-ne68.false;
+      records = records_standing c.args.image.now long (sym c.last_end.ensures ∙ ap end_found c.in-At.is ∙ ap some c.if-end-image.false);
       reads = c.read_header-h.ensures;
     } in
     (stood.reads.short, stood.records)
@@ -57,25 +53,23 @@ lengths_valid-requires c =
 pub returns-then-not-lengths_valid : goal.returns-then-not-lengths_valid
 returns-then-not-lengths_valid c =
     let long : 22 ≤ length c.args.image.now = c.if-image-lt-HEADER.false in
-    let stood : FrameStands c.args.image.now c.read_header-h.result = let e = c.end-1.given in
-    record {
-      header = header_stands c.args.image.now long c.if-image-ne72.left c.if-image-ne68.left;
-      records = records_standing c.args.image.now long (sym c.last_end.ensures ∙ ap end_found e.1 ∙ ap some c.if-end-image.false);
+    let stood : FrameStands c.args.image.now c.read_header-h.result = record {
+      header = header_stands c.args.image.now long c.if-image-ne72.false c.if-image-ne68.false;
+      records = records_standing c.args.image.now long (sym c.last_end.ensures ∙ ap end_found c.in-At.is ∙ ap some c.if-end-image.false);
       reads = c.read_header-h.ensures;
     } in
-    (omega arith, lengths_wrong c.args.image.now c.read_header-h.result stood (sym c.lengths_valid.ensures ∙ not-true _ c.if-not-lengths_valid.true))
+    (omega arith, lengths_wrong c.args.image.now c.read_header-h.result stood (sym c.lengths_valid.ensures ∙ c.if-not-lengths_valid.true))
 
 pub laid_out-requires : goal.laid_out-requires
 laid_out-requires c =
     let long : 22 ≤ length c.args.image.now = c.if-image-lt-HEADER.false in
-    let stood : FrameStands c.args.image.now c.read_header-h.result = let e = c.end-1.given in
-    record {
-      header = header_stands c.args.image.now long c.if-image-ne72.left c.if-image-ne68.left;
-      records = records_standing c.args.image.now long (sym c.last_end.ensures ∙ ap end_found e.1 ∙ ap some c.if-end-image.false);
+    let stood : FrameStands c.args.image.now c.read_header-h.result = record {
+      header = header_stands c.args.image.now long c.if-image-ne72.false c.if-image-ne68.false;
+      records = records_standing c.args.image.now long (sym c.last_end.ensures ∙ ap end_found c.in-At.is ∙ ap some c.if-end-image.false);
       reads = c.read_header-h.ensures;
     } in
     record {
       stands = stood;
-      settings = sym c.settings_valid.ensures ∙ not-false _ c.if-not-settings_valid.false;
-      lengths = sym c.lengths_valid.ensures ∙ not-false _ c.if-not-lengths_valid.false;
+      settings = sym c.settings_valid.ensures ∙ c.if-not-settings_valid.false;
+      lengths = sym c.lengths_valid.ensures ∙ c.if-not-lengths_valid.false;
     }

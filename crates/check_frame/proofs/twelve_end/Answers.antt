@@ -1,5 +1,5 @@
 -- The loop's invariant: the records left, from where the loop is, end where all of them do.
-use Prim.Native.Nat.{◌-◌, ◌<◌, ◌+◌}
+use Prim.Native.Nat.{◌<◌, ◌+◌}
 use mathlib.Core.Path.{◌≡◌, refl, sym, ap, ◌∙◌}
 use native.Mathlib.Omega.{arith}
 use lib.ListN.{drop}
@@ -20,15 +20,14 @@ returns-in_default c =
     let l = c.loop-i in
     let s = c.args.image.now in
     let h : l.i < 12 = c.loop-i-test.true in
-    l.invariant.2 ∙ rw (rows_from l.i h) (end_none (row_at l.i) (drop (l.i + 1) rows) s l.at (rw c.enum_told-1.given.1 at c.record_end.ensures))
+    l.invariant.2 ∙ rw (rows_from l.i h) (end_none (row_at l.i) (drop (l.i + 1) rows) s l.at (rw c.in_default.is at c.record_end.ensures))
 
 pub loop-i-preserved : goal.loop-i-preserved
 loop-i-preserved c =
     let l = c.loop-i in
     let s = c.args.image.now in
     let h : l.i < 12 = c.loop-i-test.true in
-    let g = c.end-1.given in
-    let q = rw g.1 at c.record_end.ensures in (
+    let q = rw c.in-At.is at c.record_end.ensures in (
       omega arith,
       rw q.1 (record_within (row_at l.i) s l.at l.invariant.1 q.0).1,
       l.invariant.2 ∙ rw (rows_from l.i h) (end_more (row_at l.i) (drop (l.i + 1) rows) s l.at q.0 ∙ ap (records_end (drop (l.i + 1) rows) s) (sym q.1)),

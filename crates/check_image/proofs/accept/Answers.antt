@@ -4,8 +4,8 @@ use Rattle.check_image.proofs.accept.Goals as goal
 
 pub judge-requires : goal.judge-requires
 judge-requires c =
-    rw c.read-1.given.1 at c.read_frame.ensures
+    rw c.in-At.is at c.read_frame.ensures
 
 pub returns-in-Refused : goal.returns-in-Refused
 returns-in-Refused c =
-    refuses (rw c.n-1.given.1 at c.read_frame.ensures).1
+    refuses (rw c.in-Refused.is at c.read_frame.ensures).1

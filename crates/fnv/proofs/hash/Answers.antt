@@ -1,5 +1,5 @@
 -- The state and the bytes that are left have the hash of the whole key.
-use Rattle.std.proofs.Common.{◌≡◌, ℕ, ◌+◌, ◌-◌, length, drop, sym, ap, ◌∙◌, arith}
+use Rattle.std.proofs.Common.{◌≡◌, ℕ, ◌+◌, length, drop, sym, ap, ◌∙◌, arith}
 use Rattle.spec.specs.Bytes.{Bytes}
 use Rattle.spec.specs.Fnv.{hash_from, hash}
 use Rattle.fnv.specs.HashLaws.{hash_next, hash_end}

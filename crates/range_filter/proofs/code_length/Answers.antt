@@ -12,4 +12,4 @@ returns-in-Bytes c =
 
 pub returns-in-Refused : goal.returns-in-Refused
 returns-in-Refused c =
-    omega (arith, ap (λ (l : Length). length_code (length_of l)) c.length-in-Refused-1.given.1)
+    omega (arith, ap (λ (l : Length). length_code (length_of l)) c.in-Refused.is)

@@ -12,4 +12,4 @@ returns-in-Of c =
 
 pub returns-in-Refused : goal.returns-in-Refused
 returns-in-Refused c =
-    omega (arith, ap (λ (w : Number). numbered_code (numbered_of w)) c.answer-in-Refused-1.given.1)
+    omega (arith, ap (λ (w : Number). numbered_code (numbered_of w)) c.in-Refused.is)

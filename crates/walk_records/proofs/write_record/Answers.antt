@@ -11,7 +11,7 @@ bounds-out-at-2 c =
 
 pub write_bytes-requires : goal.write_bytes-requires
 write_bytes-requires c =
-    let cut_length : length c.args.l.cut ≡ 64 = sym (length-map c.args.l.cut (λ v. v)) ∙ c.well-formed.1.1.0.1.1.0.1.0.1 in
+    let cut_length : length c.args.l.cut ≡ 64 = sym (length-map c.args.l.cut (λ v. v)) ∙ c.well_formed.1.1.0.1.1.0.1.0.1 in
     simp length-set (omega (arith, cut_length))
 
 pub write32-requires : goal.write32-requires
@@ -24,7 +24,7 @@ shape_of-out c =
 
 pub returns : goal.returns
 returns c =
-    let cut_length : length c.args.l.cut ≡ 64 = sym (length-map c.args.l.cut (λ v. v)) ∙ c.well-formed.1.1.0.1.1.0.1.0.1 in
+    let cut_length : length c.args.l.cut ≡ 64 = sym (length-map c.args.l.cut (λ v. v)) ∙ c.well_formed.1.1.0.1.1.0.1.0.1 in
     let a = c.args in
     let keyed = c.write_bytes in
     record_overlaid a.out.now a.at a.l keyed.new.0 _ c.requires.within cut_length (rw (← c.kind_byte.ensures) keyed.ensures) c.write32.ensures

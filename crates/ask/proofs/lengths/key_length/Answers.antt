@@ -25,14 +25,14 @@ returns-in-Point c =
 pub returns-in-Begins : goal.returns-in-Begins
 returns-in-Begins c =
     let a = c.args in
-    (keyless_matched a.f.hash_width (read_leaves a.image.now) a.file.now c.enum_told-in-Begins-1.given.1 tt, omega arith)
+    (keyless_matched a.f.hash_width (read_leaves a.image.now) a.file.now c.in-Begins.is tt, omega arith)
 
 pub returns-in-Range : goal.returns-in-Range
 returns-in-Range c =
     let a = c.args in
-    (keyless_matched a.f.hash_width (read_leaves a.image.now) a.file.now c.enum_told-in-Range-1.given.1 tt, omega arith)
+    (keyless_matched a.f.hash_width (read_leaves a.image.now) a.file.now c.in-Range.is tt, omega arith)
 
 pub returns-in-Count : goal.returns-in-Count
 returns-in-Count c =
     let a = c.args in
-    (keyless_matched a.f.hash_width (read_leaves a.image.now) a.file.now c.enum_told-in-Count-1.given.1 tt, omega arith)
+    (keyless_matched a.f.hash_width (read_leaves a.image.now) a.file.now c.in-Count.is tt, omega arith)

@@ -23,23 +23,23 @@ pub returns-in-Refused : goal.returns-in-Refused
 returns-in-Refused c =
     let a = c.args in
     let l = c.loop-at in
-    let r = c.found-1.given.0.0 in
-    let k = question_refused a.s.now l.at c.found-1.given.1 c.judge_question-found.ensures in
+    let r = c.in-Refused.r in
+    let k = question_refused a.s.now l.at c.in-Refused.is c.judge_question-found.ensures in
     sym (l.invariant.3 ∙ judge_refused a.s.now l.at l.count c.loop-at-test.true c.if-count-eq-MAX_QUESTIONS.false (length a.s.now - l.count) r (omega arith) k)
 
 pub loop-at-smaller : goal.loop-at-smaller
 loop-at-smaller c =
     let a = c.args in
     let l = c.loop-at in
-    let k = question_ended a.s.now l.at c.found-in-End-1.given.1 c.judge_question-found.ensures in
+    let k = question_ended a.s.now l.at c.in-End.is c.judge_question-found.ensures in
     omega (arith, k.1, k.2)
 
 pub loop-at-preserved : goal.loop-at-preserved
 loop-at-preserved c =
     let a = c.args in
     let l = c.loop-at in
-    let e = c.found-in-End-1.given.0.0 in
-    let k = question_ended a.s.now l.at c.found-in-End-1.given.1 c.judge_question-found.ensures in
+    let e = c.in-End.end in
+    let k = question_ended a.s.now l.at c.in-End.is c.judge_question-found.ensures in
     let room = c.if-count-eq-MAX_QUESTIONS.false in
     let f : length a.s.now - l.count - 1 ≡ length a.s.now - (l.count + 1) = omega arith in (
       omega (arith, k.1),

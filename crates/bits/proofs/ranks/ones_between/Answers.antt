@@ -1,6 +1,6 @@
 -- The loop: so many ones stand from word `from` on and before word q.
 use mathlib.Core.Path.{◌≡◌, ap}
-use Prim.Native.Nat.{◌+◌, ◌*◌, ◌-◌, ◌%◌}
+use Prim.Native.Nat.{◌+◌, ◌*◌, ◌%◌}
 use native.Mathlib.Omega.{arith}
 use Rattle.bits.specs.RankLaws.{rank_le}
 use Rattle.bits.specs.Bits.{rank}

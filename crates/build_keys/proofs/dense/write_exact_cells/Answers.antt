@@ -1,5 +1,4 @@
 -- What is left of the key's entries stands from level d on; an exact leaf comes last.
-use Prim.Native.Nat.{◌-◌}
 use mathlib.Core.Path.{sym, ◌∙◌}
 use native.Mathlib.Omega.{arith}
 use Rattle.build_keys.specs.EntryLaws.{left_all, branch_room, branch_written, exact_room, exact_written, all_written}
@@ -15,7 +14,7 @@ put_cell-requires c =
 
 pub loop-d-preserved : goal.loop-d-preserved
 loop-d-preserved c =
-    branch_written c.loop-d.invariant c.loop-d-test.true c.put_cell.auto.0 c.put_cell.ensures
+    branch_written c.loop-d.invariant c.loop-d-test.true c.put_cell.auto.out c.put_cell.ensures
 
 pub put_cell-requires-then-has_exact : goal.put_cell-requires-then-has_exact
 put_cell-requires-then-has_exact c =

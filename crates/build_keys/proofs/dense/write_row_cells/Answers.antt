@@ -1,5 +1,4 @@
 -- What is left of the key's entries stands from level d on; an exact leaf comes last. The level of the key's leaf is known throughout.
-use Prim.Native.Nat.{◌-◌}
 use mathlib.Core.Path.{sym, ◌∙◌}
 use native.Mathlib.Omega.{arith}
 use lib.ListN.{length}
@@ -24,7 +23,7 @@ loop-d-preserved c =
     let l = c.loop-d in
     let all = c.args.all in
     let q = row_branch all l.d _ _ l.invariant.1.listed l.invariant.1.levels c.loop-d-test.true l.invariant.0 c.wide.ensures.0 in
-    (l.invariant.0, branch_written l.invariant.1 c.loop-d-test.true c.put_cell.auto.0 (row_written all l.d _ _ (byte_state l.out l.cur) _ q c.put_cell.ensures))
+    (l.invariant.0, branch_written l.invariant.1 c.loop-d-test.true c.put_cell.auto.out (row_written all l.d _ _ (byte_state l.out l.cur) _ q c.put_cell.ensures))
 
 pub put_cell-requires-then-has_exact : goal.put_cell-requires-then-has_exact
 put_cell-requires-then-has_exact c =

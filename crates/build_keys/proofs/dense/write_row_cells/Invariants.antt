@@ -8,7 +8,7 @@ use Rattle.build_keys.specs.RowCells.{row_kind}
 use Rattle.build_keys.proofs.dense.write_row_cells.Given as goal
 
 abbrev pub invariant-loop-d : goal.invariant-loop-d
-invariant-loop-d l = (l.l.leaf ≡ leaf_level (pred l.l.k.first) l.l.k.next l.l.k.len) × Left (row_kind l.l.all) l.l.s l.l.k l.l l.b l.l.initial.out l.l.initial.cur l.l.out l.l.cur l.d
+invariant-loop-d l = (l.leaf ≡ leaf_level (pred l.k.first) l.k.next l.k.len) × Left (row_kind l.all) l.s l.k l.l l.b l.initial.out l.initial.cur l.out l.cur l.d
 
 abbrev pub decreases-loop-d : goal.decreases-loop-d
 decreases-loop-d l = l.b.hi - l.d

@@ -1,5 +1,5 @@
 -- What is left of the key's entries stands from level d on; an exact leaf comes last.
-use Prim.Native.Nat.{ℕ, ◌-◌}
+use Prim.Native.Nat.{ℕ}
 use mathlib.Core.Path.{sym, ap, ◌∙◌}
 use native.Mathlib.Omega.{arith}
 use Rattle.build_laws.specs.Emissions.{emission}
@@ -21,7 +21,7 @@ loop-d-preserved c =
     let l = c.loop-d in
     let k = c.args.k in
     let b = key_byte c.args.s.now k.at k.len l.d (omega (arith, c.loop-d-test.true, l.invariant.levels.within)) in
-    branch_written l.invariant c.loop-d-test.true c.put_byte.auto.0 (c.put_byte.ensures ∙ ap (λ (y : ℕ). put_byte (emission l.d y) (byte_state l.out l.cur)) b)
+    branch_written l.invariant c.loop-d-test.true c.put_byte.auto.out (c.put_byte.ensures ∙ ap (λ (y : ℕ). put_byte (emission l.d y) (byte_state l.out l.cur)) b)
 
 pub put_byte-requires-then-has_exact : goal.put_byte-requires-then-has_exact
 put_byte-requires-then-has_exact c =

@@ -5,7 +5,7 @@ use Rattle.build_keys.specs.EntryLaws.{Left}
 use Rattle.build_keys.proofs.entries.write_labels.Given as goal
 
 abbrev pub invariant-loop-d : goal.invariant-loop-d
-invariant-loop-d l = Left SL l.l.s l.l.k l.l l.b l.l.initial.out l.l.initial.cur l.l.out l.l.cur l.d
+invariant-loop-d l = Left SL l.s l.k l.l l.b l.initial.out l.initial.cur l.out l.cur l.d
 
 abbrev pub decreases-loop-d : goal.decreases-loop-d
 decreases-loop-d l = l.b.hi - l.d

@@ -16,38 +16,38 @@ loop-at-init c =
 pub returns-in-Refused : goal.returns-in-Refused
 returns-in-Refused c =
     let judge-record = c.judge_record-found in
-    let found = c.found-1 in
+    let found = c.in-Refused in
     let a = c.args in
     let l = c.loop-at in
-    let r : RecordJudged a.s.now l.at l.count (key a.s.now l.last l.m) (Record-refused found.given.0.0) = subst (RecordJudged a.s.now l.at l.count (key a.s.now l.last l.m)) found.given.1 judge-record.ensures in
-    sym (l.invariant.4 ∙ judge_number a.s.now l.at l.count (key a.s.now l.last l.m) (length a.s.now - l.count) found.given.0.0 (omega arith) r)
+    let r : RecordJudged a.s.now l.at l.count (key a.s.now l.last l.m) (Record-refused found.r) = subst (RecordJudged a.s.now l.at l.count (key a.s.now l.last l.m)) found.is judge-record.ensures in
+    sym (l.invariant.4 ∙ judge_number a.s.now l.at l.count (key a.s.now l.last l.m) (length a.s.now - l.count) found.r (omega arith) r)
 
 pub overflow_add-at-in-Key : goal.overflow_add-at-in-Key
 overflow_add-at-in-Key c =
     let judge-record = c.judge_record-found in
-    let found2 = c.found-in-Key-1 in
+    let found2 = c.in-Key in
     let a = c.args in
     let l = c.loop-at in
-    let r : RecordJudged a.s.now l.at l.count (key a.s.now l.last l.m) (Key found2.given.0.0) = subst (RecordJudged a.s.now l.at l.count (key a.s.now l.last l.m)) found2.given.1 judge-record.ensures in
+    let r : RecordJudged a.s.now l.at l.count (key a.s.now l.last l.m) (Key found2.n) = subst (RecordJudged a.s.now l.at l.count (key a.s.now l.last l.m)) found2.is judge-record.ensures in
     omega (arith, r.within)
 
 pub loop-at-smaller : goal.loop-at-smaller
 loop-at-smaller c =
     let judge-record = c.judge_record-found in
-    let found2 = c.found-in-Key-1 in
+    let found2 = c.in-Key in
     let a = c.args in
     let l = c.loop-at in
-    let r : RecordJudged a.s.now l.at l.count (key a.s.now l.last l.m) (Key found2.given.0.0) = subst (RecordJudged a.s.now l.at l.count (key a.s.now l.last l.m)) found2.given.1 judge-record.ensures in
+    let r : RecordJudged a.s.now l.at l.count (key a.s.now l.last l.m) (Key found2.n) = subst (RecordJudged a.s.now l.at l.count (key a.s.now l.last l.m)) found2.is judge-record.ensures in
     omega (arith, r.within)
 
 pub loop-at-preserved : goal.loop-at-preserved
 loop-at-preserved c =
     let judge-record = c.judge_record-found in
-    let found2 = c.found-in-Key-1 in
+    let found2 = c.in-Key in
     let a = c.args in
     let l = c.loop-at in
-    let r : RecordJudged a.s.now l.at l.count (key a.s.now l.last l.m) (Key found2.given.0.0) = subst (RecordJudged a.s.now l.at l.count (key a.s.now l.last l.m)) found2.given.1 judge-record.ensures in
-    let n = found2.given.0.0 in
+    let r : RecordJudged a.s.now l.at l.count (key a.s.now l.last l.m) (Key found2.n) = subst (RecordJudged a.s.now l.at l.count (key a.s.now l.last l.m)) found2.is judge-record.ensures in
+    let n = found2.n in
     let e : length a.s.now - l.count - 1 ≡ length a.s.now - (l.count + 1) = omega arith in (
       omega arith,
       omega (arith, r.within),

@@ -20,25 +20,25 @@ fronts s i m j n o x h e = sym (ap₂ (λ (k l : Bytes). order (take m k) (take 
 pub slice_bounds-compare_fronts-count-in-Key : goal.slice_bounds-compare_fronts-count-in-Key
 slice_bounds-compare_fronts-count-in-Key c =
     let read-record = c.read_record-found in
-    let found2 = c.found-in-Key-1 in
+    let found2 = c.in-Key in
     let a = c.args in
-    let r : RecordRead a.s.now a.at a.done (Key found2.given.0.0) = subst (RecordRead a.s.now a.at a.done) found2.given.1 read-record.ensures in
+    let r : RecordRead a.s.now a.at a.done (Key found2.n) = subst (RecordRead a.s.now a.at a.done) found2.is read-record.ensures in
     omega (arith, r.within)
 
 pub slice_bounds-compare_fronts-start-in-Key : goal.slice_bounds-compare_fronts-start-in-Key
 slice_bounds-compare_fronts-start-in-Key c =
     let read-record = c.read_record-found in
-    let found2 = c.found-in-Key-1 in
+    let found2 = c.in-Key in
     let a = c.args in
-    let r : RecordRead a.s.now a.at a.done (Key found2.given.0.0) = subst (RecordRead a.s.now a.at a.done) found2.given.1 read-record.ensures in
+    let r : RecordRead a.s.now a.at a.done (Key found2.n) = subst (RecordRead a.s.now a.at a.done) found2.is read-record.ensures in
     omega (arith, r.within)
 
 pub compare_fronts-o-requires : goal.compare_fronts-o-requires
 compare_fronts-o-requires c =
     let read-record = c.read_record-found in
-    let found2 = c.found-in-Key-1 in
+    let found2 = c.in-Key in
     let a = c.args in
-    let r : RecordRead a.s.now a.at a.done (Key found2.given.0.0) = subst (RecordRead a.s.now a.at a.done) found2.given.1 read-record.ensures in
+    let r : RecordRead a.s.now a.at a.done (Key found2.n) = subst (RecordRead a.s.now a.at a.done) found2.is read-record.ensures in
     let s = a.s.now in
     let b = a.at + 3 in
     let front = length-drop a.last s in
@@ -48,40 +48,40 @@ compare_fronts-o-requires c =
 pub returns-in-Refused : goal.returns-in-Refused
 returns-in-Refused c =
     let read-record = c.read_record-found in
-    let found = c.found-1 in
+    let found = c.in-Refused in
     let a = c.args in
-    let r : RecordRead a.s.now a.at a.done (Record-refused found.given.0.0) = subst (RecordRead a.s.now a.at a.done) found.given.1 read-record.ensures in
+    let r : RecordRead a.s.now a.at a.done (Record-refused found.r) = subst (RecordRead a.s.now a.at a.done) found.is read-record.ensures in
     λ f. r f (key a.s.now a.last a.m)
 
 pub returns-in-Below : goal.returns-in-Below
 returns-in-Below c =
     let read-record = c.read_record-found in
-    let found2 = c.found-in-Key-1 in
+    let found2 = c.in-Key in
     let compare = c.compare_fronts-o in
     let a = c.args in
-    let n = found2.given.0.0 in
-    let r : RecordRead a.s.now a.at a.done (Key n) = subst (RecordRead a.s.now a.at a.done) found2.given.1 read-record.ensures in
-    let o = fronts a.s.now a.last a.m (a.at + 3) n _ _ compare.ensures c.enum_told-1.given.1 in
+    let n = found2.n in
+    let r : RecordRead a.s.now a.at a.done (Key n) = subst (RecordRead a.s.now a.at a.done) found2.is read-record.ensures in
+    let o = fronts a.s.now a.last a.m (a.at + 3) n _ _ compare.ensures c.in-Below.is in
     record { within = r.within; few = r.few; high = λ f. r.high f (key a.s.now a.last a.m) (order_is_below (key a.s.now a.last a.m) (key a.s.now (a.at + 3) n) o) }
 
 pub returns-in-Equal : goal.returns-in-Equal
 returns-in-Equal c =
     let read-record = c.read_record-found in
-    let found2 = c.found-in-Key-1 in
+    let found2 = c.in-Key in
     let compare = c.compare_fronts-o in
     let a = c.args in
-    let n = found2.given.0.0 in
-    let r : RecordRead a.s.now a.at a.done (Key n) = subst (RecordRead a.s.now a.at a.done) found2.given.1 read-record.ensures in
-    let o = fronts a.s.now a.last a.m (a.at + 3) n _ _ compare.ensures c.enum_told-in-Equal-1.given.1 in
+    let n = found2.n in
+    let r : RecordRead a.s.now a.at a.done (Key n) = subst (RecordRead a.s.now a.at a.done) found2.is read-record.ensures in
+    let o = fronts a.s.now a.last a.m (a.at + 3) n _ _ compare.ensures c.in-Equal.is in
     λ f. r.low f (key a.s.now a.last a.m) (order_not_below (key a.s.now a.last a.m) (key a.s.now (a.at + 3) n) (inl o))
 
 pub returns-in-Above : goal.returns-in-Above
 returns-in-Above c =
     let read-record = c.read_record-found in
-    let found2 = c.found-in-Key-1 in
+    let found2 = c.in-Key in
     let compare = c.compare_fronts-o in
     let a = c.args in
-    let n = found2.given.0.0 in
-    let r : RecordRead a.s.now a.at a.done (Key n) = subst (RecordRead a.s.now a.at a.done) found2.given.1 read-record.ensures in
-    let o = fronts a.s.now a.last a.m (a.at + 3) n _ _ compare.ensures c.enum_told-in-Above-1.given.1 in
+    let n = found2.n in
+    let r : RecordRead a.s.now a.at a.done (Key n) = subst (RecordRead a.s.now a.at a.done) found2.is read-record.ensures in
+    let o = fronts a.s.now a.last a.m (a.at + 3) n _ _ compare.ensures c.in-Above.is in
     λ f. r.low f (key a.s.now a.last a.m) (order_not_below (key a.s.now a.last a.m) (key a.s.now (a.at + 3) n) (inr o))

@@ -1,5 +1,5 @@
 -- All keys are long exactly if those of the records left are.
-use Prim.Native.Nat.{ℕ, ◌+◌, ◌-◌}
+use Prim.Native.Nat.{ℕ, ◌+◌}
 use mathlib.Core.Path.{sym, subst}
 use native.Mathlib.Omega.{arith}
 use Rattle.build_list.specs.LongKeys.{LongLeft, long_start, long_here, long_short, long_next, long_done}

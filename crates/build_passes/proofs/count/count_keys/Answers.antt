@@ -1,5 +1,5 @@
 -- What the keys left count gives what all keys count, and there is room for it.
-use Prim.Native.Nat.{◌+◌, ◌-◌}
+use Prim.Native.Nat.{◌+◌}
 use Rattle.build_passes.specs.CountedKeys.{starts_same, starts_key, starts_reads, starts_done, starts_begin}
 use native.Mathlib.Omega.{arith}
 use Rattle.build_passes.proofs.count.count_keys.Goals as goal
@@ -16,7 +16,7 @@ pub count_key-requires : goal.count_key-requires
 count_key-requires c =
     let l = c.loop-at in
     let t = starts_key c.args.s.now l.at l.first _ _ _ l.invariant c.read_key-k.result c.read_key-k.ensures c.loop-at-test.true in
-    (t.listed.numbers, (t.start_room, t.leaf_room))
+    record { key_numbers = t.listed.numbers; first_bound = (t.start_room, t.leaf_room) }
 
 pub overflow_add-first : goal.overflow_add-first
 overflow_add-first c =

@@ -1,7 +1,7 @@
 -- Up to the level reached there are entries and nodes.
 use Rattle.build_passes.specs.LevelSums.{summing_root, summing_fits, summing_few, summing_next, summing_done}
 use mathlib.Core.Path.{refl, ap, ◌∙◌}
-use Prim.Native.Nat.{◌-◌, min}
+use Prim.Native.Nat.{min}
 use native.Mathlib.Omega.{arith}
 use Rattle.build_passes.proofs.count.sum_levels.Goals as goal
 

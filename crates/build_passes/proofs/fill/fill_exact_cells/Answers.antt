@@ -1,5 +1,5 @@
 -- What the keys left do gives what all keys do, and there is room for it.
-use Prim.Native.Nat.{ℕ, ◌+◌, ◌-◌}
+use Prim.Native.Nat.{ℕ, ◌+◌}
 use mathlib.Core.Path.{subst, refl, sym}
 use lib.ListN.{length}
 use Rattle.spec.specs.Keys.{keys_of}
@@ -14,7 +14,7 @@ pub loop-at-init : goal.loop-at-init
 loop-at-init c =
     let a = c.args in
     let pre = c.requires in
-    (refl, fill_start (entries_pass DP a.l) a.s.now (length a.out.now) (byte_state a.out.now a.cur.now) pre.0.0 pre.0.1 pre.1)
+    (refl, fill_start (entries_pass DP a.l) a.s.now (length a.out.now) (byte_state a.out.now a.cur.now) pre.accepted_list.0 pre.accepted_list.1 pre.pass_room)
 
 pub read_key-k-requires : goal.read_key-k-requires
 read_key-k-requires c =
@@ -58,7 +58,7 @@ loop-at-preserved c =
     let l = c.loop-at in
     let k = c.read_key-k.result in
     let t = fill_key (entries_pass DP a.l) a.s.now (length a.out.now) l.at l.first (byte_state l.out l.cur) _ k c.read_key-k.ensures c.loop-at-test.true l.invariant.1 in
-    (omega (arith, c.write_exact_cells.auto.0, l.invariant.0), subst (λ (z : ByteState). Filling (entries_pass DP a.l) a.s.now (length a.out.now) (k.at + k.len) (k.next + 1) z (pass_keys (entries_pass DP a.l) 0 (keys_of a.s.now) (byte_state a.out.now a.cur.now))) (sym c.write_exact_cells.ensures) t.behind)
+    (omega (arith, c.write_exact_cells.auto.out, l.invariant.0), subst (λ (z : ByteState). Filling (entries_pass DP a.l) a.s.now (length a.out.now) (k.at + k.len) (k.next + 1) z (pass_keys (entries_pass DP a.l) 0 (keys_of a.s.now) (byte_state a.out.now a.cur.now))) (sym c.write_exact_cells.ensures) t.behind)
 
 pub shape_of-out : goal.shape_of-out
 shape_of-out c =

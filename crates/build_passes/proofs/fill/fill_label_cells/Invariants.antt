@@ -10,7 +10,7 @@ use Rattle.build_laws.specs.declared.Kind.TheVariants.{DL}
 use Rattle.build_passes.proofs.fill.fill_label_cells.Given as goal
 
 abbrev pub invariant-loop-at : goal.invariant-loop-at
-invariant-loop-at l = (length l.l.out ≡ length l.l.initial.out) × Filling (entries_pass DL l.l) l.l.s (length l.l.initial.out) l.l.at l.l.first (byte_state l.l.out l.l.cur) (pass_keys (entries_pass DL l.l) 0 (keys_of l.l.s) (byte_state l.l.initial.out l.l.initial.cur))
+invariant-loop-at l = (length l.out ≡ length l.initial.out) × Filling (entries_pass DL l.l) l.s (length l.initial.out) l.at l.first (byte_state l.out l.cur) (pass_keys (entries_pass DL l.l) 0 (keys_of l.s) (byte_state l.initial.out l.initial.cur))
 
 abbrev pub decreases-loop-at : goal.decreases-loop-at
-decreases-loop-at l = length l.l.s - l.l.at
+decreases-loop-at l = length l.s - l.at

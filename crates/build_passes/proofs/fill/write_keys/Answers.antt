@@ -33,75 +33,75 @@ pub fill_label_cells-requires : goal.fill_label_cells-requires
 fill_label_cells-requires c =
     let a = c.args in
     let pre = c.requires in
-    ((pre.0.0, pre.0.1), known a.pass (Entries DL) (keys_of a.s.now) (length a.out.now) a.cur.now (c.body-1.given.1 ∙ ap Entries c.enum_told-1.given.1) pre.1)
+    record { accepted_list = (pre.accepted_list.0, pre.accepted_list.1); pass_room = known a.pass (Entries DL) (keys_of a.s.now) (length a.out.now) a.cur.now (c.in-Entries.is ∙ ap Entries c.in-DL.is) pre.pass_room }
 
 pub fill_child_cells-requires : goal.fill_child_cells-requires
 fill_child_cells-requires c =
     let a = c.args in
     let pre = c.requires in
-    ((pre.0.0, pre.0.1), known a.pass (Entries DC) (keys_of a.s.now) (length a.out.now) a.cur.now (c.body-1.given.1 ∙ ap Entries c.enum_told-in-DC-1.given.1) pre.1)
+    record { accepted_list = (pre.accepted_list.0, pre.accepted_list.1); pass_room = known a.pass (Entries DC) (keys_of a.s.now) (length a.out.now) a.cur.now (c.in-Entries.is ∙ ap Entries c.in-DC.is) pre.pass_room }
 
 pub fill_exact-requires : goal.fill_exact-requires
 fill_exact-requires c =
     let a = c.args in
     let pre = c.requires in
-    ((pre.0.0, pre.0.1), known a.pass (Entries DP) (keys_of a.s.now) (length a.out.now) a.cur.now (c.body-1.given.1 ∙ ap Entries c.enum_told-in-DP-1.given.1) pre.1)
+    record { accepted_list = (pre.accepted_list.0, pre.accepted_list.1); pass_room = known a.pass (Entries DP) (keys_of a.s.now) (length a.out.now) a.cur.now (c.in-Entries.is ∙ ap Entries c.in-DP.is) pre.pass_room }
 
 pub fill_labels-requires : goal.fill_labels-requires
 fill_labels-requires c =
     let a = c.args in
     let pre = c.requires in
-    ((pre.0.0, pre.0.1), known a.pass (Entries SL) (keys_of a.s.now) (length a.out.now) a.cur.now (c.body-1.given.1 ∙ ap Entries c.enum_told-in-SL-1.given.1) pre.1)
+    record { accepted_list = (pre.accepted_list.0, pre.accepted_list.1); pass_room = known a.pass (Entries SL) (keys_of a.s.now) (length a.out.now) a.cur.now (c.in-Entries.is ∙ ap Entries c.in-SL.is) pre.pass_room }
 
 pub fill_leaves-requires : goal.fill_leaves-requires
 fill_leaves-requires c =
     let a = c.args in
     let pre = c.requires in
-    ((pre.0.0, pre.0.1), known a.pass (Entries SC) (keys_of a.s.now) (length a.out.now) a.cur.now (c.body-1.given.1 ∙ ap Entries c.enum_told-in-SC-1.given.1) pre.1)
+    record { accepted_list = (pre.accepted_list.0, pre.accepted_list.1); pass_room = known a.pass (Entries SC) (keys_of a.s.now) (length a.out.now) a.cur.now (c.in-Entries.is ∙ ap Entries c.in-SC.is) pre.pass_room }
 
 pub fill_later-requires : goal.fill_later-requires
 fill_later-requires c =
     let a = c.args in
     let pre = c.requires in
-    ((pre.0.0, pre.0.1), known a.pass (Entries SB) (keys_of a.s.now) (length a.out.now) a.cur.now (c.body-1.given.1 ∙ ap Entries c.enum_told-in-SB-1.given.1) pre.1)
+    record { accepted_list = (pre.accepted_list.0, pre.accepted_list.1); pass_room = known a.pass (Entries SB) (keys_of a.s.now) (length a.out.now) a.cur.now (c.in-Entries.is ∙ ap Entries c.in-SB.is) pre.pass_room }
 
 pub fill_slots-requires : goal.fill_slots-requires
 fill_slots-requires c =
     let a = c.args in
     let pre = c.requires in
-    (pre.0, known a.pass Slots (keys_of a.s.now) (length a.out.now) a.cur.now c.enum_told-in-Slots-1.given.1 pre.1)
+    record { accepted_list = pre.accepted_list; pass_room = known a.pass Slots (keys_of a.s.now) (length a.out.now) a.cur.now c.in-Slots.is pre.pass_room }
 
 pub returns-in-DL : goal.returns-in-DL
 returns-in-DL c =
     let a = c.args in
-    does_all a.pass (Entries DL) (keys_of a.s.now) (byte_state a.out.now a.cur.now) _ (c.body-1.given.1 ∙ ap Entries c.enum_told-1.given.1) c.fill_label_cells.ensures
+    does_all a.pass (Entries DL) (keys_of a.s.now) (byte_state a.out.now a.cur.now) _ (c.in-Entries.is ∙ ap Entries c.in-DL.is) c.fill_label_cells.ensures
 
 pub returns-in-DC : goal.returns-in-DC
 returns-in-DC c =
     let a = c.args in
-    does_all a.pass (Entries DC) (keys_of a.s.now) (byte_state a.out.now a.cur.now) _ (c.body-1.given.1 ∙ ap Entries c.enum_told-in-DC-1.given.1) c.fill_child_cells.ensures
+    does_all a.pass (Entries DC) (keys_of a.s.now) (byte_state a.out.now a.cur.now) _ (c.in-Entries.is ∙ ap Entries c.in-DC.is) c.fill_child_cells.ensures
 
 pub returns-in-DP : goal.returns-in-DP
 returns-in-DP c =
     let a = c.args in
-    does a.pass (Entries DP) (keys_of a.s.now) (byte_state a.out.now a.cur.now) _ (c.body-1.given.1 ∙ ap Entries c.enum_told-in-DP-1.given.1) c.fill_exact.ensures
+    does a.pass (Entries DP) (keys_of a.s.now) (byte_state a.out.now a.cur.now) _ (c.in-Entries.is ∙ ap Entries c.in-DP.is) c.fill_exact.ensures
 
 pub returns-in-SL : goal.returns-in-SL
 returns-in-SL c =
     let a = c.args in
-    does_all a.pass (Entries SL) (keys_of a.s.now) (byte_state a.out.now a.cur.now) _ (c.body-1.given.1 ∙ ap Entries c.enum_told-in-SL-1.given.1) c.fill_labels.ensures
+    does_all a.pass (Entries SL) (keys_of a.s.now) (byte_state a.out.now a.cur.now) _ (c.in-Entries.is ∙ ap Entries c.in-SL.is) c.fill_labels.ensures
 
 pub returns-in-SC : goal.returns-in-SC
 returns-in-SC c =
     let a = c.args in
-    does_all a.pass (Entries SC) (keys_of a.s.now) (byte_state a.out.now a.cur.now) _ (c.body-1.given.1 ∙ ap Entries c.enum_told-in-SC-1.given.1) c.fill_leaves.ensures
+    does_all a.pass (Entries SC) (keys_of a.s.now) (byte_state a.out.now a.cur.now) _ (c.in-Entries.is ∙ ap Entries c.in-SC.is) c.fill_leaves.ensures
 
 pub returns-in-SB : goal.returns-in-SB
 returns-in-SB c =
     let a = c.args in
-    does_all a.pass (Entries SB) (keys_of a.s.now) (byte_state a.out.now a.cur.now) _ (c.body-1.given.1 ∙ ap Entries c.enum_told-in-SB-1.given.1) c.fill_later.ensures
+    does_all a.pass (Entries SB) (keys_of a.s.now) (byte_state a.out.now a.cur.now) _ (c.in-Entries.is ∙ ap Entries c.in-SB.is) c.fill_later.ensures
 
 pub returns-in-Slots : goal.returns-in-Slots
 returns-in-Slots c =
     let a = c.args in
-    does_all a.pass Slots (keys_of a.s.now) (byte_state a.out.now a.cur.now) _ c.enum_told-in-Slots-1.given.1 c.fill_slots.ensures
+    does_all a.pass Slots (keys_of a.s.now) (byte_state a.out.now a.cur.now) _ c.in-Slots.is c.fill_slots.ensures

@@ -1,5 +1,5 @@
 -- The whole bytes before i are flipped; the last bits come behind them.
-use Prim.Native.Nat.{◌-◌, ◌/◌}
+use Prim.Native.Nat.{◌/◌}
 use mathlib.Core.Path.{◌≡◌, refl, ◌∙◌}
 use native.Mathlib.Omega.{arith}
 use lib.ListN.{length-set}
@@ -13,10 +13,6 @@ loop-i-init c =
 pub bounds-out-i : goal.bounds-out-i
 bounds-out-i c =
     omega arith
-
-pub overflow_sub-out : goal.overflow_sub-out
-overflow_sub-out c =
-    omega (arith, (c.slice_known-in-loop-i-1.given c.loop-i.i).fits)
 
 pub bounds-out-i-in-loop-i : goal.bounds-out-i-in-loop-i
 bounds-out-i-in-loop-i c =
@@ -33,7 +29,7 @@ loop-i-smaller c =
 pub loop-i-preserved : goal.loop-i-preserved
 loop-i-preserved c =
     let l = c.loop-i in
-    (omega arith, length-set l.out l.i _ ∙ l.invariant.1, flip_whole l.i c.args.out.now l.out (omega arith) (c.slice_known-in-loop-i-1.given l.i).fits l.invariant.2)
+    (omega arith, length-set l.out l.i _ ∙ l.invariant.1, flip_whole l.i c.args.out.now l.out (omega arith) (omega arith) l.invariant.2)
 
 pub flip_last-requires : goal.flip_last-requires
 flip_last-requires c =

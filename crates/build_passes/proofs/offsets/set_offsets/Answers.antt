@@ -3,7 +3,7 @@ use lib.ListN.{length-set}
 use Rattle.build_laws.specs.Cursors.{sums, sums_none}
 use Rattle.build_passes.specs.CounterSums.{sums_le, cursor_more}
 use mathlib.Core.Path.{sym, ◌∙◌}
-use Prim.Native.Nat.{◌+◌, ◌-◌}
+use Prim.Native.Nat.{◌+◌}
 use native.Mathlib.Omega.{arith}
 use Rattle.build_laws.specs.Limits.{counters}
 use Rattle.build_passes.proofs.offsets.set_offsets.Goals as goal

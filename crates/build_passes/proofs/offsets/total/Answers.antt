@@ -2,7 +2,7 @@
 use Rattle.build_laws.specs.Cursors.{sums, sums_none}
 use Rattle.build_passes.specs.CounterSums.{sums_le}
 use mathlib.Core.Path.{◌≡◌, sym, ap, ◌∙◌}
-use Prim.Native.Nat.{◌+◌, ◌-◌}
+use Prim.Native.Nat.{◌+◌}
 use native.Mathlib.Omega.{arith}
 use Rattle.build_laws.specs.Limits.{counters}
 use Rattle.build_passes.proofs.offsets.total.Goals as goal

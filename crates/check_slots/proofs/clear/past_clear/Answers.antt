@@ -107,7 +107,7 @@ returns-then-not-few_clear c =
     let l = c.loop-v in
     let t = c.loop-v-test.true in
     sym (l.invariant.1 ∙ from_fail (test a.sv.now a.leaves a.width a.skip) l.v a.to.0 t
-    (sym (slot_behind a.sv.now a.leaves a.width l.v (inside t p.2) p.0.few_leaves p.0.narrow a.skip l.invariant.0) ∙ sym c.few_clear.ensures ∙ not-true _ c.if-not-few_clear.true))
+    (sym (slot_behind a.sv.now a.leaves a.width l.v (inside t p.2) p.0.few_leaves p.0.narrow a.skip l.invariant.0) ∙ sym c.few_clear.ensures ∙ c.if-not-few_clear.true))
 
 pub overflow_add-v : goal.overflow_add-v
 overflow_add-v c =
@@ -132,7 +132,7 @@ loop-v-preserved c =
     let t = c.loop-v-test.true in (
       l.invariant.0,
       l.invariant.1 ∙ from_step (test a.sv.now a.leaves a.width a.skip) l.v a.to.0 t
-          (sym (slot_behind a.sv.now a.leaves a.width l.v (inside t p.2) p.0.few_leaves p.0.narrow a.skip l.invariant.0) ∙ sym c.few_clear.ensures ∙ not-false _ c.if-not-few_clear.false),
+          (sym (slot_behind a.sv.now a.leaves a.width l.v (inside t p.2) p.0.few_leaves p.0.narrow a.skip l.invariant.0) ∙ sym c.few_clear.ensures ∙ c.if-not-few_clear.false),
     )
 
 pub returns : goal.returns

@@ -57,7 +57,7 @@ returns-then-not-exact_clear c =
     let s : Bytes = a.image.now in
     let l = c.loop-node in
     let t = c.loop-node-test.true in
-    sym (l.invariant.3 ∙ exact_fails (clear_at s a.f 0) (dl_body s a.f) (dc_body s a.f) (dp_body s a.f) a.f.dense.nodes l.node.0 t (l.invariant.2 t) (sym c.exact_clear.ensures ∙ not-true _ c.if-not-exact_clear.true))
+    sym (l.invariant.3 ∙ exact_fails (clear_at s a.f 0) (dl_body s a.f) (dc_body s a.f) (dp_body s a.f) a.f.dense.nodes l.node.0 t (l.invariant.2 t) (sym c.exact_clear.ensures ∙ c.if-not-exact_clear.true))
 
 pub overflow_add-exacts : goal.overflow_add-exacts
 overflow_add-exacts c =
@@ -91,7 +91,7 @@ loop-node-preserved c =
       e.high,
       exact_count (clear_at s a.f 0) (dl_body s a.f) (dc_body s a.f) (dp_body s a.f) a.f.dense.nodes l.node.0 t (l.invariant.2 t) c.next_exact-node-in-loop-node.result.0 l.exacts l.invariant.1 e.none,
       e.set,
-      l.invariant.3 ∙ exact_passes (clear_at s a.f 0) (dl_body s a.f) (dc_body s a.f) (dp_body s a.f) a.f.dense.nodes l.node.0 t (l.invariant.2 t) c.next_exact-node-in-loop-node.result.0 e.low e.high e.none (sym c.exact_clear.ensures ∙ not-false _ c.if-not-exact_clear.false),
+      l.invariant.3 ∙ exact_passes (clear_at s a.f 0) (dl_body s a.f) (dc_body s a.f) (dp_body s a.f) a.f.dense.nodes l.node.0 t (l.invariant.2 t) c.next_exact-node-in-loop-node.result.0 e.low e.high e.none (sym c.exact_clear.ensures ∙ c.if-not-exact_clear.false),
     )
 
 pub returns : goal.returns

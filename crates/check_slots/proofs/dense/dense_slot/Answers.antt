@@ -27,7 +27,7 @@ pub overflow_add-f : goal.overflow_add-f
 overflow_add-f c =
     let p = c.requires in
     let a = c.args in
-    before_end (entries_within a.image.now a.f p.0 a.node.0 p.2.within).0 c.well-formed.0.0
+    before_end (entries_within a.image.now a.f p.0 a.node.0 p.2.within).0 c.well_formed.0.0
 
 pub read32-labels-requires : goal.read32-labels-requires
 read32-labels-requires c =
@@ -44,7 +44,7 @@ pub overflow_add-f-2 : goal.overflow_add-f-2
 overflow_add-f-2 c =
     let p = c.requires in
     let a = c.args in
-    before_end (entries_within a.image.now a.f p.0 a.node.0 p.2.within).1 c.well-formed.0.0
+    before_end (entries_within a.image.now a.f p.0 a.node.0 p.2.within).1 c.well_formed.0.0
 
 pub read32-children-requires : goal.read32-children-requires
 read32-children-requires c =

@@ -22,7 +22,7 @@ dense_clear-requires c =
 pub returns-then-not-dense_clear : goal.returns-then-not-dense_clear
 returns-then-not-dense_clear c =
     let a = c.args in
-    sym (dense_fails a.image.now a.f c.requires (some_nodes a.f.leaves c.if-f-eq0.false) (sym c.dense_clear.ensures ∙ not-true _ c.if-not-dense_clear.true))
+    sym (dense_fails a.image.now a.f c.requires (some_nodes a.f.leaves c.if-f-eq0.false) (sym c.dense_clear.ensures ∙ c.if-not-dense_clear.true))
 
 pub sparse_clear-requires : goal.sparse_clear-requires
 sparse_clear-requires c =
@@ -31,8 +31,8 @@ sparse_clear-requires c =
 pub returns-then-not-sparse_clear : goal.returns-then-not-sparse_clear
 returns-then-not-sparse_clear c =
     let a = c.args in
-    let d = sym c.dense_clear.ensures ∙ not-false _ c.if-not-dense_clear.false in
-    sym (sparse_fails a.image.now a.f c.requires (some_nodes a.f.leaves c.if-f-eq0.false) d (sym c.sparse_clear.ensures ∙ not-true _ c.if-not-sparse_clear.true))
+    let d = sym c.dense_clear.ensures ∙ c.if-not-dense_clear.false in
+    sym (sparse_fails a.image.now a.f c.requires (some_nodes a.f.leaves c.if-f-eq0.false) d (sym c.sparse_clear.ensures ∙ c.if-not-sparse_clear.true))
 
 pub last_levels_clear-requires : goal.last_levels_clear-requires
 last_levels_clear-requires c =
@@ -41,6 +41,6 @@ last_levels_clear-requires c =
 pub returns : goal.returns
 returns c =
     let a = c.args in
-    let d = sym c.dense_clear.ensures ∙ not-false _ c.if-not-dense_clear.false in
-    let e = sym c.sparse_clear.ensures ∙ not-false _ c.if-not-sparse_clear.false in
+    let d = sym c.dense_clear.ensures ∙ c.if-not-dense_clear.false in
+    let e = sym c.sparse_clear.ensures ∙ c.if-not-sparse_clear.false in
     c.last_levels_clear.ensures ∙ sym (levels_decide a.image.now a.f c.requires (some_nodes a.f.leaves c.if-f-eq0.false) d e)

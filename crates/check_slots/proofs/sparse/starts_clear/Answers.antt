@@ -111,7 +111,7 @@ returns-then-not-entry_clear c =
     let a = c.args in
     let l = c.loop-rest in
     let some = c.loop-rest-test.true in
-    λ sb s. record { passed = λ t. absurd (true≢false (sym t)); failed = λ t. l.invariant.2 sb s ∙ start_fail (clear_slot a.sv.now a.z) a.sl.now a.sc.now sb a.z.entries a.z.first.0 a.word.number a.starts s l.j l.rest l.invariant.0 l.invariant.1 some c.if-z-word.false (sym c.entry_clear.ensures ∙ not-true _ c.if-not-entry_clear.true) }
+    λ sb s. record { passed = λ t. absurd (true≢false (sym t)); failed = λ t. l.invariant.2 sb s ∙ start_fail (clear_slot a.sv.now a.z) a.sl.now a.sc.now sb a.z.entries a.z.first.0 a.word.number a.starts s l.j l.rest l.invariant.0 l.invariant.1 some c.if-z-word.false (sym c.entry_clear.ensures ∙ c.if-not-entry_clear.true) }
 
 pub overflow_shr-rest : goal.overflow_shr-rest
 overflow_shr-rest c =
@@ -145,7 +145,7 @@ loop-rest-preserved c =
     let w = lowest_within a.starts l.j l.rest l.invariant.1 (omega arith) some in (
       below_end l.j (count_trailing_zeros 64 l.rest) w,
       lowest_rest a.starts l.j l.rest l.invariant.1 (omega arith) some,
-      λ sb s. l.invariant.2 sb s ∙ start_pass (clear_slot a.sv.now a.z) a.sl.now a.sc.now sb a.z.entries a.z.first.0 a.word.number a.starts s l.j l.rest l.invariant.0 l.invariant.1 some c.if-z-word.false (sym c.entry_clear.ensures ∙ not-false _ c.if-not-entry_clear.false),
+      λ sb s. l.invariant.2 sb s ∙ start_pass (clear_slot a.sv.now a.z) a.sl.now a.sc.now sb a.z.entries a.z.first.0 a.word.number a.starts s l.j l.rest l.invariant.0 l.invariant.1 some c.if-z-word.false (sym c.entry_clear.ensures ∙ c.if-not-entry_clear.false),
     )
 
 pub returns : goal.returns

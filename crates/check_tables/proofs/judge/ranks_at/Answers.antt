@@ -34,7 +34,7 @@ part-body-requires c =
 
 pub overflow_mul-blocks : goal.overflow_mul-blocks
 overflow_mul-blocks c =
-    rw c.blocks_for-blocks.ensures (inside c.args.table c.requires.ranks c.well-formed.0.0)
+    rw c.blocks_for-blocks.ensures (inside c.args.table c.requires.ranks c.well_formed.0.0)
 
 pub part-ranks-requires : goal.part-ranks-requires
 part-ranks-requires c =

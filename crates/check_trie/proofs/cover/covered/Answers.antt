@@ -1,6 +1,6 @@
 -- The loop: the words before q are covered.
 use mathlib.Core.Path.{sym, ap₂, ◌∙◌}
-use Prim.Native.Nat.{◌*◌, ◌-◌}
+use Prim.Native.Nat.{◌*◌}
 use native.Mathlib.Omega.{arith}
 use Rattle.bits.specs.ValueLaws.{Small}
 use lib.Bits.{bit_and}

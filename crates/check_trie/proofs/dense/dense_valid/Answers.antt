@@ -1,9 +1,7 @@
 -- The loop: the nodes before i are judged.
 use mathlib.Core.Path.{◌≡◌, sym, ◌∙◌}
 use Prim.Native.Nat.{ℕ, ◌+◌, ◌*◌, ◌-◌, ◌≤◌, ◌<◌}
-use mathlib.Core.Bool.{true}
 use native.Mathlib.Omega.{arith}
-use borrow.Author.Tests.{not-true, not-false}
 use Rattle.bits.specs.Parts.{length_part}
 use Rattle.check_levels.specs.Ranges.{from_fail, from_step, from_end}
 use Rattle.check_trie.specs.DensePositions.{dense_node_valid, dense_all, row_judged}
@@ -57,7 +55,7 @@ returns-then-not-node_valid c =
     let a = c.args in
     let l = c.loop-i in
     let e = row_judged a.dl.now a.dc.now a.dp.now l.i c.part-labels.ensures c.part-children.ensures c.bit_at-exact.ensures c.node_valid.ensures in
-    sym (l.invariant.1 ∙ from_fail (dense_node_valid a.dl.now a.dc.now a.dp.now) l.i a.n c.loop-i-test.true (e ∙ not-true _ c.if-not-node_valid.true))
+    sym (l.invariant.1 ∙ from_fail (dense_node_valid a.dl.now a.dc.now a.dp.now) l.i a.n c.loop-i-test.true (e ∙ c.if-not-node_valid.true))
 
 pub loop-i-smaller : goal.loop-i-smaller
 loop-i-smaller c =
@@ -72,7 +70,7 @@ loop-i-preserved c =
     let a = c.args in
     let l = c.loop-i in
     let e = row_judged a.dl.now a.dc.now a.dp.now l.i c.part-labels.ensures c.part-children.ensures c.bit_at-exact.ensures c.node_valid.ensures in
-    (next loop-test.true, l.invariant.1 ∙ from_step (dense_node_valid a.dl.now a.dc.now a.dp.now) l.i a.n loop-test.true (e ∙ not-false _ c.if-not-node_valid.false))
+    (next loop-test.true, l.invariant.1 ∙ from_step (dense_node_valid a.dl.now a.dc.now a.dp.now) l.i a.n loop-test.true (e ∙ c.if-not-node_valid.false))
 
 pub returns : goal.returns
 returns c =

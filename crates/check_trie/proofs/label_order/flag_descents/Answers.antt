@@ -1,6 +1,5 @@
 -- The loop: the labels passed are flagged.
 use mathlib.Core.Path.{◌∙◌}
-use Prim.Native.Nat.{◌-◌}
 use native.Mathlib.Omega.{arith}
 use lib.ListN.{length-set}
 use Rattle.check_trie.specs.FlagLaws.{flagged_more}

@@ -2,7 +2,6 @@
 use mathlib.Core.Path.{refl, sym, ◌∙◌}
 use Prim.Native.Nat.{ℕ, ◌+◌, ◌-◌, ◌≤◌, ◌<◌}
 use native.Mathlib.Omega.{arith}
-use borrow.Author.Tests.{not-true, not-false}
 use Rattle.check_levels.specs.Ranges.{from_fail, from_step, from_end}
 use Rattle.check_trie.specs.WordEntries.{later_entry_valid, entry_judged}
 use Rattle.check_trie.proofs.sparse.range_valid.Goals as goal
@@ -33,7 +32,7 @@ returns-then-not-entry_valid c =
     let a = c.args in
     let l = c.loop-j in
     let e = entry_judged a.sl.now a.sc.now a.sb.now l.j c.bit_at-start.ensures c.bit_at-begins.ensures c.entry_valid.ensures in
-    sym (l.invariant.1 ∙ from_fail (later_entry_valid a.sl.now a.sc.now a.sb.now) l.j a.to.0 c.loop-j-test.true (e ∙ not-true _ c.if-not-entry_valid.true))
+    sym (l.invariant.1 ∙ from_fail (later_entry_valid a.sl.now a.sc.now a.sb.now) l.j a.to.0 c.loop-j-test.true (e ∙ c.if-not-entry_valid.true))
 
 pub loop-j-smaller : goal.loop-j-smaller
 loop-j-smaller c =
@@ -48,7 +47,7 @@ loop-j-preserved c =
     let a = c.args in
     let l = c.loop-j in
     let e = entry_judged a.sl.now a.sc.now a.sb.now l.j c.bit_at-start.ensures c.bit_at-begins.ensures c.entry_valid.ensures in
-    (next if1.true, l.invariant.1 ∙ from_step (later_entry_valid a.sl.now a.sc.now a.sb.now) l.j a.to.0 if1.true (e ∙ not-false _ c.if-not-entry_valid.false))
+    (next if1.true, l.invariant.1 ∙ from_step (later_entry_valid a.sl.now a.sc.now a.sb.now) l.j a.to.0 if1.true (e ∙ c.if-not-entry_valid.false))
   where
     next : {j to : ℕ} → j < to → j + 1 ≤ to
     next h = omega arith

@@ -2,7 +2,6 @@
 use mathlib.Core.Path.{◌≡◌, refl, sym, ap, ◌∙◌}
 use Prim.Native.Nat.{◌*◌, ◌-◌}
 use native.Mathlib.Omega.{arith}
-use borrow.Author.Tests.{not-true, not-false}
 use Rattle.check_levels.specs.Ranges.{from_none}
 use Rattle.check_trie.specs.WordEntries.{later_entry_valid, range_valid, word_fails, word_passes}
 use Rattle.check_trie.proofs.sparse.words_valid.Goals as goal
@@ -15,13 +14,13 @@ pub returns-then-not-word_valid : goal.returns-then-not-word_valid
 returns-then-not-word_valid c =
     let a = c.args in
     let l = c.loop-q in
-    sym (l.invariant.2 ∙ word_fails a.sl.now a.sc.now a.sb.now l.q a.to c.word_valid.result c.loop-q-test.true c.word_valid.ensures (not-true _ c.if-not-word_valid.true))
+    sym (l.invariant.2 ∙ word_fails a.sl.now a.sc.now a.sb.now l.q a.to c.word_valid.result c.loop-q-test.true c.word_valid.ensures (c.if-not-word_valid.true))
 
 pub loop-q-preserved : goal.loop-q-preserved
 loop-q-preserved c =
     let a = c.args in
     let l = c.loop-q in
-    (omega arith, omega arith, l.invariant.2 ∙ word_passes a.sl.now a.sc.now a.sb.now l.q a.to c.word_valid.result c.loop-q-test.true c.word_valid.ensures (not-false _ c.if-not-word_valid.false))
+    (omega arith, omega arith, l.invariant.2 ∙ word_passes a.sl.now a.sc.now a.sb.now l.q a.to c.word_valid.result c.loop-q-test.true c.word_valid.ensures (c.if-not-word_valid.false))
 
 pub returns : goal.returns
 returns c =

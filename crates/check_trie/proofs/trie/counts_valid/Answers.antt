@@ -2,7 +2,6 @@
 use mathlib.Core.Path.{◌≡◌, sym, ap, ◌∙◌}
 use Prim.Native.Nat.{ℕ, ◌+◌, ◌<◌}
 use native.Mathlib.Omega.{arith}
-use borrow.Author.Tests.{not-true, not-false}
 use mir.Val.{Fits}
 use mir.Syntax.{w64}
 use Rattle.check_levels.specs.Levels.{node_count}
@@ -37,7 +36,7 @@ pub returns-then-not-sums_valid : goal.returns-then-not-sums_valid
 returns-then-not-sums_valid c =
     let a = c.args in
     let e = ap (λ (k : ℕ). sums_test a.f (a.f.totals.children + k)) c.requires.1.children in
-    sym (sums_fail a.image.now a.f c.requires.0.frame (some_nodes (node_count a.f) c.if-f-eq0.false) (sym (c.sums_valid.ensures ∙ e) ∙ not-true _ c.if-not-sums_valid.true))
+    sym (sums_fail a.image.now a.f c.requires.0.frame (some_nodes (node_count a.f) c.if-f-eq0.false) (sym (c.sums_valid.ensures ∙ e) ∙ c.if-not-sums_valid.true))
 
 pub levels_valid-requires : goal.levels_valid-requires
 levels_valid-requires c =
@@ -48,4 +47,4 @@ returns c =
     let a = c.args in
     let e = ap (λ (k : ℕ). sums_test a.f (a.f.totals.children + k)) c.requires.1.children in
     c.levels_valid.ensures
-    ∙ sym (sums_pass a.image.now a.f c.requires.0.frame (some_nodes (node_count a.f) c.if-f-eq0.false) (sym (c.sums_valid.ensures ∙ e) ∙ not-false _ c.if-not-sums_valid.false))
+    ∙ sym (sums_pass a.image.now a.f c.requires.0.frame (some_nodes (node_count a.f) c.if-f-eq0.false) (sym (c.sums_valid.ensures ∙ e) ∙ c.if-not-sums_valid.false))

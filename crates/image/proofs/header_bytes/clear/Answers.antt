@@ -3,7 +3,7 @@ use lib.ListN.{replicate, length-set, drop}
 use Rattle.bits.specs.Overlaying.{cleared_more}
 use mathlib.Core.Path.{◌≡◌, refl, ap, ◌∙◌}
 use mathlib.Core.List.{◌++◌}
-use Prim.Native.Nat.{ℕ, ◌-◌}
+use Prim.Native.Nat.{ℕ}
 use native.Mathlib.Omega.{arith}
 use Rattle.image.proofs.header_bytes.clear.Goals as goal
 

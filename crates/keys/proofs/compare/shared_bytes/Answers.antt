@@ -1,6 +1,5 @@
 -- The bytes before the index are shared.
 use mathlib.Core.Path.{refl, sym}
-use Prim.Native.Nat.{◌-◌}
 use native.Mathlib.Omega.{arith}
 use Rattle.keys.proofs.PrefixLaws.{shared_end, shared_differ, same_next}
 use Rattle.keys.proofs.compare.shared_bytes.Goals as goal

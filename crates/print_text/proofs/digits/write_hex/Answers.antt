@@ -1,7 +1,7 @@
 use native.Mathlib.Numerals.{add-one}
 use lib.Seq.{take_all}
 use mathlib.Core.Path.{refl, sym, ap, ◌∙◌}
-use Prim.Native.Nat.{ℕ, ◌-◌}
+use Prim.Native.Nat.{ℕ}
 use native.Mathlib.Omega.{arith}
 use lib.ListN.{take}
 use Rattle.print_text.specs.Writing.{written_none, written_append, written_as}
@@ -24,7 +24,7 @@ loop-i-preserved c =
     let a = c.args in
     let l = c.loop-i in (
       omega arith,
-      c.write_hex_byte-next.auto.0 ∙ l.invariant.1,
+      c.write_hex_byte-next.auto.out ∙ l.invariant.1,
       written_as (written_append (omega (arith, length_hex_take a.key.now l.i (omega arith))) l.invariant.2 c.write_hex_byte-next.ensures) (sym (ap (λ (k : ℕ). hex (take k a.key.now)) (add-one l.i) ∙ hex_more a.key.now l.i (omega arith))),
     )
 

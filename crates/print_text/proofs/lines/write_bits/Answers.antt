@@ -1,6 +1,6 @@
 use mathlib.Core.Path.{◌≡◌, refl, sym, ap, ◌∙◌}
 use mathlib.Core.List.{[], ◌∷◌, ◌++◌, map}
-use Prim.Native.Nat.{ℕ, ◌-◌}
+use Prim.Native.Nat.{ℕ}
 use native.Mathlib.Omega.{arith}
 use native.Mathlib.Numerals.{add-one}
 use Rattle.spec.specs.Bytes.{low_bits}
@@ -32,7 +32,7 @@ loop-i-preserved c =
     let a = c.args in
     let l = c.loop-i in (
       omega arith,
-      c.write_byte-next.auto.0 ∙ l.invariant.1,
+      c.write_byte-next.auto.out ∙ l.invariant.1,
       written_as (written_append (omega (arith, length_bit_digits l.i a.suffix)) l.invariant.2 c.write_byte-next.ensures)
           (ap (λ (x : ℕ). map bit_digit (low_bits l.i a.suffix) ++ x ∷ []) c.digit.ensures
           ∙ sym (ap (λ (k : ℕ). map bit_digit (low_bits k a.suffix)) (add-one l.i) ∙ bit_digits_more l.i a.suffix)),

@@ -1,8 +1,6 @@
 -- On the way down the leaf stays the first behind the branch; the measure is what is left of the 64 levels.
 use Prim.Native.Nat.{◌+◌}
 use mathlib.Core.Path.{◌≡◌, refl, sym, ◌∙◌}
-use Rattle.nav_nodes.specs.declared.BranchKind.{BranchKind}
-use Rattle.nav_nodes.specs.declared.BranchKind.TheVariants.{Absent, Leaf, Child}
 use lib.ListN.{set}
 use native.Mathlib.Omega.{arith}
 use Rattle.nav_branches.specs.declared.LeafStop.TheVariants.{Open}
@@ -12,13 +10,15 @@ use Rattle.nav_nodes.specs.NextBranch.{NamedBranch}
 use Rattle.nav_branches.specs.PathSteps.{node_in}
 use Rattle.query_descent.specs.FirstLeaf.{leaf_behind}
 use Rattle.query_seek.specs.LeafKeys.{FirstBelow, Reached, exact_reached, first_behind, open_reached, child_below}
+use Rattle.nav_nodes.specs.declared.BranchKind.{BranchKind}
+use Rattle.nav_nodes.specs.declared.BranchKind.TheVariants.{Absent, Leaf, Child}
 use Rattle.query_seek.proofs.leaf.first_behind.Goals as goal
 
--- a branch that does not continue ends at a leaf
-leaf_left : (k : BranchKind) → (k ≡ Child → ⊥) → (k ≡ Absent → ⊥) → k ≡ Leaf
-leaf_left Absent h n = absurd (n refl)
-leaf_left Leaf h n = refl
-leaf_left Child h n = absurd (h refl)
+-- a branch that is there and does not continue ends at a leaf
+ends_leaf : (k : BranchKind) → (k ≡ Child → ⊥) → (k ≡ Absent → ⊥) → k ≡ Leaf
+ends_leaf Absent h n = absurd (n refl)
+ends_leaf Leaf h n = refl
+ends_leaf Child h n = absurd (h refl)
 
 pub loop-m-init : goal.loop-m-init
 loop-m-init c =
@@ -45,12 +45,12 @@ slot-requires c =
 
 pub shape_of-key-in_default : goal.shape_of-key-in_default
 shape_of-key-in_default c =
-    let ended : Reached c.args.image.now c.args.f (leaf_behind (nodes c.args.image.now c.args.f) c.args.key.now c.args.node.0 c.args.depth c.args.branch.label) (set c.loop-m.key c.loop-m.d c.loop-m.b.label) (record { depth = c.loop-m.d + 1; stop = Open c.slot.result }) = open_reached c.loop-m.invariant c.slot.result c.slot.ensures (leaf_left c.loop-m.b.kind c.in_default.not-Child c.loop-m.invariant.branch.there) in
+    let ended : Reached c.args.image.now c.args.f (leaf_behind (nodes c.args.image.now c.args.f) c.args.key.now c.args.node.0 c.args.depth c.args.branch.label) (set c.loop-m.key c.loop-m.d c.loop-m.b.label) (record { depth = c.loop-m.d + 1; stop = Open c.slot.result }) = open_reached c.loop-m.invariant c.slot.result c.slot.ensures (ends_leaf c.loop-m.b.kind c.in_default.not-Child c.loop-m.invariant.branch.there) in
     ended.key_size ∙ sym c.requires.2
 
 pub returns-in_default : goal.returns-in_default
 returns-in_default c =
-    let ended : Reached c.args.image.now c.args.f (leaf_behind (nodes c.args.image.now c.args.f) c.args.key.now c.args.node.0 c.args.depth c.args.branch.label) (set c.loop-m.key c.loop-m.d c.loop-m.b.label) (record { depth = c.loop-m.d + 1; stop = Open c.slot.result }) = open_reached c.loop-m.invariant c.slot.result c.slot.ensures (leaf_left c.loop-m.b.kind c.in_default.not-Child c.loop-m.invariant.branch.there) in
+    let ended : Reached c.args.image.now c.args.f (leaf_behind (nodes c.args.image.now c.args.f) c.args.key.now c.args.node.0 c.args.depth c.args.branch.label) (set c.loop-m.key c.loop-m.d c.loop-m.b.label) (record { depth = c.loop-m.d + 1; stop = Open c.slot.result }) = open_reached c.loop-m.invariant c.slot.result c.slot.ensures (ends_leaf c.loop-m.b.kind c.in_default.not-Child c.loop-m.invariant.branch.there) in
     ended
 
 pub child-m-requires : goal.child-m-requires

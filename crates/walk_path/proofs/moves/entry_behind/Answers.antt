@@ -10,8 +10,8 @@ returns-in-Absent c =
 
 pub returns-in-Leaf : goal.returns-in-Leaf
 returns-in-Leaf c =
-    let n = c.if-m-f.false in record { dense = λ h. absurd (omega arith); sparse = λ h. (refl, omega (arith, ap continues c.enum_told-in-Leaf-1.given.1)) }
+    let n = c.if-m-f.false in record { dense = λ h. absurd (omega arith); sparse = λ h. (refl, omega (arith, ap continues c.in-Leaf.is)) }
 
 pub returns-in-Child : goal.returns-in-Child
 returns-in-Child c =
-    let n = c.if-m-f.false in record { dense = λ h. absurd (omega arith); sparse = λ h. (refl, omega (arith, ap continues c.enum_told-in-Child-1.given.1)) }
+    let n = c.if-m-f.false in record { dense = λ h. absurd (omega arith); sparse = λ h. (refl, omega (arith, ap continues c.in-Child.is)) }
