@@ -1,7 +1,7 @@
 -- A range where its bounds part, by what is known of each bound alone.
 use Prim.Native.Nat.{ℕ, ◌+◌, ◌-◌, ◌<◌}
-use mathlib.Core.Path.{◌≡◌, refl, sym, ap, ◌∙◌}
-use mathlib.Core.Bool.{Bool, true, false, not, ◌||◌}
+use mathlib.Core.Path.{◌≡◌, refl, ap, ◌∙◌}
+use mathlib.Core.Bool.{Bool, true, false, ◌||◌}
 use mathlib.Core.List.{[]}
 use lib.ListN.{length, get_or}
 use Rattle.spec.specs.Bytes.{Bytes}
@@ -9,15 +9,6 @@ use Rattle.image.specs.declared.Frame.{Frame}
 use Rattle.nav_nodes.specs.Accepted.{nodes}
 use Rattle.query_range.specs.AtLabel.{size_from}
 use Rattle.query_range.specs.RangeWays.{KeyAt, group_below, group_behind, left_of, reached_of, met_of, reached_empty, met_apart}
-
--- a truth value from its opposite
-pub from_not : (b : Bool) → not b ≡ true → b ≡ false
-from_not true h = sym h
-from_not false h = refl
-
-pub from_not_false : (b : Bool) → not b ≡ false → b ≡ true
-from_not_false true h = refl
-from_not_false false h = sym h
 
 or-false : (b : Bool) → b || false ≡ b
 or-false true = refl

@@ -1,7 +1,7 @@
 use Rattle.query_range.specs.RangeWays.{KeyBranch, group_below, group_behind, left_of, key_node, child_key, open_in, left_above, left_on, left_nothing, left_leaf, left_child, left_stop}
 use Rattle.nav_branches.specs.EdgeContracts.{IsLastBranch}
 use lib.ListN.{length, get_or}
-use Prim.Native.Nat.{◌+◌, ◌-◌, ◌<◌}
+use Prim.Native.Nat.{◌+◌, ◌<◌}
 use mathlib.Core.Bool.{false, not}
 use mathlib.Core.Path.{◌≡◌, refl, sym, ap, ◌∙◌}
 use native.Mathlib.Omega.{arith}

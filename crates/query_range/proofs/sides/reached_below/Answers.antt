@@ -2,7 +2,7 @@ use Rattle.query_range.specs.RangeWays.{KeyBranch, group_below, group_behind, re
 use lib.ListN.{length, get_or}
 use Rattle.nav_nodes.specs.declared.BranchKind.TheVariants.{Absent}
 use borrow.Author.Tests.{ltb-true, ltb-false}
-use Prim.Native.Nat.{◌+◌, ◌-◌, ◌<◌, ◌≤◌}
+use Prim.Native.Nat.{◌+◌, ◌<◌, ◌≤◌}
 use mathlib.Core.Bool.{Bool, true, false, ◌||◌, true≢false}
 use mathlib.Core.Logic.{◌⊎◌, inl, inr, ⊎_elim}
 use mathlib.Core.Path.{◌≡◌, refl, sym, ◌∙◌}

@@ -1,9 +1,8 @@
 -- On the way down the leaf stays the first behind the branch; the measure is what is left of the 64 levels.
-use Prim.Native.Nat.{◌+◌, ◌-◌}
-use mathlib.Core.Path.{refl, sym, ◌∙◌}
+use Prim.Native.Nat.{◌+◌}
+use mathlib.Core.Path.{◌≡◌, refl, sym, ◌∙◌}
 use lib.ListN.{set}
 use native.Mathlib.Omega.{arith}
-use Rattle.nav_branches.proofs.BranchTests.{ends_leaf}
 use Rattle.nav_branches.specs.declared.LeafStop.TheVariants.{Open}
 use Rattle.nav_nodes.specs.Accepted.{nodes}
 use Rattle.nav_nodes.specs.FoundBranch.{IsPosition}
@@ -11,7 +10,15 @@ use Rattle.nav_nodes.specs.NextBranch.{NamedBranch}
 use Rattle.nav_branches.specs.PathSteps.{node_in}
 use Rattle.query_descent.specs.FirstLeaf.{leaf_behind}
 use Rattle.query_seek.specs.LeafKeys.{FirstBelow, Reached, exact_reached, first_behind, open_reached, child_below}
+use Rattle.nav_nodes.specs.declared.BranchKind.{BranchKind}
+use Rattle.nav_nodes.specs.declared.BranchKind.TheVariants.{Absent, Leaf, Child}
 use Rattle.query_seek.proofs.leaf.first_behind.Goals as goal
+
+-- a branch that is there and does not continue ends at a leaf
+ends_leaf : (k : BranchKind) → (k ≡ Child → ⊥) → (k ≡ Absent → ⊥) → k ≡ Leaf
+ends_leaf Absent h n = absurd (n refl)
+ends_leaf Leaf h n = refl
+ends_leaf Child h n = absurd (h refl)
 
 pub loop-m-init : goal.loop-m-init
 loop-m-init c =
@@ -38,12 +45,12 @@ slot-requires c =
 
 pub shape_of-key-in_default : goal.shape_of-key-in_default
 shape_of-key-in_default c =
-    let ended : Reached c.args.image.now c.args.f (leaf_behind (nodes c.args.image.now c.args.f) c.args.key.now c.args.node.0 c.args.depth c.args.branch.label) (set c.loop-m.key c.loop-m.d c.loop-m.b.label) (record { depth = c.loop-m.d + 1; stop = Open c.slot.result }) = open_reached c.loop-m.invariant c.slot.result c.slot.ensures (ends_leaf c.loop-m.b.kind c.in-Child.keys2 c.loop-m.invariant.branch.there) in
+    let ended : Reached c.args.image.now c.args.f (leaf_behind (nodes c.args.image.now c.args.f) c.args.key.now c.args.node.0 c.args.depth c.args.branch.label) (set c.loop-m.key c.loop-m.d c.loop-m.b.label) (record { depth = c.loop-m.d + 1; stop = Open c.slot.result }) = open_reached c.loop-m.invariant c.slot.result c.slot.ensures (ends_leaf c.loop-m.b.kind c.in_default.not-Child c.loop-m.invariant.branch.there) in
     ended.key_size ∙ sym c.requires.2
 
 pub returns-in_default : goal.returns-in_default
 returns-in_default c =
-    let ended : Reached c.args.image.now c.args.f (leaf_behind (nodes c.args.image.now c.args.f) c.args.key.now c.args.node.0 c.args.depth c.args.branch.label) (set c.loop-m.key c.loop-m.d c.loop-m.b.label) (record { depth = c.loop-m.d + 1; stop = Open c.slot.result }) = open_reached c.loop-m.invariant c.slot.result c.slot.ensures (ends_leaf c.loop-m.b.kind c.in-Child.keys2 c.loop-m.invariant.branch.there) in
+    let ended : Reached c.args.image.now c.args.f (leaf_behind (nodes c.args.image.now c.args.f) c.args.key.now c.args.node.0 c.args.depth c.args.branch.label) (set c.loop-m.key c.loop-m.d c.loop-m.b.label) (record { depth = c.loop-m.d + 1; stop = Open c.slot.result }) = open_reached c.loop-m.invariant c.slot.result c.slot.ensures (ends_leaf c.loop-m.b.kind c.in_default.not-Child c.loop-m.invariant.branch.there) in
     ended
 
 pub child-m-requires : goal.child-m-requires
@@ -54,17 +61,17 @@ child-m-requires c =
 
 pub first_branch-next-requires : goal.first_branch-next-requires
 first_branch-next-requires c =
-    let below : FirstBelow c.args.image.now c.args.f (leaf_behind (nodes c.args.image.now c.args.f) c.args.key.now c.args.node.0 c.args.depth c.args.branch.label) (set c.loop-m.key c.loop-m.d c.loop-m.b.label) c.child-m.result.0 (c.loop-m.d + 1) = child_below c.loop-m.invariant c.child-m.result c.child-m.ensures c.enum_told-1.given.1 in
+    let below : FirstBelow c.args.image.now c.args.f (leaf_behind (nodes c.args.image.now c.args.f) c.args.key.now c.args.node.0 c.args.depth c.args.branch.label) (set c.loop-m.key c.loop-m.d c.loop-m.b.label) c.child-m.result.0 (c.loop-m.d + 1) = child_below c.loop-m.invariant c.child-m.result c.child-m.ensures c.in-Child.is in
     record { accepted = c.requires.0; inside = node_in c.args.image.now c.args.f c.requires.0 _ c.child-m.result.0 below.level }
 
 pub shape_of-key-then-next : goal.shape_of-key-then-next
 shape_of-key-then-next c =
-    let below : FirstBelow c.args.image.now c.args.f (leaf_behind (nodes c.args.image.now c.args.f) c.args.key.now c.args.node.0 c.args.depth c.args.branch.label) (set c.loop-m.key c.loop-m.d c.loop-m.b.label) c.child-m.result.0 (c.loop-m.d + 1) = child_below c.loop-m.invariant c.child-m.result c.child-m.ensures c.enum_told-1.given.1 in
+    let below : FirstBelow c.args.image.now c.args.f (leaf_behind (nodes c.args.image.now c.args.f) c.args.key.now c.args.node.0 c.args.depth c.args.branch.label) (set c.loop-m.key c.loop-m.d c.loop-m.b.label) c.child-m.result.0 (c.loop-m.d + 1) = child_below c.loop-m.invariant c.child-m.result c.child-m.ensures c.in-Child.is in
     below.key_size ∙ sym c.requires.2
 
 pub returns-then-next : goal.returns-then-next
 returns-then-next c =
-    let below : FirstBelow c.args.image.now c.args.f (leaf_behind (nodes c.args.image.now c.args.f) c.args.key.now c.args.node.0 c.args.depth c.args.branch.label) (set c.loop-m.key c.loop-m.d c.loop-m.b.label) c.child-m.result.0 (c.loop-m.d + 1) = child_below c.loop-m.invariant c.child-m.result c.child-m.ensures c.enum_told-1.given.1 in
+    let below : FirstBelow c.args.image.now c.args.f (leaf_behind (nodes c.args.image.now c.args.f) c.args.key.now c.args.node.0 c.args.depth c.args.branch.label) (set c.loop-m.key c.loop-m.d c.loop-m.b.label) c.child-m.result.0 (c.loop-m.d + 1) = child_below c.loop-m.invariant c.child-m.result c.child-m.ensures c.in-Child.is in
     exact_reached below c.first_branch-next.result c.first_branch-next.ensures c.if-next.true
 
 pub loop-m-smaller : goal.loop-m-smaller
@@ -73,5 +80,5 @@ loop-m-smaller c =
 
 pub loop-m-preserved : goal.loop-m-preserved
 loop-m-preserved c =
-    let below : FirstBelow c.args.image.now c.args.f (leaf_behind (nodes c.args.image.now c.args.f) c.args.key.now c.args.node.0 c.args.depth c.args.branch.label) (set c.loop-m.key c.loop-m.d c.loop-m.b.label) c.child-m.result.0 (c.loop-m.d + 1) = child_below c.loop-m.invariant c.child-m.result c.child-m.ensures c.enum_told-1.given.1 in
+    let below : FirstBelow c.args.image.now c.args.f (leaf_behind (nodes c.args.image.now c.args.f) c.args.key.now c.args.node.0 c.args.depth c.args.branch.label) (set c.loop-m.key c.loop-m.d c.loop-m.b.label) c.child-m.result.0 (c.loop-m.d + 1) = child_below c.loop-m.invariant c.child-m.result c.child-m.ensures c.in-Child.is in
     first_behind below c.first_branch-next.result c.first_branch-next.ensures c.if-next.false

@@ -37,10 +37,9 @@ returns-in-Node c =
 
 pub returns-in-Leaf : goal.returns-in-Leaf
 returns-in-Leaf c =
-    let end = c.end-1.given in
-    let slot : ValuePos = end.0.0 in
+    let slot : ValuePos = c.in-Leaf.slot in
     let e = c.requires.ended in
-    let there = ended_leaf e slot end.1 in
+    let there = ended_leaf e slot c.in-Leaf.is in
     let d = c.args.way.bound.level.depth in
     let front = same_front c.args.key.now c.args.start.now c.requires.begins d e.sums.depth_in in
     record {

@@ -4,7 +4,6 @@ use Rattle.query_descent.specs.SuffixBytes.{real_length}
 use Rattle.nav_nodes.specs.Accepted.{real_slot}
 use lib.ListN.{length-set}
 use mathlib.Core.Logic.{inl, inr}
-use Prim.Native.Nat.{◌-◌}
 use native.Mathlib.Omega.{arith}
 use mathlib.Core.Path.{◌∙◌}
 use Rattle.query_seek.proofs.seek.append_real.Goals as goal

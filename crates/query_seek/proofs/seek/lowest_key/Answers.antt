@@ -7,9 +7,8 @@ use Rattle.query_seek.proofs.seek.lowest_key.Goals as goal
 
 pub append_real-requires : goal.append_real-requires
 append_real-requires c =
-    let stop = c.stop-1.given in
     let p = c.requires in
-    (p.accepted, p.slot_in stop.0.0 stop.1, p.key_size, p.depth_in)
+    (p.accepted, p.slot_in c.in-Open.slot c.in-Open.is, p.key_size, p.depth_in)
 
 pub returns-in-Nowhere : goal.returns-in-Nowhere
 returns-in-Nowhere c =
@@ -23,4 +22,4 @@ returns-in-Exact c =
 pub returns-in-Open : goal.returns-in-Open
 returns-in-Open c =
     let e = c.append_real.ensures in
-    record { low_is = rw c.stop-1.given.1 e.low_is; upto = e.upto; key_size = e.key_size }
+    record { low_is = rw c.in-Open.is e.low_is; upto = e.upto; key_size = e.key_size }
