@@ -1,6 +1,7 @@
 // Building in two public calls: a key list and settings give the image's length; with that length and an output they give the answer, and the image in the output.
 
 #![tactic(auto)]
+
 ghost use Rattle.std.specs.Prelude.{◌≡◌};
 ghost use Rattle.spec.specs.Build.{image_length, build};
 ghost use Rattle.image.specs.Header.{asked};

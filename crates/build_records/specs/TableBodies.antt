@@ -1,7 +1,7 @@
 -- The tables of document 01 are those that are counted in the bytes of finished bodies. Used by the functions that fill the records of tables.
-use Rattle.std.specs.Prelude.{ℕ, ◌*◌, ◌≤◌, ◌<◌, ◌≡◌, List, length, take}
+use Rattle.std.specs.Prelude.{ℕ, ◌*◌, ◌≤◌, ◌<◌, ◌≡◌, List, length}
 use Rattle.std.proofs.Common.{sym, ap, ap₂, ◌∙◌, arith}
-use Rattle.spec.specs.Bytes.{Bytes, Bits, blocks, ones, pack, unpack}
+use Rattle.spec.specs.Bytes.{Bytes, Bits, blocks, ones, pack}
 use Rattle.spec.specs.Image.{Settings, Bodies, ranks, samples}
 use Rattle.theory.specs.BuildLaws.{BuiltFrom}
 use Rattle.theory.specs.Bits.{unpack_pack, length_pack}

@@ -1,6 +1,7 @@
 // The records of an image, written by the table of the records: each its mark, the length of its body, and its body.
 
 #![tactic(auto)]
+
 use build_laws::Body;
 use image::{Header, STARTS};
 

@@ -10,19 +10,19 @@ pub measure_image-requires : goal.measure_image-requires
 measure_image-requires c =
     let judge = c.judge-judged in
     let a = c.args in
-    let j = subst (Judges a.list.now (asked a.settings)) c.judged-in-Accepted-1.given.1 judge.ensures in
+    let j = subst (Judges a.list.now (asked a.settings)) c.in-Accepted.is judge.ensures in
     (j.0, j.1)
 
 pub returns-in-Refused : goal.returns-in-Refused
 returns-in-Refused c =
     let judge = c.judge-judged in
     let a = c.args in
-    let j = subst (Judges a.list.now (asked a.settings)) c.judged-1.given.1 judge.ensures in
+    let j = subst (Judges a.list.now (asked a.settings)) c.in-Refused.is judge.ensures in
     sym (length_is a.list.now (asked a.settings) (turned_down _) j)
 
 pub returns-in-Accepted : goal.returns-in-Accepted
 returns-in-Accepted c =
     let judge = c.judge-judged in
     let a = c.args in
-    let j = subst (Judges a.list.now (asked a.settings)) c.judged-in-Accepted-1.given.1 judge.ensures in
+    let j = subst (Judges a.list.now (asked a.settings)) c.in-Accepted.is judge.ensures in
     ap bytes c.measure_image.ensures ∙ sym (length_is a.list.now (asked a.settings) (to_build _) j.2)

@@ -14,14 +14,14 @@ pub write_records-requires : goal.write_records-requires
 write_records-requires c =
     let a = c.args in
     let pre = c.requires in
-    (pre.0, omega (arith, pre.1, plan_end a.list.now a.plan pre.0 _ pre.2, c.write_header.auto.0), pre.2)
+    (pre.0, omega (arith, pre.1, plan_end a.list.now a.plan pre.0 _ pre.2, c.write_header.auto.out), pre.2)
 
 pub write_levels-requires : goal.write_levels-requires
 write_levels-requires c =
     let a = c.args in
     let pre = c.requires in
-    let kept = c.write_records.auto.0 in
-    (node_sums a.list.now (plan_settings a.plan) pre.0.ready _ pre.2 0 counters (omega arith), omega (arith, pre.1, plan_end a.list.now a.plan pre.0 _ pre.2, kept, c.write_header.auto.0))
+    let kept = c.write_records.auto.out in
+    (node_sums a.list.now (plan_settings a.plan) pre.0.ready _ pre.2 0 counters (omega arith), omega (arith, pre.1, plan_end a.list.now a.plan pre.0 _ pre.2, kept, c.write_header.auto.out))
 
 pub returns : goal.returns
 returns c =

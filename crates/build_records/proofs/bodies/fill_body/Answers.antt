@@ -44,83 +44,83 @@ pub fill_from_keys-requires : goal.fill_from_keys-requires
 fill_from_keys-requires c =
     let body-span = c.body_span-span in
     let source_of = c.source_of-source in
-    let source = c.source-1 in
+    let source = c.in-Keys in
     let a = c.args in
     let pre = c.requires.0 in
-    let g = known a.list.now a.plan a.i pre.planned pre.below source_of.result (Keys source.given.0.0) source_of.ensures source.given.1 in
-    keys_ask a.list.now a.plan a.i a.out.now pre body-span.result body-span.ensures source.given.0.0 a.cnt.now g (sym source_of.ensures ∙ source.given.1) c.requires.1
+    let g = known a.list.now a.plan a.i pre.planned pre.below source_of.result (Keys source.body) source_of.ensures source.is in
+    keys_ask a.list.now a.plan a.i a.out.now pre body-span.result body-span.ensures source.body a.cnt.now g (sym source_of.ensures ∙ source.is) c.requires.1
 
 pub body_span-counted-requires : goal.body_span-counted-requires
 body_span-counted-requires c =
     let source_of = c.source_of-source in
-    let source2 = c.source-in-Ranks-1 in
+    let source2 = c.in-Ranks in
     let a = c.args in
     let pre = c.requires.0 in
-    let g = known a.list.now a.plan a.i pre.planned pre.below source_of.result (Ranks source2.given.0.0 source2.given.0.1.0) source_of.ensures source2.given.1 in
-    earlier_laid a.list.now a.plan a.i a.out.now pre (omega arith) source2.given.0.0 g.before
+    let g = known a.list.now a.plan a.i pre.planned pre.below source_of.result (Ranks source2.j source2.words) source_of.ensures source2.is in
+    earlier_laid a.list.now a.plan a.i a.out.now pre (omega arith) source2.j g.before
 
 pub fill_ranks-requires : goal.fill_ranks-requires
 fill_ranks-requires c =
     let body-span = c.body_span-span in
     let source_of = c.source_of-source in
-    let source2 = c.source-in-Ranks-1 in
+    let source2 = c.in-Ranks in
     let body-span2 = c.body_span-counted in
     let a = c.args in
     let pre = c.requires.0 in
-    let g = known a.list.now a.plan a.i pre.planned pre.below source_of.result (Ranks source2.given.0.0 source2.given.0.1.0) source_of.ensures source2.given.1 in
-    ranks_ask a.list.now a.plan a.i a.out.now pre body-span.result body-span.ensures source2.given.0.0 body-span2.result body-span2.ensures source2.given.0.1.0 g
+    let g = known a.list.now a.plan a.i pre.planned pre.below source_of.result (Ranks source2.j source2.words) source_of.ensures source2.is in
+    ranks_ask a.list.now a.plan a.i a.out.now pre body-span.result body-span.ensures source2.j body-span2.result body-span2.ensures source2.words g
 
 pub body_span-counted-requires-in-Samples : goal.body_span-counted-requires-in-Samples
 body_span-counted-requires-in-Samples c =
     let source_of = c.source_of-source in
-    let source3 = c.source-in-Samples-1 in
+    let source3 = c.in-Samples in
     let a = c.args in
     let pre = c.requires.0 in
-    let g = known a.list.now a.plan a.i pre.planned pre.below source_of.result (Samples source3.given.0.0) source_of.ensures source3.given.1 in
-    earlier_laid a.list.now a.plan a.i a.out.now pre (omega arith) source3.given.0.0 g.before
+    let g = known a.list.now a.plan a.i pre.planned pre.below source_of.result (Samples source3.j) source_of.ensures source3.is in
+    earlier_laid a.list.now a.plan a.i a.out.now pre (omega arith) source3.j g.before
 
 pub fill_samples-requires : goal.fill_samples-requires
 fill_samples-requires c =
     let body-span = c.body_span-span in
     let source_of = c.source_of-source in
-    let source3 = c.source-in-Samples-1 in
+    let source3 = c.in-Samples in
     let body-span3 = c.body_span-counted-in-Samples in
     let a = c.args in
     let pre = c.requires.0 in
-    let g = known a.list.now a.plan a.i pre.planned pre.below source_of.result (Samples source3.given.0.0) source_of.ensures source3.given.1 in
-    samples_ask a.list.now a.plan a.i a.out.now pre body-span.result body-span.ensures source3.given.0.0 body-span3.result body-span3.ensures g
+    let g = known a.list.now a.plan a.i pre.planned pre.below source_of.result (Samples source3.j) source_of.ensures source3.is in
+    samples_ask a.list.now a.plan a.i a.out.now pre body-span.result body-span.ensures source3.j body-span3.result body-span3.ensures g
 
 pub returns-in-Keys : goal.returns-in-Keys
 returns-in-Keys c =
     let body-span = c.body_span-span in
     let source_of = c.source_of-source in
-    let source = c.source-1 in
+    let source = c.in-Keys in
     let fill-from-keys = c.fill_from_keys in
     let a = c.args in
     let pre = c.requires.0 in
-    let g = known a.list.now a.plan a.i pre.planned pre.below source_of.result (Keys source.given.0.0) source_of.ensures source.given.1 in
-    keys_leave a.list.now a.plan a.i a.out.now pre body-span.result body-span.ensures source.given.0.0 g _ fill-from-keys.ensures
+    let g = known a.list.now a.plan a.i pre.planned pre.below source_of.result (Keys source.body) source_of.ensures source.is in
+    keys_leave a.list.now a.plan a.i a.out.now pre body-span.result body-span.ensures source.body g _ fill-from-keys.ensures
 
 pub returns-in-Ranks : goal.returns-in-Ranks
 returns-in-Ranks c =
     let body-span = c.body_span-span in
     let source_of = c.source_of-source in
-    let source2 = c.source-in-Ranks-1 in
+    let source2 = c.in-Ranks in
     let body-span2 = c.body_span-counted in
     let fill-ranks = c.fill_ranks in
     let a = c.args in
     let pre = c.requires.0 in
-    let g = known a.list.now a.plan a.i pre.planned pre.below source_of.result (Ranks source2.given.0.0 source2.given.0.1.0) source_of.ensures source2.given.1 in
-    ranks_leave a.list.now a.plan a.i a.out.now pre body-span.result body-span.ensures source2.given.0.0 body-span2.result body-span2.ensures source2.given.0.1.0 g _ fill-ranks.ensures
+    let g = known a.list.now a.plan a.i pre.planned pre.below source_of.result (Ranks source2.j source2.words) source_of.ensures source2.is in
+    ranks_leave a.list.now a.plan a.i a.out.now pre body-span.result body-span.ensures source2.j body-span2.result body-span2.ensures source2.words g _ fill-ranks.ensures
 
 pub returns-in-Samples : goal.returns-in-Samples
 returns-in-Samples c =
     let body-span = c.body_span-span in
     let source_of = c.source_of-source in
-    let source3 = c.source-in-Samples-1 in
+    let source3 = c.in-Samples in
     let body-span3 = c.body_span-counted-in-Samples in
     let fill-samples = c.fill_samples in
     let a = c.args in
     let pre = c.requires.0 in
-    let g = known a.list.now a.plan a.i pre.planned pre.below source_of.result (Samples source3.given.0.0) source_of.ensures source3.given.1 in
-    samples_leave a.list.now a.plan a.i a.out.now pre body-span.result body-span.ensures source3.given.0.0 body-span3.result body-span3.ensures g _ fill-samples.ensures
+    let g = known a.list.now a.plan a.i pre.planned pre.below source_of.result (Samples source3.j) source_of.ensures source3.is in
+    samples_leave a.list.now a.plan a.i a.out.now pre body-span.result body-span.ensures source3.j body-span3.result body-span3.ensures g _ fill-samples.ensures

@@ -8,40 +8,40 @@ use Rattle.build_records.proofs.bodies.level_range.Goals as goal
 
 pub returns-in-Slots : goal.returns-in-Slots
 returns-in-Slots c =
-    ap (λ (b : Body). level_range b c.args.dense) (sym c.enum_told-1.given.1)
+    ap (λ (b : Body). level_range b c.args.dense) (sym c.in-Slots.is)
 
 pub returns-in-DL : goal.returns-in-DL
 returns-in-DL c =
     let args = c.args in
-    let body = c.body-1 in
-    sym (ap (λ (b : Body). level_range b args.dense) body.given.1 ∙ ap (λ (k : Kind). level_range (Entries k) args.dense) c.enum_told-in-DL-1.given.1)
+    let body = c.in-Entries in
+    sym (ap (λ (b : Body). level_range b args.dense) body.is ∙ ap (λ (k : Kind). level_range (Entries k) args.dense) c.in-DL.is)
 
 pub returns-in-DC : goal.returns-in-DC
 returns-in-DC c =
     let args = c.args in
-    let body = c.body-1 in
-    sym (ap (λ (b : Body). level_range b args.dense) body.given.1 ∙ ap (λ (k : Kind). level_range (Entries k) args.dense) c.enum_told-in-DC-1.given.1)
+    let body = c.in-Entries in
+    sym (ap (λ (b : Body). level_range b args.dense) body.is ∙ ap (λ (k : Kind). level_range (Entries k) args.dense) c.in-DC.is)
 
 pub returns-in-DP : goal.returns-in-DP
 returns-in-DP c =
     let args = c.args in
-    let body = c.body-1 in
-    sym (ap (λ (b : Body). level_range b args.dense) body.given.1 ∙ ap (λ (k : Kind). level_range (Entries k) args.dense) c.enum_told-in-DP-1.given.1)
+    let body = c.in-Entries in
+    sym (ap (λ (b : Body). level_range b args.dense) body.is ∙ ap (λ (k : Kind). level_range (Entries k) args.dense) c.in-DP.is)
 
 pub returns-in-SL : goal.returns-in-SL
 returns-in-SL c =
     let args = c.args in
-    let body = c.body-1 in
-    sym (ap (λ (b : Body). level_range b args.dense) body.given.1 ∙ ap (λ (k : Kind). level_range (Entries k) args.dense) c.enum_told-in-SL-1.given.1)
+    let body = c.in-Entries in
+    sym (ap (λ (b : Body). level_range b args.dense) body.is ∙ ap (λ (k : Kind). level_range (Entries k) args.dense) c.in-SL.is)
 
 pub returns-in-SC : goal.returns-in-SC
 returns-in-SC c =
     let args = c.args in
-    let body = c.body-1 in
-    sym (ap (λ (b : Body). level_range b args.dense) body.given.1 ∙ ap (λ (k : Kind). level_range (Entries k) args.dense) c.enum_told-in-SC-1.given.1)
+    let body = c.in-Entries in
+    sym (ap (λ (b : Body). level_range b args.dense) body.is ∙ ap (λ (k : Kind). level_range (Entries k) args.dense) c.in-SC.is)
 
 pub returns-in-SB : goal.returns-in-SB
 returns-in-SB c =
     let args = c.args in
-    let body = c.body-1 in
-    sym (ap (λ (b : Body). level_range b args.dense) body.given.1 ∙ ap (λ (k : Kind). level_range (Entries k) args.dense) c.enum_told-in-SB-1.given.1)
+    let body = c.in-Entries in
+    sym (ap (λ (b : Body). level_range b args.dense) body.is ∙ ap (λ (k : Kind). level_range (Entries k) args.dense) c.in-SB.is)

@@ -1,5 +1,5 @@
 -- The first nodes of the levels passed stand at the front, and the sum is that of their nodes.
-use Prim.Native.Nat.{ℕ, ◌+◌, ◌-◌}
+use Prim.Native.Nat.{ℕ, ◌+◌}
 use mathlib.Core.Path.{◌≡◌, refl, sym, ap, ◌∙◌}
 use lib.ListN.{length, get_or}
 use Rattle.bits.specs.Bits.{overlaid}
@@ -46,7 +46,7 @@ loop-d-preserved c =
       omega arith,
       omega (arith, l.invariant.1, sums_in nodes 0 l.d (omega arith)),
       omega (arith, c.start_size-at.ensures, l.invariant.2, more),
-      omega (arith, start.auto.0, l.invariant.3),
+      omega (arith, start.auto.out, l.invariant.3),
       overlaid_behind a.out.now l.out _ (starts_below nodes l.d) (start_bytes w (sums nodes 0 l.d)) 0 l.at (omega (arith, l.invariant.2)) (omega (arith, c.requires.1, l.invariant.2, more, room, start_length w (sums nodes 0 l.d))) l.invariant.4
           (start.ensures ∙ ap (λ (n : ℕ). overlaid l.out l.at (start_bytes w n)) (c.wide32.ensures ∙ l.invariant.1))
           ∙ ap (overlaid a.out.now 0) (sym (starts_more nodes l.d)),

@@ -1,5 +1,5 @@
 -- The bytes so far are those of the levels passed.
-use Prim.Native.Nat.{ℕ, ◌-◌}
+use Prim.Native.Nat.{ℕ}
 use mathlib.Core.Path.{◌≡◌, sym, ap, ◌∙◌}
 use lib.ListN.{length, get_or}
 use Rattle.build_records.specs.LevelRecord.{starts_below, starts_none, starts_longer, size_few}

@@ -1,5 +1,5 @@
 -- One record more stands behind those before it.
-use Prim.Native.Nat.{ℕ, ◌-◌}
+use Prim.Native.Nat.{ℕ}
 use mathlib.Core.Path.{◌≡◌, subst, ap, ◌∙◌}
 use Rattle.spec.specs.Keys.{keys_of}
 use Rattle.build_keys.specs.CountPass.{LevelCounts, list_counts}
