@@ -1,6 +1,6 @@
 -- The leaves at or below a node against a key, split at the key's next byte: those behind lower labels, those behind the byte's own, and those behind higher ones.
 use Rattle.std.specs.Prelude.{ℕ, suc, ◌+◌, ◌<◌, Bool, take}
-use Rattle.std.proofs.Math.Path.{◌≡◌, refl}
+use Rattle.std.proofs.Math.Path.{◌≡◌, refl, subst}
 use Rattle.std.proofs.Common.{sym, ap, ◌∙◌, add-one}
 use Rattle.std.proofs.Math.Bool.{true, false, cond}
 use mathlib.Core.List.{List, [], ◌∷◌, ◌++◌, map}
@@ -95,7 +95,7 @@ module _ (f : ℕ → Group) where
     prefixed_same : (x : ℕ) (g : Group) → x ≡ y → count (counts ends q (y ∷ k)) (map (prefix x) g) ≡ count (counts ends q k) g
     unfolding count
     prefixed_same x [] z = refl
-    prefixed_same x (l ∷ g) z = rw (← z) (rw (counts_same ends q x l k, rw (← z) at (prefixed_same x g z)))
+    prefixed_same x (l ∷ g) z = subst (λ (w : ℕ). count (counts ends q (w ∷ k)) (map (prefix x) (l ∷ g)) ≡ count (counts ends q k) (l ∷ g)) z (rw (counts_same ends q x l k, rw (← z) at (prefixed_same x g z)))
 
     -- no leaf behind a label above y counts
     high_none : (es : List Branch) (c : ℕ) → BelowLabel y es → Ascends es → count (counts ends q (y ∷ k)) (behind_branches f es c) ≡ 0

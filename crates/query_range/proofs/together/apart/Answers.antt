@@ -1,15 +1,14 @@
-use Rattle.query_range.specs.RangeWays.{KeyBranch, key_node, next_nothing, next_under, next_upto, next_over, next_own, met_crossed, met_inside}
-use Rattle.query_range.proofs.ApartLaws.{from_not, from_not_false, apart_lower, apart_left, apart_upper}
+use Rattle.query_range.specs.RangeWays.{KeyBranch, group_below, group_behind, left_of, met_of, key_node, next_nothing, next_under, next_upto, next_over, next_own, met_crossed, met_inside}
+use Rattle.query_range.proofs.ApartLaws.{apart_lower, apart_left, apart_upper}
 use Rattle.nav_nodes.specs.declared.BranchKind.TheVariants.{Absent}
 use Rattle.nav_nodes.specs.NextBranch.{IsNextBranch}
 use Rattle.nav_nodes.specs.NextLabel.{there_not, not_there}
-use borrow.Author.Tests.{ltb-true, ltb-false}
 use lib.ListN.{get_or}
-use Prim.Native.Nat.{◌+◌, ◌≤◌}
-use mathlib.Core.Logic.{⊎_elim}
+use Prim.Native.Nat.{◌+◌, ◌<◌, ◌≤◌}
 use mathlib.Core.Path.{◌≡◌, sym, ◌∙◌}
 use native.Mathlib.Omega.{arith}
 use Rattle.query_range.proofs.together.apart.Goals as goal
+use Rattle.query_range.proofs.together.apart.Goals.{then-not-is_there-via-then-not-is_there, then-not-is_there-via-else-not-is_there+then-b-next}
 
 pub returns-then-b-a : goal.returns-then-b-a
 returns-then-b-a c =
@@ -35,19 +34,25 @@ returns-then-not-is_there c =
     let below : get_or c.args.lo.now c.args.depth 0 + 1 ≤ get_or c.args.hi.now c.args.depth 0 = omega (arith, c.if-b-a.false, c.requires.differ, c.wide-a.ensures.0, c.wide-b.ensures.0) in
     let next : IsNextBranch c.args.image.now c.args.f c.args.node.0 (get_or c.args.lo.now c.args.depth 0 + 1) c.next_higher-next.result.kind c.next_higher-next.result.label c.next_higher-next.result.at.0 = rw c.wide-a.ensures.0 at c.next_higher-next.ensures in
     let p = c.requires in
-    c.left_behind.ensures
-    ∙ sym (⊎_elim
-    (λ t. let e = next_nothing p.upper p.hi_more next below (not_there c.next_higher-next.result.kind (sym c.is_there.ensures ∙ from_not c.is_there.result t.taken)) in apart_lower p.lower p.upper p.lo_more p.hi_more e.0 e.1)
-    (λ t. let h = there (record { before = c; if2 = t.0 }) in
-    let a = ltb-true c.wide-b.result c.next_higher-next.result.label t.2.taken in
-    let b = c.wide-b.ensures.0 in
-    apart_lower p.lower p.upper p.lo_more p.hi_more (next_upto p.upper p.hi_more next below h (omega arith)) (next_over p.upper p.hi_more next below h (omega arith))) c.if-not-is_there.branch)
+    let a = c.args in
+    let lower_decides : met_of a.f a.lo.now a.hi.now a.depth (group_below a.image.now a.f a.node.0 a.depth) ≡ left_of a.f a.lo.now (a.depth + 1) (group_behind a.image.now a.f a.lo.now a.node.0 a.depth) =
+        elim c.then-not-is_there.branch [
+          then-not-is_there-via-then-not-is_there w ↦
+              let e = next_nothing p.upper p.hi_more next below (not_there c.next_higher-next.result.kind (sym c.is_there.ensures ∙ w.if-not-is_there.true)) in
+              apart_lower p.lower p.upper p.lo_more p.hi_more e.0 e.1
+        | then-not-is_there-via-else-not-is_there+then-b-next w ↦
+              let there : c.next_higher-next.result.kind ≡ Absent → ⊥ = there_not c.next_higher-next.result.kind (sym c.is_there.ensures ∙ w.if-not-is_there.false) in
+              let beyond : get_or a.hi.now a.depth 0 < c.next_higher-next.result.label = omega (arith, w.if-b-next.true, c.wide-b.ensures.0) in
+              apart_lower p.lower p.upper p.lo_more p.hi_more (next_upto p.upper p.hi_more next below there (omega (arith, beyond))) (next_over p.upper p.hi_more next below there (omega (arith, beyond)))
+        ]
+    in
+    c.left_behind.ensures ∙ sym lower_decides
 
 pub returns-then-next-b : goal.returns-then-next-b
 returns-then-next-b c =
     let below : get_or c.args.lo.now c.args.depth 0 + 1 ≤ get_or c.args.hi.now c.args.depth 0 = omega (arith, c.if-b-a.false, c.requires.differ, c.wide-a.ensures.0, c.wide-b.ensures.0) in
     let next : IsNextBranch c.args.image.now c.args.f c.args.node.0 (get_or c.args.lo.now c.args.depth 0 + 1) c.next_higher-next.result.kind c.next_higher-next.result.label c.next_higher-next.result.at.0 = rw c.wide-a.ensures.0 at c.next_higher-next.ensures in
-    let there : c.next_higher-next.result.kind ≡ Absent → ⊥ = there_not c.next_higher-next.result.kind (sym c.is_there.ensures ∙ from_not_false c.is_there.result c.if-not-is_there.false) in
+    let there : c.next_higher-next.result.kind ≡ Absent → ⊥ = there_not c.next_higher-next.result.kind (sym c.is_there.ensures ∙ c.if-not-is_there.false) in
     let p = c.requires in
     sym (met_inside p.lower p.upper p.lo_more p.hi_more (next_under p.upper p.hi_more next below there (omega (arith, c.if-next-b.true, c.wide-b.ensures.0))))
 
@@ -61,8 +66,8 @@ pub returns-then-left_behind : goal.returns-then-left_behind
 returns-then-left_behind c =
     let below : get_or c.args.lo.now c.args.depth 0 + 1 ≤ get_or c.args.hi.now c.args.depth 0 = omega (arith, c.if-b-a.false, c.requires.differ, c.wide-a.ensures.0, c.wide-b.ensures.0) in
     let next : IsNextBranch c.args.image.now c.args.f c.args.node.0 (get_or c.args.lo.now c.args.depth 0 + 1) c.next_higher-next.result.kind c.next_higher-next.result.label c.next_higher-next.result.at.0 = rw c.wide-a.ensures.0 at c.next_higher-next.ensures in
-    let there : c.next_higher-next.result.kind ≡ Absent → ⊥ = there_not c.next_higher-next.result.kind (sym c.is_there.ensures ∙ from_not_false c.is_there.result c.if-not-is_there.false) in
-    let own : c.wide-b.result ≤ c.next_higher-next.result.label → c.next_higher-next.result.label ≡ get_or c.args.hi.now c.args.depth 0 = λ h. omega (arith, ltb-false c.wide-b.result c.next_higher-next.result.label c.if-b-next.false, c.wide-b.ensures.0) in
+    let there : c.next_higher-next.result.kind ≡ Absent → ⊥ = there_not c.next_higher-next.result.kind (sym c.is_there.ensures ∙ c.if-not-is_there.false) in
+    let own : c.wide-b.result ≤ c.next_higher-next.result.label → c.next_higher-next.result.label ≡ get_or c.args.hi.now c.args.depth 0 = λ h. omega (arith, c.if-b-next.false, c.wide-b.ensures.0) in
     let p = c.requires in
     let o = own (omega (arith, c.if-next-b.false)) in
     sym (apart_left p.lower p.upper p.lo_more p.hi_more (next_upto p.upper p.hi_more next below there (omega arith)) (sym c.left_behind-2.ensures ∙ c.if-left_behind.true))
@@ -71,8 +76,8 @@ pub reached_behind-requires : goal.reached_behind-requires
 reached_behind-requires c =
     let below : get_or c.args.lo.now c.args.depth 0 + 1 ≤ get_or c.args.hi.now c.args.depth 0 = omega (arith, c.if-b-a.false, c.requires.differ, c.wide-a.ensures.0, c.wide-b.ensures.0) in
     let next : IsNextBranch c.args.image.now c.args.f c.args.node.0 (get_or c.args.lo.now c.args.depth 0 + 1) c.next_higher-next.result.kind c.next_higher-next.result.label c.next_higher-next.result.at.0 = rw c.wide-a.ensures.0 at c.next_higher-next.ensures in
-    let there : c.next_higher-next.result.kind ≡ Absent → ⊥ = there_not c.next_higher-next.result.kind (sym c.is_there.ensures ∙ from_not_false c.is_there.result c.if-not-is_there.false) in
-    let own : c.wide-b.result ≤ c.next_higher-next.result.label → c.next_higher-next.result.label ≡ get_or c.args.hi.now c.args.depth 0 = λ h. omega (arith, ltb-false c.wide-b.result c.next_higher-next.result.label c.if-b-next.false, c.wide-b.ensures.0) in
+    let there : c.next_higher-next.result.kind ≡ Absent → ⊥ = there_not c.next_higher-next.result.kind (sym c.is_there.ensures ∙ c.if-not-is_there.false) in
+    let own : c.wide-b.result ≤ c.next_higher-next.result.label → c.next_higher-next.result.label ≡ get_or c.args.hi.now c.args.depth 0 = λ h. omega (arith, c.if-b-next.false, c.wide-b.ensures.0) in
     let p = c.requires in
     next_own p.upper p.hi_more next below there (own (omega (arith, c.if-next-b.false)))
 
@@ -80,8 +85,8 @@ pub returns : goal.returns
 returns c =
     let below : get_or c.args.lo.now c.args.depth 0 + 1 ≤ get_or c.args.hi.now c.args.depth 0 = omega (arith, c.if-b-a.false, c.requires.differ, c.wide-a.ensures.0, c.wide-b.ensures.0) in
     let next : IsNextBranch c.args.image.now c.args.f c.args.node.0 (get_or c.args.lo.now c.args.depth 0 + 1) c.next_higher-next.result.kind c.next_higher-next.result.label c.next_higher-next.result.at.0 = rw c.wide-a.ensures.0 at c.next_higher-next.ensures in
-    let there : c.next_higher-next.result.kind ≡ Absent → ⊥ = there_not c.next_higher-next.result.kind (sym c.is_there.ensures ∙ from_not_false c.is_there.result c.if-not-is_there.false) in
-    let own : c.wide-b.result ≤ c.next_higher-next.result.label → c.next_higher-next.result.label ≡ get_or c.args.hi.now c.args.depth 0 = λ h. omega (arith, ltb-false c.wide-b.result c.next_higher-next.result.label c.if-b-next.false, c.wide-b.ensures.0) in
+    let there : c.next_higher-next.result.kind ≡ Absent → ⊥ = there_not c.next_higher-next.result.kind (sym c.is_there.ensures ∙ c.if-not-is_there.false) in
+    let own : c.wide-b.result ≤ c.next_higher-next.result.label → c.next_higher-next.result.label ≡ get_or c.args.hi.now c.args.depth 0 = λ h. omega (arith, c.if-b-next.false, c.wide-b.ensures.0) in
     let p = c.requires in
     let o = own (omega (arith, c.if-next-b.false)) in
     c.reached_behind.ensures

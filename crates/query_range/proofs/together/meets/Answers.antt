@@ -17,23 +17,21 @@ pub at_node-requires : goal.at_node-requires
 at_node-requires c =
     let within : c.shared-n.result ≤ shared c.args.lo.now c.args.hi.now = omega (arith, c.shared-n.ensures) in
     let leads : (end : KeyEnd) → c.follow-end.result ≡ end → LeadsTo c.args.image.now c.args.f c.args.lo.now c.shared-n.result end = λ end e. subst (λ (t : KeyEnd). LeadsTo c.args.image.now c.args.f c.args.lo.now c.shared-n.result t) e c.follow-end.ensures in
-    let node : BothAt c.args.image.now c.args.f c.args.lo.now c.args.hi.now c.end-1.given.0.0.0 c.shared-n.result = range_node c.args.image.now c.args.f c.args.lo.now c.args.hi.now c.requires.0 c.requires.1 c.requires.2 within (leads (End.Node c.end-1.given.0.0) c.end-1.given.1) in
+    let node : BothAt c.args.image.now c.args.f c.args.lo.now c.args.hi.now c.in-Node.node.0 c.shared-n.result = range_node c.args.image.now c.args.f c.args.lo.now c.args.hi.now c.requires.0 c.requires.1 c.requires.2 within (leads (End.Node c.in-Node.node) c.in-Node.is) in
     (node, c.shared-n.ensures)
 
 pub slot-requires : goal.slot-requires
 slot-requires c =
     let within : c.shared-n.result ≤ shared c.args.lo.now c.args.hi.now = omega (arith, c.shared-n.ensures) in
     let leads : (end : KeyEnd) → c.follow-end.result ≡ end → LeadsTo c.args.image.now c.args.f c.args.lo.now c.shared-n.result end = λ end e. subst (λ (t : KeyEnd). LeadsTo c.args.image.now c.args.f c.args.lo.now c.shared-n.result t) e c.follow-end.ensures in
-    let leaf : BothLeaf c.args.image.now c.args.f c.args.lo.now c.args.hi.now c.end-in-Leaf-1.given.0.0.0 c.end-in-Leaf-1.given.0.1.0.0 c.end-in-Leaf-1.given.0.1.1.0 = let g = c.end-in-Leaf-1.given in
-    range_leaf c.args.image.now c.args.f c.args.lo.now c.args.hi.now c.requires.0 c.requires.1 c.requires.2 within (leads (End.Leaf g.0.0 g.0.1.0 g.0.1.1.0) g.1) in
+    let leaf : BothLeaf c.args.image.now c.args.f c.args.lo.now c.args.hi.now c.in-Leaf.node.0 c.in-Leaf.at.0 c.in-Leaf.depth = range_leaf c.args.image.now c.args.f c.args.lo.now c.args.hi.now c.requires.0 c.requires.1 c.requires.2 within (leads (End.Leaf c.in-Leaf.node c.in-Leaf.at c.in-Leaf.depth) c.in-Leaf.is) in
     record { accepted = c.requires.0; within = leaf.within }
 
 pub open_between-requires : goal.open_between-requires
 open_between-requires c =
     let within : c.shared-n.result ≤ shared c.args.lo.now c.args.hi.now = omega (arith, c.shared-n.ensures) in
     let leads : (end : KeyEnd) → c.follow-end.result ≡ end → LeadsTo c.args.image.now c.args.f c.args.lo.now c.shared-n.result end = λ end e. subst (λ (t : KeyEnd). LeadsTo c.args.image.now c.args.f c.args.lo.now c.shared-n.result t) e c.follow-end.ensures in
-    let leaf : BothLeaf c.args.image.now c.args.f c.args.lo.now c.args.hi.now c.end-in-Leaf-1.given.0.0.0 c.end-in-Leaf-1.given.0.1.0.0 c.end-in-Leaf-1.given.0.1.1.0 = let g = c.end-in-Leaf-1.given in
-    range_leaf c.args.image.now c.args.f c.args.lo.now c.args.hi.now c.requires.0 c.requires.1 c.requires.2 within (leads (End.Leaf g.0.0 g.0.1.0 g.0.1.1.0) g.1) in
+    let leaf : BothLeaf c.args.image.now c.args.f c.args.lo.now c.args.hi.now c.in-Leaf.node.0 c.in-Leaf.at.0 c.in-Leaf.depth = range_leaf c.args.image.now c.args.f c.args.lo.now c.args.hi.now c.requires.0 c.requires.1 c.requires.2 within (leads (End.Leaf c.in-Leaf.node c.in-Leaf.at c.in-Leaf.depth) c.in-Leaf.is) in
     let l = leaf in
     record { accepted = c.requires.0; slot_in = rw c.slot.ensures l.slot_in; lo_in = l.lo_in; hi_in = l.hi_in; lo_short = c.requires.1; hi_short = c.requires.2 }
 
@@ -52,13 +50,12 @@ pub returns-in-Node : goal.returns-in-Node
 returns-in-Node c =
     let within : c.shared-n.result ≤ shared c.args.lo.now c.args.hi.now = omega (arith, c.shared-n.ensures) in
     let leads : (end : KeyEnd) → c.follow-end.result ≡ end → LeadsTo c.args.image.now c.args.f c.args.lo.now c.shared-n.result end = λ end e. subst (λ (t : KeyEnd). LeadsTo c.args.image.now c.args.f c.args.lo.now c.shared-n.result t) e c.follow-end.ensures in
-    let node : BothAt c.args.image.now c.args.f c.args.lo.now c.args.hi.now c.end-1.given.0.0.0 c.shared-n.result = range_node c.args.image.now c.args.f c.args.lo.now c.args.hi.now c.requires.0 c.requires.1 c.requires.2 within (leads (End.Node c.end-1.given.0.0) c.end-1.given.1) in
+    let node : BothAt c.args.image.now c.args.f c.args.lo.now c.args.hi.now c.in-Node.node.0 c.shared-n.result = range_node c.args.image.now c.args.f c.args.lo.now c.args.hi.now c.requires.0 c.requires.1 c.requires.2 within (leads (End.Node c.in-Node.node) c.in-Node.is) in
     node.decides ∙ ap bit (sym c.at_node.ensures)
 
 pub returns-in-Leaf : goal.returns-in-Leaf
 returns-in-Leaf c =
     let within : c.shared-n.result ≤ shared c.args.lo.now c.args.hi.now = omega (arith, c.shared-n.ensures) in
     let leads : (end : KeyEnd) → c.follow-end.result ≡ end → LeadsTo c.args.image.now c.args.f c.args.lo.now c.shared-n.result end = λ end e. subst (λ (t : KeyEnd). LeadsTo c.args.image.now c.args.f c.args.lo.now c.shared-n.result t) e c.follow-end.ensures in
-    let leaf : BothLeaf c.args.image.now c.args.f c.args.lo.now c.args.hi.now c.end-in-Leaf-1.given.0.0.0 c.end-in-Leaf-1.given.0.1.0.0 c.end-in-Leaf-1.given.0.1.1.0 = let g = c.end-in-Leaf-1.given in
-    range_leaf c.args.image.now c.args.f c.args.lo.now c.args.hi.now c.requires.0 c.requires.1 c.requires.2 within (leads (End.Leaf g.0.0 g.0.1.0 g.0.1.1.0) g.1) in
+    let leaf : BothLeaf c.args.image.now c.args.f c.args.lo.now c.args.hi.now c.in-Leaf.node.0 c.in-Leaf.at.0 c.in-Leaf.depth = range_leaf c.args.image.now c.args.f c.args.lo.now c.args.hi.now c.requires.0 c.requires.1 c.requires.2 within (leads (End.Leaf c.in-Leaf.node c.in-Leaf.at c.in-Leaf.depth) c.in-Leaf.is) in
     leaf.decides ∙ ap bit (rw c.slot.ensures at (sym c.open_between.ensures))
