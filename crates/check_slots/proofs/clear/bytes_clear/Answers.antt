@@ -1,6 +1,6 @@
 -- The loop: the bytes before i are zero where the greatest of them is.
 use mathlib.Core.Path.{◌≡◌, refl, sym, ap, ◌∙◌}
-use Prim.Native.Nat.{ℕ, ◌*◌, ◌-◌}
+use Prim.Native.Nat.{ℕ, ◌*◌}
 use native.Mathlib.Omega.{arith}
 use lib.ListN.{get_or}
 use lib.Dec.{eqb}
@@ -32,13 +32,12 @@ pub loop-i-preserved : goal.loop-i-preserved
 loop-i-preserved c =
     let a = c.args in
     let l = c.loop-i in
-    let small : Small a.s.now = λ i. (c.shared_slice_known-1.given i).fits in
-    (
+    let small : Small a.s.now = λ i. (c.shared_slice_known-1.given i).fits in (
       omega arith,
       omega arith,
       elim c.if-greatest-byte.branch [
-        then-greatest-byte w ↦ let e : c.if-greatest-byte.greatest ≡ get_or a.s.now l.i 0 = omega arith in ap (λ (n : ℕ). eqb n 0) e ∙ byte_greater a.s.now small a.from l.i l.greatest l.invariant.0 l.invariant.2 (omega arith)
-      | else-greatest-byte w ↦ let e : c.if-greatest-byte.greatest ≡ l.greatest = omega arith in ap (λ (n : ℕ). eqb n 0) e ∙ byte_smaller a.s.now small a.from l.i l.greatest l.invariant.0 l.invariant.2 (omega arith)
+        | then-greatest-byte w ↦ let e : c.if-greatest-byte.greatest ≡ get_or a.s.now l.i 0 = omega arith in ap (λ (n : ℕ). eqb n 0) e ∙ byte_greater a.s.now small a.from l.i l.greatest l.invariant.0 l.invariant.2 (omega arith)
+        | else-greatest-byte w ↦ let e : c.if-greatest-byte.greatest ≡ l.greatest = omega arith in ap (λ (n : ℕ). eqb n 0) e ∙ byte_smaller a.s.now small a.from l.i l.greatest l.invariant.0 l.invariant.2 (omega arith)
       ],
     )
 

@@ -1,5 +1,5 @@
 -- The loop: no label before the position is above the greatest.
-use Prim.Native.Nat.{ℕ, ◌+◌, ◌-◌, ◌≤◌, ◌<◌}
+use Prim.Native.Nat.{ℕ, ◌+◌, ◌≤◌, ◌<◌}
 use native.Mathlib.Omega.{arith}
 use lib.ListN.{get_or}
 use borrow.Author.Count.{below_more}
@@ -39,12 +39,11 @@ loop-i-smaller c =
 pub loop-i-preserved : goal.loop-i-preserved
 loop-i-preserved c =
     let a = c.args in
-    let l = c.loop-i in
-    (
+    let l = c.loop-i in (
       omega arith,
       elim c.if-greatest-label.branch [
-        then-greatest-label w ↦ one_more a.sl.now a.at l.greatest c.if-greatest-label.greatest l.i l.invariant.1 (omega arith) (omega arith)
-      | else-greatest-label w ↦ one_more a.sl.now a.at l.greatest c.if-greatest-label.greatest l.i l.invariant.1 (omega arith) (omega arith)
+        | then-greatest-label w ↦ one_more a.sl.now a.at l.greatest c.if-greatest-label.greatest l.i l.invariant.1 (omega arith) (omega arith)
+        | else-greatest-label w ↦ one_more a.sl.now a.at l.greatest c.if-greatest-label.greatest l.i l.invariant.1 (omega arith) (omega arith)
       ],
     )
 

@@ -5,7 +5,6 @@ use Prim.Native.Nat.{ℕ, zero, suc, ◌+◌, ◌*◌, ◌-◌, ◌/◌, ◌≤�
 use native.Mathlib.Omega.{arith}
 use mir.Val.{Fits}
 use mir.Syntax.{w64}
-use borrow.Author.Tests.{not-true, not-false}
 use Rattle.spec.specs.Bytes.{Bytes}
 use Rattle.bits.specs.PartLaws.{bits_room, lent_part}
 use Rattle.image.specs.declared.Frame.{Frame}
@@ -122,8 +121,8 @@ loop-number-preserved c =
     let l = c.loop-number in
     let e : 64 * l.number + 64 ≡ 64 * (l.number + 1) = next_word l.number in
     let passed : left s a.f (64 * l.number) ≡ left s a.f (64 * l.number + 64) = elim c.if-starts-ne0.branch [
-      then-starts-ne0+else-not-word_clear w ↦ w.word_clear.ensures.passed w.if-not-word_clear.false
-    | else-starts-ne0 w ↦ starts_none (clear_at s a.f 0) (sl_body s a.f) (sc_body s a.f) (sb_body s a.f) a.f.sparse.entries (dense_leaf_count a.f) l.number _ cs w.if-starts-ne0.false
+      | then-starts-ne0+else-not-word_clear w ↦ w.word_clear.ensures.passed w.if-not-word_clear.false
+      | else-starts-ne0 w ↦ starts_none (clear_at s a.f 0) (sl_body s a.f) (sc_body s a.f) (sb_body s a.f) a.f.sparse.entries (dense_leaf_count a.f) l.number _ cs w.if-starts-ne0.false
     ] in
     (l.invariant.0 ∙ passed ∙ ap (left s a.f) e, next_below l.number _ c.loop-number-test.true)
 
