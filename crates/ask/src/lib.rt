@@ -1,6 +1,7 @@
 // The public call ask: an image, a question file and a reply buffer give the answer, and the replies in the buffer.
 
 #![tactic(auto)]
+
 ghost use Rattle.std.specs.Prelude.{◌≡◌};
 ghost use Rattle.spec.specs.Check.{verdict};
 ghost use Rattle.spec.specs.Ask.{ask};

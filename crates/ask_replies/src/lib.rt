@@ -1,6 +1,7 @@
 // The reply to a question by value, and the replies to all questions of a file in the reply buffer.
 
 #![tactic(auto)]
+
 ghost use Rattle.std.specs.Prelude.{◌≡◌, ◌≤◌, length};
 ghost use Rattle.spec.specs.Nodes.{read_leaves};
 ghost use Rattle.spec.specs.Questions.{QP, QS, reply};

@@ -7,20 +7,19 @@ use Rattle.ask.proofs.lengths.key_length.Goals as goal
 
 pub key_at-requires : goal.key_at-requires
 key_at-requires c =
-    inside_matched c.args.file.now c.question-1.given.1 c.requires.2
+    inside_matched c.args.file.now c.in-Seek.is c.requires.2
 
 pub returns-in-Seek : goal.returns-in-Seek
 returns-in-Seek c =
     let a = c.args in
-    let g = c.question-1.given in
     let r = c.seek_reply-a in
-    let e = r.ensures.1 ∙ seek_matched a.f.hash_width (read_leaves a.image.now) a.file.now g.0.0 g.0.1.0 _ c.key_at.ensures.0 ∙ reply_matched a.f.hash_width (read_leaves a.image.now) a.file.now g.1 in
+    let e = r.ensures.1 ∙ seek_matched a.f.hash_width (read_leaves a.image.now) a.file.now c.in-Seek.at c.in-Seek.n _ c.key_at.ensures.0 ∙ reply_matched a.f.hash_width (read_leaves a.image.now) a.file.now c.in-Seek.is in
     (reply_key a.f.hash_width (read_leaves a.image.now) a.file.now r.result _ a.question r.ensures.0 e, r.ensures.0.small)
 
 pub returns-in-Point : goal.returns-in-Point
 returns-in-Point c =
     let a = c.args in
-    (point_length a.f.hash_width (read_leaves a.image.now) a.file.now c.enum_told-1.given.1, omega arith)
+    (point_length a.f.hash_width (read_leaves a.image.now) a.file.now c.in-Point.is, omega arith)
 
 pub returns-in-Begins : goal.returns-in-Begins
 returns-in-Begins c =

@@ -23,7 +23,7 @@ pub returns-then-count-room : goal.returns-then-count-room
 returns-then-count-room c =
     let a = c.args in
     let p = c.requires in
-    let small = all_small a.file.now (λ i. omega (arith, c.shared_slice_known-2-1.given i)) in
+    let small = all_small a.file.now (λ i. omega (arith, c.type_inv.file i)) in
     let most = replies_bound a.f.hash_width a.f.real_width (read_leaves a.image.now) a.file.now (questions_of a.file.now) (real_sized a.image.now a.f p.0) small p.1 in
     sym (le-leb (length (file_replies a.f.hash_width a.image.now a.file.now)) a.room (omega (arith, p.2, c.if-count-room.true, most)))
 

@@ -1,5 +1,4 @@
 -- The replies to the questions passed are summed, and the sum stays small.
-use Prim.Native.Nat.{◌-◌}
 use native.Mathlib.Omega.{arith}
 use Rattle.spec.specs.Nodes.{read_leaves}
 use Rattle.ask_files.specs.ReplyLaws.{measured_start, measured_more, measured_end}
