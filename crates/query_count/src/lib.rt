@@ -1,6 +1,7 @@
 // The count question over an accepted image, by both bounds.
 
 #![tactic(auto)]
+
 ghost use Rattle.std.specs.Prelude.{◌≡◌, ◌-◌, ◌≤◌, length};
 ghost use Rattle.spec.specs.Questions.{counted};
 ghost use Rattle.nav_nodes.specs.Accepted.{Accepted, real_leaves};

@@ -10,7 +10,6 @@ use mathlib.Core.Bool.{Bool, ◌&&◌}
 use mathlib.Core.Path.{◌≡◌, sym, ap, ap₂, ◌∙◌}
 use Prim.Native.Nat.{ℕ}
 use native.Mathlib.Omega.{arith}
-use borrow.Author.Tests.{not-true, not-false}
 use Rattle.query_point.proofs.point.leaf_has.Goals as goal
 
 pub returns-then-f-eq0 : goal.returns-then-f-eq0
@@ -29,7 +28,7 @@ returns-then-not-real_equals c =
     c.real_equals.ensures ∙ ap (λ (v : ℕ). has_suffix (real_slot a.image.now a.f v) (drop a.d a.key.now)) c.slot-leaf.ensures in
     let a = c.args in
     let v = slot_at a.image.now a.f a.m.0 a.at.0 in
-    sym (ap (λ (b : Bool). b && same_bits (hash_bits a.f.hash_width a.key.now) (hash_slot a.image.now a.f v)) (sym told ∙ not-true _ c.if-not-real_equals.true))
+    sym (ap (λ (b : Bool). b && same_bits (hash_bits a.f.hash_width a.key.now) (hash_slot a.image.now a.f v)) (sym told ∙ c.if-not-real_equals.true))
 
 pub returns : goal.returns
 returns c =
@@ -38,4 +37,4 @@ returns c =
     c.real_equals.ensures ∙ ap (λ (v : ℕ). has_suffix (real_slot a.image.now a.f v) (drop a.d a.key.now)) c.slot-leaf.ensures in
     let a = c.args in
     c.hash_equals.ensures ∙ ap (λ (v : ℕ). same_bits (hash_bits a.f.hash_width a.key.now) (hash_slot a.image.now a.f v)) c.slot-leaf.ensures
-    ∙ ap (λ (b : Bool). b && same_bits (hash_bits a.f.hash_width a.key.now) (hash_slot a.image.now a.f (slot_at a.image.now a.f a.m.0 a.at.0))) (sym (not-false _ c.if-not-real_equals.false) ∙ told)
+    ∙ ap (λ (b : Bool). b && same_bits (hash_bits a.f.hash_width a.key.now) (hash_slot a.image.now a.f (slot_at a.image.now a.f a.m.0 a.at.0))) (sym c.if-not-real_equals.false ∙ told)

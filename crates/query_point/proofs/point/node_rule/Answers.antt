@@ -1,4 +1,3 @@
-use borrow.Author.Tests.{not-true, not-false}
 use Rattle.spec.specs.Rules.{key_ended, at_exact_leaf}
 use mathlib.Core.Path.{sym, ap, ◌∙◌}
 use mathlib.Core.Bool.{Bool, cond}
@@ -6,8 +5,8 @@ use Rattle.query_point.proofs.point.node_rule.Goals as goal
 
 pub returns-then-not-is_exact : goal.returns-then-not-is_exact
 returns-then-not-is_exact c =
-    ap (λ (x : Bool). cond x at_exact_leaf key_ended) (sym (not-true c.is_exact.result c.if-not-is_exact.true) ∙ c.is_exact.ensures)
+    ap (λ (x : Bool). cond x at_exact_leaf key_ended) (sym c.if-not-is_exact.true ∙ c.is_exact.ensures)
 
 pub returns : goal.returns
 returns c =
-    ap (λ (x : Bool). cond x at_exact_leaf key_ended) (sym (not-false c.is_exact.result c.if-not-is_exact.false) ∙ c.is_exact.ensures)
+    ap (λ (x : Bool). cond x at_exact_leaf key_ended) (sym c.if-not-is_exact.false ∙ c.is_exact.ensures)

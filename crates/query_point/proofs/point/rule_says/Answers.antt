@@ -6,24 +6,24 @@ use Rattle.query_point.proofs.point.rule_says.Goals as goal
 
 pub returns-in-BranchMissing : goal.returns-in-BranchMissing
 returns-in-BranchMissing c =
-    ap (λ (r : Rule). rule_says (rule_of r)) (sym c.enum_told-1.given.1)
+    ap (λ (r : Rule). rule_says (rule_of r)) (sym c.in-BranchMissing.is)
 
 pub returns-in-KeyEnded : goal.returns-in-KeyEnded
 returns-in-KeyEnded c =
-    ap (λ (r : Rule). rule_says (rule_of r)) (sym c.enum_told-in-KeyEnded-1.given.1)
+    ap (λ (r : Rule). rule_says (rule_of r)) (sym c.in-KeyEnded.is)
 
 pub returns-in-ExactLeaf : goal.returns-in-ExactLeaf
 returns-in-ExactLeaf c =
-    ap (λ (r : Rule). rule_says (rule_of r)) (sym c.enum_told-in-ExactLeaf-1.given.1)
+    ap (λ (r : Rule). rule_says (rule_of r)) (sym c.in-ExactLeaf.is)
 
 pub returns-in-SuffixEqual : goal.returns-in-SuffixEqual
 returns-in-SuffixEqual c =
-    ap (λ (r : Rule). rule_says (rule_of r)) (sym c.enum_told-in-SuffixEqual-1.given.1)
+    ap (λ (r : Rule). rule_says (rule_of r)) (sym c.in-SuffixEqual.is)
 
 pub returns-in-SuffixOther : goal.returns-in-SuffixOther
 returns-in-SuffixOther c =
-    ap (λ (r : Rule). rule_says (rule_of r)) (sym c.enum_told-in-SuffixOther-1.given.1)
+    ap (λ (r : Rule). rule_says (rule_of r)) (sym c.in-SuffixOther.is)
 
 pub returns-in-NoNodes : goal.returns-in-NoNodes
 returns-in-NoNodes c =
-    ap (λ (r : Rule). rule_says (rule_of r)) (sym c.enum_told-in-NoNodes-1.given.1)
+    ap (λ (r : Rule). rule_says (rule_of r)) (sym c.in-NoNodes.is)

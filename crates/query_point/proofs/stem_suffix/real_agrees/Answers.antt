@@ -3,7 +3,6 @@ use Rattle.query_descent.specs.Answers.{all_small}
 use Rattle.query_point.specs.StemLeaves.{agrees_whole, agrees_ended, agrees_past, agrees_less, agrees_more, agrees_next}
 use Rattle.query_descent.specs.SuffixBytes.{real_length}
 use Rattle.spec.specs.Bytes.{bit}
-use Prim.Native.Nat.{◌-◌}
 use native.Mathlib.Omega.{arith}
 use mathlib.Core.Path.{sym, ap, ◌∙◌}
 use Rattle.query_point.proofs.stem_suffix.real_agrees.Goals as goal
@@ -15,7 +14,7 @@ loop-i-init c =
 pub returns-then-i-d : goal.returns-then-i-d
 returns-then-i-d c =
     let n = real_length c.args.image.now c.args.f c.requires.0 c.args.slot.0 c.requires.1 in
-    sym (ap bit (c.loop-i.invariant.2 ∙ agrees_past (real_slot c.args.image.now c.args.f c.args.slot.0) c.args.stem.now c.args.d c.loop-i.i (omega (arith, n)) (all_small c.args.stem.now (λ i. omega (arith, c.shared_slice_known-2-1.given i)))))
+    sym (ap bit (c.loop-i.invariant.2 ∙ agrees_past (real_slot c.args.image.now c.args.f c.args.slot.0) c.args.stem.now c.args.d c.loop-i.i (omega (arith, n)) (all_small c.args.stem.now (λ i. omega (arith, c.type_inv.stem i)))))
 
 pub real_byte-requires : goal.real_byte-requires
 real_byte-requires c =
@@ -34,13 +33,12 @@ returns-then-real_byte-y c =
     sym (ap bit (c.loop-i.invariant.2 ∙ agrees_more (real_slot c.args.image.now c.args.f c.args.slot.0) c.args.stem.now c.args.d c.loop-i.i c.loop-i-test.true (omega (arith, c.real_byte-in-loop-i.ensures.0, c.wide-y.ensures.0))))
 
 pub loop-i-preserved : goal.loop-i-preserved
-loop-i-preserved c =
-    (
-      omega (arith, c.loop-i.invariant.0),
-      omega (arith, c.loop-i-test.true),
-      c.loop-i.invariant.2 ∙ agrees_next (real_slot c.args.image.now c.args.f c.args.slot.0) c.args.stem.now c.args.d c.loop-i.i c.loop-i-test.true c.loop-i.invariant.0
-          (omega (arith, c.real_byte.ensures.0, c.wide-y.ensures.0)) (omega (arith, c.real_byte-in-loop-i.ensures.0, c.wide-y.ensures.0)),
-    )
+loop-i-preserved c = (
+  omega (arith, c.loop-i.invariant.0),
+  omega (arith, c.loop-i-test.true),
+  c.loop-i.invariant.2 ∙ agrees_next (real_slot c.args.image.now c.args.f c.args.slot.0) c.args.stem.now c.args.d c.loop-i.i c.loop-i-test.true c.loop-i.invariant.0
+      (omega (arith, c.real_byte.ensures.0, c.wide-y.ensures.0)) (omega (arith, c.real_byte-in-loop-i.ensures.0, c.wide-y.ensures.0)),
+)
 
 pub returns : goal.returns
 returns c =

@@ -36,7 +36,7 @@ returns-in-Absent c =
     → left_of c.args.f c.args.lo.now c.args.depth (group_below c.args.image.now c.args.f c.args.node.0 c.args.depth)
     ≡ left_of c.args.f c.args.lo.now (c.loop-d.d + 1) (group_behind c.args.image.now c.args.f c.args.lo.now c.loop-d.m.0 c.loop-d.d) = λ h. c.loop-d.invariant.1 ∙ left_on c.loop-d.invariant.0 more (sym last.higher_is ∙ h) in
     let h = c.if-last.false in
-    sym (on h ∙ left_nothing (branch h) c.enum_told-1.given.1)
+    sym (on h ∙ left_nothing (branch h) c.in-Absent.is)
 
 pub slot-requires : goal.slot-requires
 slot-requires c =
@@ -53,7 +53,7 @@ high_below-requires c =
     let branch : c.last_branch-last.result.higher ≡ false
     → KeyBranch c.args.image.now c.args.f c.args.lo.now c.loop-d.m.0 c.loop-d.d c.last_branch-last.result.kind c.last_branch-last.result.at.0 = λ h. record { from = c.loop-d.invariant.0; more = more; kind_is = last.kind_is h; at_is = last.at_is h } in
     let n = c.loop-d.invariant.0 in
-    (n.accepted, open_in (branch c.if-last.false) c.slot.result.0 c.slot.ensures c.enum_told-in-Leaf-1.given.1, omega (arith, more), n.short)
+    (n.accepted, open_in (branch c.if-last.false) c.slot.result.0 c.slot.ensures c.in-Leaf.is, omega (arith, more), n.short)
 
 pub returns-in-Leaf : goal.returns-in-Leaf
 returns-in-Leaf c =
@@ -66,7 +66,7 @@ returns-in-Leaf c =
     ≡ left_of c.args.f c.args.lo.now (c.loop-d.d + 1) (group_behind c.args.image.now c.args.f c.args.lo.now c.loop-d.m.0 c.loop-d.d) = λ h. c.loop-d.invariant.1 ∙ left_on c.loop-d.invariant.0 more (sym last.higher_is ∙ h) in
     let h = c.if-last.false in
     let s = c.slot in
-    ap not c.high_below.ensures ∙ sym (on h ∙ left_leaf (branch h) s.result.0 s.ensures c.enum_told-in-Leaf-1.given.1)
+    ap not c.high_below.ensures ∙ sym (on h ∙ left_leaf (branch h) s.result.0 s.ensures c.in-Leaf.is)
 
 pub child-m-requires : goal.child-m-requires
 child-m-requires c =
@@ -91,7 +91,7 @@ loop-d-preserved c =
     → left_of c.args.f c.args.lo.now c.args.depth (group_below c.args.image.now c.args.f c.args.node.0 c.args.depth)
     ≡ left_of c.args.f c.args.lo.now (c.loop-d.d + 1) (group_behind c.args.image.now c.args.f c.args.lo.now c.loop-d.m.0 c.loop-d.d) = λ h. c.loop-d.invariant.1 ∙ left_on c.loop-d.invariant.0 more (sym last.higher_is ∙ h) in
     let h = c.if-last.false in
-    let k = c.enum_told-in-Child-1.given.1 in
+    let k = c.in-Child.is in
     (child_key (branch h) c.child-m.result.0 c.child-m.ensures k, on h ∙ left_child (branch h) c.child-m.result.0 c.child-m.ensures k)
 
 pub returns : goal.returns

@@ -55,7 +55,7 @@ returns-then-y-branch c =
 pub returns-in-Absent : goal.returns-in-Absent
 returns-in-Absent c =
     let there : c.first_branch-first.result.branch.kind ≡ Absent → ⊥ = first_there c.loop-d.invariant.0 c.first_branch-first.ensures.branch_is in
-    absurd (there c.enum_told-1.given.1)
+    absurd (there c.in-Absent.is)
 
 pub slot-requires : goal.slot-requires
 slot-requires c =
@@ -74,7 +74,7 @@ low_above-requires c =
     let branch : c.first_branch-first.result.branch.label ≤ c.wide-y.result
     → KeyBranch c.args.image.now c.args.f c.args.hi.now c.loop-d.m.0 c.loop-d.d c.first_branch-first.result.branch.kind c.first_branch-first.result.branch.at.0 = λ h. next_own c.loop-d.invariant.0 more c.first_branch-first.ensures.branch_is (omega arith) there (omega (arith, upto, c.wide-y.ensures.0)) in
     let n = c.loop-d.invariant.0 in
-    (n.accepted, open_in (branch (omega (arith, c.if-y-branch.false))) c.slot.result.0 c.slot.ensures c.enum_told-in-Leaf-1.given.1, omega (arith, more), n.short)
+    (n.accepted, open_in (branch (omega (arith, c.if-y-branch.false))) c.slot.result.0 c.slot.ensures c.in-Leaf.is, omega (arith, more), n.short)
 
 pub returns-in-Leaf : goal.returns-in-Leaf
 returns-in-Leaf c =
@@ -88,7 +88,7 @@ returns-in-Leaf c =
     let branch : c.first_branch-first.result.branch.label ≤ c.wide-y.result
     → KeyBranch c.args.image.now c.args.f c.args.hi.now c.loop-d.m.0 c.loop-d.d c.first_branch-first.result.branch.kind c.first_branch-first.result.branch.at.0 = λ h. next_own c.loop-d.invariant.0 more c.first_branch-first.ensures.branch_is (omega arith) there (omega (arith, upto, c.wide-y.ensures.0)) in
     let s = c.slot in
-    sym (on ∙ reached_leaf (branch (omega (arith, c.if-y-branch.false))) s.result.0 s.ensures c.enum_told-in-Leaf-1.given.1 ∙ c.low_above.ensures)
+    sym (on ∙ reached_leaf (branch (omega (arith, c.if-y-branch.false))) s.result.0 s.ensures c.in-Leaf.is ∙ c.low_above.ensures)
 
 pub child-m-requires : goal.child-m-requires
 child-m-requires c =
@@ -116,7 +116,7 @@ loop-d-preserved c =
     let branch : c.first_branch-first.result.branch.label ≤ c.wide-y.result
     → KeyBranch c.args.image.now c.args.f c.args.hi.now c.loop-d.m.0 c.loop-d.d c.first_branch-first.result.branch.kind c.first_branch-first.result.branch.at.0 = λ h. next_own c.loop-d.invariant.0 more c.first_branch-first.ensures.branch_is (omega arith) there (omega (arith, upto, c.wide-y.ensures.0)) in
     let b = branch (omega (arith, c.if-y-branch.false)) in
-    let h = c.enum_told-in-Child-1.given.1 in
+    let h = c.in-Child.is in
     (child_key b c.child-m.result.0 c.child-m.ensures h, on ∙ reached_child b c.child-m.result.0 c.child-m.ensures h)
 
 pub is_exact-requires : goal.is_exact-requires

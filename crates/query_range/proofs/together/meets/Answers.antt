@@ -40,13 +40,13 @@ open_between-requires c =
 pub returns-in-NoNodes : goal.returns-in-NoNodes
 returns-in-NoNodes c =
     let leads : (end : KeyEnd) → c.follow-end.result ≡ end → LeadsTo c.args.image.now c.args.f c.args.lo.now c.shared-n.result end = λ end e. subst (λ (t : KeyEnd). LeadsTo c.args.image.now c.args.f c.args.lo.now c.shared-n.result t) e c.follow-end.ensures in
-    range_nowhere c.args.image.now c.args.f c.requires.0 (leads End.NoNodes c.enum_told-1.given.1) c.args.lo.now c.args.hi.now
+    range_nowhere c.args.image.now c.args.f c.requires.0 (leads End.NoNodes c.in-NoNodes.is) c.args.lo.now c.args.hi.now
 
 pub returns-in-NoBranch : goal.returns-in-NoBranch
 returns-in-NoBranch c =
     let within : c.shared-n.result ≤ shared c.args.lo.now c.args.hi.now = omega (arith, c.shared-n.ensures) in
     let leads : (end : KeyEnd) → c.follow-end.result ≡ end → LeadsTo c.args.image.now c.args.f c.args.lo.now c.shared-n.result end = λ end e. subst (λ (t : KeyEnd). LeadsTo c.args.image.now c.args.f c.args.lo.now c.shared-n.result t) e c.follow-end.ensures in
-    range_absent c.args.image.now c.args.f c.args.lo.now c.args.hi.now c.requires.0 c.requires.1 c.requires.2 within (leads End.NoBranch c.enum_told-in-NoBranch-1.given.1)
+    range_absent c.args.image.now c.args.f c.args.lo.now c.args.hi.now c.requires.0 c.requires.1 c.requires.2 within (leads End.NoBranch c.in-NoBranch.is)
 
 pub returns-in-Node : goal.returns-in-Node
 returns-in-Node c =

@@ -30,7 +30,7 @@ first_behind-requires c =
 
 pub returns-in-None : goal.returns-in-None
 returns-in-None c =
-    rw c.enum_told-1.given.1 (record { key_is = no_key c.args.image.now c.args.f c.args.key.now; key_size = c.requires.key_size })
+    rw c.in-None.is (record { key_is = no_key c.args.image.now c.args.f c.args.key.now; key_size = c.requires.key_size })
 
 pub returns-in-At : goal.returns-in-At
 returns-in-At c =

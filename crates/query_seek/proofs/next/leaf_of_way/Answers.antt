@@ -22,18 +22,18 @@ leaf_above-requires c =
 pub first_below-requires : goal.first_below-requires
 first_below-requires c =
     let below : FirstBelow c.args.image.now c.args.f (leaf_below (nodes c.args.image.now c.args.f) c.args.start.now c.args.way.bound.level.node.0 c.args.way.bound.level.depth) c.args.key.now c.args.way.bound.level.node.0 c.args.way.bound.level.depth = let p = c.requires in
-    start_below p.accepted p.key_size p.begins p.ended.sums.depth_in (ended_node p.ended c.enum_told-in-Node-1.given.1).1 in
+    start_below p.accepted p.key_size p.begins p.ended.sums.depth_in (ended_node p.ended c.in-Node.is).1 in
     let w = below in (w.accepted, w.level, w.key_size)
 
 pub returns-in-NoLeaf : goal.returns-in-NoLeaf
 returns-in-NoLeaf c =
-    rw (ended_nowhere c.requires.ended c.enum_told-1.given.1) c.leaf_above.ensures
+    rw (ended_nowhere c.requires.ended c.in-NoLeaf.is) c.leaf_above.ensures
 
 pub returns-in-Node : goal.returns-in-Node
 returns-in-Node c =
     let below : FirstBelow c.args.image.now c.args.f (leaf_below (nodes c.args.image.now c.args.f) c.args.start.now c.args.way.bound.level.node.0 c.args.way.bound.level.depth) c.args.key.now c.args.way.bound.level.node.0 c.args.way.bound.level.depth = let p = c.requires in
-    start_below p.accepted p.key_size p.begins p.ended.sums.depth_in (ended_node p.ended c.enum_told-in-Node-1.given.1).1 in
-    rw ((ended_node c.requires.ended c.enum_told-in-Node-1.given.1).0 ∙ below.leaf_is) c.first_below.ensures
+    start_below p.accepted p.key_size p.begins p.ended.sums.depth_in (ended_node p.ended c.in-Node.is).1 in
+    rw ((ended_node c.requires.ended c.in-Node.is).0 ∙ below.leaf_is) c.first_below.ensures
 
 pub returns-in-Leaf : goal.returns-in-Leaf
 returns-in-Leaf c =

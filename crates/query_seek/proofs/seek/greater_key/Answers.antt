@@ -15,20 +15,20 @@ pub returns-in-Below : goal.returns-in-Below
 returns-in-Below c =
     let a = c.args in
     let p = c.requires in
-    (greater_below a.start.now (take a.n a.key.now) (sym c.compare-order.ensures ∙ c.enum_told-1.given.1), p.2, p.1)
+    (greater_below a.start.now (take a.n a.key.now) (sym c.compare-order.ensures ∙ c.in-Below.is), p.2, p.1)
 
 pub returns-in-Equal : goal.returns-in-Equal
 returns-in-Equal c =
     let a = c.args in
     let p = c.requires in
-    (greater_equal a.start.now (take a.n a.key.now) (sym c.compare-order.ensures ∙ c.enum_told-in-Equal-1.given.1), p.2, p.1)
+    (greater_equal a.start.now (take a.n a.key.now) (sym c.compare-order.ensures ∙ c.in-Equal.is), p.2, p.1)
 
 pub returns-in-Above : goal.returns-in-Above
 returns-in-Above c =
     let a = c.args in
     let p = c.requires in
     let written = c.write_bytes.ensures in (
-      ap (take (length a.start.now)) written ∙ overlaid_front a.key.now a.start.now ∙ greater_above a.start.now (take a.n a.key.now) (sym c.compare-order.ensures ∙ c.enum_told-in-Above-1.given.1),
+      ap (take (length a.start.now)) written ∙ overlaid_front a.key.now a.start.now ∙ greater_above a.start.now (take a.n a.key.now) (sym c.compare-order.ensures ∙ c.in-Above.is),
       p.0,
       ap length written ∙ length_overlaid a.key.now 0 a.start.now (omega (arith, p.0, p.1)) ∙ p.1,
     )

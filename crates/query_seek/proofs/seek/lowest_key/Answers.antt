@@ -13,12 +13,12 @@ append_real-requires c =
 
 pub returns-in-Nowhere : goal.returns-in-Nowhere
 returns-in-Nowhere c =
-    absurd (c.requires.there c.enum_told-1.given.1)
+    absurd (c.requires.there c.in-Nowhere.is)
 
 pub returns-in-Exact : goal.returns-in-Exact
 returns-in-Exact c =
     let a = c.args in
-    record { low_is = ap (λ (stop : LeafStop). low_of a.f.hash_width a.f.width (nodes a.image.now a.f) stop (take a.depth a.key.now)) c.enum_told-in-Exact-1.given.1; upto = c.requires.depth_in; key_size = c.requires.key_size }
+    record { low_is = ap (λ (stop : LeafStop). low_of a.f.hash_width a.f.width (nodes a.image.now a.f) stop (take a.depth a.key.now)) c.in-Exact.is; upto = c.requires.depth_in; key_size = c.requires.key_size }
 
 pub returns-in-Open : goal.returns-in-Open
 returns-in-Open c =

@@ -33,14 +33,14 @@ overflow_add-sum c =
 
 pub returns-in-Absent : goal.returns-in-Absent
 returns-in-Absent c =
-    followed_none c.requires.0 (byte c) c.enum_told-1.given.1
+    followed_none c.requires.0 (byte c) c.in-Absent.is
 
 pub end_at_leaf-bound-requires : goal.end_at_leaf-bound-requires
 end_at_leaf-bound-requires c =
     let more : c.loop-level.level.depth < length c.args.start.now = c.loop-level-test.true in
     record {
       accepted = c.requires.0;
-      slot_in = leaf_slot c.requires.0 (byte c) c.enum_told-in-Leaf-1.given.1;
+      slot_in = leaf_slot c.requires.0 (byte c) c.in-Leaf.is;
       depth_in = omega (arith, more);
       short = c.requires.2;
       small = sum_small c.requires.0 (byte c);
@@ -49,7 +49,7 @@ end_at_leaf-bound-requires c =
 pub returns-in-Leaf : goal.returns-in-Leaf
 returns-in-Leaf c =
     let e = c.end_at_leaf-bound.ensures in
-    rw (e.end_is, e.node_is, e.depth_is, e.sum_is) (followed_leaf c.requires.0 (byte c) c.enum_told-in-Leaf-1.given.1 _ refl)
+    rw (e.end_is, e.node_is, e.depth_is, e.sum_is) (followed_leaf c.requires.0 (byte c) c.in-Leaf.is _ refl)
 
 pub loop-level-smaller : goal.loop-level-smaller
 loop-level-smaller c =
@@ -58,7 +58,7 @@ loop-level-smaller c =
 
 pub loop-level-preserved : goal.loop-level-preserved
 loop-level-preserved c =
-    following_child c.requires.0 (byte c) c.enum_told-in-Child-1.given.1
+    following_child c.requires.0 (byte c) c.in-Child.is
 
 pub returns : goal.returns
 returns c =

@@ -4,7 +4,7 @@ use Rattle.nav_nodes.specs.Positions.{branch_index}
 use Rattle.query_descent.specs.Summed.{Leading, rest_slot}
 use Rattle.query_sums.specs.Bounds.{bound_end, bound_next, bound_none, bound_leaf}
 use lib.ListN.{length, get_or}
-use Prim.Native.Nat.{◌+◌, ◌-◌, ◌<◌}
+use Prim.Native.Nat.{◌+◌, ◌<◌}
 use mathlib.Core.Path.{refl}
 use native.Mathlib.Omega.{arith}
 use Rattle.query_sums.proofs.bounds.bound_from.Goals as goal
@@ -39,13 +39,13 @@ pub returns-in-Absent : goal.returns-in-Absent
 returns-in-Absent c =
     let more : c.loop-level.level.depth < length c.args.key.now = c.loop-level-test.true in
     let found : FoundBranch c.args.image.now c.args.f c.loop-level.level.node.0 (get_or c.args.key.now c.loop-level.level.depth 0) c.find-found.result = rw c.wide.ensures.0 at c.find-found.ensures in
-    λ above o. bound_none c.args.image.now c.args.f c.requires.accepted c.args.key.now c.requires.short above c.loop-level.level (c.loop-level.invariant above o) more c.find-found.result found _ c.child_and_slot-next.result.slot c.child_and_slot-next.ensures refl refl c.enum_told-1.given.1
+    λ above o. bound_none c.args.image.now c.args.f c.requires.accepted c.args.key.now c.requires.short above c.loop-level.level (c.loop-level.invariant above o) more c.find-found.result found _ c.child_and_slot-next.result.slot c.child_and_slot-next.ensures refl refl c.in-Absent.is
 
 pub returns-in-Leaf : goal.returns-in-Leaf
 returns-in-Leaf c =
     let more : c.loop-level.level.depth < length c.args.key.now = c.loop-level-test.true in
     let found : FoundBranch c.args.image.now c.args.f c.loop-level.level.node.0 (get_or c.args.key.now c.loop-level.level.depth 0) c.find-found.result = rw c.wide.ensures.0 at c.find-found.ensures in
-    λ above o. bound_leaf c.args.image.now c.args.f c.requires.accepted c.args.key.now c.requires.short above c.loop-level.level (c.loop-level.invariant above o) more c.find-found.result found _ c.child_and_slot-next.result.slot c.child_and_slot-next.ensures refl refl c.enum_told-in-Leaf-1.given.1
+    λ above o. bound_leaf c.args.image.now c.args.f c.requires.accepted c.args.key.now c.requires.short above c.loop-level.level (c.loop-level.invariant above o) more c.find-found.result found _ c.child_and_slot-next.result.slot c.child_and_slot-next.ensures refl refl c.in-Leaf.is
 
 pub loop-level-smaller : goal.loop-level-smaller
 loop-level-smaller c =
@@ -56,7 +56,7 @@ pub loop-level-preserved : goal.loop-level-preserved
 loop-level-preserved c =
     let more : c.loop-level.level.depth < length c.args.key.now = c.loop-level-test.true in
     let found : FoundBranch c.args.image.now c.args.f c.loop-level.level.node.0 (get_or c.args.key.now c.loop-level.level.depth 0) c.find-found.result = rw c.wide.ensures.0 at c.find-found.ensures in
-    λ above o. bound_next c.args.image.now c.args.f c.requires.accepted c.args.key.now c.requires.short above c.loop-level.level (c.loop-level.invariant above o) more c.find-found.result found _ c.child_and_slot-next.result.slot c.child_and_slot-next.ensures refl refl c.enum_told-in-Child-1.given.1
+    λ above o. bound_next c.args.image.now c.args.f c.requires.accepted c.args.key.now c.requires.short above c.loop-level.level (c.loop-level.invariant above o) more c.find-found.result found _ c.child_and_slot-next.result.slot c.child_and_slot-next.ensures refl refl c.in-Child.is
 
 pub returns : goal.returns
 returns c =

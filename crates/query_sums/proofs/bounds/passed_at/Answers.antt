@@ -7,16 +7,16 @@ use Rattle.query_sums.proofs.bounds.passed_at.Goals as goal
 pub high_below-requires : goal.high_below-requires
 high_below-requires c =
     let p = c.requires in
-    (p.accepted, slot_inside c.args.image.now c.args.f c.args.key.now c.args.bound p c.end-1.given.0.0 c.end-1.given.1, p.stop_is.depth_in, p.short)
+    (p.accepted, slot_inside c.args.image.now c.args.f c.args.key.now c.args.bound p c.in-Leaf.slot c.in-Leaf.is, p.stop_is.depth_in, p.short)
 
 pub returns-in-NoLeaf : goal.returns-in-NoLeaf
 returns-in-NoLeaf c =
-    (sym (passed_nowhere c.args.image.now c.args.f c.args.key.now c.args.bound c.requires c.enum_told-1.given.1), omega arith)
+    (sym (passed_nowhere c.args.image.now c.args.f c.args.key.now c.args.bound c.requires c.in-NoLeaf.is), omega arith)
 
 pub returns-in-Node : goal.returns-in-Node
 returns-in-Node c =
-    (sym (passed_node c.args.image.now c.args.f c.args.key.now c.args.bound c.requires c.enum_told-in-Node-1.given.1), omega arith)
+    (sym (passed_node c.args.image.now c.args.f c.args.key.now c.args.bound c.requires c.in-Node.is), omega arith)
 
 pub returns-in-Leaf : goal.returns-in-Leaf
 returns-in-Leaf c =
-    (c.one_if.ensures.0 ∙ ap bit c.high_below.ensures ∙ sym (passed_leaf c.args.image.now c.args.f c.args.key.now c.args.bound c.requires c.end-1.given.0.0 c.end-1.given.1), c.one_if.ensures.1)
+    (c.one_if.ensures.0 ∙ ap bit c.high_below.ensures ∙ sym (passed_leaf c.args.image.now c.args.f c.args.key.now c.args.bound c.requires c.in-Leaf.slot c.in-Leaf.is), c.one_if.ensures.1)

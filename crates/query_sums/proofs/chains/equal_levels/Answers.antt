@@ -1,5 +1,5 @@
 -- The loop: k levels behind level t have as many nodes, and so has the one behind these.
-use Prim.Native.Nat.{ℕ, ◌+◌, ◌*◌, ◌-◌, ◌≤◌, ◌<◌}
+use Prim.Native.Nat.{ℕ, ◌+◌, ◌*◌, ◌≤◌, ◌<◌}
 use mathlib.Core.Path.{◌≡◌, sym, ap, ◌∙◌}
 use mathlib.Core.Bool.{Bool, true, false, ◌&&◌, true≢false}
 use native.Mathlib.Omega.{arith}
@@ -10,6 +10,11 @@ use Rattle.query_sums.specs.LevelTable.{level_count, levels_few, nodes_few}
 use Rattle.query_descent.specs.Followed.{node_length}
 use Rattle.query_sums.specs.Chains.{EqualLevels, levels_within, levels_more}
 use Rattle.query_sums.proofs.chains.equal_levels.Goals as goal
+
+-- the second of two tests
+second : (a b : Bool) → (a && b) ≡ true → b ≡ true
+second true b h = h
+second false b h = absurd (true≢false (sym h))
 
 pub level_count-levels-requires : goal.level_count-levels-requires
 level_count-levels-requires c =
@@ -70,11 +75,7 @@ loop-k-smaller c =
     let more : c.args.t + c.loop-k.k + 1 < c.level_count-levels.result = let a = c.args in
     let l = c.loop-k in
     let n = c.level_count-levels.result in
-    ltb-true (a.t + l.k + 1) n (second (ltb l.k a.most) (ltb (a.t + l.k + 1) n) c.loop-k-test.true)
-  where
-    second : (a b : Bool) → (a && b) ≡ true → b ≡ true
-    second true b h = h
-    second false b h = absurd (true≢false (sym h)) in
+    ltb-true (a.t + l.k + 1) n (second (ltb l.k a.most) (ltb (a.t + l.k + 1) n) c.loop-k-test.true) in
     omega (arith, more)
 
 pub loop-k-preserved : goal.loop-k-preserved
@@ -83,11 +84,7 @@ loop-k-preserved c =
     let more : c.args.t + c.loop-k.k + 1 < c.level_count-levels.result = let a = c.args in
     let l = c.loop-k in
     let n = c.level_count-levels.result in
-    ltb-true (a.t + l.k + 1) n (second (ltb l.k a.most) (ltb (a.t + l.k + 1) n) c.loop-k-test.true)
-  where
-    second : (a b : Bool) → (a && b) ≡ true → b ≡ true
-    second true b h = h
-    second false b h = absurd (true≢false (sym h)) in
+    ltb-true (a.t + l.k + 1) n (second (ltb l.k a.most) (ltb (a.t + l.k + 1) n) c.loop-k-test.true) in
     let a = c.args in
     let e = sym c.level_start-end.ensures ∙ c.if-end-next.false in
     let q = levels_more a.image.now a.f a.t a.start a.width c.loop-k.k c.loop-k.invariant.0 (omega (arith, more, counted.0)) (e ∙ ap (λ (n : ℕ). n + a.width) c.loop-k.invariant.1) in

@@ -1,6 +1,6 @@
 -- The invariant: both bounds have gone down to one level, from where they first stood on one.
 use Rattle.query_sums.specs.Levels.{DownTo, GoneDown, down_none, down_first, down_again, gone_again, apart_same, apart_end, apart_above}
-use Prim.Native.Nat.{ℕ, ◌-◌, ◌≤◌}
+use Prim.Native.Nat.{ℕ, ◌≤◌}
 use mathlib.Core.Path.{refl, sym, subst, ◌∙◌}
 use native.Mathlib.Nat.{max-le, le-max_left, le-max_right}
 use native.Mathlib.Omega.{arith}
