@@ -1,9 +1,7 @@
 -- No leaf is passed on the way up: a node without a branch left is left for the one above it.
 use Prim.Native.Nat.{ℕ, ◌+◌, ◌-◌, ◌<◌, ◌≤◌}
 use mathlib.Core.Path.{◌≡◌, refl, sym, ap, ◌∙◌}
-use mathlib.Core.Logic.{⊎_elim}
 use native.Mathlib.Omega.{arith}
-use borrow.Author.Tests.{eqb-true, eqb-false}
 use lib.ListN.{get_or}
 use Rattle.nav_nodes.specs.declared.BranchKind.TheVariants.{Absent}
 use Rattle.nav_nodes.specs.Accepted.{nodes}
@@ -53,9 +51,9 @@ returns-then-is_there c =
     let x = c.next_at-branch.result in
     let deep : l.d < 64 = omega (arith, l.invariant.0, p.deep) in
     let at-root : x.kind ≡ Absent → l.d ≡ 0 = λ e. elim c.then-is_there.branch [
-        then-is_there-via-then-is_there w ↦ absurd (there_not x.kind (sym c.is_there.ensures ∙ w.if-is_there.true) e)
+      | then-is_there-via-then-is_there w ↦ absurd (there_not x.kind (sym c.is_there.ensures ∙ w.if-is_there.true) e)
       | then-is_there-via-else-is_there+then-d-eq0 w ↦ w.if-d-eq0.true
-      ] in
+    ] in
     record {
       higher = record {
         above = l.invariant.0;

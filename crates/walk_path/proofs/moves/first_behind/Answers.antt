@@ -1,5 +1,4 @@
 -- On the way down no leaf is passed; the measure is what is left of the 64 levels.
-use Prim.Native.Nat.{◌-◌}
 use native.Mathlib.Omega.{arith}
 use mathlib.Core.Path.{◌≡◌, refl}
 use Rattle.nav_nodes.specs.declared.BranchKind.{BranchKind}
