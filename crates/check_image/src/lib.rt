@@ -1,6 +1,7 @@
 // The public call check, and the frame of an accepted image for the calls that read one.
 
 #![tactic(auto)]
+
 ghost use Rattle.std.specs.Prelude.{◌≡◌};
 ghost use Rattle.spec.specs.Check.{check};
 ghost use Rattle.check_frame.specs.Found.{IsRankedFrame};

@@ -1,5 +1,5 @@
 -- LV compared level by level: what is known where the first levels agree, and what the next number says.
-use Rattle.std.specs.Prelude.{ℕ, suc, ◌+◌, ◌-◌, ◌<◌, ◌≤◌, ◌≡◌, refl, Bool, true, false, List, [], ◌∷◌, length, drop, ltb, eqb}
+use Rattle.std.specs.Prelude.{ℕ, suc, ◌+◌, ◌-◌, ◌<◌, ◌≤◌, ◌≡◌, refl, Bool, true, false, List, ◌∷◌, length, drop, ltb, eqb}
 use Rattle.std.proofs.Common.{sym, ap, ap₂, ◌∙◌, arith, length-drop, drop-drop, ltb-true, ltb-false}
 use Rattle.spec.specs.Bytes.{Bytes, equal, from32}
 use Rattle.bits.specs.ValueLaws.{Small, small_drop}

@@ -1,7 +1,6 @@
 -- The stages in their order: each test that fails gives its number, and where all pass the verdict is 0.
 use mathlib.Core.Path.{◌≡◌, refl, sym, ap, ap₂, ◌∙◌}
 use mathlib.Core.Bool.{Bool, ◌&&◌}
-use borrow.Author.Tests.{not-true, not-false}
 use Rattle.spec.specs.Bytes.{Bytes}
 use Rattle.spec.specs.Frame.{parts}
 use Rattle.spec.specs.Trie.{builders_trie}

@@ -1,7 +1,6 @@
 -- The loop: the bytes before i are zero where the greatest of them is.
 use mathlib.Core.Path.{◌≡◌, refl, sym, ap, ◌∙◌}
-use mathlib.Core.Logic.{⊎_elim}
-use Prim.Native.Nat.{ℕ, ◌*◌, ◌-◌}
+use Prim.Native.Nat.{ℕ, ◌*◌}
 use native.Mathlib.Omega.{arith}
 use lib.ListN.{get_or}
 use lib.Dec.{eqb}
@@ -10,6 +9,7 @@ use Rattle.bits.specs.Bits.{rank}
 use Rattle.bits.specs.ValueLaws.{Small}
 use Rattle.check_slots.specs.SlotBits.{bits_clear}
 use Rattle.check_slots.specs.SlotWords.{byte_greater, byte_smaller}
+use Rattle.check_slots.proofs.clear.bytes_clear.Goals.{then-greatest-byte, else-greatest-byte}
 use Rattle.check_slots.proofs.clear.bytes_clear.Goals as goal
 
 pub loop-i-init : goal.loop-i-init
@@ -32,8 +32,14 @@ pub loop-i-preserved : goal.loop-i-preserved
 loop-i-preserved c =
     let a = c.args in
     let l = c.loop-i in
-    let small : Small a.s.now = λ i. (c.shared_slice_known-1.given i).fits in
-    (omega arith, omega arith, ⊎_elim (λ w. let e : c.if-greatest-byte.greatest ≡ get_or a.s.now l.i 0 = omega arith in ap (λ (n : ℕ). eqb n 0) e ∙ byte_greater a.s.now small a.from l.i l.greatest l.invariant.0 l.invariant.2 (omega arith)) (λ w. let e : c.if-greatest-byte.greatest ≡ l.greatest = omega arith in ap (λ (n : ℕ). eqb n 0) e ∙ byte_smaller a.s.now small a.from l.i l.greatest l.invariant.0 l.invariant.2 (omega arith)) c.if-greatest-byte.branch)
+    let small : Small a.s.now = λ i. (c.shared_slice_known-1.given i).fits in (
+      omega arith,
+      omega arith,
+      elim c.if-greatest-byte.branch [
+        | then-greatest-byte w ↦ let e : c.if-greatest-byte.greatest ≡ get_or a.s.now l.i 0 = omega arith in ap (λ (n : ℕ). eqb n 0) e ∙ byte_greater a.s.now small a.from l.i l.greatest l.invariant.0 l.invariant.2 (omega arith)
+        | else-greatest-byte w ↦ let e : c.if-greatest-byte.greatest ≡ l.greatest = omega arith in ap (λ (n : ℕ). eqb n 0) e ∙ byte_smaller a.s.now small a.from l.i l.greatest l.invariant.0 l.invariant.2 (omega arith)
+      ],
+    )
 
 pub returns : goal.returns
 returns c =

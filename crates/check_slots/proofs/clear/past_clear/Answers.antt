@@ -11,7 +11,6 @@ use Rattle.check_levels.specs.Positions.{bits}
 use Rattle.check_levels.specs.Ranges.{all_from, from_pass, from_fail, from_step, from_end}
 use Rattle.check_slots.specs.NodeSlots.{slot_clear}
 use Rattle.check_slots.specs.SlotBits.{slots_in_row, slot_fits, slot_within, slot_behind}
-use borrow.Author.Tests.{not-true, not-false}
 use Rattle.check_slots.proofs.clear.past_clear.Goals as goal
 
 -- the test of a slot

@@ -13,7 +13,6 @@ use Rattle.check_levels.specs.Ranges.{all_from, from_end}
 use Rattle.check_slots.specs.DenseExact.{dense_exact}
 use Rattle.check_slots.specs.DenseSlots.{skip_clear, exact_fails, exact_passes, exact_count, exact_few}
 use Rattle.check_slots.specs.SlotTests.{clear_at}
-use borrow.Author.Tests.{not-true, not-false}
 use Rattle.check_slots.proofs.dense.dense_clear.Goals as goal
 
 -- the nodes from one on

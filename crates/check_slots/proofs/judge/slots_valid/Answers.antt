@@ -1,6 +1,5 @@
 -- Without leaves or without bits nothing is set; else the three tests are those of number 16.
 use mathlib.Core.Path.{sym, ◌∙◌}
-use borrow.Author.Tests.{not-true, not-false}
 use Rattle.check_levels.specs.BodyTests.{some_nodes}
 use Rattle.check_slots.specs.SlotTests.{no_leaves, no_bits, dense_fails, sparse_fails, levels_decide}
 use Rattle.check_slots.proofs.judge.slots_valid.Goals as goal

@@ -1,5 +1,5 @@
 -- The loop: the levels before the next one agree with LV, and what is left of it decides.
-use Prim.Native.Nat.{◌+◌, ◌-◌}
+use Prim.Native.Nat.{◌+◌}
 use mathlib.Core.Path.{refl, sym, ◌∙◌}
 use native.Mathlib.Omega.{arith}
 use Rattle.bits.specs.ValueLaws.{Small}

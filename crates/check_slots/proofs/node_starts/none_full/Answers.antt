@@ -1,11 +1,11 @@
 -- The loop: no label before the position is above the greatest.
-use mathlib.Core.Logic.{⊎_elim}
-use Prim.Native.Nat.{ℕ, ◌+◌, ◌-◌, ◌≤◌, ◌<◌}
+use Prim.Native.Nat.{ℕ, ◌+◌, ◌≤◌, ◌<◌}
 use native.Mathlib.Omega.{arith}
 use lib.ListN.{get_or}
 use borrow.Author.Count.{below_more}
 use borrow.Author.Tests.{ltb-true}
 use Rattle.spec.specs.Bytes.{Bytes}
+use Rattle.check_slots.proofs.node_starts.none_full.Goals.{then-greatest-label, else-greatest-label}
 use Rattle.check_slots.proofs.node_starts.none_full.Goals as goal
 
 -- no label of those from `at` on, up to number i, is above g
@@ -39,8 +39,13 @@ loop-i-smaller c =
 pub loop-i-preserved : goal.loop-i-preserved
 loop-i-preserved c =
     let a = c.args in
-    let l = c.loop-i in
-    (omega arith, ⊎_elim (λ w. one_more a.sl.now a.at l.greatest c.if-greatest-label.greatest l.i l.invariant.1 (omega arith) (omega arith)) (λ w. one_more a.sl.now a.at l.greatest c.if-greatest-label.greatest l.i l.invariant.1 (omega arith) (omega arith)) c.if-greatest-label.branch)
+    let l = c.loop-i in (
+      omega arith,
+      elim c.if-greatest-label.branch [
+        | then-greatest-label w ↦ one_more a.sl.now a.at l.greatest c.if-greatest-label.greatest l.i l.invariant.1 (omega arith) (omega arith)
+        | else-greatest-label w ↦ one_more a.sl.now a.at l.greatest c.if-greatest-label.greatest l.i l.invariant.1 (omega arith) (omega arith)
+      ],
+    )
 
 pub returns : goal.returns
 returns c t i h =

@@ -1,12 +1,10 @@
 -- The loop: the words before `number` are judged; a word without candidates passes. The last word is judged behind it.
 use mathlib.Core.Path.{◌≡◌, refl, sym, ap, ◌∙◌}
 use mathlib.Core.Bool.{Bool, true, false}
-use mathlib.Core.Logic.{⊎_elim}
 use Prim.Native.Nat.{ℕ, zero, suc, ◌+◌, ◌*◌, ◌-◌, ◌/◌, ◌≤◌, ◌<◌}
 use native.Mathlib.Omega.{arith}
 use mir.Val.{Fits}
 use mir.Syntax.{w64}
-use borrow.Author.Tests.{not-true, not-false}
 use Rattle.spec.specs.Bytes.{Bytes}
 use Rattle.bits.specs.PartLaws.{bits_room, lent_part}
 use Rattle.image.specs.declared.Frame.{Frame}
@@ -16,6 +14,7 @@ use Rattle.check_levels.specs.Ranges.{all_from, from_none, from_end}
 use Rattle.check_slots.specs.LevelStarts.{dense_leaf_count}
 use Rattle.check_slots.specs.SparseWords.{RangeJudged, all_kept, starts_kept, starts_none}
 use Rattle.check_slots.specs.SlotTests.{clear_at, sparse_test}
+use Rattle.check_slots.proofs.sparse.sparse_clear.Goals.{then-starts-ne0+else-not-word_clear, else-starts-ne0}
 use Rattle.check_slots.proofs.sparse.sparse_clear.Goals as goal
 
 -- the entries from one on
@@ -121,7 +120,11 @@ loop-number-preserved c =
     let cs = rw (c.part-sl.ensures, sb) at c.candidates-starts.ensures in
     let l = c.loop-number in
     let e : 64 * l.number + 64 ≡ 64 * (l.number + 1) = next_word l.number in
-    (l.invariant.0 ∙ ⊎_elim (λ w. w.1.ensures.passed (not-false _ w.2.left)) (λ w. starts_none (clear_at s a.f 0) (sl_body s a.f) (sc_body s a.f) (sb_body s a.f) a.f.sparse.entries (dense_leaf_count a.f) l.number _ cs w.left) c.if-starts-ne0.branch ∙ ap (left s a.f) e, next_below l.number _ c.loop-number-test.true)
+    let passed : left s a.f (64 * l.number) ≡ left s a.f (64 * l.number + 64) = elim c.if-starts-ne0.branch [
+      | then-starts-ne0+else-not-word_clear w ↦ w.word_clear.ensures.passed w.if-not-word_clear.false
+      | else-starts-ne0 w ↦ starts_none (clear_at s a.f 0) (sl_body s a.f) (sc_body s a.f) (sb_body s a.f) a.f.sparse.entries (dense_leaf_count a.f) l.number _ cs w.if-starts-ne0.false
+    ] in
+    (l.invariant.0 ∙ passed ∙ ap (left s a.f) e, next_below l.number _ c.loop-number-test.true)
 
 pub last_several-requires : goal.last_several-requires
 last_several-requires c =

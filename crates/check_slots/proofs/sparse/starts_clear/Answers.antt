@@ -10,7 +10,6 @@ use Rattle.check_slots.specs.WordDigits.{lowest_within, lowest_rest}
 use Rattle.check_slots.specs.SparseWords.{starts_end, start_last, start_fail, start_pass}
 use Rattle.check_slots.specs.Entries.{clear_slot, exact_test}
 use Rattle.check_slots.specs.declared.sparse.SparseSlots.{SparseSlots}
-use borrow.Author.Tests.{not-true, not-false}
 use mir.Val.{Fits}
 use mir.Syntax.{w64}
 use Rattle.check_slots.proofs.sparse.starts_clear.Goals as goal
