@@ -27,12 +27,12 @@ use Rattle.build_laws.specs.TrieFacts.{dense_nodes, sparse_nodes, nodes_both}
 use Rattle.build_laws.specs.KeyBits.{key_leaves, key_bodies, bodies_are, some, facts, sparse_values, dense_values, all_values, mapped_values, DLBits, DCBits, DPBits, SCBits, SBBits, SVBits}
 use Rattle.build_laws.specs.Lengths.{length_SL, length_SC_bits, length_SB_bits, length_SV_bits, length_DL_bits, length_DC_bits, length_DP_bits}
 use Rattle.build_laws.specs.Counters.{sparse_top, dense_top, entry_counts, node_counts, leaf_counts, CursorsAt, sparse_starts_at, dense_started, leaf_starts_at}
-use Rattle.theory.specs.BuildLaws.{BuiltFrom}
+use Rattle.theory.proofs.BuildLaws.{BuiltFrom}
 use Rattle.theory.specs.Terms.{All, IsBytes}
-use Rattle.theory.specs.Bits.{length_pack}
-use Rattle.theory.specs.LevelTrie.{trie}
-use Rattle.theory.specs.NodeBits.{slots}
-use Rattle.theory.specs.KeyLeaves.{leaves_length}
+use Rattle.theory.proofs.Bits.{length_pack}
+use Rattle.theory.proofs.LevelTrie.{trie}
+use Rattle.theory.proofs.NodeBits.{slots}
+use Rattle.theory.proofs.KeyLeaves.{leaves_length}
 use Rattle.build_laws.specs.Limits.{counters}
 use Rattle.build_laws.specs.declared.Cell.{Cell}
 

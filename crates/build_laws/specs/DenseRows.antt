@@ -19,10 +19,10 @@ use Rattle.build_laws.specs.SetBits.{has_append, has_nil, has_cons, positions_ap
 use Rattle.build_laws.specs.BitPass.{cursor_ones, cursor_append}
 use Rattle.build_laws.specs.NodeBodies.{node_part, slotted_cons, slotted_none, AnyNode, all_any}
 use Rattle.theory.specs.Terms.{All, IsBytes}
-use Rattle.theory.specs.LinkedLevels.{Labelled}
-use Rattle.theory.specs.Lists.{length_iota}
-use Rattle.theory.specs.NodeBits.{ByteLabels, dense_labels, dense_has_child}
-use Rattle.theory.specs.DenseBits.{length_dense_labels, length_dense_has_child}
+use Rattle.theory.proofs.LinkedLevels.{Labelled}
+use Rattle.theory.proofs.Lists.{length_iota}
+use Rattle.theory.proofs.NodeBits.{ByteLabels, dense_labels, dense_has_child}
+use Rattle.theory.proofs.DenseBits.{length_dense_labels, length_dense_has_child}
 use Rattle.build_laws.specs.declared.Cell.{Cell}
 use Rattle.build_laws.specs.declared.Entry.{Entry}
 

@@ -11,16 +11,16 @@ use Rattle.spec.specs.Nodes.{is_exact}
 use Rattle.build_laws.specs.SlotWidths.{slot_bits}
 use Rattle.build_laws.specs.LevelEntries.{AllFollow}
 use Rattle.build_laws.specs.TrieEntries.{Slotted, Rooted, slotted_of, slotted_between, slotted_first, slotted_rest}
-use Rattle.theory.specs.Neighbours.{Nonempty}
+use Rattle.theory.proofs.Neighbours.{Nonempty}
 use Rattle.build_laws.specs.NeighbourLeaves.{leaves_follow}
 use Rattle.build_laws.specs.Emissions.{Emission, values_below, map_emissions}
 use Rattle.build_laws.specs.KeyEntries.{slotted_emissions, values_emitted}
 use Rattle.build_laws.specs.PassEmissions.{values_map, keys_nonempty}
 use Rattle.build_laws.specs.TrieFacts.{dense_nodes, sparse_nodes, TrieFacts, trie_facts, bodies_levels}
-use Rattle.theory.specs.BuildLaws.{BuiltFrom, built_fits}
-use Rattle.theory.specs.LiteralImage.{Buildable}
-use Rattle.theory.specs.LevelTrie.{trie}
-use Rattle.theory.specs.NodeBits.{dense_labels, dense_has_child, sparse_has_child, louds, slots, bodies_of, sparse_labels}
+use Rattle.theory.proofs.BuildLaws.{BuiltFrom, built_fits}
+use Rattle.theory.proofs.LiteralImage.{Buildable}
+use Rattle.theory.proofs.LevelTrie.{trie}
+use Rattle.theory.proofs.NodeBits.{dense_labels, dense_has_child, sparse_has_child, louds, slots, bodies_of, sparse_labels}
 
 -- the leaves of a key list's image
 abbrev pub key_leaves : Settings → List Bytes → List Leaf

@@ -14,12 +14,12 @@ use Rattle.build_laws.specs.NodeBodies.{labels_slotted, nodes_entries, node_step
 use Rattle.build_laws.specs.TrieFacts.{dense_nodes, sparse_nodes, dense_count, sparse_count}
 use Rattle.build_laws.specs.Counters.{entry_counts, node_counts, entries_total, nodes_total}
 use Rattle.build_laws.specs.KeyBits.{key_leaves, key_bodies, bodies_are, some, fits, facts, all_follow, DLBits, DCBits, DPBits, SCBits, SBBits, SVBits}
-use Rattle.theory.specs.BuildLaws.{BuiltFrom}
-use Rattle.theory.specs.NodeBits.{sparse_labels, length_sv}
-use Rattle.theory.specs.SparseBits.{length_sc, length_sb, louds_ones}
-use Rattle.theory.specs.DenseBits.{length_dl, length_dc}
-use Rattle.theory.specs.Bits.{length_pack, length_ranks, length_samples}
-use Rattle.theory.specs.KeyLeaves.{leaves_length}
+use Rattle.theory.proofs.BuildLaws.{BuiltFrom}
+use Rattle.theory.proofs.NodeBits.{sparse_labels, length_sv}
+use Rattle.theory.proofs.SparseBits.{length_sc, length_sb, louds_ones}
+use Rattle.theory.proofs.DenseBits.{length_dl, length_dc}
+use Rattle.theory.proofs.Bits.{length_pack, length_ranks, length_samples}
+use Rattle.theory.proofs.KeyLeaves.{leaves_length}
 
 -- the bytes of so many dense rows
 row_bytes : (k : ℕ) → blocks 8 (256 * k) ≡ 32 * k

@@ -4,7 +4,7 @@ use Rattle.std.proofs.Common.{sym, ap, ◌∙◌, true≢false, arith, length-ap
 use Rattle.std.proofs.lemmas.List.{length-replicate}
 use Rattle.spec.specs.Bytes.{Bytes, blocks, pack, unpack}
 use Rattle.spec.specs.Image.{Settings, slot_width, Bodies}
-use Rattle.theory.specs.BuildLaws.{BuiltFrom}
+use Rattle.theory.proofs.BuildLaws.{BuiltFrom}
 use Rattle.theory.specs.Terms.{IsBytes}
 use Rattle.build_laws.specs.SlotWidths.{slot_bits}
 use Rattle.build_laws.specs.Emissions.{Emission}

@@ -5,7 +5,7 @@ use Rattle.std.proofs.Math.Bool.{not}
 use Rattle.std.proofs.Common.{arith}
 use Rattle.spec.specs.Bytes.{Bytes, blocks}
 use Rattle.spec.specs.Image.{Settings, slot_width}
-use Rattle.theory.specs.BuildLaws.{BuiltFrom}
+use Rattle.theory.proofs.BuildLaws.{BuiltFrom}
 use Rattle.build_laws.specs.SlotWidths.{slot_bits}
 use Rattle.build_laws.specs.Emissions.{Emission, emission, map_emissions, map_keys}
 use Rattle.build_laws.specs.Cursors.{sums}

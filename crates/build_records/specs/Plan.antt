@@ -5,7 +5,7 @@ use Rattle.std.proofs.Common.{ap₂, subst, ◌∙◌, append_assoc, arith, leng
 use Rattle.spec.specs.Bytes.{Bytes, blocks, le32}
 use Rattle.spec.specs.Keys.{keys_of}
 use Rattle.spec.specs.Image.{Settings, Counts, Row, rows, sizes, in_order, marked, write_records, header, image}
-use Rattle.theory.specs.BuildLaws.{BuiltFrom}
+use Rattle.theory.proofs.BuildLaws.{BuiltFrom}
 use Rattle.bits.specs.Bits.{part, overlaid, rank}
 use Rattle.bits.specs.Overlaying.{length_overlaid, overlaid_nil, overlaid_behind}
 use Rattle.bits.specs.Parts.{part_kept, part_overlaid, part_part}
@@ -20,7 +20,7 @@ use Rattle.build_laws.specs.KeyBits.{key_leaves, key_bodies}
 use Rattle.build_keys.specs.CountPass.{LevelCounts, list_counts}
 use Rattle.build_records.specs.BodyChoice.{body_of, counters_of}
 use Rattle.build_records.specs.BodyRoom.{counters_few}
-use Rattle.theory.specs.ImageBytes.{known_few}
+use Rattle.theory.proofs.ImageBytes.{known_few}
 use Rattle.build_records.specs.LevelRecord.{level_bytes}
 use Rattle.build_records.specs.ImageRecords.{key_counts, image_is, body_sizes}
 use Rattle.build_records.specs.TableBodies.{RLTable, RCTable, RPTable, RSTable, SBRank, TSTable}
@@ -32,7 +32,7 @@ use Rattle.build_records.specs.declared.Source.{Source}
 use Rattle.build_records.specs.declared.Source.TheVariants.{Keys, Ranks, Samples}
 use Rattle.build_records.specs.declared.Plan.{Plan}
 use Rattle.rank_tables.specs.declared.Span.{Span}
-use Rattle.theory.specs.LengthBounds.{header_length, image_short}
+use Rattle.theory.proofs.LengthBounds.{header_length, image_short}
 
 -- an accepted list, with settings in range
 pub record Ready (list : Bytes) (st : Settings) : Type 0 where

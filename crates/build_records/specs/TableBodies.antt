@@ -3,8 +3,8 @@ use Rattle.std.specs.Prelude.{ℕ, ◌*◌, ◌≤◌, ◌<◌, ◌≡◌, List,
 use Rattle.std.proofs.Common.{sym, ap, ap₂, ◌∙◌, arith}
 use Rattle.spec.specs.Bytes.{Bytes, Bits, blocks, ones, pack, unpack}
 use Rattle.spec.specs.Image.{Settings, Bodies, ranks, samples}
-use Rattle.theory.specs.BuildLaws.{BuiltFrom}
-use Rattle.theory.specs.Bits.{unpack_pack, length_pack}
+use Rattle.theory.proofs.BuildLaws.{BuiltFrom}
+use Rattle.theory.proofs.Bits.{unpack_pack, length_pack}
 use Rattle.bits.specs.Bits.{rank}
 use Rattle.bits.specs.UnpackLaws.{rank_unpack}
 use Rattle.rank_tables.specs.TableEntries.{rank_table, sample_table}

@@ -2,7 +2,7 @@
 use Rattle.std.specs.Prelude.{◌*◌, ◌≡◌, true}
 use Rattle.std.proofs.Common.{ap, ◌∙◌, arith}
 use Rattle.spec.specs.Bytes.{Bytes, blocks}
-use Rattle.theory.specs.Lists.{and_both}
+use Rattle.theory.proofs.Lists.{and_both}
 use Rattle.bits.specs.Bits.{rank, part}
 use Rattle.bits.specs.Parts.{length_part}
 use Rattle.bits.specs.PartLaws.{bits_room}

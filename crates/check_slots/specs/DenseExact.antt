@@ -18,7 +18,7 @@ use Rattle.check_levels.specs.DenseNodes.{entries_end, ones_take_parts, next_nod
 use Rattle.check_levels.specs.Positions.{bits, is_set, length_bits, bits_from, ones_bits}
 use Rattle.check_levels.specs.Ranges.{all_from}
 use Rattle.check_slots.specs.NodeSlots.{exact_from}
-use Rattle.theory.specs.DenseBits.{covered_split}
+use Rattle.theory.proofs.DenseBits.{covered_split}
 
 -- the leaves before dense node m: labels before it that do not continue, and exact leaves
 abbrev pub dense_slot : Bytes → Bytes → Bytes → ℕ → ℕ

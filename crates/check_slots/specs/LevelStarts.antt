@@ -33,12 +33,12 @@ use Rattle.check_slots.specs.LevelSlots.{above, above_up}
 use Rattle.check_slots.specs.SparseExact.{sparse_slot}
 use Rattle.check_slots.specs.LeavesBefore.{sparse_leaves}
 use Rattle.check_slots.specs.Passed.{PassedTo15, BitsValid, trie_valid, bits_pass}
-use Rattle.theory.specs.TrieTests.{nodes_valid_none, nodes_valid_true, nodes_valid_levels, nodes_valid_leaves}
-use Rattle.theory.specs.Lists.{and_both}
-use Rattle.theory.specs.NodeBits.{length_slotted}
-use Rattle.theory.specs.LinkedLevels.{Linked, first_width}
-use Rattle.theory.specs.Levels.{total_append, nodes_bound}
-use Rattle.theory.specs.LevelStarts.{starts_from, starts_ext, root_starts}
+use Rattle.theory.proofs.TrieTests.{nodes_valid_none, nodes_valid_true, nodes_valid_levels, nodes_valid_leaves}
+use Rattle.theory.proofs.Lists.{and_both}
+use Rattle.theory.proofs.NodeBits.{length_slotted}
+use Rattle.theory.proofs.LinkedLevels.{Linked, first_width}
+use Rattle.theory.proofs.Levels.{total_append, nodes_bound}
+use Rattle.theory.proofs.LevelStarts.{starts_from, starts_ext, root_starts}
 
 -- ---- ends of levels, from the last
 

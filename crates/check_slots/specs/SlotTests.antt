@@ -23,7 +23,7 @@ use Rattle.check_slots.specs.DenseExact.{dense_slot, dense_exact, dense_exacts}
 use Rattle.check_slots.specs.SparseExact.{is_extra, sparse_slot, sparse_exact, sparse_exacts}
 use Rattle.check_slots.specs.Passed.{slots_pass, PassedTo15, bits_pass, slots_parts}
 use Rattle.check_slots.specs.LevelStarts.{level_start, dense_leaf_count, leaves_to, levels_whole, start_is, start_up, start_low, start_last, dense_part_leaves, leaves_before, leaves_last}
-use Rattle.theory.specs.TrieTests.{nodes_valid_true}
+use Rattle.theory.proofs.TrieTests.{nodes_valid_true}
 
 -- slot v has no bit set behind its first m bits
 abbrev pub clear_at : Bytes → Frame → ℕ → ℕ → Bool

@@ -20,7 +20,7 @@ use Rattle.check_levels.specs.EntryPositions.{entry_at, all_entries, zip_from, z
 use Rattle.check_levels.specs.Ranges.{all_from}
 use Rattle.check_slots.specs.NodeSlots.{exact_from}
 use Rattle.check_slots.specs.DenseExact.{bit_set}
-use Rattle.theory.specs.Lists.{and_both}
+use Rattle.theory.proofs.Lists.{and_both}
 
 -- ---- nodes by their entries
 

@@ -4,7 +4,7 @@ use Rattle.std.proofs.Common.{sym, ap, ◌∙◌, true≢false, arith, mod-eq_of
 use Rattle.std.proofs.lemmas.Bool.{eqb-false}
 use Rattle.spec.specs.Bytes.{Bytes, Bits, blocks, equal, ones, unpack}
 use Rattle.spec.specs.Image.{positions, samples}
-use Rattle.theory.specs.Bits.{length_positions}
+use Rattle.theory.proofs.Bits.{length_positions}
 use Rattle.bits.specs.Bits.{bit_at, rank, select}
 use Rattle.bits.specs.ValueLaws.{Small}
 use Rattle.bits.specs.RankLaws.{rank_next, rank_up, rank_slow}

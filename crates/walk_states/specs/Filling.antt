@@ -7,7 +7,7 @@ use Rattle.std.proofs.Math.ListN.{get_elem?}
 use Rattle.spec.specs.Bytes.{Bytes, concat}
 use Rattle.spec.specs.Leaves.{Leaf}
 use Rattle.spec.specs.WalkRecords.{record_size, leaf_record, leaf_records, records_from}
-use Rattle.theory.specs.WalkRecordLaws.{record_length}
+use Rattle.theory.proofs.WalkRecordLaws.{record_length}
 use Rattle.bits.specs.Bits.{overlaid}
 use Rattle.bits.specs.Overlaying.{length_overlaid, overlaid_behind}
 
