@@ -11,8 +11,8 @@ use Rattle.spec.specs.Frame.{Parts}
 use Rattle.spec.specs.Nodes.{zip_entries}
 use Rattle.spec.specs.Trie.{first_set, covered, builders_trie}
 use Rattle.bits.specs.Bits.{rank}
-use Rattle.bits.specs.RankLaws.{rank_le}
-use Rattle.bits.specs.PartLaws.{bits_room}
+use Rattle.bits.proofs.RankLaws.{rank_le}
+use Rattle.bits.proofs.PartLaws.{bits_room}
 use Rattle.image.specs.FrameOf.{FrameOf, frame_parts}
 use Rattle.image.specs.declared.Frame.{Frame}
 use Rattle.check_levels.specs.DenseNodes.{dense_nodes_valid}

@@ -12,7 +12,7 @@ use Rattle.spec.specs.Bytes.{Bytes, Bits, bit, count, ones}
 use Rattle.spec.specs.Nodes.{shape, dense_entries, dense_shapes}
 use Rattle.spec.specs.Trie.{covered}
 use Rattle.bits.specs.Bits.{bit_at, rank}
-use Rattle.bits.specs.RankLaws.{rank_next, rank_zero}
+use Rattle.bits.proofs.RankLaws.{rank_next, rank_zero}
 use Rattle.check_levels.specs.Shapes.{ends_here, leaves_at}
 use Rattle.check_levels.specs.DenseNodes.{entries_end, ones_take_parts, next_node}
 use Rattle.check_levels.specs.Positions.{bits, is_set, length_bits, bits_from, ones_bits}

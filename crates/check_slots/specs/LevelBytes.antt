@@ -13,7 +13,7 @@ use Rattle.spec.specs.Frame.{parts}
 use Rattle.spec.specs.Nodes.{Node, nodes_of, levels_of, levels, total}
 use Rattle.spec.specs.Trie.{nodes_valid}
 use Rattle.spec.specs.Check.{starts_valid}
-use Rattle.bits.specs.ValueLaws.{Small}
+use Rattle.bits.proofs.ValueLaws.{Small}
 use Rattle.image.specs.FrameOf.{frame_bodies, frame_named, frame_parts}
 use Rattle.image.specs.declared.Frame.{Frame}
 use Rattle.check_levels.specs.Levels.{node_count, branches_before}

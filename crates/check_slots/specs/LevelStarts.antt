@@ -14,8 +14,8 @@ use Rattle.spec.specs.Frame.{Parts}
 use Rattle.spec.specs.Nodes.{Shape, Node, zip_entries, split, sparse_shape, sparse_nodes, nodes_of, dense_shapes, children_of, total, later, levels_of}
 use Rattle.spec.specs.Trie.{nodes_valid, leaf_count}
 use Rattle.bits.specs.Bits.{rank, select}
-use Rattle.bits.specs.PartLaws.{bits_room}
-use Rattle.bits.specs.RankLaws.{rank_le, rank_zero}
+use Rattle.bits.proofs.PartLaws.{bits_room}
+use Rattle.bits.proofs.RankLaws.{rank_le, rank_zero}
 use Rattle.bits_select.specs.SelectLaws.{select_all}
 use Rattle.image.specs.FrameOf.{frame_parts}
 use Rattle.image.specs.declared.Frame.{Frame}

@@ -10,7 +10,7 @@ use Rattle.spec.specs.Bytes.{Bytes, bit, concat}
 use Rattle.spec.specs.Nodes.{Branch, Node, node, label_of, has_child, branches_of, is_exact, total, children_of}
 use Rattle.spec.specs.Trie.{leaf_count}
 use Rattle.bits.specs.Bits.{bit_at, rank, select}
-use Rattle.bits.specs.RankLaws.{rank_le}
+use Rattle.bits.proofs.RankLaws.{rank_le}
 use Rattle.image.specs.declared.Frame.{Frame}
 use Rattle.nav_nodes.specs.declared.BranchKind.TheVariants.{Absent}
 use Rattle.nav_nodes.specs.Counting.{labels_below, labels_below_le}

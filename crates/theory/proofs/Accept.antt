@@ -69,13 +69,13 @@ record BitsRead (p : Parts) (b : Bodies) : Type 0 where
   sb_size : length p.sb ≡ p.counts.sparse_entries
   sv_size : length p.sv ≡ p.counts.leaves * slot_width p.settings
   sl_bytes : IsBytes p.sl
-  DLIs : pack p.dl ≡ b.DL
-  DCIs : pack p.dc ≡ b.DC
-  DPIs : pack p.dp ≡ b.DP
-  SLIs : p.sl ≡ b.SL
-  SCIs : pack p.sc ≡ b.SC
-  SBIs : pack p.sb ≡ b.SB
-  SVIs : pack p.sv ≡ b.SV
+  DL_is : pack p.dl ≡ b.DL
+  DC_is : pack p.dc ≡ b.DC
+  DP_is : pack p.dp ≡ b.DP
+  SL_is : p.sl ≡ b.SL
+  SC_is : pack p.sc ≡ b.SC
+  SB_is : pack p.sb ≡ b.SB
+  SV_is : pack p.sv ≡ b.SV
 
 header_tests : (p : Parts) (bs : List Bytes) → header_valid p bs ≡ true
     → Passed (known_version p.settings.version ∷ leb p.settings.dense_levels 4 ∷ leb p.settings.real_width 16 ∷ leb p.settings.hash_width 16 ∷ leb p.counts.leaves 65535 ∷ sized (sizes p.settings p.counts) (take 12 bs) ∷ [])
@@ -129,13 +129,13 @@ bits_read s bs a h t =
       sb_size = b₅.0;
       sv_size = b₆.0;
       sl_bytes = bytes_at 3 bs a;
-      DLIs = b₀.1;
-      DCIs = b₁.1;
-      DPIs = b₂.1;
-      SLIs = refl;
-      SCIs = b₄.1;
-      SBIs = b₅.1;
-      SVIs = b₆.1;
+      DL_is = b₀.1;
+      DC_is = b₁.1;
+      DP_is = b₂.1;
+      SL_is = refl;
+      SC_is = b₄.1;
+      SB_is = b₅.1;
+      SV_is = b₆.1;
     }
 
 -- ---- the nodes that the bits give
@@ -229,13 +229,13 @@ records_are : (p : Parts) (b : Bodies) → BitsRead p b → ranks_valid p b ≡ 
 records_are p b u h =
     let r = ranks_tests p b h in
     rw (
-      u.DLIs,
-      u.DCIs,
-      u.DPIs,
-      u.SLIs,
-      u.SCIs,
-      u.SBIs,
-      u.SVIs,
+      u.DL_is,
+      u.DC_is,
+      u.DP_is,
+      u.SL_is,
+      u.SC_is,
+      u.SB_is,
+      u.SV_is,
       ← equal_true b.RL (ranks 64 p.dl) r.0,
       ← equal_true b.RC (ranks 64 p.dc) r.1.0,
       ← equal_true b.RP (ranks 64 p.dp) r.1.1.0,

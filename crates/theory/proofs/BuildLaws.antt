@@ -15,6 +15,7 @@ use Rattle.theory.proofs.KeyFiles.{keys_exactly}
 use Rattle.theory.proofs.OutcomeLaws.{no_written, write_fits, write_short, success_answer, success_length, success_written}
 use Rattle.theory.proofs.Lists.{and_both}
 use Rattle.theory.proofs.LiteralImage.{Buildable}
+use Rattle.theory.proofs.Judged.{judge_is}
 use Rattle.spec.specs.Build as Build
 
 -- the keys that are read
@@ -35,13 +36,6 @@ in_range_exactly st = (
       (q.0, leb-true st.dense_levels 4 q.1, leb-true st.real_width 16 p.1, leb-true st.hash_width 16 m.1),
   λ p. rw (p.0, le-leb st.dense_levels 4 p.1, le-leb st.real_width 16 p.2, le-leb st.hash_width 16 p.3),
 )
-
--- what is judged, by what the tests say
-pub judge_is : (list : Bytes) (st : Settings) (t : Bool) (p : ParsedKeys) → in_range st ≡ t → parse_keys list ≡ p
-    → judge list st ≡ elim t [ false ↦ turned_down 5 | true ↦ elim p [ refused r ↦ turned_down r | keys ks ↦ to_build (image st (leaves st.hash_width st.real_width ks)) ] ]
-unfolding judge
-judge_is list st t p e f =
-    ap₂ {C = Judged} (λ (t : Bool) (p : ParsedKeys). elim t [ false ↦ turned_down 5 | true ↦ elim p [ refused r ↦ turned_down r | keys ks ↦ to_build (image st (leaves st.hash_width st.real_width ks)) ] ]) e f
 
 -- the literal image of the leaves is to be built from a key list, with settings in range
 pub judge_keys : (list : Bytes) (st : Settings) (ks : List Bytes) → in_range st ≡ true → parse_keys list ≡ keys ks → judge list st ≡ to_build (image st (leaves st.hash_width st.real_width ks))

@@ -13,6 +13,7 @@ pub mod Frame
 pub mod ImageBytes
 pub mod ImageParts
 pub mod Intervals
+pub mod Judged
 pub mod KeyFiles
 pub mod KeyLeaves
 pub mod LeafLists
@@ -25,10 +26,12 @@ pub mod Levels
 pub mod LinkedLevels
 pub mod Lists
 pub mod LiteralImage
+pub mod NeighbourLeaves
 pub mod Neighbours
 pub mod NodeBits
 pub mod Numbering
 pub mod OneQuestionLaws
+pub mod OpenLeaves
 pub mod Order
 pub mod OutcomeLaws
 pub mod PrefixNodes

@@ -56,7 +56,7 @@ far_left (x ∷ a) (y ∷ b) (z ∷ c) h k =
     (below_cons x y a b h)
 
 -- and the last no more with the first
-far_valid : (a b c : Bytes) → below a b ≡ true → below b c ≡ true → shared c a ≤ shared c b
+pub far_valid : (a b c : Bytes) → below a b ≡ true → below b c ≡ true → shared c a ≤ shared c b
 unfolding shared
 far_valid a b [] h k = absurd (true≢false (sym k ∙ below_nil b))
 far_valid [] b (z ∷ c) h k = omega arith
@@ -91,13 +91,13 @@ next_shared_le k (m ∷ ms) = shared_le k m
 -- ---- a key and its neighbours
 
 -- a key k with ms behind it in ks, p bytes shared with the one before
-record Position (ks : List Bytes) (k : Bytes) (ms : List Bytes) (p : ℕ) : Type 0 where
-  some : 0 < length k
-  into : (o : Bytes) → In o (k ∷ ms) → In o ks
-  seen : (o : Bytes) → In o ks → In o (k ∷ ms) ⊎ ((below o k ≡ true) × (shared k o ≤ p))
-  wit : (p ≡ 0) ⊎ ((o : Bytes) × In o ks × (below o k ≡ true) × (shared k o ≡ p))
-  short : p < length k
-  asc : Ascending (k ∷ ms)
+pub record Position (ks : List Bytes) (k : Bytes) (ms : List Bytes) (p : ℕ) : Type 0 where
+  pub some : 0 < length k
+  pub into : (o : Bytes) → In o (k ∷ ms) → In o ks
+  pub seen : (o : Bytes) → In o ks → In o (k ∷ ms) ⊎ ((below o k ≡ true) × (shared k o ≤ p))
+  pub wit : (p ≡ 0) ⊎ ((o : Bytes) × In o ks × (below o k ≡ true) × (shared k o ≡ p))
+  pub short : p < length k
+  pub asc : Ascending (k ∷ ms)
 
 module _ (ks : List Bytes) (k : Bytes) (ms : List Bytes) (p : ℕ) (w : Position ks k ms p) where
   all_shared : (o : Bytes) → In o ks → not (equal k o) ≡ true → (shared k o ≤ p) ⊎ (shared k o ≤ next_shared k ms)
@@ -107,7 +107,7 @@ module _ (ks : List Bytes) (k : Bytes) (ms : List Bytes) (p : ℕ) (w : Position
       other o here h = absurd (true≢false (sym (equal_self k) ∙ not-true (equal k k) h))
       other o (there i) h = inr (after k ms w.asc.0 w.asc.1 i)
 
-  kind : any (begins k) (others ks k) ≡ eqb (next_shared k ms) (length k)
+  pub kind : any (begins k) (others ks k) ≡ eqb (next_shared k ms) (length k)
   unfolding others
   kind = go (eqb (next_shared k ms) (length k)) refl ms w.asc (λ o i. w.into o (there i)) refl
     where
@@ -126,7 +126,7 @@ module _ (ks : List Bytes) (k : Bytes) (ms : List Bytes) (p : ℕ) (w : Position
           miss o s false f = refl
           miss o s true f = absurd (⊎_elim (λ x. omega (arith, begins_shared k o f, w.short)) (λ x. eqb-false (next_shared k ms) (length k) e (omega (arith, begins_shared k o f, next_shared_le k ms))) s)
 
-  shared_most : maximum (map (shared k) (others ks k)) ≡ max p (next_shared k ms)
+  pub shared_most : maximum (map (shared k) (others ks k)) ≡ max p (next_shared k ms)
   unfolding others
   shared_most =
       let up : maximum (map (shared k) (filter (λ o. not (equal k o)) ks)) < suc (max p (next_shared k ms)) =
@@ -139,36 +139,3 @@ module _ (ks : List Bytes) (k : Bytes) (ms : List Bytes) (p : ℕ) (w : Position
       far : (ns : List Bytes) → Ascending (k ∷ ns) → ((o : Bytes) → In o ns → In o ks) → next_shared k ns ≤ maximum (map (shared k) (filter (λ o. not (equal k o)) ks))
       far [] a u = omega (arith, no_share k)
       far (m ∷ ns) a u = omega (arith, one_share k m ns, maximum_bound (λ o. not (equal k o)) (shared k) (u m here) (rw (below_unequal k m a.0.0) refl))
-
-  leaf_by_neighbours : (h n : ℕ) → leaf h n ks k ≡ neighbour_leaf h n p (next_shared k ms) k
-  unfolding leaf neighbour_leaf
-  leaf_by_neighbours h n = rw (kind, shared_most)
-
-step : (ks : List Bytes) (k m : Bytes) (ms : List Bytes) (p : ℕ) → 0 < length m → Position ks k (m ∷ ms) p → Position ks m ms (shared k m)
-step ks k m ms p z w = record {
-  some = z;
-  into = λ o i. w.into o (there i);
-  seen = λ o i. ⊎_elim (λ j. kin o j) (λ s. inr (below_lt_le o k m s.0 (below_asym k m w.asc.0.0), omega (arith, far_valid o k m s.0 w.asc.0.0, shared_comm k m))) (w.seen o i);
-  wit = inr (k, w.into k here, w.asc.0.0, shared_comm m k);
-  short = omega (arith, above_short k m w.asc.0.0, shared_comm k m);
-  asc = w.asc.1;
-}
-  where
-    kin : (o : Bytes) → In o (k ∷ m ∷ ms) → In o (m ∷ ms) ⊎ ((below o m ≡ true) × (shared m o ≤ shared k m))
-    kin o here = inr (w.asc.0.0, omega (arith, shared_comm k m))
-    kin o (there i) = inl i
-
--- the position of the first key
-position_first : (k : Bytes) (ks : List Bytes) → 0 < length k → Ascending (k ∷ ks) → Position (k ∷ ks) k ks 0
-position_first k ks s a = record { some = s; into = λ o i. i; seen = λ o i. inl i; wit = inl refl; short = s; asc = a }
-
-leaves_from : (h n : ℕ) (ks : List Bytes) (k : Bytes) (ms : List Bytes) (p : ℕ) → Nonempty (k ∷ ms) → Position ks k ms p → map (leaf h n ks) (k ∷ ms) ≡ neighbour_leaves h n p (k ∷ ms)
-unfolding neighbour_leaves next_shared
-leaves_from h n ks k [] p s w = ap (λ (l : Leaf). l ∷ []) (leaf_by_neighbours ks k [] p w h n)
-leaves_from h n ks k (m ∷ ms) p s w = ap₂ ◌∷◌ (leaf_by_neighbours ks k (m ∷ ms) p w h n) (leaves_from h n ks m ms (shared k m) s.1 (step ks k m ms p s.1.0 w))
-
--- the leaves of an ascending list, from each key and its neighbours
-pub leaves_by_neighbours : (h n : ℕ) (ks : List Bytes) → Nonempty ks → Ascending ks → leaves h n ks ≡ neighbour_leaves h n 0 ks
-unfolding leaves neighbour_leaves
-leaves_by_neighbours h n [] s a = refl
-leaves_by_neighbours h n (k ∷ ks) s a = leaves_from h n (k ∷ ks) k ks 0 s (position_first k ks s.0 a)

@@ -21,7 +21,8 @@ use Rattle.theory.specs.Demands.{LengthRefusal, BuildRefusal, AskRefusal, WalkRe
 use Rattle.theory.proofs.KeyFiles.{list_refuses, list_taken}
 use Rattle.theory.proofs.QuestionFiles.{file_refuses, file_taken, refusal_number}
 use Rattle.theory.proofs.OutcomeLaws.{no_written, refuse_answer, write_answer, success_written, refuse_kept, write_kept}
-use Rattle.theory.proofs.BuildLaws.{judge_is, judge_keys, judged_keys, length_is, build_is, stated_wrong, stated_right}
+use Rattle.theory.proofs.Judged.{judge_is}
+use Rattle.theory.proofs.BuildLaws.{judge_keys, judged_keys, length_is, build_is, stated_wrong, stated_right}
 use Rattle.theory.proofs.AskLaws.{ask_is, ask_answers, walk_is, step_is}
 use Rattle.theory.proofs.RefusalNumbers.{check_accepts, check_refused, check_number, check_cases}
 use Rattle.spec.specs.Answer as Answer

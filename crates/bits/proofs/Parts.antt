@@ -4,7 +4,7 @@ use Rattle.std.proofs.Common.{sym, ap, ◌∙◌, append_assoc, arith, length-dr
 use borrow.Rule.Slice.PartMut.{mid_of}
 use Rattle.spec.specs.Bytes.{Bytes}
 use Rattle.bits.specs.Bits.{part, overlaid}
-use Rattle.bits.specs.Overlaying.{length_overlaid, take_overlaid}
+use Rattle.bits.proofs.Overlaying.{length_overlaid, take_overlaid}
 
 -- a part by the bytes up to its end
 part_take : (s : Bytes) (from m : ℕ) → from ≤ length s → part s from m ≡ drop from (take (from + m) s)

@@ -6,7 +6,7 @@ use Prim.Native.Nat.{ℕ, zero, suc, ◌+◌, ◌*◌, ◌-◌, ◌/◌, ◌≤�
 use Rattle.std.proofs.Math.ListN.{get_or-eq_default}
 use Rattle.spec.specs.Bytes.{Bytes, blocks}
 use Rattle.bits.specs.Bits.{rank, part}
-use Rattle.bits.specs.ValueLaws.{Small}
+use Rattle.bits.proofs.ValueLaws.{Small}
 
 module _ (s : Bytes) (at k : ℕ) where
   -- its bytes are those from the offset on

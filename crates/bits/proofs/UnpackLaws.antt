@@ -7,7 +7,7 @@ use Rattle.std.proofs.Math.ListN.{get_or-append}
 use Rattle.std.proofs.lemmas.Nat.{mod-pow-add}
 use Rattle.spec.specs.Bytes.{Bytes, Bits, bit, ones, low_first, low_bits, unpack}
 use Rattle.bits.specs.Bits.{bit_at, rank, with_bit}
-use Rattle.bits.specs.BitLaws.{bit_with_bit, length_with_bit}
+use Rattle.bits.proofs.BitLaws.{bit_with_bit, length_with_bit}
 
 -- eight bits a byte
 pub length_unpack : (s : Bytes) → length (unpack s) ≡ 8 * length s

@@ -7,7 +7,7 @@ use Rattle.std.proofs.lemmas.Nat.{ones_cat, ones-le, mod-pow-add}
 use Rattle.std.proofs.Math.Pow.{mod-mod-pow}
 use Rattle.spec.specs.Bytes.{Bytes}
 use Rattle.bits.specs.Bits.{bit_at, rank, value, word}
-use Rattle.bits.specs.ValueLaws.{Small, value_bit, value_drop, word_lt}
+use Rattle.bits.proofs.ValueLaws.{Small, value_bit, value_drop, word_lt}
 
 -- no ones stand before the first bit
 pub rank_zero : (s : Bytes) → rank s 0 ≡ 0

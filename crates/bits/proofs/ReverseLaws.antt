@@ -4,7 +4,7 @@ use Rattle.std.proofs.Common.{sym, true≢false, arith, eqb-true}
 use Rattle.std.specs.Int.Bits.{bit_and}
 use Rattle.spec.specs.Bytes.{low_first, high_first}
 use Rattle.bits.specs.Bits.{reversed}
-use Rattle.bits.specs.NumberLaws.{low_lt}
+use Rattle.bits.proofs.NumberLaws.{low_lt}
 
 -- Five copies of the byte, of which the mask keeps each bit where the remainder by 2^10 - 1 adds it at its new position.
 abbrev pub mirror : ℕ → ℕ

@@ -7,8 +7,8 @@ use Rattle.std.proofs.lemmas.Nat.{and_shr, and_mod, and_le_r}
 use Rattle.spec.specs.Bytes.{Bytes, Bits, bit, unpack}
 use Rattle.spec.specs.Trie.{covered}
 use Rattle.bits.specs.Bits.{bit_at, word, Covers}
-use Rattle.bits.specs.ValueLaws.{Small, word_bit, word_lt}
-use Rattle.bits.specs.UnpackLaws.{bit_unpack, length_unpack}
+use Rattle.bits.proofs.ValueLaws.{Small, word_bit, word_lt}
+use Rattle.bits.proofs.UnpackLaws.{bit_unpack, length_unpack}
 
 -- a number that is its conjunction with another has no digit above the other's
 and_bits : (x y : ℕ) → bit_and x y ≡ x → (j : ℕ) → x / 2 ^ j % 2 ≤ y / 2 ^ j % 2
