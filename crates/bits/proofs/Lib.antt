@@ -3,7 +3,7 @@ pub mod CoverLaws
 pub mod NumberLaws
 pub mod Overlaying
 pub mod PartLaws
-pub mod Parts
+pub mod SliceParts
 pub mod RankLaws
 pub mod ReverseLaws
 pub mod UnpackLaws

@@ -8,7 +8,7 @@ use Rattle.spec.specs.Image.{Settings, Counts, Row, rows, sizes, in_order, marke
 use Rattle.theory.proofs.BuildLaws.{BuiltFrom}
 use Rattle.bits.specs.Bits.{part, overlaid, rank}
 use Rattle.bits.proofs.Overlaying.{length_overlaid, overlaid_nil, overlaid_behind}
-use Rattle.bits.proofs.Parts.{part_kept, part_overlaid, part_part}
+use Rattle.bits.proofs.SliceParts.{part_kept, part_overlaid, part_part}
 use Rattle.image.specs.Header.{settings_of, counts_of, ShortFields}
 use Rattle.image.specs.Records.{row_at, starts, length_marked}
 use Rattle.image.specs.declared.Header.{Header}

@@ -3,7 +3,7 @@ use Rattle.std.specs.Prelude.{◌+◌, ◌*◌, ◌≡◌, length}
 use Rattle.std.proofs.Common.{sym, ◌∙◌, arith}
 use Rattle.spec.specs.Bytes.{Bytes, blocks}
 use Rattle.bits.specs.Bits.{part, rank}
-use Rattle.bits.proofs.Parts.{length_part}
+use Rattle.bits.proofs.SliceParts.{length_part}
 use Rattle.bits.proofs.PartLaws.{rank_part, bits_room}
 use Rattle.image.specs.FrameOf.{FrameOf, within, frame_parts}
 use Rattle.image.specs.declared.Frame.{Frame}

@@ -4,7 +4,7 @@ use Rattle.std.proofs.Common.{ap, ◌∙◌, arith}
 use Rattle.spec.specs.Bytes.{Bytes, blocks}
 use Rattle.theory.proofs.Lists.{and_both}
 use Rattle.bits.specs.Bits.{rank, part}
-use Rattle.bits.proofs.Parts.{length_part}
+use Rattle.bits.proofs.SliceParts.{length_part}
 use Rattle.bits.proofs.PartLaws.{bits_room}
 use Rattle.bits_select.specs.SelectLaws.{select_le, rank_select}
 use Rattle.bits.proofs.ValueLaws.{Small}

@@ -218,8 +218,8 @@ module _ (s : Bytes) (f : Frame) (j : PassedTo15 s f) (some : 0 < f.leaves) wher
       ∙ ap (λ (m : ℕ). concat (map le32 (starts_from (before children_of (nodes_of p)) m 64 0))) node_long
       ∙ ap (λ (xs : List ℕ). concat (map le32 xs)) (starts_ext (before children_of (nodes_of p)) K N (λ e l. nodes_before s f j e) 64 0)
 
-  KRoot : K 0 ≡ 0
-  KRoot = branches_dense f.dense.nodes f.sparse.entries (dc_body s f) (sc_body s f) (sb_body s f) 0 (omega arith) ∙ rank_zero (dc_body s f)
+  K_root : K 0 ≡ 0
+  K_root = branches_dense f.dense.nodes f.sparse.entries (dc_body s f) (sc_body s f) (sb_body s f) 0 (omega arith) ∙ rank_zero (dc_body s f)
 
   -- levels start one behind the other
   pub start_up : (t : ℕ) → t < 64 → level_start s f t ≤ level_start s f (suc t)
@@ -243,7 +243,7 @@ module _ (s : Bytes) (f : Frame) (j : PassedTo15 s f) (some : 0 < f.leaves) wher
   -- the level below one starts behind the branches that continue before that one's start
   pub start_next : (t : ℕ) → level_start s f (suc t) ≡ cond (ltb (level_start s f t) (node_count f)) (branches_before s f (level_start s f t) + 1) (level_start s f t)
   unfolding level_start
-  start_next t = nodes_above_last K N t KRoot counts.some_node
+  start_next t = nodes_above_last K N t K_root counts.some_node
 
   -- no level starts at 64
   pub start_last : level_start s f 64 ≡ node_count f

@@ -12,7 +12,7 @@ use Rattle.bits.specs.Bits.{rank, select}
 use Rattle.bits.proofs.RankLaws.{rank_le}
 use Rattle.bits_select.specs.SelectLaws.{select_le}
 use Rattle.bits.proofs.ValueLaws.{Small}
-use Rattle.bits.proofs.Parts.{length_part}
+use Rattle.bits.proofs.SliceParts.{length_part}
 use Rattle.bits.proofs.PartLaws.{bits_room, small_part}
 use Rattle.rank_tables.specs.TableEntries.{table_of, rank_table, sample_table, table_entry, table_wrong}
 use Rattle.rank_tables.specs.Ranks.{block_begun, ranks_are}

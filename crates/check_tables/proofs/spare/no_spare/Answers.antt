@@ -7,7 +7,7 @@ use Rattle.spec.specs.Bytes.{blocks}
 use Rattle.bits.proofs.ValueLaws.{Small}
 use Rattle.bits.specs.Bits.{part}
 use Rattle.check_tables.specs.Spare.{spare_none, spare_last}
-use Rattle.bits.proofs.Parts.{length_part}
+use Rattle.bits.proofs.SliceParts.{length_part}
 use Rattle.bits.proofs.PartLaws.{byte_part, small_part}
 use Rattle.check_tables.proofs.spare.no_spare.Goals as goal
 
