@@ -35,6 +35,9 @@ def spelled(name):
     if name in OTHERWISE:
         return OTHERWISE[name]
     parts = name.split("-")
+    # a record's mark begins a lemma's name, not a type's
+    if re.fullmatch("[A-Z][A-Z]?", parts[0]):
+        return "_".join(parts)
     if name[0].isupper() and not all(p.isupper() or p.isdigit() for p in parts[1:] if p):
         return "".join(p[:1].upper() + p[1:] for p in parts)
     if re.fullmatch(r"[A-Z][a-z]+-[0-9]+|Passed-to-[0-9]+", name):

@@ -12,10 +12,10 @@ use Rattle.spec.specs.Questions.{Question, QP, Reply, point, reply}
 use Rattle.spec.specs.OneQuestion.{question_refusal, number, Answered, replied, ask_one, reply_number, reply_rule, key_written}
 use Rattle.spec.specs.Check.{verdict}
 use Rattle.theory.specs.Terms.{IsBytes}
-use Rattle.theory.specs.Rules.{point_rule}
-use Rattle.theory.specs.Accept.{accepted_is_image}
-use Rattle.theory.specs.LengthBounds.{leaves_are}
-use Rattle.theory.specs.OneQuestionLaws.{one_refused, one_replied}
+use Rattle.theory.proofs.Rules.{point_rule}
+use Rattle.theory.proofs.Accept.{accepted_is_image}
+use Rattle.theory.proofs.LengthBounds.{leaves_are}
+use Rattle.theory.proofs.OneQuestionLaws.{one_refused, one_replied}
 use Rattle.image.specs.declared.Frame.{Frame}
 use Rattle.nav_nodes.specs.Accepted.{Accepted}
 use Rattle.bits.specs.Bits.{overlaid}

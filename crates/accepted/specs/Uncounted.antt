@@ -7,7 +7,7 @@ use Rattle.spec.specs.Check.{verdict}
 use Rattle.spec.specs.Nodes.{total, children_of}
 use Rattle.spec.specs.Trie.{leaf_count}
 use Rattle.bits.specs.Bits.{rank, select}
-use Rattle.bits.specs.RankLaws.{rank_le}
+use Rattle.bits.proofs.RankLaws.{rank_le}
 use Rattle.bits_select.specs.SelectLaws.{select_all}
 use Rattle.image.specs.Header.{ReadsHeader}
 use Rattle.image.specs.declared.Header.{Header}

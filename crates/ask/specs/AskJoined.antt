@@ -9,8 +9,8 @@ use Rattle.spec.specs.Answer.{Outcome, refuse, success}
 use Rattle.spec.specs.Answer as Answer
 use Rattle.spec.specs.Check.{verdict}
 use Rattle.spec.specs.Ask.{ask}
-use Rattle.theory.specs.AskLaws.{ask_is}
-use Rattle.theory.specs.OutcomeLaws.{write_fits, write_short}
+use Rattle.theory.proofs.AskLaws.{ask_is}
+use Rattle.theory.proofs.OutcomeLaws.{write_fits, write_short}
 
 -- a refusal: its number, and the buffer as it was
 abbrev pub refusal : ℕ → Bytes → Outcome

@@ -8,8 +8,8 @@ use Rattle.spec.specs.Bytes.{Bytes}
 use Rattle.spec.specs.Leaves.{Leaf, reals}
 use Rattle.spec.specs.Rules.{rule, rule_number, rule_says}
 use Rattle.spec.specs.Questions.{QP, QS, Reply, point, begins_with, range, counted, reply, reply_bytes, replies, questions_of}
-use Rattle.theory.specs.LeafLists.{Realizable, AllWellSized}
-use Rattle.theory.specs.Rules.{point_rule}
+use Rattle.theory.proofs.LeafLists.{Realizable, AllWellSized}
+use Rattle.theory.proofs.Rules.{point_rule}
 use Rattle.bits.specs.Bits.{overlaid}
 use Rattle.bits.specs.Bits.{key}
 use Rattle.ask_files.specs.AskedAt.{Followed}

@@ -8,7 +8,7 @@ use lib.Seq.{length-take-le, sets-eq}
 use Rattle.spec.specs.Bytes.{Bytes, le32}
 use Rattle.spec.specs.Questions.{reply_bytes}
 use Rattle.bits.specs.Bits.{overlaid}
-use Rattle.bits.specs.Overlaying.{length_overlaid, overlaid_behind}
+use Rattle.bits.proofs.Overlaying.{length_overlaid, overlaid_behind}
 use Rattle.ask_files.specs.ReplyLaws.{answer}
 use Rattle.ask_files.specs.ReplyContracts.{reply_mark, reply_head, reply_of, Sized}
 use Rattle.ask_files.specs.declared.reply_bytes.Answered.{Answered}

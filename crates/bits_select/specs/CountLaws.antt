@@ -5,7 +5,7 @@ use Rattle.std.specs.Int.Bits.{bit_and}
 use Rattle.std.proofs.lemmas.Nat.{and_block, and_mask}
 use Rattle.std.specs.Int.Count.{ones}
 use Rattle.std.proofs.Math.Pow.{add-lt-pow, split, high, low, mod-mod-pow, ones_lt}
-use Rattle.bits.specs.RankLaws.{ones_bit, ones_behind}
+use Rattle.bits.proofs.RankLaws.{ones_bit, ones_behind}
 
 -- each of the c lowest fields of w digits of n is the number of ones in that field of x
 pub data Counts (w : ℕ) : ℕ → ℕ → ℕ → Type 0 where

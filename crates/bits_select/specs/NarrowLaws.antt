@@ -4,8 +4,8 @@ use Rattle.std.proofs.Common.{sym, ap, ◌∙◌, mod-eq_of_lt, add-mul, mul-add
 use Rattle.std.specs.Int.Count.{ones}
 use Rattle.std.proofs.Math.Pow.{mod-mod-pow}
 use Rattle.bits.specs.Bits.{rank, select_in_byte, value}
-use Rattle.bits.specs.ValueLaws.{Small}
-use Rattle.bits.specs.RankLaws.{ones_behind, rank_ones, rank_up}
+use Rattle.bits.proofs.ValueLaws.{Small}
+use Rattle.bits.proofs.RankLaws.{ones_behind, rank_ones, rank_up}
 use Rattle.bits_select.specs.SelectLaws.{select_is}
 use Rattle.bits_select.specs.WordLaws.{ones_none}
 use Rattle.bits_select.specs.CountLaws.{Counts, counts_at}

@@ -4,7 +4,7 @@ use Rattle.std.proofs.Common.{ap, ◌∙◌, arith, leb-true, le-leb, leb-false,
 use Rattle.std.proofs.lemmas.Bool.{lt-leb}
 use Rattle.spec.specs.Bytes.{Bytes}
 use Rattle.bits.specs.Bits.{rank, select}
-use Rattle.bits.specs.RankLaws.{rank_zero, rank_slow, rank_up}
+use Rattle.bits.proofs.RankLaws.{rank_zero, rank_slow, rank_up}
 
 -- where at most m ones stand before n, it is n
 pub select_all : (s : Bytes) (n m : ℕ) → rank s n ≤ m → select s n m ≡ n

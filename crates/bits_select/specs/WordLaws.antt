@@ -7,8 +7,8 @@ use Rattle.std.specs.Int.Count.{ones, ones_step, count_trailing_zeros, under}
 use Rattle.std.proofs.Math.Pow.{field, mod-mod-pow}
 use Rattle.spec.specs.Bytes.{Bytes}
 use Rattle.bits.specs.Bits.{rank, select, word}
-use Rattle.bits.specs.ValueLaws.{Small, word_lt}
-use Rattle.bits.specs.RankLaws.{ones_behind, rank_word}
+use Rattle.bits.proofs.ValueLaws.{Small, word_lt}
+use Rattle.bits.proofs.RankLaws.{ones_behind, rank_word}
 use Rattle.bits_select.specs.SelectLaws.{select_min}
 
 -- the ones of the lowest digits: the lowest digit, and those of the half

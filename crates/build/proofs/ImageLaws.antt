@@ -8,8 +8,8 @@ use Rattle.spec.specs.Keys.{keys_of}
 use Rattle.spec.specs.Image.{Settings}
 use Rattle.spec.specs.Answer.{refuse, success}
 use Rattle.spec.specs.Build.{write_stated}
-use Rattle.theory.specs.BuildLaws.{stated_wrong, stated_right}
-use Rattle.theory.specs.OutcomeLaws.{write_fits, write_short}
+use Rattle.theory.proofs.BuildLaws.{stated_wrong, stated_right}
+use Rattle.theory.proofs.OutcomeLaws.{write_fits, write_short}
 use Rattle.image.specs.declared.Written.TheVariants.{Bytes as Written-bytes, Refused}
 use Rattle.image.specs.Outcomes.{outcome}
 use Rattle.build_keys.specs.CountPass.{LevelCounts, list_counts}

@@ -9,9 +9,10 @@ use Rattle.spec.specs.Keys.{refused, parse_keys, keys_of}
 use Rattle.spec.specs.Leaves.{leaves}
 use Rattle.spec.specs.Image.{Settings, image}
 use Rattle.spec.specs.Build.{in_range, turned_down, to_build, judge}
-use Rattle.theory.specs.KeyFiles.{keys_exactly}
+use Rattle.theory.proofs.KeyFiles.{keys_exactly}
 use Rattle.theory.specs.Terms.{IsBytes}
-use Rattle.theory.specs.BuildLaws.{keys_of_list, built_from, judge_is, judge_keys}
+use Rattle.theory.proofs.BuildLaws.{keys_of_list, built_from, judge_keys}
+use Rattle.theory.proofs.Judged.{judge_is}
 use Rattle.build_list.specs.KeyList.{key_list}
 use Rattle.build_list.specs.declared.KeyList.TheVariants.{Keys, Refused as List-refused}
 use Rattle.build_records.specs.Plan.{Ready}

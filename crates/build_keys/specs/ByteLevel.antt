@@ -3,8 +3,8 @@ use Rattle.std.specs.Prelude.{ℕ, ◌+◌, ◌*◌, ◌≡◌, refl, not, List,
 use Rattle.std.proofs.Common.{sym, ap, ◌∙◌}
 use Rattle.spec.specs.Bytes.{Bytes, Bits, unpack}
 use Rattle.bits.specs.Bits.{with_bit}
-use Rattle.bits.specs.BitLaws.{length_with_bit}
-use Rattle.bits.specs.UnpackLaws.{unpack_with_bit}
+use Rattle.bits.proofs.BitLaws.{length_with_bit}
+use Rattle.bits.proofs.UnpackLaws.{unpack_with_bit}
 use Rattle.build_laws.specs.Emissions.{Emission, emission, map_emissions}
 use Rattle.build_laws.specs.SetBits.{set_bits}
 use Rattle.build_laws.specs.BitPass.{bit_state, write_all_bits, Room, PositionsBelow}

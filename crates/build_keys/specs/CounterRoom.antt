@@ -12,7 +12,7 @@ use borrow.Author.Tests.{eqb-true, eqb-false, ltb-true, ltb-false}
 use Rattle.spec.specs.Bytes.{Bytes, bit}
 use Rattle.spec.specs.Image.{has}
 use Rattle.theory.specs.Terms.{Ascending, Keys}
-use Rattle.theory.specs.Neighbours.{next_shared}
+use Rattle.theory.proofs.Neighbours.{next_shared}
 use Rattle.build_laws.specs.SlotWidths.{no_bits}
 use Rattle.build_laws.specs.Emissions.{Emission, emission, level_values, LevelsBelow}
 use Rattle.build_laws.specs.Cursors.{sum_of, counts, counts_at, sums}

@@ -3,7 +3,7 @@ use Rattle.std.specs.Prelude.{ℕ, ◌+◌, ◌*◌, ◌-◌, ◌<◌, ◌≡◌
 use Rattle.std.proofs.Common.{sym, ap, ◌∙◌, true≢false, arith}
 use Rattle.spec.specs.Bytes.{Bytes, bit}
 use Rattle.bits.specs.Bits.{with_bit}
-use Rattle.bits.specs.BitLaws.{length_with_bit}
+use Rattle.bits.proofs.BitLaws.{length_with_bit}
 use Rattle.build_laws.specs.LevelEntries.{pred}
 use Rattle.build_laws.specs.BitPass.{PositionsBelow}
 use Rattle.build_laws.specs.DenseRows.{cell, cell_ones}

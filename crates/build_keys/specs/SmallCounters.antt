@@ -3,7 +3,7 @@ use Rattle.std.specs.Prelude.{ℕ, suc, ◌+◌, ◌*◌, ◌≤◌, ◌≡◌, 
 use Rattle.std.proofs.Common.{ap, arith, length-append, leb-true, leb-false, ltb-true, ltb-false}
 use Rattle.spec.specs.Bytes.{Bytes}
 use Rattle.build_laws.specs.LevelEntries.{pred}
-use Rattle.theory.specs.Neighbours.{next_shared}
+use Rattle.theory.proofs.Neighbours.{next_shared}
 use Rattle.build_laws.specs.NeighbourLeaves.{cut_length}
 use Rattle.build_laws.specs.Emissions.{Emission, emission, level_values, map_emissions, key_emissions, emissions, level_append, level_none, key_level, key_low, key_high}
 use Rattle.build_laws.specs.BitPass.{Room}

@@ -5,9 +5,9 @@ use Rattle.std.proofs.Math.Nat.{mul-mod_left, pow-succ'}
 use Rattle.std.proofs.Math.Seq.{drop-nil}
 use Rattle.spec.specs.Bytes.{Bytes, Bits, low_first, padded}
 use Rattle.spec.specs.Image.{positions}
-use Rattle.theory.specs.KeyLeaves.{length_padded}
+use Rattle.theory.proofs.KeyLeaves.{length_padded}
 use Rattle.bits.specs.Bits.{with_bit, with_ones, with_number}
-use Rattle.bits.specs.NumberLaws.{with_ones_none, with_ones_twice, with_bit_ones, number_set, or_bits, shifted_high, low_drop, low_padded}
+use Rattle.bits.proofs.NumberLaws.{with_ones_none, with_ones_twice, with_bit_ones, number_set, or_bits, shifted_high, low_drop, low_padded}
 use Rattle.build_laws.specs.Passes.{with_bits}
 
 -- a bit that is set at position r of byte q, and the byte's share of the bits behind it

@@ -9,7 +9,7 @@ use Rattle.spec.specs.Leaves.{leaves}
 use Rattle.theory.specs.Terms.{Ascending}
 use Rattle.build_laws.specs.SlotWidths.{no_bits}
 use Rattle.build_laws.specs.TrieEntries.{Slotted, slotted_between}
-use Rattle.theory.specs.Neighbours.{Nonempty, next_shared}
+use Rattle.theory.proofs.Neighbours.{Nonempty, next_shared}
 use Rattle.build_laws.specs.Emissions.{Emission, level_values, values_below, map_emissions, level_map}
 use Rattle.build_laws.specs.KeyEntries.{slotted_emissions, level_emitted, values_emitted, slotted_low, slotted_high}
 use Rattle.build_laws.specs.Cursors.{sum_of, counts, level_offset, sums, counts_at, offset_sum, offset_sums}

@@ -10,7 +10,7 @@ use Rattle.std.proofs.Math.Dec.{leb, ltb, eqb}
 use borrow.Author.Tests.{ltb-true, ltb-false, leb-true, leb-false, eq-eqb, ne_eqb, eqb-true, eqb-false}
 use Rattle.spec.specs.Bytes.{Bytes}
 use Rattle.build_laws.specs.LevelEntries.{pred}
-use Rattle.theory.specs.Neighbours.{next_shared}
+use Rattle.theory.proofs.Neighbours.{next_shared}
 use Rattle.build_laws.specs.NeighbourLeaves.{cut_length}
 
 -- a level and a value

@@ -11,16 +11,16 @@ use Rattle.spec.specs.Nodes.{is_exact}
 use Rattle.build_laws.specs.SlotWidths.{slot_bits}
 use Rattle.build_laws.specs.LevelEntries.{AllFollow}
 use Rattle.build_laws.specs.TrieEntries.{Slotted, Rooted, slotted_of, slotted_between, slotted_first, slotted_rest}
-use Rattle.theory.specs.Neighbours.{Nonempty}
+use Rattle.theory.proofs.Neighbours.{Nonempty}
 use Rattle.build_laws.specs.NeighbourLeaves.{leaves_follow}
 use Rattle.build_laws.specs.Emissions.{Emission, values_below, map_emissions}
 use Rattle.build_laws.specs.KeyEntries.{slotted_emissions, values_emitted}
 use Rattle.build_laws.specs.PassEmissions.{values_map, keys_nonempty}
 use Rattle.build_laws.specs.TrieFacts.{dense_nodes, sparse_nodes, TrieFacts, trie_facts, bodies_levels}
-use Rattle.theory.specs.BuildLaws.{BuiltFrom, built_fits}
-use Rattle.theory.specs.LiteralImage.{Buildable}
-use Rattle.theory.specs.LevelTrie.{trie}
-use Rattle.theory.specs.NodeBits.{dense_labels, dense_has_child, sparse_has_child, louds, slots, bodies_of, sparse_labels}
+use Rattle.theory.proofs.BuildLaws.{BuiltFrom, built_fits}
+use Rattle.theory.proofs.LiteralImage.{Buildable}
+use Rattle.theory.proofs.LevelTrie.{trie}
+use Rattle.theory.proofs.NodeBits.{dense_labels, dense_has_child, sparse_has_child, louds, slots, bodies_of, sparse_labels}
 
 -- the leaves of a key list's image
 abbrev pub key_leaves : Settings → List Bytes → List Leaf
@@ -73,29 +73,29 @@ module _ (st : Settings) (ks : List Bytes) (b : BuiltFrom st ks) where
   -- ---- the bits of the bodies
 
   -- the bits of D-Labels
-  abbrev pub DLBits : Bits
-  DLBits = concat (map dense_labels (dense_nodes st (key_leaves st ks)))
+  abbrev pub DL_bits : Bits
+  DL_bits = concat (map dense_labels (dense_nodes st (key_leaves st ks)))
 
   -- the bits of D-HasChild
-  abbrev pub DCBits : Bits
-  DCBits = concat (map dense_has_child (dense_nodes st (key_leaves st ks)))
+  abbrev pub DC_bits : Bits
+  DC_bits = concat (map dense_has_child (dense_nodes st (key_leaves st ks)))
 
   -- the bits of D-IsPrefixKey
-  abbrev pub DPBits : Bits
-  DPBits = map is_exact (dense_nodes st (key_leaves st ks))
+  abbrev pub DP_bits : Bits
+  DP_bits = map is_exact (dense_nodes st (key_leaves st ks))
 
   -- the bits of S-HasChild
-  abbrev pub SCBits : Bits
-  SCBits = concat (map sparse_has_child (sparse_nodes st (key_leaves st ks)))
+  abbrev pub SC_bits : Bits
+  SC_bits = concat (map sparse_has_child (sparse_nodes st (key_leaves st ks)))
 
   -- the bits of S-LOUDS
-  abbrev pub SBBits : Bits
-  SBBits = concat (map louds (sparse_nodes st (key_leaves st ks)))
+  abbrev pub SB_bits : Bits
+  SB_bits = concat (map louds (sparse_nodes st (key_leaves st ks)))
 
   -- the bits of the suffix slots
-  abbrev pub SVBits : Bits
-  SVBits = concat (map slots (dense_nodes st (key_leaves st ks) ++ sparse_nodes st (key_leaves st ks)))
+  abbrev pub SV_bits : Bits
+  SV_bits = concat (map slots (dense_nodes st (key_leaves st ks) ++ sparse_nodes st (key_leaves st ks)))
 
   -- The bodies of document 01 by these bits.
-  pub bodies_are : key_bodies st ks ≡ bodies_of DLBits DCBits DPBits (concat (map sparse_labels (sparse_nodes st (key_leaves st ks)))) SCBits SBBits SVBits
+  pub bodies_are : key_bodies st ks ≡ bodies_of DL_bits DC_bits DP_bits (concat (map sparse_labels (sparse_nodes st (key_leaves st ks)))) SC_bits SB_bits SV_bits
   bodies_are = bodies_levels st (key_leaves st ks) fits

@@ -14,14 +14,15 @@ use Rattle.spec.specs.Bytes.{Bytes, Bits, shared, concat, iota}
 use Rattle.spec.specs.Leaves.{Leaf, leaves, suffix_bits}
 use Rattle.spec.specs.Nodes.{to_node, to_leaf}
 use Rattle.theory.specs.Terms.{Ascending}
-use Rattle.theory.specs.Order.{shared_comm, above_short, shared_le}
+use Rattle.theory.proofs.Order.{shared_comm, above_short, shared_le}
 use Rattle.rank_tables.specs.TableEntries.{iota_snoc}
 use Rattle.build_laws.specs.SlotWidths.{width_of}
 use Rattle.build_laws.specs.LevelEntries.{tagged, branch_at, leaf_entries, next_new, level_entries, pred, pred_leb}
 use Rattle.build_laws.specs.declared.Entry.{Entry}
 use Rattle.build_laws.specs.declared.SlotBits.{SlotBits}
 use Rattle.build_laws.specs.TrieEntries.{Slotted, to_slotted, slotted_between}
-use Rattle.theory.specs.Neighbours.{next_shared, neighbour_leaf, neighbour_leaves, next_shared_le, Nonempty, leaves_by_neighbours}
+use Rattle.theory.proofs.Neighbours.{next_shared, neighbour_leaf, neighbour_leaves, next_shared_le, Nonempty}
+use Rattle.theory.proofs.NeighbourLeaves.{leaves_by_neighbours}
 use Rattle.build_laws.specs.NeighbourLeaves.{cut_length, taken, cut_taken, neighbour_cut, neighbour_exact, neighbour_length, neighbour_suffix, neighbour_slot, neighbours_shared}
 use Rattle.build_laws.specs.Emissions.{Emission, level_values, values_below, level_append, level_none, key_emissions, key_level, key_low, key_high, emissions}
 

@@ -13,13 +13,13 @@ use Rattle.build_laws.specs.Cursors.{sum_of, sums}
 use Rattle.build_laws.specs.NodeBodies.{labels_slotted, nodes_entries, node_step}
 use Rattle.build_laws.specs.TrieFacts.{dense_nodes, sparse_nodes, dense_count, sparse_count}
 use Rattle.build_laws.specs.Counters.{entry_counts, node_counts, entries_total, nodes_total}
-use Rattle.build_laws.specs.KeyBits.{key_leaves, key_bodies, bodies_are, some, fits, facts, all_follow, DLBits, DCBits, DPBits, SCBits, SBBits, SVBits}
-use Rattle.theory.specs.BuildLaws.{BuiltFrom}
-use Rattle.theory.specs.NodeBits.{sparse_labels, length_sv}
-use Rattle.theory.specs.SparseBits.{length_sc, length_sb, louds_ones}
-use Rattle.theory.specs.DenseBits.{length_dl, length_dc}
-use Rattle.theory.specs.Bits.{length_pack, length_ranks, length_samples}
-use Rattle.theory.specs.KeyLeaves.{leaves_length}
+use Rattle.build_laws.specs.KeyBits.{key_leaves, key_bodies, bodies_are, some, fits, facts, all_follow, DL_bits, DC_bits, DP_bits, SC_bits, SB_bits, SV_bits}
+use Rattle.theory.proofs.BuildLaws.{BuiltFrom}
+use Rattle.theory.proofs.NodeBits.{sparse_labels, length_sv}
+use Rattle.theory.proofs.SparseBits.{length_sc, length_sb, louds_ones}
+use Rattle.theory.proofs.DenseBits.{length_dl, length_dc}
+use Rattle.theory.proofs.Bits.{length_pack, length_ranks, length_samples}
+use Rattle.theory.proofs.KeyLeaves.{leaves_length}
 
 -- the bytes of so many dense rows
 row_bytes : (k : ℕ) → blocks 8 (256 * k) ≡ 32 * k
@@ -68,74 +68,74 @@ module _ (st : Settings) (ks : List Bytes) (b : BuiltFrom st ks) where
   length_SL = ap (λ (z : Bodies). length z.SL) (bodies_are st ks b) ∙ entries_sparse
 
   -- the bits of SC, one an entry
-  pub length_SC_bits : length (SCBits st ks b) ≡ sums (entry_counts ks) st.dense_levels 64
+  pub length_SC_bits : length (SC_bits st ks b) ≡ sums (entry_counts ks) st.dense_levels 64
   length_SC_bits = length_sc (sparse_nodes st (key_leaves st ks)) (facts st ks b).sparse_fit ∙ entries_sparse
 
   -- the bits of SB, one an entry
-  pub length_SB_bits : length (SBBits st ks b) ≡ sums (entry_counts ks) st.dense_levels 64
+  pub length_SB_bits : length (SB_bits st ks b) ≡ sums (entry_counts ks) st.dense_levels 64
   length_SB_bits = length_sb (sparse_nodes st (key_leaves st ks)) (facts st ks b).sparse_fit ∙ entries_sparse
 
   -- the bits of DL, 256 a dense node
-  pub length_DL_bits : length (DLBits st ks b) ≡ 256 * sums (node_counts ks) 0 st.dense_levels
+  pub length_DL_bits : length (DL_bits st ks b) ≡ 256 * sums (node_counts ks) 0 st.dense_levels
   length_DL_bits = length_dl (dense_nodes st (key_leaves st ks)) ∙ ap (λ (k : ℕ). 256 * k) nodes_dense
 
   -- the bits of DC, 256 a dense node
-  pub length_DC_bits : length (DCBits st ks b) ≡ 256 * sums (node_counts ks) 0 st.dense_levels
+  pub length_DC_bits : length (DC_bits st ks b) ≡ 256 * sums (node_counts ks) 0 st.dense_levels
   length_DC_bits = length_dc (dense_nodes st (key_leaves st ks)) ∙ ap (λ (k : ℕ). 256 * k) nodes_dense
 
   -- the bits of DP, one a dense node
-  pub length_DP_bits : length (DPBits st ks b) ≡ sums (node_counts ks) 0 st.dense_levels
+  pub length_DP_bits : length (DP_bits st ks b) ≡ sums (node_counts ks) 0 st.dense_levels
   length_DP_bits = length-map (dense_nodes st (key_leaves st ks)) is_exact ∙ nodes_dense
 
   -- the bits of SV, a slot for each leaf
-  pub length_SV_bits : length (SVBits st ks b) ≡ length ks * slot_width st
+  pub length_SV_bits : length (SV_bits st ks b) ≡ length ks * slot_width st
   length_SV_bits =
       length_sv (slot_width st) (dense_nodes st (key_leaves st ks) ++ sparse_nodes st (key_leaves st ks)) (facts st ks b).wide
       ∙ ap (λ (k : ℕ). k * slot_width st) ((facts st ks b).leaf_total ∙ leaves_length st.hash_width st.real_width ks)
 
   -- DL and DC: 32 bytes a dense node
   pub length_DL : length (key_bodies st ks).DL ≡ 32 * sums (node_counts ks) 0 st.dense_levels
-  length_DL = ap (λ (z : Bodies). length z.DL) (bodies_are st ks b) ∙ length_pack (DLBits st ks b) ∙ ap (blocks 8) length_DL_bits ∙ row_bytes (sums (node_counts ks) 0 st.dense_levels)
+  length_DL = ap (λ (z : Bodies). length z.DL) (bodies_are st ks b) ∙ length_pack (DL_bits st ks b) ∙ ap (blocks 8) length_DL_bits ∙ row_bytes (sums (node_counts ks) 0 st.dense_levels)
 
   pub length_DC : length (key_bodies st ks).DC ≡ 32 * sums (node_counts ks) 0 st.dense_levels
-  length_DC = ap (λ (z : Bodies). length z.DC) (bodies_are st ks b) ∙ length_pack (DCBits st ks b) ∙ ap (blocks 8) length_DC_bits ∙ row_bytes (sums (node_counts ks) 0 st.dense_levels)
+  length_DC = ap (λ (z : Bodies). length z.DC) (bodies_are st ks b) ∙ length_pack (DC_bits st ks b) ∙ ap (blocks 8) length_DC_bits ∙ row_bytes (sums (node_counts ks) 0 st.dense_levels)
 
   -- DP: a bit a dense node
   pub length_DP : length (key_bodies st ks).DP ≡ blocks 8 (sums (node_counts ks) 0 st.dense_levels)
-  length_DP = ap (λ (z : Bodies). length z.DP) (bodies_are st ks b) ∙ length_pack (DPBits st ks b) ∙ ap (blocks 8) length_DP_bits
+  length_DP = ap (λ (z : Bodies). length z.DP) (bodies_are st ks b) ∙ length_pack (DP_bits st ks b) ∙ ap (blocks 8) length_DP_bits
 
   -- SC and SB: a bit an entry
   pub length_SC : length (key_bodies st ks).SC ≡ blocks 8 (sums (entry_counts ks) st.dense_levels 64)
-  length_SC = ap (λ (z : Bodies). length z.SC) (bodies_are st ks b) ∙ length_pack (SCBits st ks b) ∙ ap (blocks 8) length_SC_bits
+  length_SC = ap (λ (z : Bodies). length z.SC) (bodies_are st ks b) ∙ length_pack (SC_bits st ks b) ∙ ap (blocks 8) length_SC_bits
 
   pub length_SB : length (key_bodies st ks).SB ≡ blocks 8 (sums (entry_counts ks) st.dense_levels 64)
-  length_SB = ap (λ (z : Bodies). length z.SB) (bodies_are st ks b) ∙ length_pack (SBBits st ks b) ∙ ap (blocks 8) length_SB_bits
+  length_SB = ap (λ (z : Bodies). length z.SB) (bodies_are st ks b) ∙ length_pack (SB_bits st ks b) ∙ ap (blocks 8) length_SB_bits
 
   -- SV: a slot for each leaf
   pub length_SV : length (key_bodies st ks).SV ≡ blocks 8 (length ks * slot_width st)
-  length_SV = ap (λ (z : Bodies). length z.SV) (bodies_are st ks b) ∙ length_pack (SVBits st ks b) ∙ ap (blocks 8) length_SV_bits
+  length_SV = ap (λ (z : Bodies). length z.SV) (bodies_are st ks b) ∙ length_pack (SV_bits st ks b) ∙ ap (blocks 8) length_SV_bits
 
   -- RL and RC: 16 bytes a dense node
   pub length_RL : length (key_bodies st ks).RL ≡ 16 * sums (node_counts ks) 0 st.dense_levels
-  length_RL = ap (λ (z : Bodies). length z.RL) (bodies_are st ks b) ∙ length_ranks 64 (DLBits st ks b) ∙ ap (λ (k : ℕ). 4 * blocks 64 k) length_DL_bits ∙ row_ranks (sums (node_counts ks) 0 st.dense_levels)
+  length_RL = ap (λ (z : Bodies). length z.RL) (bodies_are st ks b) ∙ length_ranks 64 (DL_bits st ks b) ∙ ap (λ (k : ℕ). 4 * blocks 64 k) length_DL_bits ∙ row_ranks (sums (node_counts ks) 0 st.dense_levels)
 
   pub length_RC : length (key_bodies st ks).RC ≡ 16 * sums (node_counts ks) 0 st.dense_levels
-  length_RC = ap (λ (z : Bodies). length z.RC) (bodies_are st ks b) ∙ length_ranks 64 (DCBits st ks b) ∙ ap (λ (k : ℕ). 4 * blocks 64 k) length_DC_bits ∙ row_ranks (sums (node_counts ks) 0 st.dense_levels)
+  length_RC = ap (λ (z : Bodies). length z.RC) (bodies_are st ks b) ∙ length_ranks 64 (DC_bits st ks b) ∙ ap (λ (k : ℕ). 4 * blocks 64 k) length_DC_bits ∙ row_ranks (sums (node_counts ks) 0 st.dense_levels)
 
   -- RP: four bytes for each begun block of 64 dense nodes
   pub length_RP : length (key_bodies st ks).RP ≡ 4 * blocks 64 (sums (node_counts ks) 0 st.dense_levels)
-  length_RP = ap (λ (z : Bodies). length z.RP) (bodies_are st ks b) ∙ length_ranks 64 (DPBits st ks b) ∙ ap (λ (k : ℕ). 4 * blocks 64 k) length_DP_bits
+  length_RP = ap (λ (z : Bodies). length z.RP) (bodies_are st ks b) ∙ length_ranks 64 (DP_bits st ks b) ∙ ap (λ (k : ℕ). 4 * blocks 64 k) length_DP_bits
 
   -- RS: four bytes for each begun block of 512 entries
   pub length_RS : length (key_bodies st ks).RS ≡ 4 * blocks 512 (sums (entry_counts ks) st.dense_levels 64)
-  length_RS = ap (λ (z : Bodies). length z.RS) (bodies_are st ks b) ∙ length_ranks 512 (SCBits st ks b) ∙ ap (λ (k : ℕ). 4 * blocks 512 k) length_SC_bits
+  length_RS = ap (λ (z : Bodies). length z.RS) (bodies_are st ks b) ∙ length_ranks 512 (SC_bits st ks b) ∙ ap (λ (k : ℕ). 4 * blocks 512 k) length_SC_bits
 
   -- as many ones in SB as sparse nodes
-  pub ones_SB : ones (SBBits st ks b) ≡ sums (node_counts ks) st.dense_levels 64
+  pub ones_SB : ones (SB_bits st ks b) ≡ sums (node_counts ks) st.dense_levels 64
   ones_SB = (louds_ones (sparse_nodes st (key_leaves st ks)) (facts st ks b).sparse_fit).0 ∙ nodes_sparse
 
   -- TS: four bytes for each begun 64 sparse nodes
   pub length_TS : length (key_bodies st ks).TS ≡ 4 * blocks 64 (sums (node_counts ks) st.dense_levels 64)
   length_TS =
-      ap (λ (z : Bodies). length z.TS) (bodies_are st ks b) ∙ length_samples (SBBits st ks b)
+      ap (λ (z : Bodies). length z.TS) (bodies_are st ks b) ∙ length_samples (SB_bits st ks b)
       ∙ ap (λ (k : ℕ). 4 * blocks 64 k) ones_SB

@@ -8,8 +8,8 @@ use Rattle.std.proofs.Math.Dec.{leb-zero, leb-suc-zero, leb-suc-suc, eqb-zero-su
 use Rattle.spec.specs.Bytes.{Bytes, Bits, concat, shared}
 use Rattle.spec.specs.Leaves.{Leaf}
 use Rattle.spec.specs.Nodes.{Group, Branch, to_node, to_leaf, Node, node, prefix}
-use Rattle.theory.specs.Lists.{concat_append, eqb_self}
-use Rattle.theory.specs.LevelTrie.{node_of, child_groups, Subtree, subtree, insert, subtrees, insert_cut, branch_of, child_group, exact_of}
+use Rattle.theory.proofs.Lists.{concat_append, eqb_self}
+use Rattle.theory.proofs.LevelTrie.{node_of, child_groups, Subtree, subtree, insert, subtrees, insert_cut, branch_of, child_group, exact_of}
 
 -- a branch, or an exact leaf as a branch with the label FF: whether it starts its node, and whether it is the exact leaf
 pub data Tagged : Type 0 where

@@ -7,11 +7,12 @@ use Rattle.spec.specs.Bytes.{Bytes, shared}
 use Rattle.spec.specs.Keys.{below}
 use Rattle.spec.specs.Leaves.{Leaf, leaves, suffix_bits}
 use Rattle.theory.specs.Terms.{Ascending}
-use Rattle.theory.specs.Order.{shared_comm, below_cons, shared_eq, shared_ne, above_short, shared_le}
+use Rattle.theory.proofs.Order.{shared_comm, below_cons, shared_eq, shared_ne, above_short, shared_le}
 use Rattle.build_laws.specs.SlotWidths.{width_of}
 use Rattle.build_laws.specs.LevelEntries.{Follows, AllFollow, NodeLeaf}
 use Rattle.build_laws.specs.TrieEntries.{Rooted}
-use Rattle.theory.specs.Neighbours.{next_shared, neighbour_leaf, neighbour_leaves, next_shared_le, Nonempty, leaves_by_neighbours}
+use Rattle.theory.proofs.Neighbours.{next_shared, neighbour_leaf, neighbour_leaves, next_shared_le, Nonempty}
+use Rattle.theory.proofs.NeighbourLeaves.{leaves_by_neighbours}
 use Rattle.build_laws.specs.declared.SlotBits.{SlotBits}
 
 -- how long the cut key of a key of n bytes is that shares p bytes with the key before and q with the next

@@ -10,10 +10,10 @@ use Rattle.build_laws.specs.LevelEntries.{tagged, tag_first, node_entries}
 use Rattle.build_laws.specs.TrieEntries.{Slotted, to_slotted, slotted_of}
 use Rattle.build_laws.specs.Cursors.{sum_of, sum_append}
 use Rattle.theory.specs.Terms.{All}
-use Rattle.theory.specs.Lists.{concat_append}
-use Rattle.theory.specs.LinkedLevels.{Labelled}
-use Rattle.theory.specs.NodeBits.{sparse_labels, sparse_has_child, louds, slots, BranchWidth, SlotsWidth}
-use Rattle.theory.specs.Lists.{all_append}
+use Rattle.theory.proofs.Lists.{concat_append}
+use Rattle.theory.proofs.LinkedLevels.{Labelled}
+use Rattle.theory.proofs.NodeBits.{sparse_labels, sparse_has_child, louds, slots, BranchWidth, SlotsWidth}
+use Rattle.theory.proofs.Lists.{all_append}
 
 -- ---- functions of entries
 

@@ -6,10 +6,10 @@ use Rattle.spec.specs.Bytes.{Bytes, Bits, blocks, low_first, pack, low_bits, unp
 use Rattle.spec.specs.Image.{has, positions}
 use Rattle.spec.specs.Check.{no_spare}
 use Rattle.build_laws.specs.SetBits.{set_bits, set_zeros}
-use Rattle.theory.specs.Lists.{bytes_append}
+use Rattle.theory.proofs.Lists.{bytes_append}
 use Rattle.theory.specs.Terms.{IsBytes}
-use Rattle.theory.specs.Bits.{low_first_bits, unpack_pack as bits-pack, length_unpack, length_pack, clear_is_replicate}
-use Rattle.theory.specs.ImageBytes.{bytes_pack}
+use Rattle.theory.proofs.Bits.{low_first_bits, unpack_pack as bits-pack, length_unpack, length_pack, clear_is_replicate}
+use Rattle.theory.proofs.ImageBytes.{bytes_pack}
 
 -- bytes whose every member is below 256
 pub small_of : (s : Bytes) → ((i : ℕ) → get_or s i 0 < 256) → IsBytes s

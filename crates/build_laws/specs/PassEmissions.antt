@@ -8,11 +8,11 @@ use Rattle.std.proofs.lemmas.Bool.{eqb-false}
 use Rattle.spec.specs.Bytes.{Bytes, Bits, shared}
 use Rattle.spec.specs.Leaves.{suffix_bits}
 use Rattle.theory.specs.Terms.{Ascending, Keys}
-use Rattle.theory.specs.Order.{shared_comm, above_short}
+use Rattle.theory.proofs.Order.{shared_comm, above_short}
 use Rattle.build_laws.specs.SlotWidths.{width_of}
 use Rattle.build_laws.specs.LevelEntries.{pred}
 use Rattle.build_laws.specs.TrieEntries.{Slotted}
-use Rattle.theory.specs.Neighbours.{next_shared, next_shared_le, Nonempty}
+use Rattle.theory.proofs.Neighbours.{next_shared, next_shared_le, Nonempty}
 use Rattle.build_laws.specs.NeighbourLeaves.{cut_length, cut_le}
 use Rattle.build_laws.specs.Emissions.{Emission, emission, level_values, values_below, LevelsBelow, map_emissions, key_emissions, emissions, below_append, key_below, map_keys, level_map}
 use Rattle.build_laws.specs.KeyEntries.{continues_at, slotted_at, exact_slotted, slotted_emissions}

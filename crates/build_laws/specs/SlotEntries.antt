@@ -9,11 +9,11 @@ use Rattle.std.proofs.lemmas.Bool.{eqb-false}
 use Rattle.spec.specs.Bytes.{Bytes, Bits, filter, concat, bit}
 use Rattle.spec.specs.Leaves.{suffix_bits}
 use Rattle.theory.specs.Terms.{All}
-use Rattle.theory.specs.Lists.{nil_of}
+use Rattle.theory.proofs.Lists.{nil_of}
 use Rattle.build_laws.specs.SlotWidths.{width_of}
 use Rattle.build_laws.specs.LevelEntries.{pred}
 use Rattle.build_laws.specs.TrieEntries.{Slotted}
-use Rattle.theory.specs.Neighbours.{next_shared}
+use Rattle.theory.proofs.Neighbours.{next_shared}
 use Rattle.build_laws.specs.NeighbourLeaves.{cut_length, cut_open}
 use Rattle.build_laws.specs.Emissions.{Emission, emission, level_values, values_below, key_emissions, emissions, level_append, level_none, key_level}
 use Rattle.build_laws.specs.KeyEntries.{continues_at, slotted_at, exact_slotted, slotted_emissions}

@@ -10,9 +10,9 @@ use Rattle.spec.specs.Leaves.{Leaf}
 use Rattle.spec.specs.Nodes.{Group, Node, label_of, has_child, slot}
 use Rattle.build_laws.specs.LevelEntries.{Tagged, tagged, level_entries, node_entries, entries_below, AllFollow, NodeLeaf, level_entries_below}
 use Rattle.build_laws.specs.declared.Entry.{Entry}
-use Rattle.theory.specs.Lists.{concat_append}
-use Rattle.theory.specs.LevelTrie.{child_groups, trie_levels, node_of, trie}
-use Rattle.theory.specs.TrieTests.{trie_levels_short}
+use Rattle.theory.proofs.Lists.{concat_append}
+use Rattle.theory.proofs.LevelTrie.{child_groups, trie_levels, node_of, trie}
+use Rattle.theory.proofs.TrieTests.{trie_levels_short}
 
 -- An entry of the trie with its slot: the suffix bits of a leaf, none for an entry that continues.
 pub record Slotted : Type 0 where

@@ -11,14 +11,14 @@ use Rattle.spec.specs.Image as Literal
 use Rattle.spec.specs.Nodes.{Node, is_exact}
 use Rattle.spec.specs.Trie.{leaf_count}
 use Rattle.theory.specs.Terms.{All}
-use Rattle.theory.specs.LevelTrie.{trie}
-use Rattle.theory.specs.LinkedLevels.{Labelled}
-use Rattle.theory.specs.NodeBits.{ByteLabels, SlotsWidth, bodies_of, dense_labels, dense_has_child, sparse_labels, sparse_has_child, louds, slots}
-use Rattle.theory.specs.Lists.{concat_split, all_append}
-use Rattle.theory.specs.LiteralImage.{Buildable, map_prefix_nodes, PrefixNodes, prefix_nodes, literal_bodies}
-use Rattle.theory.specs.ImageParts.{image_holds}
-use Rattle.theory.specs.PrefixNodes.{node_at, dense_labels_at, dense_has_child_at, is_leaf_at, sparse_labels_at, sparse_has_child_at, louds_at, slots_at_node}
-use Rattle.theory.specs.TrieGroups.{well_sized_depth}
+use Rattle.theory.proofs.LevelTrie.{trie}
+use Rattle.theory.proofs.LinkedLevels.{Labelled}
+use Rattle.theory.proofs.NodeBits.{ByteLabels, SlotsWidth, bodies_of, dense_labels, dense_has_child, sparse_labels, sparse_has_child, louds, slots}
+use Rattle.theory.proofs.Lists.{concat_split, all_append}
+use Rattle.theory.proofs.LiteralImage.{Buildable, map_prefix_nodes, PrefixNodes, prefix_nodes, literal_bodies}
+use Rattle.theory.proofs.ImageParts.{image_holds}
+use Rattle.theory.proofs.PrefixNodes.{node_at, dense_labels_at, dense_has_child_at, is_leaf_at, sparse_labels_at, sparse_has_child_at, louds_at, slots_at_node}
+use Rattle.theory.proofs.TrieGroups.{well_sized_depth}
 
 -- the nodes on the dense levels, in level order
 unfoldable pub dense_nodes : Settings → List Leaf → List Node

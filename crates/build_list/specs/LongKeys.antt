@@ -8,8 +8,8 @@ use Rattle.std.proofs.Math.ListN.{length}
 use Rattle.std.proofs.lemmas.Bool.{lt-leb}
 use Rattle.spec.specs.Bytes.{Bytes, all}
 use Rattle.spec.specs.Keys.{keys_of}
-use Rattle.theory.specs.Lists.{and_both}
-use Rattle.theory.specs.Neighbours.{next_shared}
+use Rattle.theory.proofs.Lists.{and_both}
+use Rattle.theory.proofs.Neighbours.{next_shared}
 use Rattle.build_laws.specs.LevelEntries.{pred}
 use Rattle.build_laws.specs.NeighbourLeaves.{cut_length}
 use Rattle.build_laws.specs.Emissions.{Emission, emission, consecutive, key_emissions, emissions}

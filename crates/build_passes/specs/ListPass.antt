@@ -12,7 +12,7 @@ use Rattle.bits.specs.Bits.{key}
 use Rattle.build_laws.specs.SlotWidths.{no_bits}
 use Rattle.build_laws.specs.KeyRecords.{Records}
 use Rattle.build_laws.specs.LevelEntries.{pred}
-use Rattle.theory.specs.Neighbours.{next_shared}
+use Rattle.theory.proofs.Neighbours.{next_shared}
 use Rattle.build_laws.specs.Emissions.{Emission, emission, emissions}
 use Rattle.build_laws.specs.Cursors.{counts, counts_append, length_counts}
 use Rattle.build_laws.specs.BitPass.{Room, room_append}

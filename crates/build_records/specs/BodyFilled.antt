@@ -4,7 +4,7 @@ use Rattle.std.proofs.Common.{sym, ap, ◌∙◌, true≢false, arith, length-ap
 use Rattle.std.proofs.lemmas.List.{length-replicate}
 use Rattle.spec.specs.Bytes.{Bytes, blocks, pack, unpack}
 use Rattle.spec.specs.Image.{Settings, slot_width, Bodies}
-use Rattle.theory.specs.BuildLaws.{BuiltFrom}
+use Rattle.theory.proofs.BuildLaws.{BuiltFrom}
 use Rattle.theory.specs.Terms.{IsBytes}
 use Rattle.build_laws.specs.SlotWidths.{slot_bits}
 use Rattle.build_laws.specs.Emissions.{Emission}
@@ -16,8 +16,9 @@ use Rattle.build_laws.specs.Cursors.{sums}
 use Rattle.build_laws.specs.Counters.{entry_counts, CursorsAt}
 use Rattle.build_passes.specs.FlippedBits.{flipped, flipped_pack}
 use Rattle.build_laws.specs.Lengths.{length_SC, length_SB, length_SC_bits, length_SB_bits}
-use Rattle.build_laws.specs.KeyBits.{key_bodies, bodies_are, SCBits, SBBits}
-use Rattle.build_laws.specs.BodyLaws.{bit_at, slot_at, SLFilled, SCFilled, SBFilled, SVFilled, DLFilled, DCFilled, DPFilled}
+use Rattle.build_laws.specs.KeyBits.{key_bodies, bodies_are, SC_bits, SB_bits}
+use Rattle.build_laws.specs.BodyLaws.{bit_at, slot_at, SC_filled, SB_filled, SV_filled, DL_filled, DC_filled, DP_filled}
+use Rattle.build_laws.proofs.BodyLaws.{SL_filled}
 use Rattle.build_laws.specs.declared.Kind.TheVariants.{DL, DC, DP, SL, SC, SB}
 use Rattle.build_laws.specs.declared.Body.{Body}
 use Rattle.build_laws.specs.declared.Body.TheVariants.{Entries, Slots}
@@ -30,8 +31,8 @@ use Rattle.build_laws.specs.Limits.{counters, counter_max}
 module _ (st : Settings) (ks : List Bytes) (b : BuiltFrom st ks) where
   -- what the pass of a body leaves: that body, or its bits flipped
   abbrev pub left_body : Body → Bytes
-  left_body (Entries SC) = pack (map not (SCBits st ks b))
-  left_body (Entries SB) = pack (map not (SBBits st ks b))
+  left_body (Entries SC) = pack (map not (SC_bits st ks b))
+  left_body (Entries SB) = pack (map not (SB_bits st ks b))
   left_body (Entries SL) = (key_bodies st ks).SL
   left_body (Entries DL) = (key_bodies st ks).DL
   left_body (Entries DC) = (key_bodies st ks).DC
@@ -56,37 +57,37 @@ module _ (st : Settings) (ks : List Bytes) (b : BuiltFrom st ks) (cur : List ℕ
       → o ≡ left_body st ks b body ++ rest
   body_filled (Entries SL) c e =
       let m : ℕ = length (key_bodies st ks).SL in
-      SLFilled st ks b cur (replicate m 0 ++ rest) o w c (size_ok m)
+      SL_filled st ks b cur (replicate m 0 ++ rest) o w c (size_ok m)
       (ap (λ (z : ByteState). z.bytes) (e ∙ labels_put (all_entries st.dense_levels 64 0 ks) (byte_state (replicate m 0 ++ rest) cur) ∙ ap (λ es. put_bytes es (byte_state (replicate m 0 ++ rest) cur)) (sym (labels_map st.dense_levels ks))))
       ∙ ap (λ (z : Bytes). (key_bodies st ks).SL ++ z) (behind_zeros m)
   body_filled (Entries SC) c e =
       let m : ℕ = length (key_bodies st ks).SC in
       let z : ByteState = byte_state (replicate m 0 ++ rest) cur in
-      SCFilled st ks b cur w c o rest p q
+      SC_filled st ks b cur w c o rest p q
       (left_bits one_step bit_at (leaf_emissions st.dense_levels 0 ks) m (room_SC st ks b cur w (length (replicate m 0 ++ rest)) c (size_ok m)) (e ∙ leaves_set (all_entries st.dense_levels 64 0 ks) z ∙ ap (λ es. set_all one_step bit_at es z) (sym (leaves_map st.dense_levels ks))))
   body_filled (Entries SB) c e =
       let m : ℕ = length (key_bodies st ks).SB in
       let z : ByteState = byte_state (replicate m 0 ++ rest) cur in
-      SBFilled st ks b cur w c o rest p q
+      SB_filled st ks b cur w c o rest p q
       (left_bits one_step bit_at (later_emissions st.dense_levels 0 ks) m (room_SB st ks b cur w (length (replicate m 0 ++ rest)) c (size_ok m)) (e ∙ later_set (all_entries st.dense_levels 64 0 ks) z ∙ ap (λ es. set_all one_step bit_at es z) (sym (later_map st.dense_levels ks))))
   body_filled (Entries DL) c e =
       let m : ℕ = length (key_bodies st ks).DL in
       let z : ByteState = byte_state (replicate m 0 ++ rest) cur in
-      DLFilled st ks b cur w c o rest p q
+      DL_filled st ks b cur w c o rest p q
       (left_bits cell_step (cell_ones 256) (dense_label_emissions st.dense_levels 0 ks) m (room_DL st ks b cur w (length (replicate m 0 ++ rest)) c (size_ok m)) (e ∙ label_cells_set (all_entries 0 st.dense_levels 0 ks) z ∙ ap (λ es. set_all cell_step (cell_ones 256) es z) (sym (label_cells_map st.dense_levels ks))))
   body_filled (Entries DC) c e =
       let m : ℕ = length (key_bodies st ks).DC in
       let z : ByteState = byte_state (replicate m 0 ++ rest) cur in
-      DCFilled st ks b cur w c o rest p q
+      DC_filled st ks b cur w c o rest p q
       (left_bits cell_step (cell_ones 256) (dense_child_emissions st.dense_levels 0 ks) m (room_DC st ks b cur w (length (replicate m 0 ++ rest)) c (size_ok m)) (e ∙ child_cells_set (all_entries 0 st.dense_levels 0 ks) z ∙ ap (λ es. set_all cell_step (cell_ones 256) es z) (sym (child_cells_map st.dense_levels ks))))
   body_filled (Entries DP) c e =
       let m : ℕ = length (key_bodies st ks).DP in
       let z : ByteState = byte_state (replicate m 0 ++ rest) cur in
-      DPFilled st ks b cur w c o rest p q
+      DP_filled st ks b cur w c o rest p q
       (left_bits cell_step (cell_ones 1) (dense_exact_emissions st.dense_levels 0 ks) m (room_DP st ks b cur w (length (replicate m 0 ++ rest)) c (size_ok m)) (e ∙ exact_cells_set (all_entries 0 st.dense_levels 0 ks) z ∙ ap (λ es. set_all cell_step (cell_ones 1) es z) (sym (exact_cells_map st.dense_levels ks))))
   body_filled Slots c e =
       let m : ℕ = length (key_bodies st ks).SV in
-      SVFilled st ks b cur w c o rest p q (left_bits one_step (slot_at (slot_width st)) (slot_emissions (slot_bits st) 0 ks) m (room_SV st ks b cur w (length (replicate m 0 ++ rest)) c (size_ok m)) e)
+      SV_filled st ks b cur w c o rest p q (left_bits one_step (slot_at (slot_width st)) (slot_emissions (slot_bits st) 0 ks) m (room_SV st ks b cur w (length (replicate m 0 ++ rest)) c (size_ok m)) e)
 
 -- whether a body is left with its bits flipped
 abbrev pub left_flipped : Body → Bool
@@ -111,8 +112,8 @@ module _ (st : Settings) (ks : List Bytes) (b : BuiltFrom st ks) where
 
   -- such a body, its bits flipped again, is the body
   pub flipped_again : (rest : Bytes) (body : Body) (n : ℕ) (o : Bytes) → n ≡ sums (entry_counts ks) st.dense_levels 64 → left_flipped body ≡ true → o ≡ flipped (blocks 8 n) n (left_body st ks b body ++ rest) → o ≡ body_of body (key_bodies st ks) ++ rest
-  flipped_again rest (Entries SC) n o m f e = e ∙ flipped_pack n (SCBits st ks b) rest (m ∙ sym (length_SC_bits st ks b)) ∙ ap (λ (z : Bodies). z.SC ++ rest) (sym (bodies_are st ks b))
-  flipped_again rest (Entries SB) n o m f e = e ∙ flipped_pack n (SBBits st ks b) rest (m ∙ sym (length_SB_bits st ks b)) ∙ ap (λ (z : Bodies). z.SB ++ rest) (sym (bodies_are st ks b))
+  flipped_again rest (Entries SC) n o m f e = e ∙ flipped_pack n (SC_bits st ks b) rest (m ∙ sym (length_SC_bits st ks b)) ∙ ap (λ (z : Bodies). z.SC ++ rest) (sym (bodies_are st ks b))
+  flipped_again rest (Entries SB) n o m f e = e ∙ flipped_pack n (SB_bits st ks b) rest (m ∙ sym (length_SB_bits st ks b)) ∙ ap (λ (z : Bodies). z.SB ++ rest) (sym (bodies_are st ks b))
   flipped_again rest (Entries SL) n o m f e = absurd (true≢false (sym f))
   flipped_again rest (Entries DL) n o m f e = absurd (true≢false (sym f))
   flipped_again rest (Entries DC) n o m f e = absurd (true≢false (sym f))

@@ -5,7 +5,7 @@ use Rattle.std.proofs.Math.Bool.{not}
 use Rattle.std.proofs.Common.{arith}
 use Rattle.spec.specs.Bytes.{Bytes, blocks}
 use Rattle.spec.specs.Image.{Settings, slot_width}
-use Rattle.theory.specs.BuildLaws.{BuiltFrom}
+use Rattle.theory.proofs.BuildLaws.{BuiltFrom}
 use Rattle.build_laws.specs.SlotWidths.{slot_bits}
 use Rattle.build_laws.specs.Emissions.{Emission, emission, map_emissions, map_keys}
 use Rattle.build_laws.specs.Cursors.{sums}
@@ -19,7 +19,8 @@ use Rattle.build_laws.specs.Counters.{entry_counts, node_counts, leaf_counts, Cu
 use Rattle.build_keys.specs.CounterRoom.{entry_counts_few, node_counts_few, leaf_counts_few, sums_few}
 use Rattle.build_laws.specs.KeyBits.{key_bodies}
 use Rattle.build_laws.specs.Lengths.{length_DL, length_DC, length_DP, length_SL, length_SC, length_SB, length_SV}
-use Rattle.build_laws.specs.BodyLaws.{bit_at, slot_at, SLRoom, SCRoom, SBRoom, SVRoom, DLRoom, DCRoom, DPRoom}
+use Rattle.build_laws.specs.BodyLaws.{bit_at, slot_at, SC_room, SB_room, SV_room, DL_room, DC_room, DP_room}
+use Rattle.build_laws.proofs.BodyLaws.{SL_room}
 use Rattle.build_laws.specs.declared.Entry.{Entry}
 use Rattle.build_laws.specs.declared.Kind.TheVariants.{DL, DC, DP, SL, SC, SB}
 use Rattle.build_laws.specs.declared.Body.{Body}
@@ -100,31 +101,31 @@ eight n size h = omega arith
 module _ (st : Settings) (ks : List Bytes) (b : BuiltFrom st ks) (cur : List ℕ) (w : length cur ≡ counters) (size : ℕ) where
   -- S-Labels: room in so many bytes
   pub room_SL : CursorsAt (entry_counts ks) st.dense_levels cur → length (key_bodies st ks).SL ≤ size → Room one_step at_cursor size counter_max (label_emissions st.dense_levels 0 ks) cur
-  room_SL c h = room_more one_step at_cursor _ size _ counter_max (label_emissions st.dense_levels 0 ks) cur (omega (arith, length_SL st ks b)) (counters_few (Entries SL) ks st.dense_levels 64 b.few (omega arith)) (SLRoom st ks b cur w c)
+  room_SL c h = room_more one_step at_cursor _ size _ counter_max (label_emissions st.dense_levels 0 ks) cur (omega (arith, length_SL st ks b)) (counters_few (Entries SL) ks st.dense_levels 64 b.few (omega arith)) (SL_room st ks b cur w c)
 
   -- S-HasChild: room in so many bytes
   pub room_SC : CursorsAt (entry_counts ks) st.dense_levels cur → length (key_bodies st ks).SC ≤ size → Room one_step bit_at (8 * size) counter_max (leaf_emissions st.dense_levels 0 ks) cur
-  room_SC c h = room_more one_step bit_at _ (8 * size) _ counter_max (leaf_emissions st.dense_levels 0 ks) cur (eight _ size (omega (arith, length_SC st ks b))) (counters_few (Entries SC) ks st.dense_levels 64 b.few (omega arith)) (SCRoom st ks b cur w c)
+  room_SC c h = room_more one_step bit_at _ (8 * size) _ counter_max (leaf_emissions st.dense_levels 0 ks) cur (eight _ size (omega (arith, length_SC st ks b))) (counters_few (Entries SC) ks st.dense_levels 64 b.few (omega arith)) (SC_room st ks b cur w c)
 
   -- S-LOUDS: room in so many bytes
   pub room_SB : CursorsAt (entry_counts ks) st.dense_levels cur → length (key_bodies st ks).SB ≤ size → Room one_step bit_at (8 * size) counter_max (later_emissions st.dense_levels 0 ks) cur
-  room_SB c h = room_more one_step bit_at _ (8 * size) _ counter_max (later_emissions st.dense_levels 0 ks) cur (eight _ size (omega (arith, length_SB st ks b))) (counters_few (Entries SB) ks st.dense_levels 64 b.few (omega arith)) (SBRoom st ks b cur w c)
+  room_SB c h = room_more one_step bit_at _ (8 * size) _ counter_max (later_emissions st.dense_levels 0 ks) cur (eight _ size (omega (arith, length_SB st ks b))) (counters_few (Entries SB) ks st.dense_levels 64 b.few (omega arith)) (SB_room st ks b cur w c)
 
   -- D-Labels: room in so many bytes
   pub room_DL : CursorsAt (node_counts ks) 0 cur → length (key_bodies st ks).DL ≤ size → Room cell_step (cell_ones 256) (8 * size) counter_max (dense_label_emissions st.dense_levels 0 ks) cur
-  room_DL c h = room_more cell_step (cell_ones 256) _ (8 * size) _ counter_max (dense_label_emissions st.dense_levels 0 ks) cur (omega (arith, length_DL st ks b)) (counters_few (Entries DL) ks 0 st.dense_levels b.few (omega (arith, b.dense_range))) (DLRoom st ks b cur w c)
+  room_DL c h = room_more cell_step (cell_ones 256) _ (8 * size) _ counter_max (dense_label_emissions st.dense_levels 0 ks) cur (omega (arith, length_DL st ks b)) (counters_few (Entries DL) ks 0 st.dense_levels b.few (omega (arith, b.dense_range))) (DL_room st ks b cur w c)
 
   -- D-HasChild: room in so many bytes
   pub room_DC : CursorsAt (node_counts ks) 0 cur → length (key_bodies st ks).DC ≤ size → Room cell_step (cell_ones 256) (8 * size) counter_max (dense_child_emissions st.dense_levels 0 ks) cur
-  room_DC c h = room_more cell_step (cell_ones 256) _ (8 * size) _ counter_max (dense_child_emissions st.dense_levels 0 ks) cur (omega (arith, length_DC st ks b)) (counters_few (Entries DC) ks 0 st.dense_levels b.few (omega (arith, b.dense_range))) (DCRoom st ks b cur w c)
+  room_DC c h = room_more cell_step (cell_ones 256) _ (8 * size) _ counter_max (dense_child_emissions st.dense_levels 0 ks) cur (omega (arith, length_DC st ks b)) (counters_few (Entries DC) ks 0 st.dense_levels b.few (omega (arith, b.dense_range))) (DC_room st ks b cur w c)
 
   -- D-IsPrefixKey: room in so many bytes
   pub room_DP : CursorsAt (node_counts ks) 0 cur → length (key_bodies st ks).DP ≤ size → Room cell_step (cell_ones 1) (8 * size) counter_max (dense_exact_emissions st.dense_levels 0 ks) cur
-  room_DP c h = room_more cell_step (cell_ones 1) _ (8 * size) _ counter_max (dense_exact_emissions st.dense_levels 0 ks) cur (eight _ size (omega (arith, length_DP st ks b))) (counters_few (Entries DP) ks 0 st.dense_levels b.few (omega (arith, b.dense_range))) (DPRoom st ks b cur w c)
+  room_DP c h = room_more cell_step (cell_ones 1) _ (8 * size) _ counter_max (dense_exact_emissions st.dense_levels 0 ks) cur (eight _ size (omega (arith, length_DP st ks b))) (counters_few (Entries DP) ks 0 st.dense_levels b.few (omega (arith, b.dense_range))) (DP_room st ks b cur w c)
 
   -- the suffix slots: room in so many bytes
   pub room_SV : CursorsAt (leaf_counts ks) 0 cur → length (key_bodies st ks).SV ≤ size → Room one_step (slot_at (slot_width st)) (8 * size) counter_max (slot_emissions (slot_bits st) 0 ks) cur
-  room_SV c h = room_more one_step (slot_at (slot_width st)) _ (8 * size) _ counter_max (slot_emissions (slot_bits st) 0 ks) cur (eight _ size (omega (arith, length_SV st ks b))) (omega (arith, b.few)) (SVRoom st ks b cur w c)
+  room_SV c h = room_more one_step (slot_at (slot_width st)) _ (8 * size) _ counter_max (slot_emissions (slot_bits st) 0 ks) cur (eight _ size (omega (arith, length_SV st ks b))) (omega (arith, b.few)) (SV_room st ks b cur w c)
 
   -- A body's bytes have room for what its pass writes.
   pub body_room : (body : Body) → CursorsAt (counters_of body ks) (level_range body st.dense_levels).lo cur → length (body_of body (key_bodies st ks)) ≤ size

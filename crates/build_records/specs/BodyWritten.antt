@@ -7,8 +7,8 @@ use Rattle.spec.specs.Keys.{keys_of}
 use Rattle.spec.specs.Image.{Counts}
 use Rattle.theory.specs.Terms.{IsBytes}
 use Rattle.bits.specs.Bits.{overlaid, rank}
-use Rattle.bits.specs.Overlaying.{lent_front}
-use Rattle.bits.specs.Parts.{mid_is}
+use Rattle.bits.proofs.Overlaying.{lent_front}
+use Rattle.bits.proofs.SliceParts.{mid_is}
 use Rattle.rank_tables.specs.TableEntries.{rank_table, sample_table}
 use Rattle.rank_tables.specs.Tables.{spanned, RanksRoom, SamplesRoom}
 use Rattle.rank_tables.specs.declared.Span.{Span}

@@ -4,10 +4,10 @@ use Rattle.std.proofs.Math.Path.{ap₂}
 use Rattle.std.proofs.Common.{◌∙◌, arith}
 use Rattle.spec.specs.Bytes.{Bytes, blocks}
 use Rattle.spec.specs.Image.{Settings, Counts, Row, rows, level_rows, version_rows, level_widths, level_bodies, sizes, in_order, write_records, header, counts, bodies, image}
-use Rattle.theory.specs.Frame.{Paired, records_append}
-use Rattle.theory.specs.LevelStarts.{version_rows_are}
-use Rattle.theory.specs.BuildLaws.{BuiltFrom}
-use Rattle.theory.specs.KeyLeaves.{leaves_length}
+use Rattle.theory.proofs.Frame.{Paired, records_append}
+use Rattle.theory.proofs.LevelStarts.{version_rows_are}
+use Rattle.theory.proofs.BuildLaws.{BuiltFrom}
+use Rattle.theory.proofs.KeyLeaves.{leaves_length}
 use Rattle.build_laws.specs.Cursors.{sums}
 use Rattle.build_laws.specs.Counters.{entry_counts, node_counts}
 use Rattle.build_laws.specs.KeyBits.{key_leaves, key_bodies}

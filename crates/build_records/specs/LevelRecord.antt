@@ -3,7 +3,7 @@ use Rattle.std.specs.Prelude.{ℕ, zero, suc, ◌+◌, ◌-◌, ◌≤◌, ◌<�
 use Rattle.std.proofs.Common.{sym, ap, ap₂, ◌∙◌, append_assoc, append-nil, arith, add-one, add-zero, length-append, ltb-true, ltb-false, lt-ltb, le-ltb, eq-eqb, ne_eqb}
 use Rattle.spec.specs.Bytes.{Bytes, concat, iota, filter, le32}
 use Rattle.spec.specs.Image.{first_nodes, level_starts, level_rows, level_bodies, write_records}
-use Rattle.bits.specs.Overlaying.{length_le32}
+use Rattle.bits.proofs.Overlaying.{length_le32}
 use Rattle.image.specs.Records.{row_at, length_marked}
 use Rattle.build_laws.specs.Cursors.{sums, sums_none}
 use Rattle.build_passes.specs.CounterSums.{sums_in}

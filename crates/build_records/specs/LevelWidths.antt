@@ -11,13 +11,13 @@ use Rattle.spec.specs.Bytes.{Bytes, concat, iota}
 use Rattle.spec.specs.Leaves.{Leaf}
 use Rattle.spec.specs.Image.{Settings, slot_width, on_level, nodes, level_widths}
 use Rattle.theory.specs.Terms.{All}
-use Rattle.theory.specs.Lists.{concat_split, all_append}
-use Rattle.theory.specs.LinkedLevels.{Labelled}
-use Rattle.theory.specs.LevelTrie.{trie, trie_dense, trie_sparse}
-use Rattle.theory.specs.TrieGroups.{well_sized_depth}
-use Rattle.theory.specs.PrefixNodes.{node_at}
-use Rattle.theory.specs.LiteralImage.{prefix_nodes}
-use Rattle.theory.specs.BuildLaws.{BuiltFrom}
+use Rattle.theory.proofs.Lists.{concat_split, all_append}
+use Rattle.theory.proofs.LinkedLevels.{Labelled}
+use Rattle.theory.proofs.LevelTrie.{trie, trie_dense, trie_sparse}
+use Rattle.theory.proofs.TrieGroups.{well_sized_depth}
+use Rattle.theory.proofs.PrefixNodes.{node_at}
+use Rattle.theory.proofs.LiteralImage.{prefix_nodes}
+use Rattle.theory.proofs.BuildLaws.{BuiltFrom}
 use Rattle.rank_tables.specs.TableEntries.{iota_snoc}
 use Rattle.build_laws.specs.SlotWidths.{slot_bits}
 use Rattle.build_laws.specs.TrieEntries.{slotted_between, slotted_first}

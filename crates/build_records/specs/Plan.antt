@@ -5,10 +5,10 @@ use Rattle.std.proofs.Common.{ap₂, subst, ◌∙◌, append_assoc, arith, leng
 use Rattle.spec.specs.Bytes.{Bytes, blocks, le32}
 use Rattle.spec.specs.Keys.{keys_of}
 use Rattle.spec.specs.Image.{Settings, Counts, Row, rows, sizes, in_order, marked, write_records, header, image}
-use Rattle.theory.specs.BuildLaws.{BuiltFrom}
+use Rattle.theory.proofs.BuildLaws.{BuiltFrom}
 use Rattle.bits.specs.Bits.{part, overlaid, rank}
-use Rattle.bits.specs.Overlaying.{length_overlaid, overlaid_nil, overlaid_behind}
-use Rattle.bits.specs.Parts.{part_kept, part_overlaid, part_part}
+use Rattle.bits.proofs.Overlaying.{length_overlaid, overlaid_nil, overlaid_behind}
+use Rattle.bits.proofs.SliceParts.{part_kept, part_overlaid, part_part}
 use Rattle.image.specs.Header.{settings_of, counts_of, ShortFields}
 use Rattle.image.specs.Records.{row_at, starts, length_marked}
 use Rattle.image.specs.declared.Header.{Header}
@@ -20,10 +20,10 @@ use Rattle.build_laws.specs.KeyBits.{key_leaves, key_bodies}
 use Rattle.build_keys.specs.CountPass.{LevelCounts, list_counts}
 use Rattle.build_records.specs.BodyChoice.{body_of, counters_of}
 use Rattle.build_records.specs.BodyRoom.{counters_few}
-use Rattle.theory.specs.ImageBytes.{known_few}
+use Rattle.theory.proofs.ImageBytes.{known_few}
 use Rattle.build_records.specs.LevelRecord.{level_bytes}
 use Rattle.build_records.specs.ImageRecords.{key_counts, image_is, body_sizes}
-use Rattle.build_records.specs.TableBodies.{RLTable, RCTable, RPTable, RSTable, SBRank, TSTable}
+use Rattle.build_records.specs.TableBodies.{RL_table, RC_table, RP_table, RS_table, SB_rank, TS_table}
 use Rattle.build_records.specs.RecordsWritten.{start_of, start_first, start_after, first_records, record_bytes, first_none, first_more, first_all, first_length}
 use Rattle.build_laws.specs.declared.Kind.TheVariants.{DL, DC, DP, SL, SC, SB}
 use Rattle.build_laws.specs.declared.Body.{Body}
@@ -32,7 +32,7 @@ use Rattle.build_records.specs.declared.Source.{Source}
 use Rattle.build_records.specs.declared.Source.TheVariants.{Keys, Ranks, Samples}
 use Rattle.build_records.specs.declared.Plan.{Plan}
 use Rattle.rank_tables.specs.declared.Span.{Span}
-use Rattle.theory.specs.LengthBounds.{header_length, image_short}
+use Rattle.theory.proofs.LengthBounds.{header_length, image_short}
 
 -- an accepted list, with settings in range
 pub record Ready (list : Bytes) (st : Settings) : Type 0 where
@@ -283,7 +283,7 @@ module _ (list : Bytes) (p : Plan) (w : Planned list p) where
   unfolding row_at rows
   gives_7 = record {
     before = omega arith;
-    table = ap (rank_table 64 (body_at list p 0)) (four (blocks 64 (256 * p.header.dense.nodes))) ∙ ap (λ (c : Counts). rank_table 64 (body_at list p 0) (blocks 64 (256 * c.dense_nodes))) w.counts ∙ RLTable (plan_settings p) (keys_of list) w.ready.built;
+    table = ap (rank_table 64 (body_at list p 0)) (four (blocks 64 (256 * p.header.dense.nodes))) ∙ ap (λ (c : Counts). rank_table 64 (body_at list p 0) (blocks 64 (256 * c.dense_nodes))) w.counts ∙ RL_table (plan_settings p) (keys_of list) w.ready.built;
     starts = λ b l. omega arith;
     whole = omega arith;
     short = omega (arith, nodes_few list p w, entries_few list p w);
@@ -293,7 +293,7 @@ module _ (list : Bytes) (p : Plan) (w : Planned list p) where
   unfolding row_at rows
   gives_8 = record {
     before = omega arith;
-    table = ap (rank_table 64 (body_at list p 1)) (four (blocks 64 (256 * p.header.dense.nodes))) ∙ ap (λ (c : Counts). rank_table 64 (body_at list p 1) (blocks 64 (256 * c.dense_nodes))) w.counts ∙ RCTable (plan_settings p) (keys_of list) w.ready.built;
+    table = ap (rank_table 64 (body_at list p 1)) (four (blocks 64 (256 * p.header.dense.nodes))) ∙ ap (λ (c : Counts). rank_table 64 (body_at list p 1) (blocks 64 (256 * c.dense_nodes))) w.counts ∙ RC_table (plan_settings p) (keys_of list) w.ready.built;
     starts = λ b l. omega arith;
     whole = omega arith;
     short = omega (arith, nodes_few list p w, entries_few list p w);
@@ -303,7 +303,7 @@ module _ (list : Bytes) (p : Plan) (w : Planned list p) where
   unfolding row_at rows
   gives_9 = record {
     before = omega arith;
-    table = ap (rank_table 64 (body_at list p 2)) (four (blocks 64 p.header.dense.nodes)) ∙ ap (λ (c : Counts). rank_table 64 (body_at list p 2) (blocks 64 c.dense_nodes)) w.counts ∙ RPTable (plan_settings p) (keys_of list) w.ready.built;
+    table = ap (rank_table 64 (body_at list p 2)) (four (blocks 64 p.header.dense.nodes)) ∙ ap (λ (c : Counts). rank_table 64 (body_at list p 2) (blocks 64 c.dense_nodes)) w.counts ∙ RP_table (plan_settings p) (keys_of list) w.ready.built;
     starts = λ b l. omega arith;
     whole = omega arith;
     short = omega (arith, nodes_few list p w, entries_few list p w);
@@ -313,7 +313,7 @@ module _ (list : Bytes) (p : Plan) (w : Planned list p) where
   unfolding row_at rows
   gives_10 = record {
     before = omega arith;
-    table = ap (rank_table 512 (body_at list p 4)) (four (blocks 512 p.header.sparse.entries)) ∙ ap (λ (c : Counts). rank_table 512 (body_at list p 4) (blocks 512 c.sparse_entries)) w.counts ∙ RSTable (plan_settings p) (keys_of list) w.ready.built;
+    table = ap (rank_table 512 (body_at list p 4)) (four (blocks 512 p.header.sparse.entries)) ∙ ap (λ (c : Counts). rank_table 512 (body_at list p 4) (blocks 512 c.sparse_entries)) w.counts ∙ RS_table (plan_settings p) (keys_of list) w.ready.built;
     starts = λ b l. omega arith;
     whole = omega arith;
     short = omega (arith, nodes_few list p w, entries_few list p w);
@@ -324,8 +324,8 @@ module _ (list : Bytes) (p : Plan) (w : Planned list p) where
   gives_11 = record {
     before = omega arith;
     within = omega arith;
-    table = ap (λ (c : Counts). sample_table (body_at list p 5) c.sparse_entries (blocks 64 (rank (body_at list p 5) c.sparse_entries))) w.counts ∙ TSTable (plan_settings p) (keys_of list) w.ready.built;
-    sized = ap (λ (c : Counts). 4 * blocks 64 (rank (body_at list p 5) c.sparse_entries)) w.counts ∙ ap (λ (n : ℕ). 4 * blocks 64 n) (SBRank (plan_settings p) (keys_of list) w.ready.built ∙ sym (ap (λ (c : Counts). c.sparse_nodes) w.counts));
+    table = ap (λ (c : Counts). sample_table (body_at list p 5) c.sparse_entries (blocks 64 (rank (body_at list p 5) c.sparse_entries))) w.counts ∙ TS_table (plan_settings p) (keys_of list) w.ready.built;
+    sized = ap (λ (c : Counts). 4 * blocks 64 (rank (body_at list p 5) c.sparse_entries)) w.counts ∙ ap (λ (n : ℕ). 4 * blocks 64 n) (SB_rank (plan_settings p) (keys_of list) w.ready.built ∙ sym (ap (λ (c : Counts). c.sparse_nodes) w.counts));
   }
 
   -- The source of each record gives its body.

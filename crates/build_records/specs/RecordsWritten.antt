@@ -6,7 +6,7 @@ use mathlib.Core.List.{List, [], ◌∷◌, ◌++◌, append_assoc, append-nil}
 use Rattle.spec.specs.Bytes.{Bytes, le32}
 use Rattle.spec.specs.Image.{Settings, Counts, Row, rows, marked, write_records}
 use Rattle.bits.specs.Bits.{overlaid}
-use Rattle.bits.specs.Overlaying.{overlaid_behind, length_le32}
+use Rattle.bits.proofs.Overlaying.{overlaid_behind, length_le32}
 use Rattle.image.specs.Header.{mark_bytes}
 use Rattle.image.specs.Records.{row_at, row_mark, twelve_rows, rows_from, starts, length_marked}
 

@@ -9,12 +9,12 @@ use Rattle.spec.specs.Image.{Settings, known_version, Counts, Row, rows, level_r
 use Rattle.spec.specs.Frame.{has_header, rows_of, read_settings, read_bodies, named, parts}
 use Rattle.spec.specs.Build.{in_range}
 use Rattle.spec.specs.Check.{header_valid, verdict}
-use Rattle.theory.specs.Lists.{and_both}
+use Rattle.theory.proofs.Lists.{and_both}
 use Rattle.theory.specs.Terms.{All}
-use Rattle.theory.specs.BuildLaws.{in_range_exactly}
+use Rattle.theory.proofs.BuildLaws.{in_range_exactly}
 use Rattle.theory.specs.Demands.{Passes11, Passes12, CheckRefusal, header_missing, records_missing, header_wrong}
-use Rattle.theory.specs.LevelStarts.{version_rows_are}
-use Rattle.theory.specs.CheckStages.{verdict_passes}
+use Rattle.theory.proofs.LevelStarts.{version_rows_are}
+use Rattle.theory.proofs.CheckStages.{verdict_passes}
 use Rattle.bits.specs.Bits.{rank}
 use Rattle.image.specs.Header.{settings_of, counts_of, ShortFields, slots_short, ReadsHeader}
 use Rattle.image.specs.Records.{row_at, stands, twelve_rows, tail_part, body_length, record_end, record_within, records_end, first_stands, end_more, ends_behind, end_append, bodies_at, bodies_append, bodies_count, whole, read_is, lengths_agree, starts, rows_end_at, laid_bodies, sized_is, bodies_laid}

@@ -4,7 +4,7 @@ use Rattle.std.proofs.Common.{arith}
 use Rattle.spec.specs.Bytes.{Bytes}
 use Rattle.spec.specs.Check.{verdict, Checked, accepted, refused}
 use Rattle.theory.specs.Demands.{CheckRefusal}
-use Rattle.theory.specs.CheckStages.{refusal_verdict, refusal_number}
+use Rattle.theory.proofs.CheckStages.{refusal_verdict, refusal_number}
 use Rattle.image.specs.FrameOf.{FrameOf}
 use Rattle.check_image.specs.declared.Checked.{Checked as Answer}
 use Rattle.check_image.specs.declared.Checked.TheVariants.{Accepted, Refused}

@@ -20,8 +20,8 @@ use Rattle.check_levels.specs.LevelEnds.{before, rise, nodes_above, rise_ext, no
 use Rattle.check_levels.specs.Shapes.{ends_here, branches, leaves_at, non_root_valid, root_valid, nodes_from, shapes_valid, nodes_shapes}
 use Rattle.check_levels.specs.SparseNodes.{entries_valid, entries_shapes, length_split, position_of, branches_before, leaves_among, leaves_before}
 use Rattle.check_levels.specs.DenseNodes.{nodes_from_false, dense_nodes_valid, dense_shapes_valid, length_dense, dense_before, dense_leaves}
-use Rattle.theory.specs.Lists.{and_both}
-use Rattle.theory.specs.Levels.{total_append}
+use Rattle.theory.proofs.Lists.{and_both}
+use Rattle.theory.proofs.Levels.{total_append}
 
 -- the lengths that number 12 gives the bits and labels
 pub record Sized (p : Parts) : Type 0 where

@@ -3,8 +3,8 @@ use Rattle.std.specs.Prelude.{◌+◌, ◌*◌, ◌≡◌, length}
 use Rattle.std.proofs.Common.{sym, ◌∙◌, arith}
 use Rattle.spec.specs.Bytes.{Bytes, blocks}
 use Rattle.bits.specs.Bits.{part, rank}
-use Rattle.bits.specs.Parts.{length_part}
-use Rattle.bits.specs.PartLaws.{rank_part, bits_room}
+use Rattle.bits.proofs.SliceParts.{length_part}
+use Rattle.bits.proofs.PartLaws.{rank_part, bits_room}
 use Rattle.image.specs.FrameOf.{FrameOf, within, frame_parts}
 use Rattle.image.specs.declared.Frame.{Frame}
 use Rattle.check_levels.specs.BitTests.{Sized}

@@ -11,8 +11,8 @@ use Rattle.spec.specs.Frame.{Parts}
 use Rattle.spec.specs.Nodes.{zip_entries}
 use Rattle.spec.specs.Trie.{first_set, covered, builders_trie}
 use Rattle.bits.specs.Bits.{rank}
-use Rattle.bits.specs.RankLaws.{rank_le}
-use Rattle.bits.specs.PartLaws.{bits_room}
+use Rattle.bits.proofs.RankLaws.{rank_le}
+use Rattle.bits.proofs.PartLaws.{bits_room}
 use Rattle.image.specs.FrameOf.{FrameOf, frame_parts}
 use Rattle.image.specs.declared.Frame.{Frame}
 use Rattle.check_levels.specs.DenseNodes.{dense_nodes_valid}
@@ -22,7 +22,7 @@ use Rattle.check_levels.specs.NodeBranches.{ends_bytes}
 use Rattle.check_levels.specs.Positions.{bits, is_set, bits_from, ones_all}
 use Rattle.check_levels.specs.Bodies.{dl_body, dc_body, dp_body, sl_body, sc_body, sb_body, bodies_sized, parts_sized, dense_children, dense_entries}
 use Rattle.check_levels.specs.Levels.{node_count, levels_valid, LoudsValid}
-use Rattle.theory.specs.Lists.{and_both}
+use Rattle.theory.proofs.Lists.{and_both}
 
 first_is : (bs : Bits) (b : Bool) (cs : Bits) → bs ≡ b ∷ cs → first_set bs ≡ b
 unfolding first_set

@@ -9,7 +9,7 @@ use Rattle.spec.specs.Bytes.{Bits, all, count, ones}
 use Rattle.spec.specs.Nodes.{Entry, entry, entry_label, continues, Shape, shape, dense_entries, dense_shapes, total}
 use Rattle.spec.specs.Trie.{covered}
 use Rattle.check_levels.specs.Shapes.{ends_here, rising, branches, leaves_at, root_valid, non_root_valid, nodes_from}
-use Rattle.theory.specs.DenseBits.{covered_split}
+use Rattle.theory.proofs.DenseBits.{covered_split}
 
 -- ---- one node
 

@@ -2,12 +2,12 @@
 use Rattle.std.specs.Prelude.{◌*◌, ◌≡◌, true}
 use Rattle.std.proofs.Common.{ap, ◌∙◌, arith}
 use Rattle.spec.specs.Bytes.{Bytes, blocks}
-use Rattle.theory.specs.Lists.{and_both}
+use Rattle.theory.proofs.Lists.{and_both}
 use Rattle.bits.specs.Bits.{rank, part}
-use Rattle.bits.specs.Parts.{length_part}
-use Rattle.bits.specs.PartLaws.{bits_room}
+use Rattle.bits.proofs.SliceParts.{length_part}
+use Rattle.bits.proofs.PartLaws.{bits_room}
 use Rattle.bits_select.specs.SelectLaws.{select_le, rank_select}
-use Rattle.bits.specs.ValueLaws.{Small}
+use Rattle.bits.proofs.ValueLaws.{Small}
 use Rattle.image.specs.FrameOf.{within}
 use Rattle.image.specs.declared.Frame.{Frame}
 use Rattle.rank_tables.specs.Reading.{RankTable, SampleTable}

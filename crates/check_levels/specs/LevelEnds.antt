@@ -15,8 +15,8 @@ use Rattle.spec.specs.Bytes.{concat}
 use Rattle.spec.specs.Nodes.{total, later, levels}
 use Rattle.check_levels.specs.Tests.{and, same, under}
 use Rattle.check_levels.specs.ListParts.{total_part}
-use Rattle.theory.specs.Levels.{total_split, later_drop, later_none}
-use Rattle.theory.specs.Lists.{and_both}
+use Rattle.theory.proofs.Levels.{total_split, later_drop, later_none}
+use Rattle.theory.proofs.Lists.{and_both}
 
 -- K gives the branches that continue before a node, N is the node count
 module _ (K : ℕ → ℕ) (N : ℕ) where

@@ -7,8 +7,8 @@ use mathlib.Core.List.{[], ◌∷◌}
 use Rattle.spec.specs.Bytes.{Bytes, Bits}
 use Rattle.spec.specs.Trie.{first_set}
 use Rattle.bits.specs.Bits.{rank, select}
-use Rattle.bits.specs.PartLaws.{bits_room}
-use Rattle.bits.specs.RankLaws.{rank_zero, rank_up}
+use Rattle.bits.proofs.PartLaws.{bits_room}
+use Rattle.bits.proofs.RankLaws.{rank_zero, rank_up}
 use Rattle.bits_select.specs.SelectLaws.{select_le, select_up, rank_select}
 use Rattle.image.specs.FrameOf.{FrameOf}
 use Rattle.image.specs.declared.Frame.{Frame}

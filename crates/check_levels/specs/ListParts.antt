@@ -3,7 +3,7 @@ use Rattle.std.specs.Prelude.{ℕ, zero, suc, ◌+◌, ◌≡◌, List, [], ◌�
 use Rattle.std.proofs.Common.{ap, ap₂, ◌∙◌, arith, take-take}
 use Rattle.std.proofs.Math.Seq.{take-nil}
 use Rattle.spec.specs.Nodes.{total}
-use Rattle.theory.specs.Levels.{total_split}
+use Rattle.theory.proofs.Levels.{total_split}
 
 -- a part of a part
 pub drop_take : {A : Type 0} (i w : ℕ) (xs : List A) → drop i (take (i + w) xs) ≡ take w (drop i xs)

@@ -8,7 +8,7 @@ use Rattle.std.proofs.Math.Dec.{leb}
 use borrow.Author.Tests.{leb-true, le-leb, lt-leb}
 use Rattle.spec.specs.Bytes.{Bytes, ones}
 use Rattle.bits.specs.Bits.{rank, select}
-use Rattle.bits.specs.RankLaws.{rank_le}
+use Rattle.bits.proofs.RankLaws.{rank_le}
 use Rattle.bits_select.specs.SelectLaws.{select_le}
 use Rattle.check_levels.specs.LevelEnds.{rise_ext, nodes_above_ext}
 use Rattle.check_levels.specs.SparseNodes.{position_of}

@@ -3,7 +3,7 @@ use Rattle.std.specs.Prelude.{ℕ, zero, suc, ◌+◌, ◌*◌, ◌<◌, ◌≤�
 use Rattle.std.proofs.Common.{sym, ap, ◌∙◌, arith, length-take-le, take_all, take-take, get_or-take, drop-cons, ltb-true, ltb-false}
 use Rattle.spec.specs.Bytes.{Bytes, Bits, ones, unpack}
 use Rattle.bits.specs.Bits.{bit_at, rank, select}
-use Rattle.bits.specs.UnpackLaws.{length_unpack, bit_unpack, rank_unpack}
+use Rattle.bits.proofs.UnpackLaws.{length_unpack, bit_unpack, rank_unpack}
 use Rattle.bits_select.specs.SelectLaws.{select_here, select_all}
 use Rattle.check_levels.specs.SparseNodes.{position_of}
 use Rattle.check_levels.specs.MaskLaws.{is_bit}

@@ -8,7 +8,7 @@ use Rattle.std.proofs.Math.Dec.{ltb, eqb}
 use Rattle.spec.specs.Bytes.{Bits, all, concat, count, bit}
 use Rattle.spec.specs.Nodes.{Entry, entry, entry_label, continues, Shape, shape, Branch, to_node, to_leaf, Node, node, label_of, has_child, branches_of, is_exact, children, children_of, with_slots, past_slots, slotted, total, later, levels_of}
 use Rattle.spec.specs.Trie.{open_leaves, leaf_count, has_label, ascending, sole_continues, nodes_valid}
-use Rattle.theory.specs.NodeBits.{length_slotted}
+use Rattle.theory.proofs.NodeBits.{length_slotted}
 use Rattle.check_levels.specs.Tests.{all_both, under, regroup_ten}
 use Rattle.check_levels.specs.LevelEnds.{level_tests, end_tests, levels_are, before, rise, nodes_above, rise_ext, nodes_above_ext}
 

@@ -8,7 +8,7 @@ use Rattle.spec.specs.Bytes.{Bits, all, count, bit, ones}
 use Rattle.spec.specs.Nodes.{Entry, entry, entry_label, continues, Shape, shape, Sparse, sparse, prepend, split_behind, sparse_shape, extra_ends, total}
 use Rattle.check_levels.specs.Tests.{swap_middle}
 use Rattle.check_levels.specs.Shapes.{ends_here, rising, branches, leaves_at, root_valid, non_root_valid, nodes_from}
-use Rattle.theory.specs.Lists.{and_both}
+use Rattle.theory.proofs.Lists.{and_both}
 
 -- an entry behind which its node ends: a sole entry continues, except at the root
 abbrev pub last_valid : Bool → Bool → Entry → Bool

@@ -5,7 +5,7 @@ use Rattle.std.proofs.Common.{◌∙◌}
 use Rattle.std.proofs.Math.Bool.{and_assoc}
 use mathlib.Core.List.{List, [], ◌∷◌, ◌++◌}
 use Rattle.spec.specs.Bytes.{all, every}
-use Rattle.theory.specs.Lists.{and_both, every_true, true_every}
+use Rattle.theory.proofs.Lists.{and_both, every_true, true_every}
 
 -- two tests that pass
 pub and : (a b : Bool) → a ≡ true → b ≡ true → a && b ≡ true

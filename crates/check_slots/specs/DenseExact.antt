@@ -12,13 +12,13 @@ use Rattle.spec.specs.Bytes.{Bytes, Bits, bit, count, ones}
 use Rattle.spec.specs.Nodes.{shape, dense_entries, dense_shapes}
 use Rattle.spec.specs.Trie.{covered}
 use Rattle.bits.specs.Bits.{bit_at, rank}
-use Rattle.bits.specs.RankLaws.{rank_next, rank_zero}
+use Rattle.bits.proofs.RankLaws.{rank_next, rank_zero}
 use Rattle.check_levels.specs.Shapes.{ends_here, leaves_at}
 use Rattle.check_levels.specs.DenseNodes.{entries_end, ones_take_parts, next_node}
 use Rattle.check_levels.specs.Positions.{bits, is_set, length_bits, bits_from, ones_bits}
 use Rattle.check_levels.specs.Ranges.{all_from}
 use Rattle.check_slots.specs.NodeSlots.{exact_from}
-use Rattle.theory.specs.DenseBits.{covered_split}
+use Rattle.theory.proofs.DenseBits.{covered_split}
 
 -- the leaves before dense node m: labels before it that do not continue, and exact leaves
 abbrev pub dense_slot : Bytes → Bytes → Bytes → ℕ → ℕ

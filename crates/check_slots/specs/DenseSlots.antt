@@ -4,7 +4,7 @@ use Rattle.std.proofs.Common.{sym, ap, ◌∙◌, arith, ne_eqb, eq-eqb}
 use Rattle.spec.specs.Bytes.{Bytes, from32}
 use Rattle.bits.specs.Bits.{bit_at, rank, select}
 use Rattle.bits_select.specs.SelectLaws.{select_is, rank_select}
-use Rattle.bits.specs.RankLaws.{rank_le, rank_up, rank_next}
+use Rattle.bits.proofs.RankLaws.{rank_le, rank_up, rank_next}
 use Rattle.image.specs.declared.Frame.{Frame}
 use Rattle.check_levels.specs.Ranges.{all_from, from_skip, from_fail, from_step}
 use Rattle.check_slots.specs.DenseExact.{dense_slot, dense_exact, labels_more, dense_slot_le}

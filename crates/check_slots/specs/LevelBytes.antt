@@ -13,16 +13,16 @@ use Rattle.spec.specs.Frame.{parts}
 use Rattle.spec.specs.Nodes.{Node, nodes_of, levels_of, levels, total}
 use Rattle.spec.specs.Trie.{nodes_valid}
 use Rattle.spec.specs.Check.{starts_valid}
-use Rattle.bits.specs.ValueLaws.{Small}
+use Rattle.bits.proofs.ValueLaws.{Small}
 use Rattle.image.specs.FrameOf.{frame_bodies, frame_named, frame_parts}
 use Rattle.image.specs.declared.Frame.{Frame}
 use Rattle.check_levels.specs.Levels.{node_count, branches_before}
 use Rattle.check_slots.specs.Passed.{PassedTo15, bits_pass}
 use Rattle.check_slots.specs.LevelStarts.{nodes_long, starts_are}
-use Rattle.theory.specs.Order.{equal_true}
-use Rattle.theory.specs.Frame.{from32_le32, le32_from32}
-use Rattle.theory.specs.LevelStarts.{starts_from}
-use Rattle.theory.specs.TrieTests.{nodes_valid_true}
+use Rattle.theory.proofs.Order.{equal_true}
+use Rattle.theory.proofs.Frame.{from32_le32, le32_from32}
+use Rattle.theory.proofs.LevelStarts.{starts_from}
+use Rattle.theory.proofs.TrieTests.{nodes_valid_true}
 
 -- ---- numbers one behind the other
 

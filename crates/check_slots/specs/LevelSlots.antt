@@ -8,7 +8,7 @@ use Rattle.spec.specs.Nodes.{Node, slot, branches_of, exact_slot}
 use Rattle.spec.specs.Check.{clear_behind, slot_valid, slots_valid}
 use Rattle.check_levels.specs.Tests.{and, under, swap_middle, all_append, all_both}
 use Rattle.check_slots.specs.NodeSlots.{exact_clear, open_clear, clear_more, behind_bits}
-use Rattle.theory.specs.Lists.{and_both}
+use Rattle.theory.proofs.Lists.{and_both}
 
 -- the slots of branches on the levels from level d on
 unfoldable open_valid : ℕ → ℕ → List (List Node) → Bool

@@ -14,8 +14,8 @@ use Rattle.spec.specs.Frame.{Parts}
 use Rattle.spec.specs.Nodes.{Shape, Node, zip_entries, split, sparse_shape, sparse_nodes, nodes_of, dense_shapes, children_of, total, later, levels_of}
 use Rattle.spec.specs.Trie.{nodes_valid, leaf_count}
 use Rattle.bits.specs.Bits.{rank, select}
-use Rattle.bits.specs.PartLaws.{bits_room}
-use Rattle.bits.specs.RankLaws.{rank_le, rank_zero}
+use Rattle.bits.proofs.PartLaws.{bits_room}
+use Rattle.bits.proofs.RankLaws.{rank_le, rank_zero}
 use Rattle.bits_select.specs.SelectLaws.{select_all}
 use Rattle.image.specs.FrameOf.{frame_parts}
 use Rattle.image.specs.declared.Frame.{Frame}
@@ -33,12 +33,12 @@ use Rattle.check_slots.specs.LevelSlots.{above, above_up}
 use Rattle.check_slots.specs.SparseExact.{sparse_slot}
 use Rattle.check_slots.specs.LeavesBefore.{sparse_leaves}
 use Rattle.check_slots.specs.Passed.{PassedTo15, BitsValid, trie_valid, bits_pass}
-use Rattle.theory.specs.TrieTests.{nodes_valid_none, nodes_valid_true, nodes_valid_levels, nodes_valid_leaves}
-use Rattle.theory.specs.Lists.{and_both}
-use Rattle.theory.specs.NodeBits.{length_slotted}
-use Rattle.theory.specs.LinkedLevels.{Linked, first_width}
-use Rattle.theory.specs.Levels.{total_append, nodes_bound}
-use Rattle.theory.specs.LevelStarts.{starts_from, starts_ext, root_starts}
+use Rattle.theory.proofs.TrieTests.{nodes_valid_none, nodes_valid_true, nodes_valid_levels, nodes_valid_leaves}
+use Rattle.theory.proofs.Lists.{and_both}
+use Rattle.theory.proofs.NodeBits.{length_slotted}
+use Rattle.theory.proofs.LinkedLevels.{Linked, first_width}
+use Rattle.theory.proofs.Levels.{total_append, nodes_bound}
+use Rattle.theory.proofs.LevelStarts.{starts_from, starts_ext, root_starts}
 
 -- ---- ends of levels, from the last
 
@@ -218,8 +218,8 @@ module _ (s : Bytes) (f : Frame) (j : PassedTo15 s f) (some : 0 < f.leaves) wher
       ∙ ap (λ (m : ℕ). concat (map le32 (starts_from (before children_of (nodes_of p)) m 64 0))) node_long
       ∙ ap (λ (xs : List ℕ). concat (map le32 xs)) (starts_ext (before children_of (nodes_of p)) K N (λ e l. nodes_before s f j e) 64 0)
 
-  KRoot : K 0 ≡ 0
-  KRoot = branches_dense f.dense.nodes f.sparse.entries (dc_body s f) (sc_body s f) (sb_body s f) 0 (omega arith) ∙ rank_zero (dc_body s f)
+  K_root : K 0 ≡ 0
+  K_root = branches_dense f.dense.nodes f.sparse.entries (dc_body s f) (sc_body s f) (sb_body s f) 0 (omega arith) ∙ rank_zero (dc_body s f)
 
   -- levels start one behind the other
   pub start_up : (t : ℕ) → t < 64 → level_start s f t ≤ level_start s f (suc t)
@@ -243,7 +243,7 @@ module _ (s : Bytes) (f : Frame) (j : PassedTo15 s f) (some : 0 < f.leaves) wher
   -- the level below one starts behind the branches that continue before that one's start
   pub start_next : (t : ℕ) → level_start s f (suc t) ≡ cond (ltb (level_start s f t) (node_count f)) (branches_before s f (level_start s f t) + 1) (level_start s f t)
   unfolding level_start
-  start_next t = nodes_above_last K N t KRoot counts.some_node
+  start_next t = nodes_above_last K N t K_root counts.some_node
 
   -- no level starts at 64
   pub start_last : level_start s f 64 ≡ node_count f

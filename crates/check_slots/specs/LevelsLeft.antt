@@ -2,7 +2,7 @@
 use Rattle.std.specs.Prelude.{ℕ, suc, ◌+◌, ◌-◌, ◌<◌, ◌≤◌, ◌≡◌, refl, Bool, true, false, List, ◌∷◌, length, drop, ltb, eqb}
 use Rattle.std.proofs.Common.{sym, ap, ap₂, ◌∙◌, arith, length-drop, drop-drop, ltb-true, ltb-false}
 use Rattle.spec.specs.Bytes.{Bytes, equal, from32}
-use Rattle.bits.specs.ValueLaws.{Small, small_drop}
+use Rattle.bits.proofs.ValueLaws.{Small, small_drop}
 use Rattle.image.specs.declared.Frame.{Frame}
 use Rattle.check_levels.specs.declared.Level.{Level}
 use Rattle.check_levels.specs.LevelEnds.{nodes_above}

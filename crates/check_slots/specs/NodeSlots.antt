@@ -13,7 +13,7 @@ use Rattle.spec.specs.Check.{clear_behind}
 use Rattle.check_levels.specs.Tests.{and}
 use Rattle.check_levels.specs.Shapes.{ends_here, exact, leaves_at, node_of, bits_past, slotted_first}
 use Rattle.check_levels.specs.Ranges.{all_from, from_none, from_parts}
-use Rattle.theory.specs.Lists.{and_both}
+use Rattle.theory.proofs.Lists.{and_both}
 
 -- ---- what number 16 asks of a node
 

@@ -14,7 +14,7 @@ use Rattle.image.specs.declared.Frame.{Frame}
 use Rattle.check_levels.specs.Positions.{bits, ones_all}
 use Rattle.check_levels.specs.Bodies.{dl_body, dc_body, sl_body, sc_body, sb_body}
 use Rattle.check_levels.specs.Levels.{LoudsValid}
-use Rattle.theory.specs.Lists.{every_true}
+use Rattle.theory.proofs.Lists.{every_true}
 
 -- number 16 does not apply
 abbrev pub slots_pass : Bytes → Frame → Bool

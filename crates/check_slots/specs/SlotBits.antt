@@ -5,7 +5,7 @@ use Rattle.std.proofs.Math.Seq.{take-nil}
 use Rattle.std.proofs.lemmas.Bool.{eqb-false}
 use Rattle.spec.specs.Bytes.{Bytes, Bits, ones, clear, unpack}
 use Rattle.bits.specs.Bits.{rank}
-use Rattle.bits.specs.RankLaws.{rank_up}
+use Rattle.bits.proofs.RankLaws.{rank_up}
 use Rattle.check_levels.specs.DenseNodes.{ones_take_parts}
 use Rattle.check_levels.specs.ListParts.{drop_take}
 use Rattle.check_levels.specs.Positions.{bits, ones_bits}

@@ -5,8 +5,8 @@ use Rattle.std.proofs.Math.Pow.{field, mod-mod-pow}
 use Rattle.std.specs.Int.Count.{ones, ones_step}
 use Rattle.spec.specs.Bytes.{Bytes}
 use Rattle.bits.specs.Bits.{rank, value, word}
-use Rattle.bits.specs.RankLaws.{rank_step}
-use Rattle.bits.specs.ValueLaws.{Small, value_drop, value_byte}
+use Rattle.bits.proofs.RankLaws.{rank_step}
+use Rattle.bits.proofs.ValueLaws.{Small, value_drop, value_byte}
 use Rattle.check_slots.specs.SlotBits.{bits_clear, bits_parts, eqb_apart}
 
 -- a number that is not zero has a one

@@ -12,7 +12,7 @@ use Rattle.spec.specs.Bytes.{Bytes, Bits, all, bit, count}
 use Rattle.spec.specs.Nodes.{Entry, entry, entry_label, shape, Sparse, sparse, prepend, split, split_behind, sparse_shape, extra_ends}
 use Rattle.spec.specs.Trie.{first_set}
 use Rattle.bits.specs.Bits.{bit_at, rank}
-use Rattle.bits.specs.RankLaws.{rank_next, rank_le}
+use Rattle.bits.proofs.RankLaws.{rank_next, rank_le}
 use Rattle.check_levels.specs.Shapes.{ends_here, exact}
 use Rattle.check_levels.specs.SparseNodes.{First, first_node, entries_of, leaves_of}
 use Rattle.check_levels.specs.Positions.{bits, is_set, bits_from}
@@ -20,7 +20,7 @@ use Rattle.check_levels.specs.EntryPositions.{entry_at, all_entries, zip_from, z
 use Rattle.check_levels.specs.Ranges.{all_from}
 use Rattle.check_slots.specs.NodeSlots.{exact_from}
 use Rattle.check_slots.specs.DenseExact.{bit_set}
-use Rattle.theory.specs.Lists.{and_both}
+use Rattle.theory.proofs.Lists.{and_both}
 
 -- ---- nodes by their entries
 

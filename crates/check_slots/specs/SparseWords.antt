@@ -7,7 +7,7 @@ use Rattle.std.proofs.lemmas.Nat.{xor_lt, and_le_l}
 use Rattle.std.specs.Int.Count.{count_trailing_zeros}
 use Rattle.spec.specs.Bytes.{Bytes, bit}
 use Rattle.bits.specs.Bits.{bit_at, word}
-use Rattle.bits.specs.ValueLaws.{Small, word_lt}
+use Rattle.bits.proofs.ValueLaws.{Small, word_lt}
 use Rattle.check_levels.specs.Positions.{is_set}
 use Rattle.check_levels.specs.Ranges.{all_from, from_skip, from_fail, from_step}
 use Rattle.check_slots.specs.SparseExact.{sparse_slot, sparse_exact}

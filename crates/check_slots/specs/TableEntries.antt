@@ -16,9 +16,9 @@ use Rattle.image.specs.declared.Frame.{Frame}
 use Rattle.check_levels.specs.Positions.{bits, length_bits, ones_bits}
 use Rattle.check_levels.specs.Bodies.{dl_body, dc_body, bodies_sized}
 use Rattle.check_slots.specs.Passed.{PassedTo15}
-use Rattle.theory.specs.Order.{equal_true}
-use Rattle.theory.specs.Frame.{from32_le32}
-use Rattle.theory.specs.Lists.{every_true}
+use Rattle.theory.proofs.Order.{equal_true}
+use Rattle.theory.proofs.Frame.{from32_le32}
+use Rattle.theory.proofs.Lists.{every_true}
 
 -- the number in the first four of a part's bytes
 from_part : (s : Bytes) (at len k : ℕ) → k + 4 ≤ len → from32 (drop k (part s at len)) ≡ from32 (drop (at + k) s)

@@ -5,7 +5,7 @@ use Rattle.image.specs.declared.Frame.{Frame}
 use Rattle.check_tables.specs.Tables.{dense_agrees, sparse_agrees, tables_are}
 use Rattle.check_levels.specs.Indexed.{Indexed}
 use Rattle.check_slots.specs.Passed.{PassedTo15, bits_pass}
-use Rattle.theory.specs.Lists.{and_both}
+use Rattle.theory.proofs.Lists.{and_both}
 
 -- ranks and levels may be taken from the tables
 pub indexed : (s : Bytes) (f : Frame) → PassedTo15 s f → Indexed s f

@@ -8,7 +8,7 @@ use Rattle.std.specs.Int.Bits.{bit_and, bit_xor, shifted_even}
 use Rattle.std.specs.Int.Count.{count_trailing_zeros, under}
 use Rattle.spec.specs.Bytes.{Bytes, bit}
 use Rattle.bits.specs.Bits.{bit_at, word}
-use Rattle.bits.specs.ValueLaws.{Small, word_bit, word_lt}
+use Rattle.bits.proofs.ValueLaws.{Small, word_bit, word_lt}
 use Rattle.check_levels.specs.Positions.{is_set}
 
 -- digit j of a number

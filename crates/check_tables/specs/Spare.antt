@@ -9,8 +9,8 @@ use Rattle.std.proofs.Math.Seq.{drop-append-add}
 use Rattle.std.proofs.lemmas.Bool.{eqb-false}
 use Rattle.spec.specs.Bytes.{Bytes, Bits, blocks, clear, low_bits, unpack}
 use Rattle.spec.specs.Check.{no_spare}
-use Rattle.bits.specs.ValueLaws.{Small, small_drop}
-use Rattle.bits.specs.UnpackLaws.{length_unpack}
+use Rattle.bits.proofs.ValueLaws.{Small, small_drop}
+use Rattle.bits.proofs.UnpackLaws.{length_unpack}
 
 -- a number of k bits has none set where it is 0
 clear_number : (k x : ℕ) → x < 2 ^ k → clear (low_bits k x) ≡ eqb x 0

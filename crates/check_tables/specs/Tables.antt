@@ -9,11 +9,11 @@ use Rattle.spec.specs.Image.{ranks, samples}
 use Rattle.spec.specs.Frame.{Parts, parts, named}
 use Rattle.spec.specs.Check.{no_spare, spare_clear, ranks_valid}
 use Rattle.bits.specs.Bits.{rank, select}
-use Rattle.bits.specs.RankLaws.{rank_le}
+use Rattle.bits.proofs.RankLaws.{rank_le}
 use Rattle.bits_select.specs.SelectLaws.{select_le}
-use Rattle.bits.specs.ValueLaws.{Small}
-use Rattle.bits.specs.Parts.{length_part}
-use Rattle.bits.specs.PartLaws.{bits_room, small_part}
+use Rattle.bits.proofs.ValueLaws.{Small}
+use Rattle.bits.proofs.SliceParts.{length_part}
+use Rattle.bits.proofs.PartLaws.{bits_room, small_part}
 use Rattle.rank_tables.specs.TableEntries.{table_of, rank_table, sample_table, table_entry, table_wrong}
 use Rattle.rank_tables.specs.Ranks.{block_begun, ranks_are}
 use Rattle.rank_tables.specs.Samples.{samples_are}

@@ -14,9 +14,9 @@ use Rattle.std.proofs.Math.Seq.{take-nil, take-append-add, drop-length, drop-nil
 use Rattle.spec.specs.Bytes.{Bytes, Bits, ones, low_bits, unpack}
 use Rattle.spec.specs.Trie.{covered}
 use Rattle.bits.specs.Bits.{bit_at, rank, word, part}
-use Rattle.bits.specs.RankLaws.{rank_zero, rank_whole_word}
-use Rattle.bits.specs.UnpackLaws.{length_unpack, rank_unpack}
-use Rattle.bits.specs.ValueLaws.{Small, word_lt}
+use Rattle.bits.proofs.RankLaws.{rank_zero, rank_whole_word}
+use Rattle.bits.proofs.UnpackLaws.{length_unpack, rank_unpack}
+use Rattle.bits.proofs.ValueLaws.{Small, word_lt}
 use Rattle.check_levels.specs.DenseNodes.{dense_valid, dense_nodes_valid, next_node}
 use Rattle.check_levels.specs.Ranges.{all_from}
 use Rattle.check_levels.specs.Positions.{bits, is_set, length_bits, bits_all, bits_from}

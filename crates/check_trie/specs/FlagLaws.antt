@@ -8,7 +8,7 @@ use Rattle.std.specs.Int.Bits.{bit_and, bit_or}
 use Rattle.std.proofs.lemmas.Nat.{and_le_l}
 use Rattle.std.proofs.lemmas.Bool.{eqb-false}
 use Rattle.bits.specs.Bits.{value, word}
-use Rattle.bits.specs.ValueLaws.{Small, value_bit, word_bit}
+use Rattle.bits.proofs.ValueLaws.{Small, value_bit, word_bit}
 use Rattle.spec.specs.Bytes.{Bytes}
 use Rattle.check_levels.specs.Ranges.{from_pass}
 use Rattle.check_levels.specs.MaskLaws.{digit, digit_is, digit_and, digit_or, digit_shr, digit_not, digit_behind, mask, mask_lt, digit_mask, zero_digits}

@@ -6,7 +6,7 @@ use Rattle.std.proofs.lemmas.Bool.{eqb-false}
 use Rattle.std.specs.Int.Bits.{bit_and, bit_or}
 use Rattle.std.proofs.lemmas.Nat.{and_block, and_mask, and_le_l}
 use Rattle.bits.specs.Bits.{word}
-use Rattle.bits.specs.ValueLaws.{Small, word_bytes}
+use Rattle.bits.proofs.ValueLaws.{Small, word_bytes}
 use Rattle.spec.specs.Bytes.{Bytes}
 use Rattle.check_levels.specs.MaskLaws.{digit, digit_is, digit_and, digit_or, digit_shr, mask, mask_of}
 use Rattle.check_trie.specs.WordEntries.{ascends, full}

@@ -5,7 +5,7 @@ use Rattle.std.proofs.Math.Bool.{and_assoc, or-false}
 use Rattle.std.specs.Int.Bits.{bit_and, bit_or, or_zero_r}
 use Rattle.std.proofs.lemmas.Nat.{or_lt, and_le_l, and_le_r}
 use Rattle.bits.specs.Bits.{bit_at, word}
-use Rattle.bits.specs.ValueLaws.{Small, word_bit, word_lt}
+use Rattle.bits.proofs.ValueLaws.{Small, word_bit, word_lt}
 use Rattle.spec.specs.Bytes.{Bytes}
 use Rattle.check_levels.specs.Ranges.{all_from, from_parts, from_ext, from_shift}
 use Rattle.check_levels.specs.Positions.{is_set}

@@ -5,10 +5,10 @@ use Rattle.std.proofs.Math.Pow.{mod-mod-pow}
 use Rattle.spec.specs.Bytes.{Bytes, low_first, high_first, bits_of}
 use Rattle.spec.specs.Fnv.{hash}
 use Rattle.spec.specs.Leaves.{bits_behind, hash_bits, suffix_bits}
-use Rattle.theory.specs.KeyLeaves.{length_padded, length_hash_bits, length_suffix}
+use Rattle.theory.proofs.KeyLeaves.{length_padded, length_hash_bits, length_suffix}
 use Rattle.bits.specs.Bits.{reversed}
-use Rattle.bits.specs.NumberLaws.{low_padded, low_append, low_lt}
-use Rattle.bits.specs.UnpackLaws.{low_number}
+use Rattle.bits.proofs.NumberLaws.{low_padded, low_append, low_lt}
+use Rattle.bits.proofs.UnpackLaws.{low_number}
 
 bits_first : (xs : Bytes) → low_first (bits_of xs) ≡ reversed (get_or xs 0 0) + 256 * low_first (bits_of (drop 1 xs))
 unfolding low_first bits_of high_first

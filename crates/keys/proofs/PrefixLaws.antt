@@ -14,7 +14,7 @@ use lib.Bits.{bit_xor, xor_mod, xor_self, xor_add_and, and_le_l, and_le_r}
 use lib.Count.{count_trailing_zeros, under}
 use Rattle.spec.specs.Bytes.{Bytes, shared}
 use Rattle.bits.specs.Bits.{value, word}
-use Rattle.bits.specs.ValueLaws.{Small, small_drop, value_drop, value_byte}
+use Rattle.bits.proofs.ValueLaws.{Small, small_drop, value_drop, value_byte}
 
 -- ---- bytes
 

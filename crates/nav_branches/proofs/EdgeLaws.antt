@@ -11,7 +11,7 @@ use borrow.Author.Tests.{le-ltb, lt-ltb, ltb-true, ltb-false}
 use Rattle.spec.specs.Bytes.{Bytes, bit}
 use Rattle.spec.specs.Nodes.{label_of, is_exact}
 use Rattle.bits.specs.Bits.{bit_at, select}
-use Rattle.bits.specs.RankLaws.{rank_le}
+use Rattle.bits.proofs.RankLaws.{rank_le}
 use Rattle.bits_select.specs.SelectLaws.{select_le}
 use Rattle.image.specs.declared.Frame.{Frame}
 use Rattle.nav_nodes.specs.declared.BranchKind.TheVariants.{Absent}
@@ -21,7 +21,8 @@ use Rattle.nav_nodes.specs.Accepted.{nodes}
 use Rattle.nav_nodes.specs.Counting.{labels_below_le}
 use Rattle.nav_nodes.specs.FoundBranch.{IsSparse, FoundBranch, EntriesAt}
 use Rattle.nav_nodes.specs.LabelMaps.{matches}
-use Rattle.nav_nodes.specs.NextBranch.{IsNextBranch, EntryBranch, sparse_next}
+use Rattle.nav_nodes.specs.NextBranch.{IsNextBranch, EntryBranch}
+use Rattle.nav_nodes.proofs.NextBranchLaws.{sparse_next}
 use Rattle.nav_nodes.specs.NextLabel.{first_kind, kind_with, kind_there, is_there, with_there, there_before, labels_next, own_index}
 use Rattle.nav_nodes.specs.Positions.{branches, branch_index, child_at, slot_at, BranchAt, end_sparse, rising, label_sparse, branch_sparse, index_sparse, none_end, one_there}
 use Rattle.nav_nodes.specs.Slots.{node_at}

@@ -18,11 +18,11 @@ use Rattle.nav_nodes.specs.Descent.{child_number, children_split, Stands, stands
 use Rattle.nav_nodes.specs.NextLabel.{first_kind, first_label, low_none}
 use Rattle.nav_nodes.specs.NumberBounds.{child_there}
 use Rattle.theory.specs.Terms.{All}
-use Rattle.theory.specs.LeafLists.{Realizable, AllWellSized}
-use Rattle.theory.specs.LinkedLevels.{BelowLabel, Ascends, Labelled, Linked, levels_back, first_width}
-use Rattle.theory.specs.LevelTrie.{trie}
-use Rattle.theory.specs.TrieTests.{realizable_trie, EmptyOrValid, empty_list, valid_trie, root_first_width}
-use Rattle.theory.specs.NodeBits.{SlotsWidth}
+use Rattle.theory.proofs.LeafLists.{Realizable, AllWellSized}
+use Rattle.theory.proofs.LinkedLevels.{BelowLabel, Ascends, Labelled, Linked, levels_back, first_width}
+use Rattle.theory.proofs.LevelTrie.{trie}
+use Rattle.theory.proofs.TrieTests.{realizable_trie, EmptyOrValid, empty_list, valid_trie, root_first_width}
+use Rattle.theory.proofs.NodeBits.{SlotsWidth}
 
 -- ---- definitions
 

@@ -18,7 +18,7 @@ use Rattle.nav_nodes.specs.Accepted.{Accepted, nodes, dense_nodes, sparse_nodes}
 use Rattle.nav_nodes.specs.Positions.{branches, branch_index, child_at, slot_at}
 use Rattle.nav_nodes.specs.NextBranch.{IsNextBranch}
 use Rattle.nav_nodes.specs.FoundBranch.{node_count}
-use Rattle.theory.specs.LinkedLevels.{Ascends}
+use Rattle.theory.proofs.LinkedLevels.{Ascends}
 use Rattle.nav_branches.specs.Below.{OnLevel, level_left, level_node, level_rising, level_branch, level_child}
 use Rattle.nav_branches.specs.Paths.{node_on, onward, downward, standing, OnLevels, rest_up, rest_none, onward_none, onward_leaf, onward_child, onward_first, node_stored, node_kept}
 

@@ -25,9 +25,9 @@ use Rattle.nav_nodes.specs.Descent.{child_number}
 use Rattle.nav_nodes.specs.NextLabel.{first_kind, first_label}
 use Rattle.nav_branches.specs.Below.{behind, own_slot, below, from_label, OnLevel, below_step, from_none, from_leaf, from_node}
 use Rattle.theory.specs.Terms.{All}
-use Rattle.theory.specs.Lists.{map_ext}
-use Rattle.theory.specs.LinkedLevels.{Ascends}
-use Rattle.theory.specs.NodeBits.{SlotsWidth}
+use Rattle.theory.proofs.Lists.{map_ext}
+use Rattle.theory.proofs.LinkedLevels.{Ascends}
+use Rattle.theory.proofs.NodeBits.{SlotsWidth}
 
 -- ---- definitions
 

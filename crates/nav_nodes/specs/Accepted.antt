@@ -10,13 +10,13 @@ use Rattle.bits.specs.Bits.{rank}
 use Rattle.image.specs.declared.Frame.{Frame}
 use Rattle.nav_nodes.specs.Stored.{Starts}
 use Rattle.nav_nodes.specs.Slots.{slot_of}
-use Rattle.theory.specs.LeafLists.{Realizable, AllWellSized, SpareClear, AllRealSized}
+use Rattle.theory.proofs.LeafLists.{Realizable, AllWellSized, SpareClear, AllRealSized}
 use Rattle.theory.specs.Terms.{All}
-use Rattle.theory.specs.KeyLeaves.{reals_realizable, reals_sized}
-use Rattle.theory.specs.ImageParts.{Writable}
-use Rattle.theory.specs.NodeBits.{sparse_labels, dense_labels, dense_has_child, sparse_has_child, louds, slots}
-use Rattle.theory.specs.LevelTrie.{trie}
-use Rattle.theory.specs.LevelStarts.{starts_from, children_to}
+use Rattle.theory.proofs.KeyLeaves.{reals_realizable, reals_sized}
+use Rattle.theory.proofs.ImageParts.{Writable}
+use Rattle.theory.proofs.NodeBits.{sparse_labels, dense_labels, dense_has_child, sparse_has_child, louds, slots}
+use Rattle.theory.proofs.LevelTrie.{trie}
+use Rattle.theory.proofs.LevelStarts.{starts_from, children_to}
 
 -- the dense nodes of an image, by its frame's count
 abbrev pub dense_nodes : Bytes → Frame → List Node

@@ -14,8 +14,8 @@ use Rattle.spec.specs.Keys.{below}
 use Rattle.spec.specs.Leaves.{Leaf}
 use Rattle.spec.specs.Nodes.{Group, Branch, to_node, to_leaf, node, label_of, is_exact, prefix, branch_leaves, children, exact_leaf}
 use Rattle.spec.specs.Trie.{open_leaves}
-use Rattle.theory.specs.LinkedLevels.{BelowLabel, Ascends}
-use Rattle.theory.specs.Levels.{leaves_in}
+use Rattle.theory.proofs.LinkedLevels.{BelowLabel, Ascends}
+use Rattle.theory.proofs.Levels.{leaves_in}
 
 -- the first branches whose labels are below y
 unfoldable pub labels_below : ℕ → List Branch → ℕ

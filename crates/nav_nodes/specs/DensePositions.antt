@@ -21,10 +21,10 @@ use Rattle.nav_nodes.specs.Descent.{children_before, child_number, goes_on}
 use Rattle.nav_nodes.specs.Stored.{Starts, bits_at, bits_rank}
 use Rattle.nav_nodes.specs.LabelMaps.{Narrow, narrow, matches, labels_counted, children_counted, label_bit, child_bit}
 use Rattle.theory.specs.Terms.{All}
-use Rattle.theory.specs.LinkedLevels.{Labelled}
-use Rattle.theory.specs.NodeBits.{ByteLabels, dense_labels, dense_has_child}
-use Rattle.theory.specs.Bits.{AscendsFrom}
-use Rattle.theory.specs.DenseBits.{length_dense_labels, length_dense_has_child, length_dl, length_dc}
+use Rattle.theory.proofs.LinkedLevels.{Labelled}
+use Rattle.theory.proofs.NodeBits.{ByteLabels, dense_labels, dense_has_child}
+use Rattle.theory.proofs.Bits.{AscendsFrom}
+use Rattle.theory.proofs.DenseBits.{length_dense_labels, length_dense_has_child, length_dl, length_dc}
 
 pub ones_append : (a b : Bits) → ones (a ++ b) ≡ ones a + ones b
 unfolding ones

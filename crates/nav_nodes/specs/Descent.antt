@@ -16,11 +16,11 @@ use Rattle.spec.specs.Trie.{open_leaves, leaf_count}
 use Rattle.nav_nodes.specs.Counting.{labels_below, counts, count_append, counts_at, branches_none, branches_counted, exact_none, exact_counted}
 use Rattle.nav_nodes.specs.Slots.{node_at, leaves_before, slot_number, slot_of, slot_is}
 use Rattle.theory.specs.Terms.{All}
-use Rattle.theory.specs.LinkedLevels.{first_width, Linked, Labelled, levels_back}
-use Rattle.theory.specs.Levels.{leaf_count_append, leaves_in}
-use Rattle.theory.specs.Numbering.{leaves_before as before, leaves_before_groups}
-use Rattle.theory.specs.NodeBits.{SlotsWidth}
-use Rattle.theory.specs.WitnessedLevels.{labelled_ascends}
+use Rattle.theory.proofs.LinkedLevels.{first_width, Linked, Labelled, levels_back}
+use Rattle.theory.proofs.Levels.{leaf_count_append, leaves_in}
+use Rattle.theory.proofs.Numbering.{leaves_before as before, leaves_before_groups}
+use Rattle.theory.proofs.NodeBits.{SlotsWidth}
+use Rattle.theory.proofs.WitnessedLevels.{labelled_ascends}
 
 -- the continuing branches of the nodes before node m
 unfoldable pub children_before : List Node → ℕ → ℕ

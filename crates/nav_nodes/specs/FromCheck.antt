@@ -16,16 +16,16 @@ use Rattle.bits.specs.Bits.{part}
 use Rattle.image.specs.FrameOf.{FrameOf, Within, within, twelve_bodies, frame_bodies, frame_parts}
 use Rattle.nav_nodes.specs.NumberBounds.{node_total}
 use Rattle.nav_nodes.specs.Accepted.{Body, Holds, Accepted, dense_nodes, sparse_nodes}
-use Rattle.theory.specs.LeafLists.{Realizable, AllWellSized, SpareClear}
+use Rattle.theory.proofs.LeafLists.{Realizable, AllWellSized, SpareClear}
 use Rattle.theory.specs.Terms.{IsBytes, All}
-use Rattle.theory.specs.ReadBack.{read_back}
-use Rattle.theory.specs.ImageParts.{Writable, node_image_bodies, parts_of_nodes, parts_back, nodes_back, image_holds}
-use Rattle.theory.specs.NodeBits.{node_image, version_bodies, bodies_of, dense_labels, dense_has_child, sparse_labels, sparse_has_child, louds, slots, bodies_bits}
-use Rattle.theory.specs.LevelTrie.{trie}
-use Rattle.theory.specs.LevelStarts.{starts_from, children_to, trie_level_starts}
-use Rattle.theory.specs.TrieTests.{realizable_trie}
-use Rattle.theory.specs.Accept.{accepted_is_image}
-use Rattle.theory.specs.ReadBack.{read_nodes_bodies}
+use Rattle.theory.proofs.ReadBack.{read_back}
+use Rattle.theory.proofs.ImageParts.{Writable, node_image_bodies, parts_of_nodes, parts_back, nodes_back, image_holds}
+use Rattle.theory.proofs.NodeBits.{node_image, version_bodies, bodies_of, dense_labels, dense_has_child, sparse_labels, sparse_has_child, louds, slots, bodies_bits}
+use Rattle.theory.proofs.LevelTrie.{trie}
+use Rattle.theory.proofs.LevelStarts.{starts_from, children_to, trie_level_starts}
+use Rattle.theory.proofs.TrieTests.{realizable_trie}
+use Rattle.theory.proofs.Accept.{accepted_is_image}
+use Rattle.theory.proofs.ReadBack.{read_nodes_bodies}
 
 -- a body at its offset
 body_at : (s b : Bytes) (at n : ℕ) → at ≤ length s → part s at n ≡ b → Body b s at

@@ -15,10 +15,10 @@ use Rattle.spec.specs.Nodes.{Branch, to_node, to_leaf, node, label_of, has_child
 use Rattle.nav_nodes.specs.Counting.{labels_below}
 use Rattle.nav_nodes.specs.Descent.{goes_on}
 use Rattle.theory.specs.Terms.{IsBytes}
-use Rattle.theory.specs.Bits.{AscendsFrom, has_here, has_skip, has_none}
-use Rattle.theory.specs.LinkedLevels.{Ascends, Labelled}
-use Rattle.theory.specs.NodeBits.{ByteLabels, dense_labels, dense_has_child}
-use Rattle.theory.specs.DenseBits.{ascends_from_children}
+use Rattle.theory.proofs.Bits.{AscendsFrom, has_here, has_skip, has_none}
+use Rattle.theory.proofs.LinkedLevels.{Ascends, Labelled}
+use Rattle.theory.proofs.NodeBits.{ByteLabels, dense_labels, dense_has_child}
+use Rattle.theory.proofs.DenseBits.{ascends_from_children}
 
 -- how many of the first numbers are below y
 unfoldable pub numbers_below : ℕ → List ℕ → ℕ

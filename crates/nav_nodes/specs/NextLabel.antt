@@ -15,9 +15,9 @@ use Rattle.nav_nodes.specs.Stored.{Starts}
 use Rattle.nav_nodes.specs.DensePositions.{label_rank}
 use Rattle.nav_nodes.specs.SparsePositions.{label_low, label_high, fit_node, small_node}
 use Rattle.theory.specs.Terms.{All, IsBytes}
-use Rattle.theory.specs.LinkedLevels.{BelowLabel, Ascends, Labelled}
-use Rattle.theory.specs.NodeBits.{dense_labels, dense_has_child, ByteLabels}
-use Rattle.theory.specs.WitnessedLevels.{labelled_ascends}
+use Rattle.theory.proofs.LinkedLevels.{BelowLabel, Ascends, Labelled}
+use Rattle.theory.proofs.NodeBits.{dense_labels, dense_has_child, ByteLabels}
+use Rattle.theory.proofs.WitnessedLevels.{labelled_ascends}
 
 -- the kind of the first branch, and its label
 unfoldable pub first_kind : List Branch → BranchKind

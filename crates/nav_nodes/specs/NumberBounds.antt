@@ -15,11 +15,11 @@ use Rattle.nav_nodes.specs.declared.BranchKind.TheVariants as Kind
 use Rattle.nav_nodes.specs.Slots.{node_at, leaves_before, slot_number}
 use Rattle.nav_nodes.specs.Descent.{goes_children, children_before, child_number, children_split, goes_on, ends_at, kids_append, kids_take}
 use Rattle.nav_nodes.specs.NextLabel.{first_kind}
-use Rattle.theory.specs.LeafLists.{Realizable, AllWellSized}
-use Rattle.theory.specs.LevelTrie.{trie}
-use Rattle.theory.specs.Levels.{leaf_count_root}
-use Rattle.theory.specs.TrieTests.{realizable_trie, EmptyOrValid, empty_list, valid_trie}
-use Rattle.theory.specs.LinkedLevels.{first_width, levels_back, Linked}
+use Rattle.theory.proofs.LeafLists.{Realizable, AllWellSized}
+use Rattle.theory.proofs.LevelTrie.{trie}
+use Rattle.theory.proofs.Levels.{leaf_count_root}
+use Rattle.theory.proofs.TrieTests.{realizable_trie, EmptyOrValid, empty_list, valid_trie}
+use Rattle.theory.proofs.LinkedLevels.{first_width, levels_back, Linked}
 
 linked_size : (ls : List (List Node)) → Linked ls → length (concat ls) ≡ first_width ls + total children_of (concat ls)
 unfolding concat total

@@ -10,7 +10,7 @@ use Rattle.spec.specs.Bytes.{Bytes, bit, concat}
 use Rattle.spec.specs.Nodes.{Branch, Node, node, label_of, has_child, branches_of, is_exact, total, children_of}
 use Rattle.spec.specs.Trie.{leaf_count}
 use Rattle.bits.specs.Bits.{bit_at, rank, select}
-use Rattle.bits.specs.RankLaws.{rank_le}
+use Rattle.bits.proofs.RankLaws.{rank_le}
 use Rattle.image.specs.declared.Frame.{Frame}
 use Rattle.nav_nodes.specs.declared.BranchKind.TheVariants.{Absent}
 use Rattle.nav_nodes.specs.Counting.{labels_below, labels_below_le}
@@ -21,9 +21,9 @@ use Rattle.nav_nodes.specs.DensePositions.{dense_children_before, dense_leaves_b
 use Rattle.nav_nodes.specs.SparsePositions as sparse
 use Rattle.nav_nodes.specs.NextLabel.{kind_there, kind_by, kind_with, kind_of_bits, not_there, with_bits, with_there}
 use Rattle.nav_nodes.specs.Accepted.{Accepted, dense_nodes, sparse_nodes, nodes}
-use Rattle.theory.specs.LinkedLevels.{Ascends, Labelled}
-use Rattle.theory.specs.NodeBits.{sparse_labels}
-use Rattle.theory.specs.WitnessedLevels.{labelled_ascends}
+use Rattle.theory.proofs.LinkedLevels.{Ascends, Labelled}
+use Rattle.theory.proofs.NodeBits.{sparse_labels}
+use Rattle.theory.proofs.WitnessedLevels.{labelled_ascends}
 
 -- the branches of node m
 abbrev pub branches : Bytes → Frame → ℕ → List Branch

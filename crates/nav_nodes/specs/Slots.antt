@@ -6,7 +6,7 @@ use Rattle.spec.specs.Bytes.{Bits, bit, concat}
 use Rattle.spec.specs.Nodes.{Branch, to_node, to_leaf, Node, node, slot, branches_of, is_exact, exact_slot}
 use Rattle.spec.specs.Trie.{open_leaves, leaf_count}
 use Rattle.theory.specs.Terms.{All}
-use Rattle.theory.specs.NodeBits.{slots, BranchWidth, SlotsWidth, ExactWidth, length_sv}
+use Rattle.theory.proofs.NodeBits.{slots, BranchWidth, SlotsWidth, ExactWidth, length_sv}
 
 -- node number m, from 0; where there is none, one without anything
 abbrev pub node_at : List Node → ℕ → Node

@@ -23,9 +23,9 @@ use Rattle.nav_nodes.specs.Stored.{Starts, bits_at, bits_rank}
 use Rattle.nav_nodes.specs.LabelMaps.{matches}
 use Rattle.nav_nodes.specs.DensePositions.{ones_append, branches_split, taken_split, take_map}
 use Rattle.theory.specs.Terms.{All}
-use Rattle.theory.specs.NodeBits.{sparse_labels, sparse_has_child, louds, ByteLabels}
-use Rattle.theory.specs.LinkedLevels.{Labelled, BelowLabel, Ascends}
-use Rattle.theory.specs.Levels.{leaf_count_append}
+use Rattle.theory.proofs.NodeBits.{sparse_labels, sparse_has_child, louds, ByteLabels}
+use Rattle.theory.proofs.LinkedLevels.{Labelled, BelowLabel, Ascends}
+use Rattle.theory.proofs.Levels.{leaf_count_append}
 
 -- the entries of a node: its branches, and the extra FF of an exact leaf
 abbrev node_size : Node → ℕ

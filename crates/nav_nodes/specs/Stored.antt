@@ -8,10 +8,10 @@ use Rattle.std.proofs.lemmas.List.{take-append-le}
 use Rattle.spec.specs.Bytes.{Bytes, Bits, bit, ones, concat, iota, blocks, le32, from32, pack, unpack}
 use Rattle.spec.specs.Image.{ranks, samples, positions}
 use Rattle.bits.specs.Bits.{bit_at, rank}
-use Rattle.bits.specs.UnpackLaws.{bit_unpack, rank_unpack}
-use Rattle.theory.specs.Bits.{length_pack, unpack_pack, length_ranks, length_samples}
-use Rattle.theory.specs.Frame.{from32_le32}
-use Rattle.theory.specs.Bits.{length_positions}
+use Rattle.bits.proofs.UnpackLaws.{bit_unpack, rank_unpack}
+use Rattle.theory.proofs.Bits.{length_pack, unpack_pack, length_ranks, length_samples}
+use Rattle.theory.proofs.Frame.{from32_le32}
+use Rattle.theory.proofs.Bits.{length_positions}
 use Rattle.rank_tables.specs.Ranks.{block_begun}
 use Rattle.rank_tables.specs.Reading.{RankEntry, Sample}
 

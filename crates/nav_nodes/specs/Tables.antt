@@ -10,9 +10,9 @@ use Rattle.image.specs.declared.Frame.{Frame}
 use Rattle.rank_tables.specs.Reading.{RankTable, SampleTable}
 use Rattle.nav_nodes.specs.Stored.{bits_room, bits_all, ranks_at, samples_at}
 use Rattle.nav_nodes.specs.Accepted.{Accepted, dense_nodes, sparse_nodes}
-use Rattle.theory.specs.NodeBits.{dense_labels, dense_has_child, sparse_has_child, louds}
-use Rattle.theory.specs.DenseBits.{length_dl, length_dc}
-use Rattle.theory.specs.SparseBits.{length_sc, length_sb, louds_ones}
+use Rattle.theory.proofs.NodeBits.{dense_labels, dense_has_child, sparse_has_child, louds}
+use Rattle.theory.proofs.DenseBits.{length_dl, length_dc}
+use Rattle.theory.proofs.SparseBits.{length_sc, length_sb, louds_ones}
 
 module _ (s : Bytes) (f : Frame) (a : Accepted s f) where
   -- D-Labels

@@ -8,7 +8,7 @@ use Rattle.spec.specs.Bytes.{Bytes, Bits, ascii, ascii_from, letter, bit, low_bi
 use Rattle.spec.specs.Leaves.{Leaf}
 use Rattle.spec.specs.Nodes.{read_leaves}
 use Rattle.spec.specs.Check.{verdict}
-use Rattle.bits.specs.UnpackLaws.{length_low_bits}
+use Rattle.bits.proofs.UnpackLaws.{length_low_bits}
 use Rattle.spec.specs.Print.{longest_input, digits, decimal, hex_digit, hex, suffix_text, line, lines, listing, print}
 
 -- ---- numbers in decimal digits

@@ -4,7 +4,7 @@ use Rattle.std.proofs.Common.{ap, ap₂, subst, ◌∙◌, arith, length-append,
 use Rattle.std.proofs.lemmas.List.Edits.{sets-eq}
 use Rattle.spec.specs.Bytes.{Bytes}
 use Rattle.bits.specs.Bits.{overlaid}
-use Rattle.bits.specs.Overlaying.{length_overlaid, overlaid_overlaid}
+use Rattle.bits.proofs.Overlaying.{length_overlaid, overlaid_overlaid}
 
 -- `after` is `out` with xs from `at` on, and r is the offset behind xs, at its end at most
 pub record Written (out : Bytes) (at : ℕ) (xs after : Bytes) (r : ℕ) : Type 0 where

@@ -5,7 +5,7 @@ use Rattle.std.proofs.lemmas.Bool.{eqb-false}
 use Rattle.spec.specs.Bytes.{Bytes, Bits, blocks, begins, equal, filled}
 use Rattle.spec.specs.Keys.{below}
 use Rattle.spec.specs.Leaves.{Leaf, real, highest, lowest, trimmed}
-use Rattle.theory.specs.Order.{below_asym, equal_order}
+use Rattle.theory.proofs.Order.{below_asym, equal_order}
 use Rattle.nav_nodes.specs.Counting.{counts}
 
 -- an open leaf's highest key behind its cut key of c bytes

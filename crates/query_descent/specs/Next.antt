@@ -22,9 +22,9 @@ use Rattle.nav_nodes.specs.Descent.{child_number}
 use Rattle.nav_nodes.specs.NextLabel.{first_kind, kind_with, is_there, there_not, not_there, low_none}
 use Rattle.nav_branches.specs.Below.{behind, behind_branches, own_slot, below, from_label, OnLevel, below_step, from_none, level_left, level_rising, level_branch, level_child}
 use Rattle.theory.specs.Terms.{All}
-use Rattle.theory.specs.LinkedLevels.{BelowLabel, Ascends}
-use Rattle.theory.specs.Levels.{exact_leaf_count}
-use Rattle.theory.specs.NodeBits.{SlotsWidth}
+use Rattle.theory.proofs.LinkedLevels.{BelowLabel, Ascends}
+use Rattle.theory.proofs.Levels.{exact_leaf_count}
+use Rattle.theory.proofs.NodeBits.{SlotsWidth}
 
 -- ---- first members
 

@@ -6,10 +6,10 @@ use Rattle.spec.specs.Bytes.{Bytes, bit, any, count}
 use Rattle.spec.specs.Keys.{below}
 use Rattle.spec.specs.Leaves.{Leaf, real, reals, highest, lowest}
 use Rattle.spec.specs.Questions.{meets, range, counted, seek, seek_from, Sought, none as none_found, found, greater}
-use Rattle.theory.specs.Choices.{possible_split}
-use Rattle.theory.specs.Intervals.{lowest_possible, highest_possible}
-use Rattle.theory.specs.LeafLists.{Ordered, BeforeAll, before_below, PossibleKey, RealSized, AllRealSized}
-use Rattle.theory.specs.Order.{below_asym, below_le_lt, below_lt_le}
+use Rattle.theory.proofs.Choices.{possible_split}
+use Rattle.theory.proofs.Intervals.{lowest_possible, highest_possible}
+use Rattle.theory.proofs.LeafLists.{Ordered, BeforeAll, before_below, PossibleKey, RealSized, AllRealSized}
+use Rattle.theory.proofs.Order.{below_asym, below_le_lt, below_lt_le}
 
 -- the leaves whose highest key lies below the key
 unfoldable pub passed : List Leaf → Bytes → ℕ

@@ -13,14 +13,14 @@ use Rattle.nav_nodes.specs.Descent.{children_before, child_number, goes_on, ends
 use Rattle.nav_nodes.specs.NumberBounds.{children_up, node_total}
 use Rattle.query_descent.specs.Bounds.{and-false, slot_passed, slot_reached, real_highest, real_lowest}
 use Rattle.query_descent.specs.Ordered.{passed, reached}
-use Rattle.theory.specs.LeafLists.{Realizable, AllWellSized}
+use Rattle.theory.proofs.LeafLists.{Realizable, AllWellSized}
 use Rattle.theory.specs.Terms.{All}
-use Rattle.theory.specs.Order.{equal_order}
-use Rattle.theory.specs.LevelTrie.{trie}
-use Rattle.theory.specs.NodeBits.{SlotsWidth}
-use Rattle.theory.specs.Levels.{leaves_in}
-use Rattle.theory.specs.TrieTests.{realizable_trie, EmptyOrValid, empty_list, valid_trie}
-use Rattle.theory.specs.LinkedLevels.{first_width, levels_back, Linked}
+use Rattle.theory.proofs.Order.{equal_order}
+use Rattle.theory.proofs.LevelTrie.{trie}
+use Rattle.theory.proofs.NodeBits.{SlotsWidth}
+use Rattle.theory.proofs.Levels.{leaves_in}
+use Rattle.theory.proofs.TrieTests.{realizable_trie, EmptyOrValid, empty_list, valid_trie}
+use Rattle.theory.proofs.LinkedLevels.{first_width, levels_back, Linked}
 
 -- ---- an image without nodes
 

@@ -12,7 +12,7 @@ use Rattle.spec.specs.Leaves.{Leaf, real, lowest}
 use Rattle.spec.specs.Nodes.{Node, read_leaves}
 use Rattle.spec.specs.Questions.{Sought, found, greater}
 use Rattle.spec.specs.Questions as spec
-use Rattle.theory.specs.LevelTrie.{trie}
+use Rattle.theory.proofs.LevelTrie.{trie}
 use Rattle.image.specs.declared.Frame.{Frame}
 use Rattle.nav_branches.specs.declared.LeafStop.{LeafStop}
 use Rattle.nav_branches.specs.declared.LeafStop.TheVariants.{Nowhere, Exact, Open}

@@ -6,8 +6,8 @@ use Rattle.std.proofs.lemmas.Nat.{mod-pow-add}
 use Rattle.std.proofs.Math.Pow.{high}
 use Rattle.spec.specs.Bytes.{Bits, bit, low_first, high_first, fill, filled}
 use Rattle.bits.specs.Bits.{reversed}
-use Rattle.bits.specs.CoverLaws.{half_bit}
-use Rattle.theory.specs.Intervals.{bytes_filled}
+use Rattle.bits.proofs.CoverLaws.{half_bit}
+use Rattle.theory.proofs.Intervals.{bytes_filled}
 
 -- the k lowest digits of x in the opposite order
 unfoldable pub mirrored : ℕ → ℕ → ℕ

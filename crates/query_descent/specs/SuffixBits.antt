@@ -6,7 +6,7 @@ use Rattle.std.proofs.lemmas.Nat.{mod-pow-add}
 use Rattle.std.proofs.lemmas.Bool.{eqb-false}
 use Rattle.spec.specs.Bytes.{Bytes, Bits, bit, low_first, same_bits}
 use Rattle.spec.specs.Leaves.{hash_bits, bits_behind}
-use Rattle.bits.specs.CoverLaws.{half_bit}
+use Rattle.bits.proofs.CoverLaws.{half_bit}
 use Rattle.image.specs.SuffixNumbers.{length_behind}
 use Rattle.query_descent.specs.Root.{has_suffix}
 

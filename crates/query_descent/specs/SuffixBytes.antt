@@ -21,7 +21,7 @@ use Rattle.nav_nodes.specs.Slots.{slot_of}
 use Rattle.nav_nodes.specs.Stored.{Starts, bits_at, bits_room}
 use Rattle.query_descent.specs.Bounds.{high_rest, low_rest, high_passed, low_reached}
 use Rattle.theory.specs.Terms.{All}
-use Rattle.theory.specs.NodeBits.{SlotsWidth, slots, length_sv}
+use Rattle.theory.proofs.NodeBits.{SlotsWidth, slots, length_sv}
 
 -- ---- filled bytes
 

@@ -10,9 +10,9 @@ use Rattle.spec.specs.Questions.{begins_with}
 use Rattle.spec.specs.Rules.{leads_to_node, leads_to_exact, leads_to_open, same_real_bits, same_hash_bits, same_suffix, branch_missing, key_ended, at_exact_leaf, suffix_equal, suffix_other, no_nodes, applies, rule}
 use Rattle.spec.specs.Rules as spec
 use Rattle.theory.specs.Terms.{In, here, Bound}
-use Rattle.theory.specs.Lists.{or_both_false, any_in, any_none, any_false, in_any, any_count, count_any}
-use Rattle.theory.specs.Order.{equal_true, equal_comm, begins_append}
-use Rattle.theory.specs.Rules.{root_there, applies_rule, else_missing}
+use Rattle.theory.proofs.Lists.{or_both_false, any_in, any_none, any_false, in_any, any_count, count_any}
+use Rattle.theory.proofs.Order.{equal_true, equal_comm, begins_append}
+use Rattle.theory.proofs.Rules.{root_there, applies_rule, else_missing}
 use Rattle.image.specs.declared.Frame.{Frame}
 use Rattle.image.specs.declared.ValuePos.{ValuePos}
 use Rattle.nav_branches.specs.declared.LeafStop.TheVariants.{Nowhere, Exact, Open}

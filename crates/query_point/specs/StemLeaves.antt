@@ -10,11 +10,11 @@ use Rattle.spec.specs.Keys.{below, within}
 use Rattle.spec.specs.Leaves.{Leaf, real, reals, trimmed, lowest, highest}
 use Rattle.spec.specs.Questions.{meets, range, stem_end, begins_with}
 use Rattle.theory.specs.Terms.{IsBytes, Key, Bound}
-use Rattle.theory.specs.Lists.{and_both, le_or_lt, bytes_drop}
-use Rattle.theory.specs.Order.{below_nil, below_append, prefix_append, begins_append, begins_through}
-use Rattle.theory.specs.LeafLists.{RealSized, AllRealSized}
-use Rattle.theory.specs.Intervals.{fill_order, fill_tight, trimmed_below, combine, bytes_filled, bytes_trimmed, trimmed_length, lowest_key, highest_key}
-use Rattle.theory.specs.Stems.{below_ff, stem_exactly}
+use Rattle.theory.proofs.Lists.{and_both, le_or_lt, bytes_drop}
+use Rattle.theory.proofs.Order.{below_nil, below_append, prefix_append, begins_append, begins_through}
+use Rattle.theory.proofs.LeafLists.{RealSized, AllRealSized}
+use Rattle.theory.proofs.Intervals.{fill_order, fill_tight, trimmed_below, combine, bytes_filled, bytes_trimmed, trimmed_length, lowest_key, highest_key}
+use Rattle.theory.proofs.Stems.{below_ff, stem_exactly}
 use Rattle.query_descent.specs.Bounds.{high_rest, low_rest}
 use Rattle.query_descent.specs.SuffixBytes.{high_filled, low_filled, next_bits, key_next}
 use Rattle.query_descent.specs.LowestKeys.{filled_length}

@@ -14,7 +14,7 @@ use Rattle.spec.specs.Leaves.{Leaf}
 use Rattle.spec.specs.Nodes.{Group, Branch, to_node, to_leaf, Node, label_of, branches_of, prefix, children, exact_leaf, read_leaves}
 use Rattle.spec.specs.Questions.{begins_with}
 use Rattle.theory.specs.Terms.{Bound}
-use Rattle.theory.specs.LinkedLevels.{BelowLabel, Ascends}
+use Rattle.theory.proofs.LinkedLevels.{BelowLabel, Ascends}
 use Rattle.image.specs.declared.Frame.{Frame}
 use Rattle.nav_nodes.specs.declared.BranchKind.TheVariants as Kind
 use Rattle.nav_nodes.specs.declared.Found.{Found}

@@ -20,9 +20,9 @@ use Rattle.nav_nodes.specs.NextLabel.{first_kind, kind_with, low_none}
 use Rattle.nav_branches.specs.Below.{behind_branches, own_slot, below, from_label, OnLevel, level_rising, level_child}
 use Rattle.query_descent.specs.Next.{branches_at, branch_index_at, groups_from, over_groups, below_some, child_from}
 use Rattle.theory.specs.Terms.{All}
-use Rattle.theory.specs.LinkedLevels.{BelowLabel, Ascends}
-use Rattle.theory.specs.Levels.{exact_leaf_count}
-use Rattle.theory.specs.NodeBits.{SlotsWidth}
+use Rattle.theory.proofs.LinkedLevels.{BelowLabel, Ascends}
+use Rattle.theory.proofs.Levels.{exact_leaf_count}
+use Rattle.theory.proofs.NodeBits.{SlotsWidth}
 
 -- ---- definitions
 

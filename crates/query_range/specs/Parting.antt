@@ -21,7 +21,7 @@ use Rattle.nav_nodes.specs.NextLabel.{first_kind, first_label, kind_with, is_the
 use Rattle.nav_branches.specs.Below.{behind_branches, own_slot, below, from_label, OnLevel, below_step, from_none, level_rising}
 use Rattle.query_descent.specs.Next.{branches_at, branch_index_at, count_le, groups_from, over_groups, below_some, from_some, none_passed}
 use Rattle.query_range.specs.AtLabel.{at_label, size, size_from, from_next, byte_split, at_some}
-use Rattle.theory.specs.Levels.{exact_leaf_count}
+use Rattle.theory.proofs.Levels.{exact_leaf_count}
 
 -- ---- definitions
 

@@ -25,12 +25,12 @@ use Rattle.nav_nodes.specs.Accepted.{Accepted, nodes, real_leaves, real_slot, re
 use Rattle.query_descent.specs.Bounds.{low_rest}
 use Rattle.query_descent.specs.Ordered.{passed, next_leaf, seek_is}
 use Rattle.query_descent.specs.Seeks.{low_each, low_of, found_low, found_each}
-use Rattle.theory.specs.AskLaws.{reals_length}
-use Rattle.theory.specs.Levels.{leaf_count_root}
-use Rattle.theory.specs.LevelTrie.{trie}
-use Rattle.theory.specs.Lists.{count_bound}
-use Rattle.theory.specs.Order.{equal_true}
-use Rattle.theory.specs.TrieTests.{EmptyOrValid, empty_list, valid_trie, realizable_trie}
+use Rattle.theory.proofs.AskLaws.{reals_length}
+use Rattle.theory.proofs.Levels.{leaf_count_root}
+use Rattle.theory.proofs.LevelTrie.{trie}
+use Rattle.theory.proofs.Lists.{count_bound}
+use Rattle.theory.proofs.Order.{equal_true}
+use Rattle.theory.proofs.TrieTests.{EmptyOrValid, empty_list, valid_trie, realizable_trie}
 
 -- the lowest key of an open leaf, whose cut key is the first d bytes of the key
 pub low_open : (s : Bytes) (f : Frame) (v : ValuePos) (d : ℕ) (key low : Bytes) → d ≤ length key → low ≡ take d key ++ low_rest d (real_slot s f v.0) → low_of f.hash_width f.width (nodes s f) (Open v) (take d key) ≡ some low

@@ -22,12 +22,12 @@ use Rattle.query_descent.specs.Followed.{node_length}
 use Rattle.query_descent.specs.LevelSums.{slots_below, slots_ended}
 use Rattle.query_descent.specs.Summed.{rest_full, rest_node}
 use Rattle.theory.specs.Terms.{All}
-use Rattle.theory.specs.Lists.{all_append}
-use Rattle.theory.specs.Frame.{from32_le32}
-use Rattle.theory.specs.LinkedLevels.{Labelled}
-use Rattle.theory.specs.Levels.{total_append, leaf_count_append}
-use Rattle.theory.specs.TrieTests.{realizable_trie}
-use Rattle.theory.specs.LevelStarts.{starts_from, starts_below, children_to, trie_starts_end}
+use Rattle.theory.proofs.Lists.{all_append}
+use Rattle.theory.proofs.Frame.{from32_le32}
+use Rattle.theory.proofs.LinkedLevels.{Labelled}
+use Rattle.theory.proofs.Levels.{total_append, leaf_count_append}
+use Rattle.theory.proofs.TrieTests.{realizable_trie}
+use Rattle.theory.proofs.LevelStarts.{starts_from, starts_below, children_to, trie_starts_end}
 
 -- ---- numbers one behind the other
 

@@ -12,11 +12,11 @@ use Rattle.spec.specs.Answer.{refusal_weight}
 use Rattle.spec.specs.Check.{verdict}
 use Rattle.spec.specs.OneQuestion.{question_refusal, Answered, replied, refused, ask_one, Numbered, refused_with, reply_number, reply_rule, given_number, numbered_code}
 use Rattle.theory.specs.Terms.{IsBytes}
-use Rattle.theory.specs.Rules.{rule_number_range}
-use Rattle.theory.specs.Accept.{accepted_is_image}
-use Rattle.theory.specs.AskLaws.{number_small}
-use Rattle.theory.specs.LengthBounds.{leaves_are}
-use Rattle.theory.specs.OneQuestionLaws.{one_refused, one_replied}
+use Rattle.theory.proofs.Rules.{rule_number_range}
+use Rattle.theory.proofs.Accept.{accepted_is_image}
+use Rattle.theory.proofs.AskLaws.{number_small}
+use Rattle.theory.proofs.LengthBounds.{leaves_are}
+use Rattle.theory.proofs.OneQuestionLaws.{one_refused, one_replied}
 use Rattle.ask_files.specs.ReplyLaws.{point_reply}
 use Rattle.accepted.specs.declared.Number.{Number}
 use Rattle.accepted.specs.Numbers.{numbered_of}

@@ -4,8 +4,8 @@ use Rattle.std.proofs.Common.{sym, ap, ◌∙◌, arith}
 use borrow.Rule.Slice.PartMut.{put_mid, mid_of}
 use Rattle.spec.specs.Bytes.{Bytes, le32}
 use Rattle.bits.specs.Bits.{part, overlaid}
-use Rattle.bits.specs.Overlaying.{length_overlaid, overlaid_nil, lent_overlaid, length_le32}
-use Rattle.bits.specs.Parts.{part_kept}
+use Rattle.bits.proofs.Overlaying.{length_overlaid, overlaid_nil, lent_overlaid, length_le32}
+use Rattle.bits.proofs.SliceParts.{part_kept}
 use Rattle.rank_tables.specs.TableEntries.{table_of, table_none, table_entry_overlaid, length_table}
 
 -- `mid` is `out` with n entries from `table` on, entry number i the number f i; the body has m bytes from `from`

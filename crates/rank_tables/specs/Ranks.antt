@@ -4,7 +4,7 @@ use Rattle.std.proofs.Common.{sym, ap, ◌∙◌, arith, suc-mul, mul_comm, le-d
 use Rattle.spec.specs.Bytes.{Bytes, blocks, ones, unpack}
 use Rattle.spec.specs.Image.{ranks}
 use Rattle.bits.specs.Bits.{rank}
-use Rattle.bits.specs.UnpackLaws.{length_unpack, rank_unpack}
+use Rattle.bits.proofs.UnpackLaws.{length_unpack, rank_unpack}
 use Rattle.rank_tables.specs.TableEntries.{table_of, table_same}
 
 -- a begun block starts before the end

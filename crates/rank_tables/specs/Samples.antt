@@ -4,10 +4,10 @@ use Rattle.std.proofs.Common.{sym, ap, ◌∙◌, true≢false, arith, mod-eq_of
 use Rattle.std.proofs.lemmas.Bool.{eqb-false}
 use Rattle.spec.specs.Bytes.{Bytes, Bits, blocks, equal, ones, unpack}
 use Rattle.spec.specs.Image.{positions, samples}
-use Rattle.theory.specs.Bits.{length_positions}
+use Rattle.theory.proofs.Bits.{length_positions}
 use Rattle.bits.specs.Bits.{bit_at, rank, select}
-use Rattle.bits.specs.ValueLaws.{Small}
-use Rattle.bits.specs.RankLaws.{rank_next, rank_up, rank_slow}
+use Rattle.bits.proofs.ValueLaws.{Small}
+use Rattle.bits.proofs.RankLaws.{rank_next, rank_up, rank_slow}
 use Rattle.bits_select.specs.SelectLaws.{select_is, select_here}
 use Rattle.rank_tables.specs.TableEntries.{table_of, table_same, table_entry, table_valid, table_sized, table_wrong, all_below, all_pass, all_fail}
 use Rattle.rank_tables.specs.Ranks.{length_first, rank_first}

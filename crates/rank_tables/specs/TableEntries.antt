@@ -9,8 +9,8 @@ use Rattle.std.proofs.lemmas.Nat.{mod-pow-add}
 use Rattle.std.proofs.lemmas.Bool.{eqb-false}
 use Rattle.spec.specs.Bytes.{Bytes, concat, iota, equal, le32, from32}
 use Rattle.bits.specs.Bits.{overlaid, rank, select}
-use Rattle.bits.specs.Overlaying.{overlaid_overlaid, length_le32}
-use Rattle.bits.specs.ValueLaws.{Small, small_drop}
+use Rattle.bits.proofs.Overlaying.{overlaid_overlaid, length_le32}
+use Rattle.bits.proofs.ValueLaws.{Small, small_drop}
 
 -- n entries of four bytes, entry number i the number f i
 unfoldable pub table_of : (ℕ → ℕ) → ℕ → Bytes

@@ -5,7 +5,7 @@ use Rattle.std.proofs.Math.Bool.{and-false}
 use Rattle.std.proofs.lemmas.Bool.{lt-leb, eqb-false}
 use Rattle.spec.specs.Bytes.{Bytes, blocks}
 use Rattle.bits.specs.Bits.{bit_at, rank, select, part}
-use Rattle.bits.specs.RankLaws.{rank_up}
+use Rattle.bits.proofs.RankLaws.{rank_up}
 use Rattle.rank_tables.specs.TableEntries.{table_entry}
 use Rattle.rank_tables.specs.Samples.{OneAt, select_one, one_select, select_within, sampled}
 use Rattle.rank_tables.specs.declared.Span.{Span}

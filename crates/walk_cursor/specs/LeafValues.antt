@@ -7,10 +7,10 @@ use Rattle.std.proofs.Math.Seq.{take-append_seam, take-append-add}
 use Rattle.spec.specs.Bytes.{Bytes, le32, low_first, low_bits}
 use Rattle.spec.specs.Leaves.{Leaf}
 use Rattle.spec.specs.WalkRecords.{record_size, kind_byte, cut_field, leaf_record}
-use Rattle.theory.specs.Bits.{low_bits_first}
+use Rattle.theory.proofs.Bits.{low_bits_first}
 use Rattle.bits.specs.Bits.{overlaid}
-use Rattle.bits.specs.Overlaying.{overlaid_behind}
-use Rattle.bits.specs.UnpackLaws.{length_low_bits}
+use Rattle.bits.proofs.Overlaying.{overlaid_behind}
+use Rattle.bits.proofs.UnpackLaws.{length_low_bits}
 use Rattle.image.specs.declared.Leaf.{Leaf as Value}
 use Rattle.image.specs.Value.{leaf_of, Sized, value_of}
 

@@ -29,9 +29,9 @@ use Rattle.nav_branches.specs.Paths.{node_on, onward, downward, standing, OnLeve
 use Rattle.nav_branches.specs.PathSteps.{BranchFrom, HasBranch, ends_exact, ends_open, branch_found, branch_onward, leaf_onward, leaf_slot, child_on, child_deep, child_node, child_levels, child_downward}
 use Rattle.nav_branches.specs.PathContracts.{RootOnly}
 use Rattle.query_descent.specs.LevelSums.{slots_below}
-use Rattle.theory.specs.LinkedLevels.{Ascends}
-use Rattle.theory.specs.Lists.{all_append}
-use Rattle.theory.specs.NodeBits.{ByteLabels}
+use Rattle.theory.proofs.LinkedLevels.{Ascends}
+use Rattle.theory.proofs.Lists.{all_append}
+use Rattle.theory.proofs.NodeBits.{ByteLabels}
 use Rattle.theory.specs.Terms.{IsBytes}
 use Rattle.walk_cursor.specs.Counted.{branch_sum, own_length, from_fewer, from_summed, from_later, first_reached, none_between, onward_passed}
 use Rattle.walk_cursor.specs.Places.{leaf_total}

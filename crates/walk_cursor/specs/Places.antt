@@ -27,8 +27,8 @@ use Rattle.nav_branches.specs.declared.LeafEnd.{LeafEnd}
 use Rattle.walk_path.specs.declared.moves.Resume.{Resume}
 use Rattle.walk_path.specs.Levels.{numbered, path_of, Levels, Descended}
 use Rattle.walk_cursor.specs.Stands.{Stands, AtLeaf, StandsAt, NoLeaf, cursor_of, ResumesFrom, ReadsLeaf, IsLeaf}
-use Rattle.theory.specs.Lists.{all_at}
-use Rattle.theory.specs.LeafLists.{Shortest}
+use Rattle.theory.proofs.Lists.{all_at}
+use Rattle.theory.proofs.LeafLists.{Shortest}
 
 -- An accepted image has as many leaves as its frame says.
 pub leaf_total : (s : Bytes) (f : Frame) → Accepted s f → length (read_leaves s) ≡ f.leaves

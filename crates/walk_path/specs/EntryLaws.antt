@@ -4,7 +4,7 @@ use Rattle.std.proofs.Common.{sym, ap, arith, ltb-true, ltb-false}
 use Rattle.spec.specs.Bytes.{Bytes, bit}
 use Rattle.spec.specs.Nodes.{is_exact}
 use Rattle.bits.specs.Bits.{bit_at}
-use Rattle.bits.specs.RankLaws.{rank_next, rank_up}
+use Rattle.bits.proofs.RankLaws.{rank_next, rank_up}
 use Rattle.bits_select.specs.SelectLaws.{select_is, select_behind}
 use Rattle.image.specs.declared.Frame.{Frame}
 use Rattle.nav_nodes.specs.declared.BranchKind.TheVariants.{Absent}
@@ -14,7 +14,8 @@ use Rattle.nav_nodes.specs.Slots.{node_at}
 use Rattle.nav_nodes.specs.Accepted.{Accepted, nodes}
 use Rattle.nav_nodes.specs.Positions.{branches, branch_index, end_sparse, sole_plain, other_plain, first_exact}
 use Rattle.nav_nodes.specs.Tables.{start_found}
-use Rattle.nav_nodes.specs.NextBranch.{IsNextBranch, EntryRead, sparse_none, sparse_some}
+use Rattle.nav_nodes.specs.NextBranch.{IsNextBranch, EntryRead}
+use Rattle.nav_nodes.proofs.NextBranchLaws.{sparse_none, sparse_some}
 use Rattle.nav_nodes.specs.FoundBranch.{node_count, IsFirstBranch}
 use Rattle.walk_path.specs.Entries.{start_of}
 

@@ -9,7 +9,7 @@ use borrow.Author.Tests.{ltb-true, ltb-false, eq-eqb, le-ltb}
 use Rattle.spec.specs.Bytes.{Bytes, bit}
 use Rattle.spec.specs.Nodes.{is_exact, has_child, label_of, children}
 use Rattle.bits.specs.Bits.{bit_at}
-use Rattle.bits.specs.RankLaws.{rank_next, rank_le}
+use Rattle.bits.proofs.RankLaws.{rank_next, rank_le}
 use Rattle.image.specs.declared.Frame.{Frame}
 use Rattle.image.specs.declared.NodeNum.{NodeNum}
 use Rattle.nav_nodes.specs.declared.BranchKind.{BranchKind}

@@ -7,9 +7,9 @@ use Rattle.std.proofs.Math.ListN.{get_elem?}
 use Rattle.spec.specs.Bytes.{Bytes, concat}
 use Rattle.spec.specs.Leaves.{Leaf}
 use Rattle.spec.specs.WalkRecords.{record_size, leaf_record, leaf_records, records_from}
-use Rattle.theory.specs.WalkRecordLaws.{record_length}
+use Rattle.theory.proofs.WalkRecordLaws.{record_length}
 use Rattle.bits.specs.Bits.{overlaid}
-use Rattle.bits.specs.Overlaying.{length_overlaid, overlaid_behind}
+use Rattle.bits.proofs.Overlaying.{length_overlaid, overlaid_behind}
 
 -- The records of n leaves from a place on stand at the front of the buffer; the bytes behind them are still those of out.
 pub record Filled (ls : List Leaf) (place : ℕ) (out : Bytes) (n : ℕ) (buffer : Bytes) : Type 0 where

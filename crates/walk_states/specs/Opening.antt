@@ -9,7 +9,7 @@ use Rattle.spec.specs.Check.{verdict}
 use Rattle.spec.specs.Leaves.{Leaf}
 use Rattle.spec.specs.Nodes.{read_leaves}
 use Rattle.spec.specs.Walk.{Stand, refused, leaf, done, stand_at, open_walk, next_place, next}
-use Rattle.theory.specs.AskLaws.{walk_is, walk_correct}
+use Rattle.theory.proofs.AskLaws.{walk_is, walk_correct}
 
 -- an image that the check refuses
 pub check_refuses : (s : Bytes) (place n : ℕ) → verdict s ≡ n → 1 ≤ n → open_walk s place ≡ refused n

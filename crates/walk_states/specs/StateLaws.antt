@@ -10,9 +10,9 @@ use Rattle.spec.specs.Leaves as Leaves
 use Rattle.spec.specs.Nodes.{read_leaves}
 use Rattle.spec.specs.Walk as Walk
 use Rattle.spec.specs.Walk.{refused, leaf, done, stand_at, open_walk}
-use Rattle.theory.specs.Lists.{le_or_lt, all_at}
-use Rattle.theory.specs.AskLaws.{walk_correct}
-use Rattle.theory.specs.LeafLists.{WellSized}
+use Rattle.theory.proofs.Lists.{le_or_lt, all_at}
+use Rattle.theory.proofs.AskLaws.{walk_correct}
+use Rattle.theory.proofs.LeafLists.{WellSized}
 use Rattle.image.specs.declared.Frame.{Frame}
 use Rattle.image.specs.declared.Leaf.{Leaf as Value}
 use Rattle.image.specs.FrameOf.{FrameOf}
@@ -22,7 +22,7 @@ use Rattle.nav_nodes.specs.FromCheck.{checked_accepted}
 use Rattle.query_descent.specs.Answers.{all_small}
 use Rattle.spec.specs.WalkRecords.{record_size, leaf_record, records_from, walk_records}
 use Rattle.spec.specs.Answer.{Outcome, written, refuse, success}
-use Rattle.theory.specs.WalkRecordLaws.{records_refused, records_written}
+use Rattle.theory.proofs.WalkRecordLaws.{records_refused, records_written}
 use Rattle.image.specs.declared.Written.TheVariants as Written
 use Rattle.image.specs.Outcomes.{outcome}
 use Rattle.walk_states.specs.Filling.{Fills}

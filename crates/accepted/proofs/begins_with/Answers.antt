@@ -3,7 +3,7 @@ use mathlib.Core.Path.{sym, ap, ◌∙◌}
 use native.Mathlib.Omega.{arith}
 use Rattle.spec.specs.Nodes.{read_leaves}
 use Rattle.spec.specs.Questions.{QB, Reply}
-use Rattle.theory.specs.OneQuestionLaws.{key_long, key_fits, stem_keys}
+use Rattle.theory.proofs.OneQuestionLaws.{key_long, key_fits, stem_keys}
 use Rattle.ask_files.specs.ReplyLaws.{begins_reply}
 use Rattle.accepted.proofs.NumberLaws.{refused_number, replied_number}
 use Rattle.accepted.proofs.begins_with.Goals as goal

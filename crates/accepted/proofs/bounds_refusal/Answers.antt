@@ -2,7 +2,7 @@
 use mathlib.Core.Path.{sym, ◌∙◌}
 use mathlib.Core.Logic.{inl, inr}
 use Rattle.keys.proofs.OrderLaws.{order_is_below, order_not_below}
-use Rattle.theory.specs.OneQuestionLaws.{lower_long, upper_long, bounds_reversed, bounds_fit}
+use Rattle.theory.proofs.OneQuestionLaws.{lower_long, upper_long, bounds_reversed, bounds_fit}
 use Rattle.accepted.proofs.bounds_refusal.Goals as goal
 
 pub returns-then-lo-gt-MAX_KEY_BYTES : goal.returns-then-lo-gt-MAX_KEY_BYTES

@@ -3,7 +3,7 @@ use mathlib.Core.Path.{sym, ap, ◌∙◌}
 use native.Mathlib.Omega.{arith}
 use Rattle.spec.specs.Nodes.{read_leaves}
 use Rattle.spec.specs.Questions.{QC, Reply}
-use Rattle.theory.specs.OneQuestionLaws.{count_keys, bounds_short}
+use Rattle.theory.proofs.OneQuestionLaws.{count_keys, bounds_short}
 use Rattle.ask_files.specs.ReplyLaws.{count_reply}
 use Rattle.accepted.proofs.NumberLaws.{refused_number, replied_number}
 use Rattle.accepted.proofs.count.Goals as goal

@@ -3,7 +3,7 @@ use mathlib.Core.Path.{ap, ◌∙◌}
 use native.Mathlib.Omega.{arith}
 use Rattle.spec.specs.Rules.{rule_says}
 use Rattle.spec.specs.Questions.{QP}
-use Rattle.theory.specs.OneQuestionLaws.{key_long, key_fits, point_keys}
+use Rattle.theory.proofs.OneQuestionLaws.{key_long, key_fits, point_keys}
 use Rattle.query_descent.specs.Answers.{all_small}
 use Rattle.accepted.proofs.NumberLaws.{refused_number, point_number}
 use Rattle.accepted.proofs.point.Goals as goal

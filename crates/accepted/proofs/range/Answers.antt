@@ -3,7 +3,7 @@ use mathlib.Core.Path.{sym, ap, ◌∙◌}
 use native.Mathlib.Omega.{arith}
 use Rattle.spec.specs.Nodes.{read_leaves}
 use Rattle.spec.specs.Questions.{QR, Reply}
-use Rattle.theory.specs.OneQuestionLaws.{range_keys, bounds_short}
+use Rattle.theory.proofs.OneQuestionLaws.{range_keys, bounds_short}
 use Rattle.ask_files.specs.ReplyLaws.{range_reply}
 use Rattle.accepted.proofs.NumberLaws.{refused_number, replied_number}
 use Rattle.accepted.proofs.range.Goals as goal

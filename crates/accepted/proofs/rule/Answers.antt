@@ -3,7 +3,7 @@ use mathlib.Core.Path.{ap, ◌∙◌}
 use native.Mathlib.Omega.{arith}
 use Rattle.spec.specs.Rules.{rule_number}
 use Rattle.spec.specs.Questions.{QP}
-use Rattle.theory.specs.OneQuestionLaws.{key_long, key_fits, point_keys}
+use Rattle.theory.proofs.OneQuestionLaws.{key_long, key_fits, point_keys}
 use Rattle.accepted.proofs.NumberLaws.{refused_rule, point_rule_is}
 use Rattle.accepted.proofs.rule.Goals as goal
 

@@ -4,7 +4,7 @@ use native.Mathlib.Omega.{arith}
 use lib.ListN.{length, take, length-set}
 use lib.Seq.{length-take-le}
 use Rattle.spec.specs.Questions.{QS, Reply}
-use Rattle.theory.specs.OneQuestionLaws.{key_long, key_fits, seek_keys}
+use Rattle.theory.proofs.OneQuestionLaws.{key_long, key_fits, seek_keys}
 use Rattle.accepted.proofs.NumberLaws.{refused_number, refused_key, replied_number, replied_key}
 use Rattle.accepted.proofs.seek.Goals as goal
 

@@ -2,7 +2,7 @@
 use mathlib.Core.Path.{sym, subst, ◌∙◌}
 use Rattle.spec.specs.Answer.{refuse}
 use Rattle.spec.specs.Build.{turned_down, to_build}
-use Rattle.theory.specs.BuildLaws.{build_is}
+use Rattle.theory.proofs.BuildLaws.{build_is}
 use Rattle.image.specs.Header.{asked}
 use Rattle.build.specs.Build.{Judges}
 use Rattle.build.proofs.build.Goals as goal

@@ -1,7 +1,7 @@
 -- What is judged decides, and the plan's end is the length.
 use mathlib.Core.Path.{sym, ap, subst, ◌∙◌}
 use Rattle.spec.specs.Build.{turned_down, to_build, bytes}
-use Rattle.theory.specs.BuildLaws.{length_is}
+use Rattle.theory.proofs.BuildLaws.{length_is}
 use Rattle.image.specs.Header.{asked}
 use Rattle.build.specs.Build.{Judges}
 use Rattle.build.proofs.image_length.Goals as goal

@@ -4,8 +4,8 @@ use mathlib.Core.Path.{ap₂, ◌∙◌}
 use mathlib.Core.Bool.{◌&&◌}
 use native.Mathlib.Omega.{arith}
 use Rattle.bits.specs.Bits.{part}
-use Rattle.bits.specs.RankLaws.{rank_le}
-use Rattle.bits.specs.PartLaws.{rank_part}
+use Rattle.bits.proofs.RankLaws.{rank_le}
+use Rattle.bits.proofs.PartLaws.{rank_part}
 use Rattle.spec.specs.Bytes.{blocks}
 use Rattle.check_frame.proofs.count_dense.Goals as goal
 

@@ -1,6 +1,6 @@
 -- The answer by what accepting the image gave.
 use mathlib.Core.Path.{sym}
-use Rattle.theory.specs.RefusalNumbers.{check_accepts, check_refused}
+use Rattle.theory.proofs.RefusalNumbers.{check_accepts, check_refused}
 use Rattle.check_image.proofs.check.Goals as goal
 
 pub returns-in-At : goal.returns-in-At

@@ -6,7 +6,7 @@ use Rattle.spec.specs.Frame.{parts}
 use Rattle.spec.specs.Trie.{builders_trie}
 use Rattle.spec.specs.Check.{ranks_valid, starts_valid, tables_valid}
 use Rattle.theory.specs.Demands.{Passes13, Passes14, Passes15, spare_set, no_trie, table_wrong, slot_set}
-use Rattle.theory.specs.CheckStages.{passes_verdict}
+use Rattle.theory.proofs.CheckStages.{passes_verdict}
 use Rattle.image.specs.FrameOf.{FrameOf, frame_bodies, frame_named}
 use Rattle.image.specs.declared.Frame.{Frame}
 use Rattle.check_tables.specs.Tables.{dense_agrees, sparse_agrees, tables_are}

@@ -5,7 +5,7 @@ use Rattle.query_descent.specs.declared.KeyEnd.{KeyEnd}
 use Rattle.query_descent.specs.declared.KeyEnd.TheVariants as End
 use Rattle.image.specs.declared.NodeNum.{NodeNum}
 use Rattle.spec.specs.Bytes.{bit, shared}
-use Rattle.theory.specs.Order.{shared_le}
+use Rattle.theory.proofs.Order.{shared_le}
 use Prim.Native.Nat.{ℕ}
 use mathlib.Core.Path.{◌≡◌, refl, sym, ap, subst, ◌∙◌}
 use native.Mathlib.Omega.{arith}

@@ -1,5 +1,5 @@
 -- The answer is one number, and replies are short enough that it decodes.
-use Rattle.theory.specs.LengthBounds.{ask_short}
+use Rattle.theory.proofs.LengthBounds.{ask_short}
 use Rattle.query_descent.specs.Answers.{all_small}
 use Rattle.image.proofs.CodedLaws.{coded}
 use Rattle.range_filter.proofs.range_filter_ask.Goals as goal

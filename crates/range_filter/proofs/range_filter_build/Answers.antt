@@ -2,7 +2,7 @@
 use mathlib.Core.Path.{ap, ◌∙◌}
 use Rattle.spec.specs.Image.{Settings}
 use Rattle.spec.specs.Build.{build}
-use Rattle.theory.specs.LengthBounds.{build_short}
+use Rattle.theory.proofs.LengthBounds.{build_short}
 use Rattle.query_descent.specs.Answers.{all_small}
 use Rattle.image.proofs.CodedLaws.{coded}
 use Rattle.range_filter.proofs.range_filter_build.Goals as goal

@@ -1,7 +1,7 @@
 -- The length is one number, and an image is short enough that it decodes.
 use mathlib.Core.Path.{ap, ◌∙◌}
 use Rattle.spec.specs.Build.{image_length}
-use Rattle.theory.specs.LengthBounds.{length_short}
+use Rattle.theory.proofs.LengthBounds.{length_short}
 use Rattle.query_descent.specs.Answers.{all_small}
 use Rattle.range_filter.proofs.LengthLaws.{coded_length}
 use Rattle.range_filter.proofs.range_filter_image_length.Goals as goal

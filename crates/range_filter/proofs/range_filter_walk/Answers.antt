@@ -1,5 +1,5 @@
 -- The answer is one number, and records are short enough that it decodes.
-use Rattle.theory.specs.LengthBounds.{walk_records_short}
+use Rattle.theory.proofs.LengthBounds.{walk_records_short}
 use Rattle.query_descent.specs.Answers.{all_small}
 use Rattle.image.proofs.CodedLaws.{coded}
 use Rattle.range_filter.proofs.range_filter_walk.Goals as goal

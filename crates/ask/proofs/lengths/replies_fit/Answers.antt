@@ -10,7 +10,7 @@ use Rattle.spec.specs.Questions.{questions_of}
 use Rattle.nav_nodes.specs.Accepted.{real_sized}
 use Rattle.query_descent.specs.Answers.{all_small}
 use Rattle.ask_files.specs.FileLaws.{few_questions}
-use Rattle.theory.specs.LengthBounds.{replies_bound}
+use Rattle.theory.proofs.LengthBounds.{replies_bound}
 use Rattle.ask_replies.specs.Replies.{file_replies}
 use Rattle.ask.proofs.lengths.replies_fit.Goals as goal
 

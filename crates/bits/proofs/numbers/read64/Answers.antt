@@ -1,6 +1,6 @@
 use native.Mathlib.Omega.{arith}
 use native.Mathlib.Nat.{add-zero}
-use Rattle.bits.specs.ValueLaws.{word_bytes}
+use Rattle.bits.proofs.ValueLaws.{word_bytes}
 use Rattle.bits.proofs.numbers.read64.Goals as goal
 
 pub returns : goal.returns

@@ -1,6 +1,6 @@
 use mathlib.Core.Path.{◌≡◌, sym, ap, ◌∙◌}
 use Prim.Native.Nat.{ℕ, ◌+◌, ◌-◌}
-use Rattle.bits.specs.ValueLaws.{Small, value_front, value_end, word_end}
+use Rattle.bits.proofs.ValueLaws.{Small, value_front, value_end, word_end}
 use native.Mathlib.Omega.{arith}
 use lib.ListN.{drop}
 use lib.Seq.{drop-length}

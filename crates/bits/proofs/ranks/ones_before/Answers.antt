@@ -1,8 +1,8 @@
 use Prim.Native.Nat.{◌%◌, ◌^◌}
 use native.Mathlib.Omega.{arith}
 use lib.Count.{ones-le}
-use Rattle.bits.specs.ValueLaws.{Small}
-use Rattle.bits.specs.RankLaws.{rank_word, one_shl}
+use Rattle.bits.proofs.ValueLaws.{Small}
+use Rattle.bits.proofs.RankLaws.{rank_word, one_shl}
 use native.Mathlib.Nat.{mod-lt}
 use lib.Pow.{pow_pos}
 use Rattle.bits.proofs.ranks.ones_before.Goals as goal

@@ -1,6 +1,6 @@
 use mathlib.Core.Path.{sym}
 use native.Mathlib.Omega.{arith}
-use Rattle.bits.specs.RankLaws.{rank_zero}
+use Rattle.bits.proofs.RankLaws.{rank_zero}
 use Rattle.bits.proofs.ranks.ones_of.Goals as goal
 
 pub rank_from-requires : goal.rank_from-requires

@@ -1,8 +1,8 @@
 use Prim.Native.Nat.{◌*◌}
 use native.Mathlib.Omega.{arith}
 use lib.Count.{ones-le}
-use Rattle.bits.specs.ValueLaws.{Small, word_lt}
-use Rattle.bits.specs.RankLaws.{rank_whole_word}
+use Rattle.bits.proofs.ValueLaws.{Small, word_lt}
+use Rattle.bits.proofs.RankLaws.{rank_whole_word}
 use Rattle.bits.proofs.ranks.ones_word.Goals as goal
 
 pub overflow_cast-result : goal.overflow_cast-result

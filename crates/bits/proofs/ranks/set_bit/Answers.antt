@@ -1,8 +1,8 @@
 use mathlib.Core.Path.{sym}
 use Prim.Native.Nat.{◌%◌}
-use Rattle.bits.specs.RankLaws.{one_shl}
+use Rattle.bits.proofs.RankLaws.{one_shl}
 use native.Mathlib.Nat.{mod-lt, zero-lt-suc}
-use Rattle.bits.specs.BitLaws.{with_bit_is}
+use Rattle.bits.proofs.BitLaws.{with_bit_is}
 use Rattle.bits.proofs.ranks.set_bit.Goals as goal
 
 pub returns : goal.returns

@@ -3,7 +3,7 @@ use Prim.Native.Nat.{◌%◌}
 use native.Mathlib.Nat.{mod-lt, zero-lt-suc}
 use native.Mathlib.Omega.{arith}
 use lib.Pow.{shl_exact}
-use Rattle.bits.specs.NumberLaws.{number_set}
+use Rattle.bits.proofs.NumberLaws.{number_set}
 use Rattle.bits.proofs.ranks.set_number.Goals as goal
 
 pub returns : goal.returns

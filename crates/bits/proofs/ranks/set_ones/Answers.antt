@@ -1,6 +1,6 @@
 -- By cases of the slice's end.
 use mathlib.Core.Path.{sym}
-use Rattle.bits.specs.NumberLaws.{with_ones_is, with_ones_out}
+use Rattle.bits.proofs.NumberLaws.{with_ones_is, with_ones_out}
 use Rattle.bits.proofs.ranks.set_ones.Goals as goal
 
 pub returns-then-q-out : goal.returns-then-q-out

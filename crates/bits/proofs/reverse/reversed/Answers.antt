@@ -2,7 +2,7 @@
 use mathlib.Core.Path.{◌≡◌, ap, ◌∙◌}
 use native.Mathlib.Omega.{arith}
 use Rattle.bits.specs.Bits.{reversed}
-use Rattle.bits.specs.ReverseLaws.{mirror, mirror_reversed, reversed_small}
+use Rattle.bits.proofs.ReverseLaws.{mirror, mirror_reversed, reversed_small}
 use Rattle.bits.proofs.reverse.reversed.Goals as goal
 
 pub returns : goal.returns

@@ -1,6 +1,6 @@
 use native.Mathlib.Omega.{arith}
 use lib.Pow.{pow_pos}
-use Rattle.bits.specs.RankLaws.{one_shl}
+use Rattle.bits.proofs.RankLaws.{one_shl}
 use Rattle.bits_select.specs.NarrowLaws.{narrowed_low, narrowed_high}
 use Rattle.bits_select.proofs.in_word.half_of.Goals as goal
 

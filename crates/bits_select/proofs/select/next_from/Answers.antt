@@ -2,8 +2,8 @@ use mathlib.Core.Path.{sym, ◌∙◌}
 use Prim.Native.Nat.{◌*◌}
 use native.Mathlib.Omega.{arith}
 use Rattle.bits.specs.Bits.{rank}
-use Rattle.bits.specs.ValueLaws.{Small}
-use Rattle.bits.specs.RankLaws.{rank_up}
+use Rattle.bits.proofs.ValueLaws.{Small}
+use Rattle.bits.proofs.RankLaws.{rank_up}
 use Rattle.bits_select.specs.WordLaws.{rank_clear, select_word}
 use Rattle.bits_select.specs.SelectLaws.{select_all}
 use Rattle.bits_select.proofs.select.next_from.Goals as goal

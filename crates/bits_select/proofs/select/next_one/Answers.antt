@@ -2,7 +2,7 @@ use mathlib.Core.Path.{ap, ◌∙◌}
 use Prim.Native.Nat.{ℕ, ◌/◌, ◌%◌, ◌^◌}
 use native.Mathlib.Omega.{arith}
 use Rattle.bits.specs.Bits.{rank, select}
-use Rattle.bits.specs.ValueLaws.{Small}
+use Rattle.bits.proofs.ValueLaws.{Small}
 use Rattle.bits_select.specs.SelectLaws.{select_behind, select_le}
 use Rattle.bits_select.specs.WordLaws.{word_room, rank_clear, select_word}
 use Rattle.bits_select.proofs.select.next_one.Goals as goal

@@ -4,7 +4,7 @@ use native.Mathlib.Nat.{div-le_self}
 use native.Mathlib.Omega.{arith}
 use lib.Count.{ones-le}
 use Rattle.bits.specs.Bits.{rank, select}
-use Rattle.bits.specs.ValueLaws.{Small}
+use Rattle.bits.proofs.ValueLaws.{Small}
 use Rattle.bits_select.specs.WordLaws.{one_reached, word_room, rank_rest, select_word}
 use Rattle.bits_select.proofs.select.select_from.Goals as goal
 

@@ -3,8 +3,8 @@ use Prim.Native.Nat.{◌+◌, ◌*◌}
 use native.Mathlib.Omega.{arith}
 use lib.Count.{ones}
 use Rattle.bits.specs.Bits.{rank}
-use Rattle.bits.specs.ValueLaws.{Small}
-use Rattle.bits.specs.RankLaws.{rank_whole_word}
+use Rattle.bits.proofs.ValueLaws.{Small}
+use Rattle.bits.proofs.RankLaws.{rank_whole_word}
 use Rattle.bits_select.specs.WordLaws.{select_word}
 use Rattle.bits_select.proofs.select.select_in.Goals as goal
 

@@ -3,7 +3,7 @@ use Prim.Native.Nat.{ℕ, zero, suc, ◌^◌, ◌<◌}
 use native.Mathlib.Omega.{arith}
 use native.Mathlib.Nat.{mod-lt}
 use lib.ListN.{get_or}
-use Rattle.bits.specs.RankLaws.{one_shl}
+use Rattle.bits.proofs.RankLaws.{one_shl}
 use Rattle.build_passes.specs.FlippedBits.{flip_byte}
 use Rattle.build_passes.proofs.flip.flip_last.Goals as goal
 

@@ -4,7 +4,7 @@ use mathlib.Core.Path.{◌≡◌, refl, sym, ap, ◌∙◌}
 use mathlib.Core.List.{◌++◌}
 use lib.ListN.{length, drop}
 use Rattle.spec.specs.Bytes.{Bytes}
-use Rattle.theory.specs.Lists.{bytes_drop}
+use Rattle.theory.proofs.Lists.{bytes_drop}
 use Rattle.build_laws.specs.PackedBody.{small_of}
 use Rattle.build_records.specs.Plan.{list_body}
 use Rattle.build_records.specs.BodyWritten.{ready_list, empty_body, sums_small, pass_room, pass_leaves, flip_room, body_again, body_whole}

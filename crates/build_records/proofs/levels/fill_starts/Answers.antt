@@ -3,7 +3,7 @@ use Prim.Native.Nat.{ℕ, ◌+◌}
 use mathlib.Core.Path.{◌≡◌, refl, sym, ap, ◌∙◌}
 use lib.ListN.{length, get_or}
 use Rattle.bits.specs.Bits.{overlaid}
-use Rattle.bits.specs.Overlaying.{overlaid_nil, overlaid_behind}
+use Rattle.bits.proofs.Overlaying.{overlaid_nil, overlaid_behind}
 use Rattle.build_laws.specs.Cursors.{sums, sums_none}
 use Rattle.build_passes.specs.CounterSums.{sums_in, sums_le}
 use Rattle.build_records.specs.LevelRecord.{start_bytes, starts_below, starts_none, starts_more, starts_longer, starts_le, start_length}

@@ -5,7 +5,7 @@ use borrow.Rule.Slice.PartMut.{put_mid}
 use lib.ListN.{length, drop, length-drop}
 use lib.Seq.{length-take-le}
 use Rattle.bits.specs.Bits.{overlaid}
-use Rattle.bits.specs.Overlaying.{overlaid_nil, lent_overlaid}
+use Rattle.bits.proofs.Overlaying.{overlaid_nil, lent_overlaid}
 use Rattle.build_records.specs.LevelRecord.{starts_below, levels_none, levels_some, levels_length}
 use Rattle.build_records.specs.RecordsWritten.{record_done}
 use native.Mathlib.Omega.{arith}

@@ -1,7 +1,7 @@
 -- A level with nodes has its first node written, and one without has nothing written.
 use mathlib.Core.Path.{sym, ap, ◌∙◌}
 use Rattle.bits.specs.Bits.{overlaid}
-use Rattle.bits.specs.Overlaying.{overlaid_nil}
+use Rattle.bits.proofs.Overlaying.{overlaid_nil}
 use Rattle.build_records.specs.LevelRecord.{start_some, start_none, size_some}
 use native.Mathlib.Omega.{arith}
 use Rattle.build_records.proofs.levels.write_start.Goals as goal

@@ -2,7 +2,7 @@
 use mathlib.Core.Path.{sym, ◌∙◌}
 use lib.Dec.{leb}
 use borrow.Author.Tests.{leb-true}
-use Rattle.theory.specs.Lists.{and_both}
+use Rattle.theory.proofs.Lists.{and_both}
 use Rattle.check_levels.proofs.judge.next_level.Goals as goal
 
 pub level_by_tables-requires : goal.level_by_tables-requires

@@ -5,8 +5,8 @@ use native.Mathlib.Omega.{arith}
 use mir.Val.{Fits}
 use mir.Syntax.{w64}
 use Rattle.spec.specs.Bytes.{Bytes}
-use Rattle.bits.specs.PartLaws.{bits_room, lent_part}
-use Rattle.bits.specs.RankLaws.{rank_le}
+use Rattle.bits.proofs.PartLaws.{bits_room, lent_part}
+use Rattle.bits.proofs.RankLaws.{rank_le}
 use Rattle.image.specs.FrameOf.{within}
 use Rattle.check_levels.specs.Bodies.{dc_body, sc_body, sb_body, bodies_sized, dense_children}
 use Rattle.check_levels.specs.Levels.{entry_within, level_nodes, level_children, entry_up, sparse_level}

@@ -5,7 +5,7 @@ use native.Mathlib.Omega.{arith}
 use mir.Val.{Fits}
 use mir.Syntax.{w64}
 use Rattle.spec.specs.Bytes.{Bytes, blocks}
-use Rattle.bits.specs.ValueLaws.{Small}
+use Rattle.bits.proofs.ValueLaws.{Small}
 use Rattle.image.specs.FrameOf.{within}
 use Rattle.check_levels.specs.Indexed.{entries_ranked}
 use Rattle.check_levels.proofs.tables.children_before.Goals as goal

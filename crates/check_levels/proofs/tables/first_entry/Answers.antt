@@ -1,6 +1,6 @@
 -- Both are lent as parts of the image.
 use Rattle.spec.specs.Bytes.{Bytes}
-use Rattle.bits.specs.ValueLaws.{Small}
+use Rattle.bits.proofs.ValueLaws.{Small}
 use Rattle.image.specs.FrameOf.{within}
 use Rattle.check_levels.specs.Indexed.{starts_sampled}
 use Rattle.check_levels.proofs.tables.first_entry.Goals as goal

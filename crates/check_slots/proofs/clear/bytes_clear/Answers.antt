@@ -6,7 +6,7 @@ use lib.ListN.{get_or}
 use lib.Dec.{eqb}
 use borrow.Author.Tests.{eq-eqb}
 use Rattle.bits.specs.Bits.{rank}
-use Rattle.bits.specs.ValueLaws.{Small}
+use Rattle.bits.proofs.ValueLaws.{Small}
 use Rattle.check_slots.specs.SlotBits.{bits_clear}
 use Rattle.check_slots.specs.SlotWords.{byte_greater, byte_smaller}
 use Rattle.check_slots.proofs.clear.bytes_clear.Goals.{then-greatest-byte, else-greatest-byte}

@@ -2,8 +2,8 @@
 use Prim.Native.Nat.{◌-◌}
 use native.Mathlib.Omega.{arith}
 use lib.Pow.{pow_pos}
-use Rattle.bits.specs.ValueLaws.{Small}
-use Rattle.bits.specs.RankLaws.{one_shl}
+use Rattle.bits.proofs.ValueLaws.{Small}
+use Rattle.bits.proofs.RankLaws.{one_shl}
 use Rattle.check_slots.specs.SlotWords.{few_bits}
 use Rattle.check_slots.proofs.clear.few_clear.Goals as goal
 

@@ -6,7 +6,7 @@ use mathlib.Core.Bool.{Bool}
 use Prim.Native.Nat.{ℕ, ◌+◌, ◌-◌, ◌≤◌, ◌<◌}
 use native.Mathlib.Omega.{arith}
 use Rattle.spec.specs.Bytes.{Bytes}
-use Rattle.bits.specs.RankLaws.{rank_zero}
+use Rattle.bits.proofs.RankLaws.{rank_zero}
 use Rattle.image.specs.declared.Frame.{Frame}
 use Rattle.check_levels.specs.Bodies.{dl_body, dc_body, dp_body}
 use Rattle.check_levels.specs.Ranges.{all_from, from_end}

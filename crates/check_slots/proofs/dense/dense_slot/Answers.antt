@@ -4,7 +4,7 @@ use Prim.Native.Nat.{ℕ, ◌+◌, ◌*◌, ◌≤◌, ◌<◌}
 use native.Mathlib.Omega.{arith}
 use mir.Val.{Fits}
 use mir.Syntax.{w64}
-use Rattle.bits.specs.RankLaws.{rank_le}
+use Rattle.bits.proofs.RankLaws.{rank_le}
 use Rattle.check_levels.specs.Bodies.{dp_body}
 use Rattle.check_slots.specs.DenseSlots.{entries_within, slot_read}
 use Rattle.check_slots.proofs.dense.dense_slot.Goals as goal

@@ -5,7 +5,7 @@ use native.Mathlib.Omega.{arith}
 use mir.Val.{Fits}
 use mir.Syntax.{w64}
 use Rattle.spec.specs.Bytes.{Bytes}
-use Rattle.bits.specs.PartLaws.{lent_part}
+use Rattle.bits.proofs.PartLaws.{lent_part}
 use Rattle.image.specs.FrameOf.{within}
 use Rattle.check_levels.specs.Bodies.{sv_body}
 use Rattle.check_slots.specs.SlotTests.{clear_at, slots_sized}

@@ -1,7 +1,7 @@
 -- D-IsPrefixKey lies within the image, and its next set bit is the next exact leaf.
 use mathlib.Core.Path.{◌≡◌}
 use Rattle.spec.specs.Bytes.{Bytes}
-use Rattle.bits.specs.PartLaws.{bits_room, lent_part}
+use Rattle.bits.proofs.PartLaws.{bits_room, lent_part}
 use Rattle.image.specs.FrameOf.{within}
 use Rattle.check_levels.specs.Bodies.{dp_body, bodies_sized}
 use Rattle.check_slots.specs.DenseSlots.{exact_select}

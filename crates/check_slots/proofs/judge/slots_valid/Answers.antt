@@ -1,7 +1,8 @@
 -- Without leaves or without bits nothing is set; else the three tests are those of number 16.
 use mathlib.Core.Path.{sym, ◌∙◌}
 use Rattle.check_levels.specs.BodyTests.{some_nodes}
-use Rattle.check_slots.specs.SlotTests.{no_leaves, no_bits, dense_fails, sparse_fails, levels_decide}
+use Rattle.check_slots.specs.SlotTests.{no_leaves}
+use Rattle.check_slots.proofs.NumberTests.{no_bits, dense_fails, sparse_fails, levels_decide}
 use Rattle.check_slots.proofs.judge.slots_valid.Goals as goal
 
 pub returns-then-f-eq0 : goal.returns-then-f-eq0

@@ -6,7 +6,7 @@ use native.Mathlib.Omega.{arith}
 use mir.Val.{Fits}
 use mir.Syntax.{w64}
 use Rattle.spec.specs.Bytes.{Bytes}
-use Rattle.bits.specs.PartLaws.{lent_part}
+use Rattle.bits.proofs.PartLaws.{lent_part}
 use Rattle.image.specs.declared.Frame.{Frame}
 use Rattle.image.specs.FrameOf.{within}
 use Rattle.check_levels.specs.declared.Level.{Level}

@@ -2,11 +2,11 @@
 use Prim.Native.Nat.{◌+◌}
 use mathlib.Core.Path.{refl, sym, ◌∙◌}
 use native.Mathlib.Omega.{arith}
-use Rattle.bits.specs.ValueLaws.{Small}
+use Rattle.bits.proofs.ValueLaws.{Small}
 use Rattle.check_tables.specs.Tables.{dense_agrees, sparse_agrees, tables_are}
 use Rattle.check_slots.specs.Passed.{bits_pass}
 use Rattle.check_slots.specs.LevelsLeft.{LevelsLeft, left_first, left_done, left_short, left_other, left_next}
-use Rattle.theory.specs.Lists.{and_both}
+use Rattle.theory.proofs.Lists.{and_both}
 use Rattle.check_slots.proofs.level_table.starts_equal.Goals as goal
 
 pub overflow_add-nodes : goal.overflow_add-nodes

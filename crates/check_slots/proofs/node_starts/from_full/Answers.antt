@@ -4,7 +4,7 @@ use Prim.Native.Nat.{ℕ, ◌/◌, ◌^◌, ◌<◌}
 use native.Mathlib.Omega.{arith}
 use lib.Count.{count_trailing_zeros}
 use lib.Pow.{pow_pos}
-use Rattle.bits.specs.RankLaws.{one_shl}
+use Rattle.bits.proofs.RankLaws.{one_shl}
 use Rattle.check_slots.specs.WordDigits.{lowest_within, lowest_less}
 use Rattle.check_slots.specs.SparseWords.{all_kept, one_less}
 use Rattle.check_slots.proofs.node_starts.from_full.Goals as goal

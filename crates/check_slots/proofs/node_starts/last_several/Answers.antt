@@ -2,7 +2,7 @@
 use mathlib.Core.Path.{sym, ap, ◌∙◌}
 use Prim.Native.Nat.{ℕ, ◌+◌, ◌*◌, ◌%◌}
 use lib.ListN.{get_or-eq_default}
-use Rattle.bits.specs.ValueLaws.{Small}
+use Rattle.bits.proofs.ValueLaws.{Small}
 use Rattle.check_slots.specs.SparseWords.{starts_are}
 use Rattle.check_slots.specs.WordDigits.{bit_low}
 use Rattle.check_slots.proofs.node_starts.last_several.Goals as goal

@@ -1,7 +1,7 @@
 -- The digits of the word are the bits, and those of its half the bits behind them.
 use mathlib.Core.Path.{sym}
 use Prim.Native.Nat.{◌+◌, ◌*◌}
-use Rattle.bits.specs.ValueLaws.{Small}
+use Rattle.bits.proofs.ValueLaws.{Small}
 use Rattle.check_slots.specs.SparseWords.{starts_are}
 use Rattle.check_slots.specs.WordDigits.{bit_low}
 use Rattle.check_slots.proofs.node_starts.several.Goals as goal

@@ -9,7 +9,7 @@ use mir.Syntax.{w64}
 use borrow.Author.Tests.{eq-eqb, ne_eqb}
 use Rattle.spec.specs.Bytes.{Bytes}
 use Rattle.bits.specs.Bits.{rank}
-use Rattle.bits.specs.RankLaws.{rank_le}
+use Rattle.bits.proofs.RankLaws.{rank_le}
 use Rattle.check_slots.specs.SparseExact.{sparse_slot}
 use Rattle.check_slots.specs.Entries.{clear_slot}
 use Rattle.check_slots.proofs.sparse.entry_clear.Goals as goal

@@ -6,7 +6,7 @@ use native.Mathlib.Omega.{arith}
 use mir.Val.{Fits}
 use mir.Syntax.{w64}
 use Rattle.spec.specs.Bytes.{Bytes}
-use Rattle.bits.specs.PartLaws.{bits_room, lent_part}
+use Rattle.bits.proofs.PartLaws.{bits_room, lent_part}
 use Rattle.image.specs.declared.Frame.{Frame}
 use Rattle.image.specs.FrameOf.{within}
 use Rattle.check_levels.specs.Bodies.{sl_body, sc_body, sb_body, bodies_sized}

@@ -5,7 +5,7 @@ use native.Mathlib.Omega.{arith}
 use mir.Val.{Fits}
 use mir.Syntax.{w64}
 use Rattle.spec.specs.Bytes.{Bytes}
-use Rattle.bits.specs.PartLaws.{bits_room, lent_part}
+use Rattle.bits.proofs.PartLaws.{bits_room, lent_part}
 use Rattle.image.specs.FrameOf.{within}
 use Rattle.check_levels.specs.Bodies.{sc_body, sb_body, sv_body, bodies_sized}
 use Rattle.check_slots.specs.LevelStarts.{dense_room, dense_few}

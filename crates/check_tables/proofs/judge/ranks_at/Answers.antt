@@ -6,7 +6,7 @@ use mir.Val.{Fits}
 use mir.Syntax.{w64}
 use Rattle.spec.specs.Bytes.{Bytes, blocks}
 use Rattle.bits.specs.Bits.{part}
-use Rattle.bits.specs.PartLaws.{lent_part}
+use Rattle.bits.proofs.PartLaws.{lent_part}
 use Rattle.check_tables.specs.Tables.{ranked_parts, ranked_is}
 use Rattle.check_tables.proofs.judge.ranks_at.Goals as goal
 

@@ -2,8 +2,8 @@
 use mathlib.Core.Path.{◌≡◌, ◌∙◌}
 use Rattle.spec.specs.Bytes.{Bytes, blocks}
 use Rattle.bits.specs.Bits.{part}
-use Rattle.bits.specs.Parts.{length_part}
-use Rattle.bits.specs.PartLaws.{bits_room, lent_part}
+use Rattle.bits.proofs.SliceParts.{length_part}
+use Rattle.bits.proofs.PartLaws.{bits_room, lent_part}
 use Rattle.check_tables.specs.Tables.{sampled_is}
 use Rattle.check_tables.proofs.judge.samples_at.Goals as goal
 

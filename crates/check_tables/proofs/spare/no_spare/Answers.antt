@@ -4,11 +4,11 @@ use mathlib.Core.Path.{sym, ap, ◌∙◌}
 use native.Mathlib.Omega.{arith}
 use lib.Dec.{eqb}
 use Rattle.spec.specs.Bytes.{blocks}
-use Rattle.bits.specs.ValueLaws.{Small}
+use Rattle.bits.proofs.ValueLaws.{Small}
 use Rattle.bits.specs.Bits.{part}
 use Rattle.check_tables.specs.Spare.{spare_none, spare_last}
-use Rattle.bits.specs.Parts.{length_part}
-use Rattle.bits.specs.PartLaws.{byte_part, small_part}
+use Rattle.bits.proofs.SliceParts.{length_part}
+use Rattle.bits.proofs.PartLaws.{byte_part, small_part}
 use Rattle.check_tables.proofs.spare.no_spare.Goals as goal
 
 pub returns-then-n-eq0 : goal.returns-then-n-eq0

@@ -2,9 +2,9 @@
 use mathlib.Core.Path.{sym, ap₂, ◌∙◌}
 use Prim.Native.Nat.{◌*◌}
 use native.Mathlib.Omega.{arith}
-use Rattle.bits.specs.ValueLaws.{Small}
+use Rattle.bits.proofs.ValueLaws.{Small}
 use lib.Bits.{bit_and}
-use Rattle.bits.specs.CoverLaws.{covers_more, covers_not, covered_true, covered_false}
+use Rattle.bits.proofs.CoverLaws.{covers_more, covers_not, covered_true, covered_false}
 use Rattle.check_trie.proofs.cover.covered.Goals as goal
 
 pub loop-q-init : goal.loop-q-init

@@ -2,7 +2,7 @@
 use mathlib.Core.Path.{◌≡◌, sym, ◌∙◌}
 use Prim.Native.Nat.{ℕ, ◌+◌, ◌*◌, ◌-◌, ◌≤◌, ◌<◌}
 use native.Mathlib.Omega.{arith}
-use Rattle.bits.specs.Parts.{length_part}
+use Rattle.bits.proofs.SliceParts.{length_part}
 use Rattle.check_levels.specs.Ranges.{from_fail, from_step, from_end}
 use Rattle.check_trie.specs.DensePositions.{dense_node_valid, dense_all, row_judged}
 use Rattle.check_trie.proofs.dense.dense_valid.Goals as goal

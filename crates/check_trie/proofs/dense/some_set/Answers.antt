@@ -2,7 +2,7 @@
 use mathlib.Core.Path.{ap, ap₂, ◌∙◌}
 use lib.Bits.{bit_or}
 use lib.Dec.{ltb}
-use Rattle.bits.specs.ValueLaws.{Small}
+use Rattle.bits.proofs.ValueLaws.{Small}
 use Rattle.check_trie.specs.DensePositions.{some_set}
 use Rattle.check_trie.proofs.dense.some_set.Goals as goal
 

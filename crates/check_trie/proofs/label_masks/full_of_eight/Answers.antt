@@ -2,7 +2,7 @@
 use mathlib.Core.Path.{ap, ◌∙◌}
 use Prim.Native.Nat.{ℕ, ◌/◌}
 use lib.Bits.{bit_and}
-use Rattle.bits.specs.ValueLaws.{Small}
+use Rattle.bits.proofs.ValueLaws.{Small}
 use Rattle.check_trie.specs.LaneLaws.{low_bytes, fulls_eight}
 use Rattle.check_trie.proofs.label_masks.full_of_eight.Goals as goal
 

@@ -5,7 +5,7 @@ use native.Mathlib.Omega.{arith}
 use lib.Pow.{shr-shr}
 use lib.Bits.{bit_and}
 use borrow.Author.Tests.{eqb-true}
-use Rattle.bits.specs.ValueLaws.{Small}
+use Rattle.bits.proofs.ValueLaws.{Small}
 use Rattle.check_trie.specs.FlagLaws.{diagonal, found_more, none_found}
 use Rattle.check_trie.proofs.label_order.flags_within.Goals as goal
 

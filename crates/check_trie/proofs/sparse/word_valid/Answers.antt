@@ -1,7 +1,7 @@
 -- The 64 entries are judged by one number of 64 digits, which is 0 where each is valid.
 use mathlib.Core.Path.{refl}
 use Prim.Native.Nat.{◌*◌, ◌^◌, ◌<◌}
-use Rattle.bits.specs.ValueLaws.{Small, word_lt}
+use Rattle.bits.proofs.ValueLaws.{Small, word_lt}
 use Rattle.check_levels.specs.MaskLaws.{mask}
 use Rattle.check_trie.specs.WordEntries.{ascends, next_bits_lt, word_judged, word_ascends, word_lasts}
 use Rattle.check_trie.specs.FlagLaws.{none_descends}

@@ -1,7 +1,7 @@
 -- The three bodies lie within the image and have the lengths that the counts give.
 use mathlib.Core.Path.{◌≡◌}
 use Rattle.spec.specs.Bytes.{Bytes}
-use Rattle.bits.specs.PartLaws.{bits_room, lent_part}
+use Rattle.bits.proofs.PartLaws.{bits_room, lent_part}
 use Rattle.image.specs.FrameOf.{within}
 use Rattle.check_levels.specs.Bodies.{sc_body, sb_body, bodies_sized}
 use Rattle.check_trie.proofs.trie.sparse_part_valid.Goals as goal

@@ -2,8 +2,8 @@
 use Rattle.spec.specs.Bytes.{le32}
 use Rattle.bits.specs.Bits.{overlaid}
 use Rattle.image.specs.Header.{mark_bytes}
-use Rattle.bits.specs.Overlaying.{overlaid_overlaid}
-use Rattle.bits.specs.Overlaying.{length_le32}
+use Rattle.bits.proofs.Overlaying.{overlaid_overlaid}
+use Rattle.bits.proofs.Overlaying.{length_le32}
 use mathlib.Core.Path.{refl, ap, ◌∙◌}
 use mathlib.Core.List.{List}
 use Prim.Native.Nat.{ℕ, ◌+◌}

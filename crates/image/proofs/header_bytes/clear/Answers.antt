@@ -1,6 +1,6 @@
 -- The first bytes are cleared one by one.
 use lib.ListN.{replicate, length-set, drop}
-use Rattle.bits.specs.Overlaying.{cleared_more}
+use Rattle.bits.proofs.Overlaying.{cleared_more}
 use mathlib.Core.Path.{◌≡◌, refl, ap, ◌∙◌}
 use mathlib.Core.List.{◌++◌}
 use Prim.Native.Nat.{ℕ}

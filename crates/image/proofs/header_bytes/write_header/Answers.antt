@@ -4,8 +4,8 @@ use Rattle.spec.specs.Bytes.{le32}
 use Rattle.spec.specs.Image.{header}
 use Rattle.bits.specs.Bits.{overlaid}
 use Rattle.image.specs.Header.{first_bytes}
-use Rattle.bits.specs.Overlaying.{overlaid_behind}
-use Rattle.bits.specs.Overlaying.{length_le32}
+use Rattle.bits.proofs.Overlaying.{overlaid_behind}
+use Rattle.bits.proofs.Overlaying.{length_le32}
 use mathlib.Core.List.{append_assoc, List, ◌++◌}
 use mathlib.Core.Path.{◌≡◌, refl, ap, ◌∙◌}
 use Prim.Native.Nat.{ℕ}

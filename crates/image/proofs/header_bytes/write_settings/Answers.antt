@@ -2,7 +2,7 @@
 use lib.ListN.{length-set}
 use lib.Seq.{sets, sets-eq}
 use Rattle.bits.specs.Bits.{overlaid}
-use Rattle.bits.specs.Overlaying.{overlaid_overlaid}
+use Rattle.bits.proofs.Overlaying.{overlaid_overlaid}
 use mathlib.Core.Path.{◌≡◌, refl, ap, ◌∙◌}
 use mathlib.Core.List.{List, [], ◌∷◌}
 use Prim.Native.Nat.{ℕ}

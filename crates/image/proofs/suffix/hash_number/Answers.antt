@@ -7,7 +7,7 @@ use lib.Pow.{pow_pos}
 use Rattle.spec.specs.Bytes.{Bytes, low_first}
 use Rattle.spec.specs.Fnv.{hash}
 use Rattle.spec.specs.Leaves.{hash_bits}
-use Rattle.bits.specs.RankLaws.{one_shl}
+use Rattle.bits.proofs.RankLaws.{one_shl}
 use Rattle.image.specs.SuffixNumbers.{hash_number}
 use Rattle.image.proofs.suffix.hash_number.Goals as goal
 

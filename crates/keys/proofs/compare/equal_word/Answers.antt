@@ -1,6 +1,6 @@
 use native.Mathlib.Omega.{arith}
 use Rattle.keys.proofs.PrefixLaws.{word_equal}
-use Rattle.bits.specs.ValueLaws.{Small}
+use Rattle.bits.proofs.ValueLaws.{Small}
 use Rattle.keys.proofs.compare.equal_word.Goals as goal
 
 pub returns : goal.returns

@@ -1,7 +1,7 @@
 -- The word's bytes before its first difference are shared with all before the word, and no more.
 use mathlib.Core.Path.{sym}
 use Rattle.keys.proofs.PrefixLaws.{last_word}
-use Rattle.bits.specs.ValueLaws.{Small}
+use Rattle.bits.proofs.ValueLaws.{Small}
 use Rattle.keys.proofs.compare.shared_end.Goals as goal
 
 pub returns : goal.returns

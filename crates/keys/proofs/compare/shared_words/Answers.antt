@@ -1,7 +1,7 @@
 use mathlib.Core.Path.{refl, sym}
 use Prim.Native.Nat.{◌-◌}
 use Rattle.keys.proofs.PrefixLaws.{take_fewer, word_shared, word_differs}
-use Rattle.bits.specs.ValueLaws.{Small}
+use Rattle.bits.proofs.ValueLaws.{Small}
 use native.Mathlib.Omega.{arith}
 use Rattle.keys.proofs.compare.shared_words.Goals as goal
 

@@ -1,4 +1,4 @@
-use Rattle.nav_nodes.specs.NextBranch.{dense_none, dense_some}
+use Rattle.nav_nodes.proofs.NextBranchLaws.{dense_none, dense_some}
 use Rattle.image.specs.Records.{tail_part}
 use Rattle.nav_nodes.specs.Tables.{labels_ranked, children_ranked}
 use Rattle.bits.specs.Bits.{bit_at}

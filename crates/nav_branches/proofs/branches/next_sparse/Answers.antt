@@ -1,6 +1,6 @@
 use Rattle.nav_nodes.specs.Positions.{labels_room, index_sparse}
 use Rattle.image.specs.Records.{tail_part}
-use Rattle.nav_nodes.specs.NextBranch.{sparse_next}
+use Rattle.nav_nodes.proofs.NextBranchLaws.{sparse_next}
 use lib.ListN.{length-drop}
 use native.Mathlib.Omega.{arith}
 use Rattle.nav_branches.proofs.branches.next_sparse.Goals as goal

@@ -1,4 +1,4 @@
-use Rattle.nav_nodes.specs.NextBranch.{sparse_next}
+use Rattle.nav_nodes.proofs.NextBranchLaws.{sparse_next}
 use Rattle.nav_nodes.specs.Positions.{branches}
 use Rattle.nav_nodes.specs.Counting.{none_below_zero}
 use native.Mathlib.Omega.{arith}

@@ -1,6 +1,6 @@
 use Rattle.nav_nodes.specs.Positions.{child_at, few_children, dense_kids, dense_totals}
 use lib.ListN.{drop}
-use Rattle.bits.specs.RankLaws.{rank_le}
+use Rattle.bits.proofs.RankLaws.{rank_le}
 use borrow.Author.Tests.{lt-ltb, le-ltb}
 use native.Mathlib.Omega.{arith}
 use Rattle.nav_nodes.proofs.behind.child.Goals as goal

@@ -2,7 +2,7 @@ use Rattle.nav_nodes.specs.Positions.{child_at, slot_at, few_children, dense_kid
 use Rattle.nav_nodes.specs.Accepted.{nodes}
 use lib.ListN.{drop}
 use Rattle.nav_nodes.specs.NumberBounds.{leaves_all}
-use Rattle.bits.specs.RankLaws.{rank_le}
+use Rattle.bits.proofs.RankLaws.{rank_le}
 use borrow.Author.Tests.{lt-ltb, le-ltb}
 use Prim.Native.Nat.{◌+◌}
 use native.Mathlib.Omega.{arith}

@@ -3,7 +3,7 @@ use Rattle.nav_nodes.specs.Tables.{starts_sampled}
 use lib.ListN.{drop}
 use Rattle.nav_nodes.specs.Accepted.{nodes}
 use Rattle.nav_nodes.specs.NumberBounds.{leaves_all}
-use Rattle.bits.specs.RankLaws.{rank_le}
+use Rattle.bits.proofs.RankLaws.{rank_le}
 use Rattle.bits.specs.Bits.{rank}
 use native.Mathlib.Omega.{arith}
 use mathlib.Core.Path.{ap}

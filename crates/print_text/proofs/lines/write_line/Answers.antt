@@ -7,7 +7,7 @@ use Rattle.spec.specs.Print.{decimal}
 use Rattle.image.specs.Value.{leaf_of}
 use Rattle.print_text.specs.Writing.{written_append, written_as}
 use Rattle.print_text.specs.Texts.{cut_text, slot_text, line_is, length_pieces, length_line}
-use Rattle.bits.specs.UnpackLaws.{length_low_bits}
+use Rattle.bits.proofs.UnpackLaws.{length_low_bits}
 use Rattle.print_text.proofs.lines.write_line.Goals as goal
 
 pub write_decimal-kind-requires : goal.write_decimal-kind-requires

@@ -1,4 +1,4 @@
-use Rattle.bits.specs.RankLaws.{one_shl}
+use Rattle.bits.proofs.RankLaws.{one_shl}
 use Rattle.spec.specs.Bytes.{bit}
 use lib.Pow.{pow_pos, pow_mono, split}
 use mathlib.Core.Path.{ap}

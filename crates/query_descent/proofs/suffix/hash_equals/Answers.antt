@@ -1,11 +1,11 @@
-use Rattle.bits.specs.RankLaws.{one_shl}
+use Rattle.bits.proofs.RankLaws.{one_shl}
 use Rattle.nav_nodes.specs.Accepted.{nodes, hash_slot}
 use Rattle.nav_nodes.specs.Slots.{slot_of}
 use Rattle.query_descent.specs.SuffixBytes.{hash_length}
 use Rattle.query_descent.specs.SuffixBits.{number_same, hash_none}
 use Rattle.spec.specs.Bytes.{Bits, bit}
 use Rattle.spec.specs.Leaves.{hash_bits}
-use Rattle.theory.specs.KeyLeaves.{length_hash_bits}
+use Rattle.theory.proofs.KeyLeaves.{length_hash_bits}
 use lib.ListN.{get_or}
 use lib.Seq.{get_or-take}
 use lib.Pow.{pow_pos}

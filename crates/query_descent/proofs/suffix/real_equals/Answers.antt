@@ -1,4 +1,4 @@
-use Rattle.bits.specs.RankLaws.{one_shl}
+use Rattle.bits.proofs.RankLaws.{one_shl}
 use Rattle.nav_nodes.specs.Accepted.{nodes, real_slot}
 use Rattle.nav_nodes.specs.Slots.{slot_of}
 use Rattle.query_descent.specs.SuffixBytes.{real_length}

@@ -2,7 +2,7 @@ use Rattle.image.specs.Records.{tail_part}
 use Rattle.nav_nodes.specs.Accepted.{nodes}
 use Rattle.query_descent.specs.SuffixBytes.{slot_bit, slot_small}
 use Rattle.bits.specs.Bits.{bit_at, word}
-use Rattle.bits.specs.ValueLaws.{Small, small_drop, word_bit}
+use Rattle.bits.proofs.ValueLaws.{Small, small_drop, word_bit}
 use lib.ListN.{drop}
 use lib.Pow.{shr-shr}
 use mathlib.Core.List.{List}

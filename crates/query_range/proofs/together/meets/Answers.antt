@@ -1,4 +1,4 @@
-use Rattle.theory.specs.Order.{shared_le}
+use Rattle.theory.proofs.Order.{shared_le}
 use Rattle.query_descent.specs.declared.KeyEnd.{KeyEnd}
 use Rattle.query_descent.specs.declared.KeyEnd.TheVariants as End
 use Rattle.query_descent.specs.Leads.{LeadsTo}

@@ -1,7 +1,7 @@
 use Rattle.query_seek.specs.LeafKeys.{no_key}
 use Rattle.query_descent.specs.Seeks.{next_nowhere}
 use Rattle.query_seek.proofs.NextLaws.{overlaid_front}
-use Rattle.bits.specs.Overlaying.{length_overlaid}
+use Rattle.bits.proofs.Overlaying.{length_overlaid}
 use lib.ListN.{length, take}
 use mathlib.Core.Path.{refl, ap, ◌∙◌}
 use native.Mathlib.Omega.{arith}

@@ -1,6 +1,6 @@
 use Rattle.query_seek.proofs.NextLaws.{overlaid_front}
 use Rattle.query_seek.proofs.SeekLaws.{greater_below, greater_equal, greater_above}
-use Rattle.bits.specs.Overlaying.{length_overlaid}
+use Rattle.bits.proofs.Overlaying.{length_overlaid}
 use lib.Seq.{length-take-le}
 use lib.ListN.{length, take}
 use native.Mathlib.Omega.{arith}

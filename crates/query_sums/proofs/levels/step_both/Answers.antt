@@ -2,7 +2,7 @@
 use mathlib.Core.Path.{◌≡◌, sym, ap, ◌∙◌}
 use mathlib.Core.Bool.{true}
 use Prim.Native.Nat.{ℕ, ◌+◌}
-use Rattle.theory.specs.Lists.{and_both}
+use Rattle.theory.proofs.Lists.{and_both}
 use Rattle.query_sums.specs.Chains.{ChainOf}
 use Rattle.query_sums.specs.Levels.{OnChain, chain_passable, chain_passed, lowered_next}
 use Rattle.query_sums.proofs.levels.step_both.Goals as goal

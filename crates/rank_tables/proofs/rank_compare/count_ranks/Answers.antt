@@ -8,8 +8,8 @@ use native.Mathlib.Numerals.{add-one}
 use lib.Dec.{eqb}
 use Rattle.spec.specs.Bytes.{Bytes, blocks}
 use Rattle.bits.specs.Bits.{rank}
-use Rattle.bits.specs.ValueLaws.{Small}
-use Rattle.bits.specs.RankLaws.{rank_zero, rank_le}
+use Rattle.bits.proofs.ValueLaws.{Small}
+use Rattle.bits.proofs.RankLaws.{rank_zero, rank_le}
 use Rattle.rank_tables.specs.TableEntries.{table_entry_right, all_below, all_none, all_more, table_agrees}
 use Rattle.rank_tables.specs.Ranks.{block_begun, blocks_are}
 use Rattle.rank_tables.specs.Tables.{word_counted}

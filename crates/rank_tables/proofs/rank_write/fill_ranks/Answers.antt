@@ -7,8 +7,8 @@ use mathlib.Core.List.{List}
 use Prim.Native.Nat.{ℕ, ◌+◌, ◌*◌, ◌-◌}
 use lib.ListN.{length}
 use Rattle.bits.specs.Bits.{overlaid, rank, part}
-use Rattle.bits.specs.RankLaws.{rank_zero}
-use Rattle.bits.specs.Parts.{length_part}
+use Rattle.bits.proofs.RankLaws.{rank_zero}
+use Rattle.bits.proofs.SliceParts.{length_part}
 use Rattle.rank_tables.specs.TableEntries.{rank_table}
 use Rattle.rank_tables.specs.Filling.{filled_none, filled_more}
 use Rattle.rank_tables.proofs.rank_write.fill_ranks.Goals as goal

@@ -7,8 +7,8 @@ use lib.Dec.{eqb}
 use lib.ListN.{length}
 use Rattle.spec.specs.Bytes.{blocks}
 use Rattle.bits.specs.Bits.{rank}
-use Rattle.bits.specs.ValueLaws.{Small}
-use Rattle.bits.specs.RankLaws.{rank_zero, rank_le}
+use Rattle.bits.proofs.ValueLaws.{Small}
+use Rattle.bits.proofs.RankLaws.{rank_zero, rank_le}
 use Rattle.rank_tables.specs.TableEntries.{all_none, all_more}
 use Rattle.rank_tables.specs.Samples.{sampled, samples_agree}
 use Rattle.rank_tables.specs.Tables.{word_counted}

@@ -3,7 +3,7 @@ use Prim.Native.Nat.{ℕ, ◌+◌, ◌*◌, min}
 use mathlib.Core.Path.{ap, ◌∙◌}
 use native.Mathlib.Omega.{arith}
 use lib.Dec.{eqb}
-use Rattle.bits.specs.RankLaws.{rank_le}
+use Rattle.bits.proofs.RankLaws.{rank_le}
 use Rattle.rank_tables.specs.Tables.{sample_missing, sample_early, sample_late, sample_past, sample_other, sample_bit}
 use Rattle.rank_tables.proofs.sample_compare.sample_valid.Goals as goal
 

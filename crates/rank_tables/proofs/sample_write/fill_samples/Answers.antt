@@ -5,8 +5,8 @@ use mathlib.Core.List.{List}
 use lib.ListN.{length, length-drop}
 use Rattle.spec.specs.Bytes.{blocks}
 use Rattle.bits.specs.Bits.{overlaid, rank, select, part}
-use Rattle.bits.specs.RankLaws.{rank_zero, rank_slow, rank_le}
-use Rattle.bits.specs.Parts.{length_part, mid_is}
+use Rattle.bits.proofs.RankLaws.{rank_zero, rank_slow, rank_le}
+use Rattle.bits.proofs.SliceParts.{length_part, mid_is}
 use Rattle.rank_tables.specs.TableEntries.{sample_table}
 use Rattle.rank_tables.specs.Filling.{filled_none, filled_more}
 use native.Mathlib.Omega.{arith}

@@ -2,8 +2,8 @@
 use mathlib.Core.Path.{sym}
 use native.Mathlib.Omega.{arith}
 use lib.Pow.{pow_pos}
-use Rattle.bits.specs.RankLaws.{one_shl}
-use Rattle.bits.specs.UnpackLaws.{low_number}
+use Rattle.bits.proofs.RankLaws.{one_shl}
+use Rattle.bits.proofs.UnpackLaws.{low_number}
 use Rattle.walk_cursor.proofs.values.suffix_number.Goals as goal
 
 pub nonzero_rem-result : goal.nonzero_rem-result

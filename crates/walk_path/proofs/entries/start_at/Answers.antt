@@ -3,7 +3,7 @@ use Prim.Native.Nat.{◌+◌}
 use mathlib.Core.Path.{◌≡◌, ap, ◌∙◌}
 use native.Mathlib.Omega.{arith}
 use lib.ListN.{drop}
-use Rattle.bits.specs.RankLaws.{rank_le}
+use Rattle.bits.proofs.RankLaws.{rank_le}
 use Rattle.nav_nodes.specs.Positions.{dense_kids, dense_totals, few_children}
 use Rattle.walk_path.specs.Entries.{start_of}
 use Rattle.walk_path.proofs.entries.start_at.Goals as goal

@@ -1,0 +1,10 @@
+pub mod BitLaws
+pub mod CoverLaws
+pub mod NumberLaws
+pub mod Overlaying
+pub mod PartLaws
+pub mod SliceParts
+pub mod RankLaws
+pub mod ReverseLaws
+pub mod UnpackLaws
+pub mod ValueLaws
