@@ -1,6 +1,7 @@
 // The public calls for programs in other languages. They ask for nothing.
 
 #![tactic(auto)]
+
 ghost use Rattle.std.specs.Prelude.{◌≡◌};
 ghost use Rattle.spec.specs.Ask.{ask};
 ghost use Rattle.spec.specs.Build.{settings_from, length_code, image_length, build};

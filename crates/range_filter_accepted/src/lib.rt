@@ -2,6 +2,7 @@
 // But for the walk, the answer of each is one number: its quotient by 2^32 is the number of a refusal, 0 for none, and its rest the number of the reply, 0 for a refusal.
 
 #![tactic(auto)]
+
 ghost use Rattle.std.specs.Prelude.{◌≡◌};
 ghost use Rattle.spec.specs.Check.{verdict};
 ghost use Rattle.spec.specs.Questions.{QP, QS, QB, QR, QC};
