@@ -1,21 +1,18 @@
 -- The leaves of an ascending key list, from each key and its neighbours.
-use Prim.Native.Nat.{ℕ, suc, ◌+◌, ◌<◌, ◌≤◌, max}
-use Rattle.std.specs.Prelude.{◌≡◌, Bool, cond, ◌⊎◌, take, replicate}
+use Prim.Native.Nat.{ℕ, ◌<◌, ◌≤◌}
+use Rattle.std.specs.Prelude.{◌≡◌, ◌⊎◌}
 use Rattle.std.proofs.Math.Path.{refl}
-use Rattle.std.proofs.Common.{sym, ap, ap₂, ◌∙◌, true≢false, inl, inr}
-use Rattle.std.proofs.Math.Bool.{true, false, not}
+use Rattle.std.proofs.Common.{ap, ap₂, inl, inr}
+use Rattle.std.proofs.Math.Bool.{true}
 use mathlib.Core.List.{List, [], ◌∷◌, map}
 use Rattle.std.proofs.Math.Logic.{⊎_elim}
 use native.Mathlib.Omega.{arith}
 use Rattle.std.proofs.Math.ListN.{length}
-use Rattle.std.proofs.Math.Dec.{eqb}
-use borrow.Author.Tests.{not-true, eqb-true, eqb-false}
-use Rattle.spec.specs.Bytes.{Bytes, any, filter, maximum, equal, begins, shared}
+use Rattle.spec.specs.Bytes.{Bytes, shared}
 use Rattle.spec.specs.Keys.{below}
-use Rattle.spec.specs.Leaves.{Leaf, others, suffix_bits, leaf, leaves}
-use Rattle.theory.specs.Terms.{All, In, here, there, BelowAll, Ascending}
-use Rattle.theory.proofs.Lists.{all_in, in_any, filter_in, in_filter, any_false, maximum_bound, maximum_below}
-use Rattle.theory.proofs.Order.{below_cons, below_asym, below_lt_le, below_nil, below_unequal, equal_self, equal_comm, shared_comm, shared_le, shared_eq, shared_ne, above_short, begins_shared, shared_begins}
+use Rattle.spec.specs.Leaves.{Leaf, leaf, leaves}
+use Rattle.theory.specs.Terms.{In, here, there, Ascending}
+use Rattle.theory.proofs.Order.{below_asym, below_lt_le, shared_comm, above_short}
 use Rattle.theory.proofs.Neighbours.{Position, next_shared, neighbour_leaf, neighbour_leaves, Nonempty, far_valid, kind, shared_most}
 
 leaf_by_neighbours : (ks : List Bytes) (k : Bytes) (ms : List Bytes) (p : ℕ) (w : Position ks k ms p) (h n : ℕ) → leaf h n ks k ≡ neighbour_leaf h n p (next_shared k ms) k

@@ -3,7 +3,7 @@
 use Prim.Native.Nat.{ℕ, suc, ◌+◌, ◌<◌, ◌≤◌, max}
 use Rattle.std.specs.Prelude.{◌≡◌, Bool, cond, ◌⊎◌, take, replicate}
 use Rattle.std.proofs.Math.Path.{refl}
-use Rattle.std.proofs.Common.{sym, ap, ap₂, ◌∙◌, true≢false, inl, inr}
+use Rattle.std.proofs.Common.{sym, ◌∙◌, true≢false, inl, inr}
 use Rattle.std.proofs.Math.Bool.{true, false, not}
 use mathlib.Core.List.{List, [], ◌∷◌, map}
 use Rattle.std.proofs.Math.Logic.{⊎_elim}
@@ -13,10 +13,10 @@ use Rattle.std.proofs.Math.Dec.{eqb}
 use borrow.Author.Tests.{not-true, eqb-true, eqb-false}
 use Rattle.spec.specs.Bytes.{Bytes, any, filter, maximum, equal, begins, shared}
 use Rattle.spec.specs.Keys.{below}
-use Rattle.spec.specs.Leaves.{Leaf, others, suffix_bits, leaf, leaves}
+use Rattle.spec.specs.Leaves.{Leaf, others, suffix_bits}
 use Rattle.theory.specs.Terms.{All, In, here, there, BelowAll, Ascending}
 use Rattle.theory.proofs.Lists.{all_in, in_any, filter_in, in_filter, any_false, maximum_bound, maximum_below}
-use Rattle.theory.proofs.Order.{below_cons, below_asym, below_lt_le, below_nil, below_unequal, equal_self, equal_comm, shared_comm, shared_le, shared_eq, shared_ne, above_short, begins_shared, shared_begins}
+use Rattle.theory.proofs.Order.{below_cons, below_nil, below_unequal, equal_self, equal_comm, shared_le, shared_eq, shared_ne, begins_shared, shared_begins}
 
 -- what a key shares with the next of the keys behind it, if there is one
 unfoldable pub next_shared : Bytes → List Bytes → ℕ

@@ -1,19 +1,14 @@
 -- Cut keys of which one begins another: an open leaf's begins no other leaf's.
-use Rattle.std.specs.Prelude.{ℕ, ◌<◌, ◌≤◌, ◌≡◌, Bool, ◌||◌, ◌⊎◌, ◌↔◌, length, T, leb, eqb}
-use Rattle.std.proofs.Math.Path.{refl, ap, ap₂}
-use Rattle.std.proofs.Common.{sym, subst, ◌∙◌, arith}
-use Rattle.std.proofs.Math.Bool.{true, false, cond, not, ◌&&◌, true≢false, or-true, and-false}
-use mathlib.Core.List.{List, [], ◌∷◌, ◌++◌, map, append-nil, append_assoc}
-use Rattle.std.proofs.Math.Logic.{inl, inr, ⊎_elim}
-use borrow.Author.Tests.{not-true, not-false, le-leb}
-use Rattle.spec.specs.Bytes.{Bytes, any, bit, equal, begins}
-use Rattle.spec.specs.Leaves.{Leaf, others, real, possible}
-use Rattle.spec.specs.Rules.{Rule, branch_missing, key_ended, at_exact_leaf, suffix_equal, suffix_other, no_nodes, leads_to_node, has_branch, misses_branch, leads_to_exact, leads_to_open, same_real_bits, same_hash_bits, same_suffix, rule_number, applies, rule, rule_says}
-use Rattle.spec.specs.Questions.{may_hold, point}
-use Rattle.theory.specs.Terms.{In, From}
-use Rattle.theory.proofs.Lists.{lt_eqb, gt_eqb, none_in, in_cons, all_in, filter_in, any_in, in_any, any_none, and_both, map_in}
-use Rattle.theory.proofs.Order.{equal_true, equal_self, begins_append, begins_through, begins_antisym, begins_either, begins_one_more}
-use Rattle.theory.proofs.LeafLists.{Before, inner, less, step, cut_key, Ordered, Shortest, Realizable, WellSized, AllWellSized}
+use Rattle.std.specs.Prelude.{◌≡◌, Bool, T, eqb}
+use Rattle.std.proofs.Common.{sym, subst, ◌∙◌}
+use Rattle.std.proofs.Math.Bool.{true, false, true≢false}
+use mathlib.Core.List.{List, [], ◌∷◌}
+use Rattle.std.proofs.Math.Logic.{⊎_elim}
+use Rattle.spec.specs.Bytes.{Bytes, begins}
+use Rattle.spec.specs.Leaves.{Leaf}
+use Rattle.theory.specs.Terms.{In}
+use Rattle.theory.proofs.Lists.{lt_eqb, gt_eqb, none_in, in_cons, all_in, and_both}
+use Rattle.theory.proofs.LeafLists.{Before, inner, less, step, Ordered}
 
 -- ---- cut keys of which one begins another
 

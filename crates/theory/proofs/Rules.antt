@@ -1,6 +1,6 @@
 -- The rule behind a point's reply (document 02, order 3) over a realizable leaf list: exactly one of the six rules applies to a key, and it says the reply's number.
 -- A key leads to a node, or to an open leaf, or it misses a branch; these three exclude each other, and one of them holds where there is a node. An exact leaf stands at a node.
-use Rattle.std.specs.Prelude.{ℕ, ◌<◌, ◌≤◌, ◌≡◌, Bool, ◌||◌, ◌⊎◌, ◌↔◌, length, T, leb, eqb}
+use Rattle.std.specs.Prelude.{ℕ, ◌<◌, ◌≤◌, ◌≡◌, Bool, ◌||◌, ◌⊎◌, ◌↔◌, length, leb, eqb}
 use Rattle.std.proofs.Math.Path.{refl, ap, ap₂}
 use Rattle.std.proofs.Common.{sym, subst, ◌∙◌, arith}
 use Rattle.std.proofs.Math.Bool.{true, false, cond, not, ◌&&◌, true≢false, or-true, and-false}
@@ -12,9 +12,9 @@ use Rattle.spec.specs.Leaves.{Leaf, others, real, possible}
 use Rattle.spec.specs.Rules.{Rule, branch_missing, key_ended, at_exact_leaf, suffix_equal, suffix_other, no_nodes, leads_to_node, has_branch, misses_branch, leads_to_exact, leads_to_open, same_real_bits, same_hash_bits, same_suffix, rule_number, applies, rule, rule_says}
 use Rattle.spec.specs.Questions.{may_hold, point}
 use Rattle.theory.specs.Terms.{In, From}
-use Rattle.theory.proofs.Lists.{lt_eqb, gt_eqb, none_in, in_cons, all_in, filter_in, any_in, in_any, any_none, and_both, map_in}
+use Rattle.theory.proofs.Lists.{all_in, filter_in, any_in, in_any, any_none, and_both, map_in}
 use Rattle.theory.proofs.Order.{equal_true, equal_self, begins_append, begins_through, begins_antisym, begins_either, begins_one_more}
-use Rattle.theory.proofs.LeafLists.{Before, inner, less, step, cut_key, Ordered, Shortest, Realizable, WellSized, AllWellSized}
+use Rattle.theory.proofs.LeafLists.{cut_key, Shortest, Realizable, WellSized, AllWellSized}
 use Rattle.theory.proofs.OpenLeaves.{open_alone}
 
 -- ---- what the tests say
