@@ -15,12 +15,12 @@ returns-then-hi-gt-MAX_KEY_BYTES c =
 
 pub returns-in-Below : goal.returns-in-Below
 returns-in-Below c =
-    judged c (λ l h. sym (bounds_reversed _ _ l h (order_is_below _ _ (sym c.compare-order.ensures ∙ c.enum_told-1.given.1))))
+    sym (bounds_reversed _ _ c.if-lo-gt-MAX_KEY_BYTES.false c.if-hi-gt-MAX_KEY_BYTES.false (order_is_below _ _ (sym c.compare-order.ensures ∙ c.in-Below.is)))
 
 pub returns-in-Equal : goal.returns-in-Equal
 returns-in-Equal c =
-    judged c (λ l h. sym (bounds_fit _ _ l h (order_not_below _ _ (inl (sym c.compare-order.ensures ∙ c.in-Equal.is)))))
+    sym (bounds_fit _ _ c.if-lo-gt-MAX_KEY_BYTES.false c.if-hi-gt-MAX_KEY_BYTES.false (order_not_below _ _ (inl (sym c.compare-order.ensures ∙ c.in-Equal.is))))
 
 pub returns-in-Above : goal.returns-in-Above
 returns-in-Above c =
-    judged c (λ l h. sym (bounds_fit _ _ l h (order_not_below _ _ (inr (sym c.compare-order.ensures ∙ c.in-Above.is)))))
+    sym (bounds_fit _ _ c.if-lo-gt-MAX_KEY_BYTES.false c.if-hi-gt-MAX_KEY_BYTES.false (order_not_below _ _ (inr (sym c.compare-order.ensures ∙ c.in-Above.is))))

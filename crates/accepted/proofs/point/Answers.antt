@@ -14,4 +14,4 @@ returns-then-key-gt-MAX_KEY_BYTES c =
 
 pub returns : goal.returns
 returns c =
-    point_number c.args.image.now c.args.key.now (point_keys c.args.key.now ∙ key_fits c.args.key.now c.if-key-gt-MAX_KEY_BYTES.false) (all_small c.args.image.now (λ i. (c.shared_slice_known-1.given i).fits)) c.requires c.if-key-gt-MAX_KEY_BYTES.false _ (c.rule_says.ensures ∙ ap rule_says c.rule_behind.ensures)
+    point_number c.args.image.now c.args.key.now (point_keys c.args.key.now ∙ key_fits c.args.key.now c.if-key-gt-MAX_KEY_BYTES.false) (all_small c.args.image.now (λ i. omega (arith, c.type_inv.image i))) c.requires c.if-key-gt-MAX_KEY_BYTES.false _ (c.rule_says.ensures ∙ ap rule_says c.rule_behind.ensures)

@@ -16,23 +16,23 @@ returns-then-start-gt-MAX_KEY_BYTES c =
 
 pub slice_bounds-write_bytes-end-2 : goal.slice_bounds-write_bytes-end-2
 slice_bounds-write_bytes-end-2 c =
-    let key_length : c.seek_reply-a.result.n ≡ length (take c.seek_reply-a.result.n c.seek_reply-a.new.1.1.1.1.0) = let z = c.seek_reply-a.ensures.0 in sym (length-take-le c.seek_reply-a.result.n c.seek_reply-a.new.1.1.1.1.0 (omega (arith, z.small, z.buffer))) in
+    let key_length : c.seek_reply-a.result.n ≡ length (take c.seek_reply-a.result.n c.seek_reply-a.new.key) = let z = c.seek_reply-a.ensures.0 in sym (length-take-le c.seek_reply-a.result.n c.seek_reply-a.new.key (omega (arith, z.small, z.buffer))) in
     key_length
 
 pub write_bytes-requires : goal.write_bytes-requires
 write_bytes-requires c =
-    let key_length : c.seek_reply-a.result.n ≡ length (take c.seek_reply-a.result.n c.seek_reply-a.new.1.1.1.1.0) = let z = c.seek_reply-a.ensures.0 in sym (length-take-le c.seek_reply-a.result.n c.seek_reply-a.new.1.1.1.1.0 (omega (arith, z.small, z.buffer))) in
-    omega (arith, c.write_bytes-arg-1.given.0.1, key_length, c.seek_reply-a.ensures.0.small)
+    let key_length : c.seek_reply-a.result.n ≡ length (take c.seek_reply-a.result.n c.seek_reply-a.new.key) = let z = c.seek_reply-a.ensures.0 in sym (length-take-le c.seek_reply-a.result.n c.seek_reply-a.new.key (omega (arith, z.small, z.buffer))) in
+    omega (arith, key_length, c.seek_reply-a.ensures.0.small)
 
 pub returns : goal.returns
 returns c =
-    let key_length : c.seek_reply-a.result.n ≡ length (take c.seek_reply-a.result.n c.seek_reply-a.new.1.1.1.1.0) = let z = c.seek_reply-a.ensures.0 in sym (length-take-le c.seek_reply-a.result.n c.seek_reply-a.new.1.1.1.1.0 (omega (arith, z.small, z.buffer))) in
+    let key_length : c.seek_reply-a.result.n ≡ length (take c.seek_reply-a.result.n c.seek_reply-a.new.key) = let z = c.seek_reply-a.ensures.0 in sym (length-take-le c.seek_reply-a.result.n c.seek_reply-a.new.key (omega (arith, z.small, z.buffer))) in
     let a = c.args in
     let e = seek_keys a.start.now ∙ key_fits a.start.now c.if-start-gt-MAX_KEY_BYTES.false in
     let g = c.accepted_frame-f in
     let w = c.seek_reply-a.ensures.1 in (
       replied_number a.image.now (QS a.start.now) e g.result g.ensures _ (ap (λ (z : Reply). z.number) w),
       c.write_bytes.ensures
-          ∙ replied_key a.image.now (QS a.start.now) e g.result g.ensures a.found.now c.seek_reply-a.new.1.1.1.1.0 c.seek_reply-a.result.n (ap (λ (z : Reply). z.key) w) key_length
-          (omega (arith, c.write_bytes-arg-1.given.0.1, length-set a.found.now 0 c.seek_reply-a.result.n)),
+          ∙ replied_key a.image.now (QS a.start.now) e g.result g.ensures a.found.now c.seek_reply-a.new.key c.seek_reply-a.result.n (ap (λ (z : Reply). z.key) w) key_length
+          (omega (arith, length-set a.found.now 0 c.seek_reply-a.result.n)),
     )

@@ -1,5 +1,6 @@
 -- The header gives the frame but for the totals of the dense nodes, which their tables give.
-use Rattle.theory.proofs.CheckStages.{verdict_passes}
+use native.Mathlib.Omega.{arith}
+use Rattle.theory.specs.CheckStages.{verdict_passes}
 use Rattle.check_frame.specs.FrameLaws.{header_long}
 use Rattle.query_descent.specs.Answers.{all_small}
 use Rattle.accepted.specs.Uncounted.{header_frame, counted_frame}
@@ -11,9 +12,9 @@ read_header-requires c =
 
 pub dense_totals-totals-requires : goal.dense_totals-totals-requires
 dense_totals-totals-requires c =
-    header_frame c.args.image.now c.read_header.result c.requires c.read_header.ensures (all_small c.args.image.now (λ i. (c.shared_slice_known-1.given i).fits)) _ c.frame_at-frame.ensures
+    header_frame c.args.image.now c.read_header.result c.requires c.read_header.ensures (all_small c.args.image.now (λ i. omega (arith, c.type_inv.image i))) _ c.frame_at-frame.ensures
 
 pub returns : goal.returns
 returns c =
     let e = rw c.frame_at-frame.ensures at c.dense_totals-totals.ensures in
-    rw c.frame_at-frame.ensures (counted_frame c.args.image.now c.read_header.result c.requires c.read_header.ensures (all_small c.args.image.now (λ i. (c.shared_slice_known-1.given i).fits)) c.dense_totals-totals.result e)
+    rw c.frame_at-frame.ensures (counted_frame c.args.image.now c.read_header.result c.requires c.read_header.ensures (all_small c.args.image.now (λ i. omega (arith, c.type_inv.image i))) c.dense_totals-totals.result e)
