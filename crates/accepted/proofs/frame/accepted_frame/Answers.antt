@@ -1,6 +1,6 @@
 -- The header gives the frame but for the totals of the dense nodes, which their tables give.
 use native.Mathlib.Omega.{arith}
-use Rattle.theory.specs.CheckStages.{verdict_passes}
+use Rattle.theory.proofs.CheckStages.{verdict_passes}
 use Rattle.check_frame.specs.FrameLaws.{header_long}
 use Rattle.query_descent.specs.Answers.{all_small}
 use Rattle.accepted.specs.Uncounted.{header_frame, counted_frame}
