@@ -1,6 +1,6 @@
 -- The bodies of a key list's image that are filled by a pass over the keys: SL, SC, SB, SV, DL, DC, DP. For each, the law that turns what the pass leaves into the body of document 01,
 -- and that there is room for all that it writes. Used by the builder's fillers.
-use Rattle.std.specs.Prelude.{ℕ, ◌*◌, ◌≤◌, ◌≡◌, refl, Bool, cond, not, List, [], ◌∷◌, ◌++◌, map, length, drop, replicate, leb}
+use Rattle.std.specs.Prelude.{ℕ, ◌*◌, ◌≤◌, ◌≡◌, refl, Bool, not, List, [], ◌∷◌, ◌++◌, map, length, drop, replicate, leb}
 use Rattle.std.proofs.Common.{sym, ap, ap₂, ◌∙◌, inl, inr, ⊎_elim, arith}
 use Rattle.std.proofs.Math.Bool.{true, false}
 use Rattle.std.proofs.lemmas.Simd.{map-map}

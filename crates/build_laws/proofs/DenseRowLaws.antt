@@ -24,7 +24,6 @@ use Rattle.theory.proofs.Lists.{length_iota}
 use Rattle.theory.proofs.NodeBits.{ByteLabels, dense_labels, dense_has_child}
 use Rattle.theory.proofs.DenseBits.{length_dense_labels, length_dense_has_child}
 use Rattle.build_laws.specs.declared.Cell.{Cell}
-use Rattle.build_laws.specs.declared.Entry.{Entry}
 use Rattle.build_laws.specs.DenseRows.{cell, cell_step, cell_ones, label_cell, child_cell, exact_cell, on_entry}
 
 -- the positions set in row c

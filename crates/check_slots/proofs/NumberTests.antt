@@ -1,29 +1,16 @@
 -- Number 16 by its three tests, one after the other.
-use Rattle.std.specs.Prelude.{ℕ, ◌+◌, ◌-◌, ◌*◌, ◌<◌, ◌≤◌, ◌≡◌, refl, Bool, true, false, ◌&&◌, ◌||◌, not, List, [], ◌∷◌, ◌++◌, map, take, drop}
-use Rattle.std.proofs.Common.{sym, ap, ap₂, ◌∙◌}
-use native.Mathlib.Omega.{arith}
-use Rattle.spec.specs.Bytes.{Bytes, all}
-use Rattle.spec.specs.Frame.{Parts}
-use Rattle.spec.specs.Nodes.{Shape, Node, zip_entries, split, sparse_shape, sparse_nodes, nodes_of, slotted, dense_shapes, total, levels_of, levels}
-use Rattle.spec.specs.Trie.{nodes_valid}
-use Rattle.spec.specs.Check.{slots_valid}
-use Rattle.bits.proofs.PartLaws.{bits_room}
-use Rattle.image.specs.FrameOf.{FrameOf, frame_parts}
+use Rattle.std.specs.Prelude.{ℕ, ◌+◌, ◌-◌, ◌*◌, ◌<◌, ◌≡◌, refl, Bool, true, false, ◌&&◌, ◌||◌, not}
+use Rattle.std.proofs.Common.{ap, ap₂, ◌∙◌}
+use Rattle.spec.specs.Bytes.{Bytes}
 use Rattle.image.specs.declared.Frame.{Frame}
-use Rattle.check_levels.specs.Shapes.{leaves_at}
-use Rattle.check_levels.specs.ListParts.{total_part}
 use Rattle.check_levels.specs.Positions.{bits, is_set}
-use Rattle.check_levels.specs.Bodies.{dl_body, dc_body, dp_body, sl_body, sc_body, sb_body, sv_body, bodies_sized}
-use Rattle.check_levels.specs.Levels.{node_count}
-use Rattle.check_levels.specs.Ranges.{all_from, from_pass}
-use Rattle.check_slots.specs.NodeSlots.{clear_none, exact_clear, open_clear, slot_clear, all_clear, all_exact, exact_from, exact_parts, drop_slotted, take_slotted, short_slots}
-use Rattle.check_slots.specs.LevelSlots.{between_clear, levels_slots}
-use Rattle.check_slots.specs.SlotBits.{SlotsSized}
-use Rattle.check_slots.specs.DenseExact.{dense_slot, dense_exact, dense_exacts}
-use Rattle.check_slots.specs.SparseExact.{is_extra, sparse_slot, sparse_exact, sparse_exacts}
-use Rattle.check_slots.specs.Passed.{slots_pass, PassedTo15, bits_pass, slots_parts}
-use Rattle.check_slots.specs.LevelStarts.{level_start, dense_leaf_count, leaves_to, levels_whole, start_is, start_up, start_low, start_last, dense_part_leaves, leaves_before, leaves_last}
-use Rattle.theory.proofs.TrieTests.{nodes_valid_true}
+use Rattle.check_levels.specs.Bodies.{dl_body, dc_body, dp_body, sl_body, sc_body, sb_body, sv_body}
+use Rattle.check_levels.specs.Ranges.{from_pass}
+use Rattle.check_slots.specs.NodeSlots.{clear_none, slot_clear}
+use Rattle.check_slots.specs.DenseExact.{dense_slot}
+use Rattle.check_slots.specs.SparseExact.{is_extra, sparse_slot}
+use Rattle.check_slots.specs.Passed.{slots_pass, PassedTo15}
+use Rattle.check_slots.specs.LevelStarts.{dense_leaf_count}
 use Rattle.check_slots.specs.SlotTests.{clear_at, dense_clear, sparse_clear, level_slot, last_levels_clear, number_16}
 
 -- slots without bits are clear

@@ -1,5 +1,5 @@
 -- Number 16 by positions in the bodies of an image that passed the numbers 11 to 15: what the check judges. `number_16` says that it is document 01's.
-use Rattle.std.specs.Prelude.{ℕ, ◌+◌, ◌-◌, ◌*◌, ◌<◌, ◌≤◌, ◌≡◌, refl, Bool, true, false, ◌&&◌, ◌||◌, not, List, [], ◌∷◌, ◌++◌, map, take, drop}
+use Rattle.std.specs.Prelude.{ℕ, ◌+◌, ◌-◌, ◌*◌, ◌<◌, ◌≤◌, ◌≡◌, refl, Bool, true, ◌&&◌, List, [], ◌∷◌, ◌++◌, map, take, drop}
 use Rattle.std.proofs.Common.{sym, ap, ap₂, ◌∙◌}
 use native.Mathlib.Omega.{arith}
 use Rattle.spec.specs.Bytes.{Bytes, all}
@@ -12,15 +12,15 @@ use Rattle.image.specs.FrameOf.{FrameOf, frame_parts}
 use Rattle.image.specs.declared.Frame.{Frame}
 use Rattle.check_levels.specs.Shapes.{leaves_at}
 use Rattle.check_levels.specs.ListParts.{total_part}
-use Rattle.check_levels.specs.Positions.{bits, is_set}
+use Rattle.check_levels.specs.Positions.{bits}
 use Rattle.check_levels.specs.Bodies.{dl_body, dc_body, dp_body, sl_body, sc_body, sb_body, sv_body, bodies_sized}
 use Rattle.check_levels.specs.Levels.{node_count}
-use Rattle.check_levels.specs.Ranges.{all_from, from_pass}
-use Rattle.check_slots.specs.NodeSlots.{clear_none, exact_clear, open_clear, slot_clear, all_clear, all_exact, exact_from, exact_parts, drop_slotted, take_slotted, short_slots}
+use Rattle.check_levels.specs.Ranges.{all_from}
+use Rattle.check_slots.specs.NodeSlots.{exact_clear, open_clear, slot_clear, all_clear, all_exact, exact_from, exact_parts, drop_slotted, take_slotted, short_slots}
 use Rattle.check_slots.specs.LevelSlots.{between_clear, levels_slots}
 use Rattle.check_slots.specs.SlotBits.{SlotsSized}
-use Rattle.check_slots.specs.DenseExact.{dense_slot, dense_exact, dense_exacts}
-use Rattle.check_slots.specs.SparseExact.{is_extra, sparse_slot, sparse_exact, sparse_exacts}
+use Rattle.check_slots.specs.DenseExact.{dense_exact, dense_exacts}
+use Rattle.check_slots.specs.SparseExact.{sparse_exact, sparse_exacts}
 use Rattle.check_slots.specs.Passed.{slots_pass, PassedTo15, bits_pass, slots_parts}
 use Rattle.check_slots.specs.LevelStarts.{level_start, dense_leaf_count, leaves_to, levels_whole, start_is, start_up, start_low, start_last, dense_part_leaves, leaves_before, leaves_last}
 use Rattle.theory.proofs.TrieTests.{nodes_valid_true}

@@ -7,16 +7,15 @@ use Rattle.spec.specs.Bytes.{Bytes, bit}
 use Rattle.spec.specs.Nodes.{node, label_of, has_child, branches_of, is_exact}
 use Rattle.bits.specs.Bits.{bit_at, rank, select}
 use Rattle.image.specs.declared.Frame.{Frame}
-use Rattle.nav_nodes.specs.declared.BranchKind.{BranchKind}
 use Rattle.nav_nodes.specs.declared.BranchKind.TheVariants.{Absent}
 use Rattle.nav_nodes.specs.declared.NextBranch.{NextBranch}
 use Rattle.nav_nodes.specs.Counting.{labels_below}
 use Rattle.nav_nodes.specs.Slots.{node_at}
 use Rattle.nav_nodes.specs.Descent.{goes_on}
-use Rattle.nav_nodes.specs.NextLabel.{first_kind, first_label, kind_there, kind_by, kind_at, kind_end, label_first, goes_child, own_index, next_none, next_some, rising}
+use Rattle.nav_nodes.specs.NextLabel.{first_kind, kind_there, kind_by, kind_at, kind_end, label_first, goes_child, own_index, next_none, next_some, rising}
 use Rattle.nav_nodes.specs.Accepted.{Accepted, dense_nodes, sparse_nodes, nodes}
-use Rattle.nav_nodes.specs.Positions.{branches, branch_index, BranchAt, bits_dense, branch_dense, label_sparse, child_sparse, branch_sparse}
-use Rattle.nav_nodes.specs.NextBranch.{NamedBranch, IsNextBranch, EntryRead, EntryBranch}
+use Rattle.nav_nodes.specs.Positions.{branches, branch_index, bits_dense, branch_dense, label_sparse, child_sparse, branch_sparse}
+use Rattle.nav_nodes.specs.NextBranch.{IsNextBranch, EntryRead, EntryBranch}
 
 module _ (s : Bytes) (f : Frame) (a : Accepted s f) where
   module _ (m y p : ℕ) (h : m < f.dense.nodes) (l : y ≤ 256) (is : p ≡ select (drop f.dl s) (256 * m + 256) (rank (drop f.dl s) (256 * m + y))) where

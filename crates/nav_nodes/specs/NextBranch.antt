@@ -1,21 +1,13 @@
 -- The first branch of a node at or behind a label, by its position.
-use Rattle.std.specs.Prelude.{ℕ, ◌+◌, ◌-◌, ◌*◌, ◌<◌, ◌≤◌, ◌≡◌, refl, Bool, true, false, [], map, length, get_or, drop, ltb, eqb}
-use Rattle.std.proofs.Common.{sym, ap, ◌∙◌, arith, get_or-drop, ltb-true, ltb-false}
-use Rattle.std.proofs.Math.Option.{none}
-use Rattle.std.proofs.Math.ListN.{get_or-append}
-use Rattle.spec.specs.Bytes.{Bytes, bit}
-use Rattle.spec.specs.Nodes.{node, label_of, has_child, branches_of, is_exact}
-use Rattle.bits.specs.Bits.{bit_at, rank, select}
+use Rattle.std.specs.Prelude.{ℕ, ◌+◌, ◌<◌, ◌≤◌, ◌≡◌, get_or, drop, eqb}
+use Rattle.spec.specs.Bytes.{Bytes}
+use Rattle.bits.specs.Bits.{bit_at}
 use Rattle.image.specs.declared.Frame.{Frame}
 use Rattle.nav_nodes.specs.declared.BranchKind.{BranchKind}
 use Rattle.nav_nodes.specs.declared.BranchKind.TheVariants.{Absent}
 use Rattle.nav_nodes.specs.declared.NextBranch.{NextBranch}
-use Rattle.nav_nodes.specs.Counting.{labels_below}
-use Rattle.nav_nodes.specs.Slots.{node_at}
-use Rattle.nav_nodes.specs.Descent.{goes_on}
-use Rattle.nav_nodes.specs.NextLabel.{first_kind, first_label, kind_there, kind_by, kind_at, kind_end, label_first, goes_child, own_index, next_none, next_some, rising}
-use Rattle.nav_nodes.specs.Accepted.{Accepted, dense_nodes, sparse_nodes, nodes}
-use Rattle.nav_nodes.specs.Positions.{branches, branch_index, BranchAt, bits_dense, branch_dense, label_sparse, child_sparse, branch_sparse}
+use Rattle.nav_nodes.specs.NextLabel.{first_kind, first_label, kind_there}
+use Rattle.nav_nodes.specs.Positions.{branches, branch_index, BranchAt}
 
 -- The first branch of node m whose label is not below y has this label and stands at position p.
 pub record NamedBranch (s : Bytes) (f : Frame) (m y label p : ℕ) : Type 0 where
