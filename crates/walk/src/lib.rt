@@ -1,6 +1,7 @@
 // The public walk over the leaves of an accepted image, in key order, through a walker: what it says at a place, and at the next.
 
 #![tactic(auto)]
+
 ghost use Rattle.spec.specs.Walk.{open_walk, next};
 ghost use Rattle.walk_states.specs.Walks.{Gives};
 

@@ -1,6 +1,7 @@
 // The leaf cursor of a walk: from leaf to leaf of an accepted image in key order. It keeps the path from the root and where it stands on each level, so that a whole walk goes down and up each branch once, and takes neither rank nor select where a level was visited before.
 
 #![tactic(auto)]
+
 ghost use Rattle.std.specs.Prelude.{◌≡◌, ◌+◌, ◌<◌};
 ghost use Rattle.spec.specs.Bytes.{low_bits};
 ghost use Rattle.nav_nodes.specs.Slots.{slot_of};

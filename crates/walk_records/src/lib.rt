@@ -2,6 +2,7 @@
 // and the suffix as a number of four bytes, the low one first, whose lowest bit is the suffix's first: hash bits stand below real bits.
 
 #![tactic(auto)]
+
 ghost use Rattle.std.specs.Prelude.{◌≡◌};
 ghost use Rattle.spec.specs.Nodes.{read_leaves};
 ghost use Rattle.spec.specs.WalkRecords.{kind_byte, walk_records};

@@ -1,6 +1,7 @@
 // Where a walk over an image stands, by value beside the image's slice, and what it says there.
 
 #![tactic(auto)]
+
 ghost use Rattle.std.specs.Prelude.{◌≡◌};
 ghost use Rattle.spec.specs.Check.{verdict};
 ghost use Rattle.spec.specs.Walk.{open_walk};

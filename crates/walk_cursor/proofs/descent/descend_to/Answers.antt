@@ -1,11 +1,17 @@
 -- The leaves from the place on are those of the path's node but the ones passed, and those behind the path.
-use Prim.Native.Nat.{◌-◌}
-use mathlib.Core.Path.{sym, ◌∙◌}
+use mathlib.Core.Path.{◌≡◌, refl, sym, ◌∙◌}
 use native.Mathlib.Omega.{arith}
-use Rattle.nav_branches.proofs.BranchTests.{ends_leaf}
+use Rattle.nav_nodes.specs.declared.BranchKind.{BranchKind}
+use Rattle.nav_nodes.specs.declared.BranchKind.TheVariants.{Absent, Leaf, Child}
 use Rattle.nav_branches.specs.PathSteps.{node_in}
 use Rattle.walk_cursor.specs.LocateLaws.{going_root, has_more, branch_position, label_small, leads_open, next_deep, next_on, leads_exact, own_passed, none_passed}
 use Rattle.walk_cursor.proofs.descent.descend_to.Goals as goal
+
+-- a branch that is there and does not continue ends at a leaf
+ends_leaf : (k : BranchKind) → (k ≡ Child → ⊥) → (k ≡ Absent → ⊥) → k ≡ Leaf
+ends_leaf Absent h n = absurd (n refl)
+ends_leaf Leaf h n = refl
+ends_leaf Child h n = absurd (h refl)
 
 pub loop-p-init : goal.loop-p-init
 loop-p-init c =
@@ -53,7 +59,7 @@ pub returns-in_default : goal.returns-in_default
 returns-in_default c =
     let a = c.args in
     let t = c.take_branch-taken in
-    leads_open a.image.now a.f c.requires.0 a.place c.loop-p.p c.loop-p.d c.loop-p.skip c.loop-p.invariant t.result t.ensures c.slot.result c.slot.ensures (ends_leaf t.result.low.kind c.in-Child.keys2 t.ensures.ranges.there)
+    leads_open a.image.now a.f c.requires.0 a.place c.loop-p.p c.loop-p.d c.loop-p.skip c.loop-p.invariant t.result t.ensures c.slot.result c.slot.ensures (ends_leaf t.result.low.kind c.in_default.not-Child t.ensures.ranges.there)
 
 pub child-c-requires : goal.child-c-requires
 child-c-requires c =
@@ -69,20 +75,20 @@ pub bounds-p-d-in-loop-p-2 : goal.bounds-p-d-in-loop-p-2
 bounds-p-d-in-loop-p-2 c =
     let a = c.args in
     let t = c.take_branch-taken in
-    next_deep a.image.now a.f c.requires.0 a.place c.loop-p.p c.loop-p.d c.loop-p.skip c.loop-p.invariant t.result t.ensures c.child-c.result c.child-c.ensures c.enum_told-1.given.1
+    next_deep a.image.now a.f c.requires.0 a.place c.loop-p.p c.loop-p.d c.loop-p.skip c.loop-p.invariant t.result t.ensures c.child-c.result c.child-c.ensures c.in-Child.is
 
 pub is_exact-requires : goal.is_exact-requires
 is_exact-requires c =
     let a = c.args in
     let t = c.take_branch-taken in
-    let on = next_on a.image.now a.f c.requires.0 a.place c.loop-p.p c.loop-p.d c.loop-p.skip c.loop-p.invariant t.result t.ensures c.child-c.result c.child-c.ensures c.enum_told-1.given.1 in
+    let on = next_on a.image.now a.f c.requires.0 a.place c.loop-p.p c.loop-p.d c.loop-p.skip c.loop-p.invariant t.result t.ensures c.child-c.result c.child-c.ensures c.in-Child.is in
     record { accepted = c.requires.0; inside = node_in a.image.now a.f c.requires.0 _ c.child-c.result.0 on }
 
 pub returns-then-skip-eq0 : goal.returns-then-skip-eq0
 returns-then-skip-eq0 c =
     let a = c.args in
     let t = c.take_branch-taken in
-    leads_exact a.image.now a.f c.requires.0 a.place c.loop-p.p c.loop-p.d c.loop-p.skip c.loop-p.invariant t.result t.ensures c.child-c.result c.child-c.ensures c.enum_told-1.given.1 (sym c.is_exact.ensures ∙ c.if-is_exact.true) c.if-skip-eq0.true
+    leads_exact a.image.now a.f c.requires.0 a.place c.loop-p.p c.loop-p.d c.loop-p.skip c.loop-p.invariant t.result t.ensures c.child-c.result c.child-c.ensures c.in-Child.is (sym c.is_exact.ensures ∙ c.if-is_exact.true) c.if-skip-eq0.true
 
 pub overflow_sub-skip-then-is_exact : goal.overflow_sub-skip-then-is_exact
 overflow_sub-skip-then-is_exact c =
@@ -96,7 +102,7 @@ pub loop-p-preserved-then-is_exact : goal.loop-p-preserved-then-is_exact
 loop-p-preserved-then-is_exact c =
     let a = c.args in
     let t = c.take_branch-taken in
-    own_passed a.image.now a.f c.requires.0 a.place c.loop-p.p c.loop-p.d c.loop-p.skip c.loop-p.invariant t.result t.ensures c.child-c.result c.child-c.ensures c.enum_told-1.given.1 (sym c.is_exact.ensures ∙ c.if-is_exact.true) c.if-skip-eq0.false
+    own_passed a.image.now a.f c.requires.0 a.place c.loop-p.p c.loop-p.d c.loop-p.skip c.loop-p.invariant t.result t.ensures c.child-c.result c.child-c.ensures c.in-Child.is (sym c.is_exact.ensures ∙ c.if-is_exact.true) c.if-skip-eq0.false
 
 pub loop-p-smaller : goal.loop-p-smaller
 loop-p-smaller c =
@@ -106,4 +112,4 @@ pub loop-p-preserved : goal.loop-p-preserved
 loop-p-preserved c =
     let a = c.args in
     let t = c.take_branch-taken in
-    none_passed a.image.now a.f c.requires.0 a.place c.loop-p.p c.loop-p.d c.loop-p.skip c.loop-p.invariant t.result t.ensures c.child-c.result c.child-c.ensures c.enum_told-1.given.1 (sym c.is_exact.ensures ∙ c.if-is_exact.false)
+    none_passed a.image.now a.f c.requires.0 a.place c.loop-p.p c.loop-p.d c.loop-p.skip c.loop-p.invariant t.result t.ensures c.child-c.result c.child-c.ensures c.in-Child.is (sym c.is_exact.ensures ∙ c.if-is_exact.false)

@@ -1,5 +1,5 @@
 -- The nodes before index i have been copied.
-use Prim.Native.Nat.{ℕ, ◌+◌, ◌-◌, ◌<◌}
+use Prim.Native.Nat.{ℕ, ◌+◌, ◌<◌}
 use mathlib.Core.Path.{◌≡◌, refl, ◌∙◌}
 use mathlib.Core.Bool.{Bool, true, false}
 use native.Mathlib.Omega.{arith}
@@ -42,22 +42,22 @@ loop-i-smaller c =
 pub loop-i-preserved : goal.loop-i-preserved
 loop-i-preserved c =
     let l = c.loop-i in
-    let p = c.args.t1.nodes in
+    let p = c.args.path.nodes in
     let n = node_on p l.i in
     let t = c.loop-i-test.true in
     (length-set l.numbers l.i n ∙ l.invariant.0, omega (arith, t), λ j h. by_place j h (ltb j l.i) refl)
   where
-    by_place : (j : ℕ) → j < c.loop-i.i + 1 → (b : Bool) → ltb j c.loop-i.i ≡ b → get_or (set c.loop-i.numbers c.loop-i.i (node_on c.args.t1.nodes c.loop-i.i)) j 0 ≡ node_on c.args.t1.nodes j
+    by_place : (j : ℕ) → j < c.loop-i.i + 1 → (b : Bool) → ltb j c.loop-i.i ≡ b → get_or (set c.loop-i.numbers c.loop-i.i (node_on c.args.path.nodes c.loop-i.i)) j 0 ≡ node_on c.args.path.nodes j
     by_place j h true q =
         let l = c.loop-i in
         let k = ltb-true j l.i q in
-        get_or-set_other l.numbers l.i j (node_on c.args.t1.nodes l.i) 0 (λ e. omega arith) ∙ l.invariant.2 j k
+        get_or-set_other l.numbers l.i j (node_on c.args.path.nodes l.i) 0 (λ e. omega arith) ∙ l.invariant.2 j k
     by_place j h false q =
         let l = c.loop-i in
         let e : j ≡ l.i = omega (arith, ltb-false j l.i q) in
-        rw e (get_or-set_same l.numbers l.i (node_on c.args.t1.nodes l.i) 0 (omega (arith, c.loop-i-test.true, l.invariant.0)))
+        rw e (get_or-set_same l.numbers l.i (node_on c.args.path.nodes l.i) 0 (omega (arith, c.loop-i-test.true, l.invariant.0)))
 
 pub returns : goal.returns
 returns c =
     let l = c.loop-i in
-    numbered_all l.numbers c.args.t1.nodes (omega (arith, l.invariant.0, c.requires)) (λ i h. l.invariant.2 i (omega (arith, c.loop-i-test.false, c.requires)))
+    numbered_all l.numbers c.args.path.nodes (omega (arith, l.invariant.0, c.requires)) (λ i h. l.invariant.2 i (omega (arith, c.loop-i-test.false, c.requires)))

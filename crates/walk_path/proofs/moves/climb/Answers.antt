@@ -1,9 +1,7 @@
 -- No leaf is passed on the way up: a node without a branch left is left for the one above it.
 use Prim.Native.Nat.{ℕ, ◌+◌, ◌-◌, ◌<◌, ◌≤◌}
 use mathlib.Core.Path.{◌≡◌, refl, sym, ap, ◌∙◌}
-use mathlib.Core.Logic.{⊎_elim}
 use native.Mathlib.Omega.{arith}
-use borrow.Author.Tests.{eqb-true, eqb-false}
 use lib.ListN.{get_or}
 use Rattle.nav_nodes.specs.declared.BranchKind.TheVariants.{Absent}
 use Rattle.nav_nodes.specs.Accepted.{nodes}
@@ -14,6 +12,7 @@ use Rattle.nav_branches.specs.PathSteps.{BranchFrom, node_in, branch_found, bran
 use Rattle.walk_path.specs.Levels.{numbered}
 use Rattle.walk_path.specs.LevelLaws.{numbered_at, levels_up}
 use Rattle.walk_path.proofs.moves.climb.Goals as goal
+use Rattle.walk_path.proofs.moves.climb.Goals.{then-is_there-via-then-is_there, then-is_there-via-else-is_there+then-d-eq0}
 
 pub loop-f-init : goal.loop-f-init
 loop-f-init c =
@@ -51,7 +50,10 @@ returns-then-is_there c =
     let p = c.requires.searchable in
     let x = c.next_at-branch.result in
     let deep : l.d < 64 = omega (arith, l.invariant.0, p.deep) in
-    let at-root : x.kind ≡ Absent → l.d ≡ 0 = λ e. ⊎_elim (λ w. absurd (there_not x.kind (sym c.is_there.ensures ∙ w.taken) e)) (λ w. eqb-true l.d 0 w.1.taken) c.if-is_there.branch in
+    let at-root : x.kind ≡ Absent → l.d ≡ 0 = λ e. elim c.then-is_there.branch [
+      | then-is_there-via-then-is_there w ↦ absurd (there_not x.kind (sym c.is_there.ensures ∙ w.if-is_there.true) e)
+      | then-is_there-via-else-is_there+then-d-eq0 w ↦ w.if-d-eq0.true
+    ] in
     record {
       higher = record {
         above = l.invariant.0;
@@ -68,7 +70,7 @@ returns-then-is_there c =
 
 pub overflow_sub-d : goal.overflow_sub-d
 overflow_sub-d c =
-    omega (arith, eqb-false c.loop-f.d 0 c.if-d-eq0.false)
+    omega (arith, c.if-d-eq0.false)
 
 pub bounds-labels-d : goal.bounds-labels-d
 bounds-labels-d c =
@@ -76,7 +78,7 @@ bounds-labels-d c =
 
 pub loop-f-smaller : goal.loop-f-smaller
 loop-f-smaller c =
-    omega (arith, eqb-false c.loop-f.d 0 c.if-d-eq0.false)
+    omega (arith, c.if-d-eq0.false)
 
 pub loop-f-preserved : goal.loop-f-preserved
 loop-f-preserved c =
@@ -88,7 +90,7 @@ loop-f-preserved c =
     let l = c.loop-f in
     let w = c.wide-y.ensures in
     let gone = not_there c.next_at-branch.result.kind (sym c.is_there.ensures ∙ c.if-is_there.false) in
-    let below = eqb-false l.d 0 c.if-d-eq0.false in (
+    let below = c.if-d-eq0.false in (
       omega (arith, l.invariant.0),
       omega (arith, w.1),
       l.invariant.2 ∙ higher_onward a.image.now a.f (numbered a.path.now) a.labels.now l.d l.y c.next_at-branch.result found gone below ∙ ap (λ (x : ℕ). onward (nodes a.image.now a.f) (numbered a.path.now) a.labels.now (l.d - 1) (x + 1)) (sym w.0),

@@ -1,5 +1,5 @@
 -- No leaf is passed on the way up: a node without a branch left is left for the one above it.
-use Prim.Native.Nat.{◌-◌, ◌≤◌}
+use Prim.Native.Nat.{◌≤◌}
 use mathlib.Core.Path.{◌≡◌}
 use Rattle.nav_nodes.specs.Accepted.{nodes}
 use Rattle.nav_branches.specs.Paths.{onward}

@@ -6,7 +6,7 @@ use Rattle.walk_path.proofs.moves.entry_behind.Goals as goal
 
 pub returns-in-Absent : goal.returns-in-Absent
 returns-in-Absent c =
-    let n = c.if-m-f.false in record { dense = λ h. absurd (omega arith); sparse = λ h. (refl, omega (arith, ap continues c.enum_told-1.given.1)) }
+    let n = c.if-m-f.false in record { dense = λ h. absurd (omega arith); sparse = λ h. (refl, omega (arith, ap continues c.in-Absent.is)) }
 
 pub returns-in-Leaf : goal.returns-in-Leaf
 returns-in-Leaf c =

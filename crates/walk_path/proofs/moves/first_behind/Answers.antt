@@ -1,10 +1,17 @@
 -- On the way down no leaf is passed; the measure is what is left of the 64 levels.
-use Prim.Native.Nat.{◌-◌}
 use native.Mathlib.Omega.{arith}
-use Rattle.nav_branches.proofs.BranchTests.{ends_leaf}
+use mathlib.Core.Path.{◌≡◌, refl}
+use Rattle.nav_nodes.specs.declared.BranchKind.{BranchKind}
+use Rattle.nav_nodes.specs.declared.BranchKind.TheVariants.{Absent, Leaf, Child}
 use Rattle.walk_path.specs.LevelLaws.{numbered_at}
 use Rattle.walk_path.specs.DownLaws.{goes_first, goes_named, goes_position, goes_small, down_leaf, down_deep, down_node, down_behind, down_last, down_exact, down_next}
 use Rattle.walk_path.proofs.moves.first_behind.Goals as goal
+
+-- a branch that is there and does not continue ends at a leaf
+ends_leaf : (k : BranchKind) → (k ≡ Child → ⊥) → (k ≡ Absent → ⊥) → k ≡ Leaf
+ends_leaf Absent h n = absurd (n refl)
+ends_leaf Leaf h n = refl
+ends_leaf Child h n = absurd (h refl)
 
 pub offset_bounds-path-d : goal.offset_bounds-path-d
 offset_bounds-path-d c =
@@ -65,13 +72,13 @@ returns-in_default c =
     let a = c.args in
     rw c.keep_entry.ensures
     (down_leaf a.image.now a.f c.requires.accepted a.path.now a.labels.now a.from.depth a.from.branch.label l.path l.entries l.labels l.d l.b l.c.0 l.invariant c.entry_behind.result c.entry_behind.ensures
-    c.slot_at.result c.slot_at.ensures (ends_leaf l.b.kind c.in-Child.keys2 l.invariant.descends.branch.there))
+    c.slot_at.result c.slot_at.ensures (ends_leaf l.b.kind c.in_default.not-Child l.invariant.descends.branch.there))
 
 pub entry_on-requires-in-loop-stop : goal.entry_on-requires-in-loop-stop
 entry_on-requires-in-loop-stop c =
     let l = c.loop-stop in
     let a = c.args in
-    omega (arith, down_deep a.image.now a.f c.requires.accepted a.path.now a.labels.now a.from.depth a.from.branch.label l.path l.entries l.labels l.d l.b l.c.0 l.invariant c.entry_behind.result c.entry_behind.ensures c.enum_told-1.given.1)
+    omega (arith, down_deep a.image.now a.f c.requires.accepted a.path.now a.labels.now a.from.depth a.from.branch.label l.path l.entries l.labels l.d l.b l.c.0 l.invariant c.entry_behind.result c.entry_behind.ensures c.in-Child.is)
 
 pub enter-next-requires : goal.enter-next-requires
 enter-next-requires c =
@@ -79,30 +86,36 @@ enter-next-requires c =
     let a = c.args in
     let e = c.entry_behind.result in
     let w = c.entry_behind.ensures in
-    let k = c.enum_told-1.given.1 in (
+    let k = c.in-Child.is in (
       c.requires.accepted,
       down_behind a.image.now a.f c.requires.accepted a.path.now a.labels.now a.from.depth a.from.branch.label l.path l.entries l.labels l.d l.b l.c.0 l.invariant e w k,
       down_node a.image.now a.f c.requires.accepted a.path.now a.labels.now a.from.depth a.from.branch.label l.path l.entries l.labels l.d l.b l.c.0 l.invariant e w k,
       rw (c.entry_on-in-loop-stop.ensures, c.keep_entry.ensures) (down_last a.image.now a.f c.requires.accepted a.path.now a.labels.now a.from.depth a.from.branch.label l.path l.entries l.labels l.d l.b l.c.0 l.invariant e w k),
     )
 
+pub bounds-path-d-in-loop-stop-2 : goal.bounds-path-d-in-loop-stop-2
+bounds-path-d-in-loop-stop-2 c =
+    let l = c.loop-stop in
+    let a = c.args in
+    omega (arith, down_deep a.image.now a.f c.requires.accepted a.path.now a.labels.now a.from.depth a.from.branch.label l.path l.entries l.labels l.d l.b l.c.0 l.invariant c.entry_behind.result c.entry_behind.ensures c.in-Child.is)
+
 pub offset_bounds-path-d-in-loop-stop-3 : goal.offset_bounds-path-d-in-loop-stop-3
 offset_bounds-path-d-in-loop-stop-3 c =
     let l = c.loop-stop in
     let a = c.args in
-    omega (arith, down_deep a.image.now a.f c.requires.accepted a.path.now a.labels.now a.from.depth a.from.branch.label l.path l.entries l.labels l.d l.b l.c.0 l.invariant c.entry_behind.result c.entry_behind.ensures c.enum_told-1.given.1)
+    omega (arith, down_deep a.image.now a.f c.requires.accepted a.path.now a.labels.now a.from.depth a.from.branch.label l.path l.entries l.labels l.d l.b l.c.0 l.invariant c.entry_behind.result c.entry_behind.ensures c.in-Child.is)
 
 pub bounds-path-d-in-loop-stop-3 : goal.bounds-path-d-in-loop-stop-3
 bounds-path-d-in-loop-stop-3 c =
     let l = c.loop-stop in
     let a = c.args in
-    omega (arith, down_deep a.image.now a.f c.requires.accepted a.path.now a.labels.now a.from.depth a.from.branch.label l.path l.entries l.labels l.d l.b l.c.0 l.invariant c.entry_behind.result c.entry_behind.ensures c.enum_told-1.given.1)
+    omega (arith, down_deep a.image.now a.f c.requires.accepted a.path.now a.labels.now a.from.depth a.from.branch.label l.path l.entries l.labels l.d l.b l.c.0 l.invariant c.entry_behind.result c.entry_behind.ensures c.in-Child.is)
 
 pub keep_entry-requires-in-loop-stop : goal.keep_entry-requires-in-loop-stop
 keep_entry-requires-in-loop-stop c =
     let l = c.loop-stop in
     let a = c.args in
-    omega (arith, down_deep a.image.now a.f c.requires.accepted a.path.now a.labels.now a.from.depth a.from.branch.label l.path l.entries l.labels l.d l.b l.c.0 l.invariant c.entry_behind.result c.entry_behind.ensures c.enum_told-1.given.1)
+    omega (arith, down_deep a.image.now a.f c.requires.accepted a.path.now a.labels.now a.from.depth a.from.branch.label l.path l.entries l.labels l.d l.b l.c.0 l.invariant c.entry_behind.result c.entry_behind.ensures c.in-Child.is)
 
 pub returns-then-first : goal.returns-then-first
 returns-then-first c =
@@ -110,7 +123,7 @@ returns-then-first c =
     let a = c.args in
     rw (c.keep_entry-in-loop-stop.ensures, c.keep_entry.ensures)
     (down_exact a.image.now a.f c.requires.accepted a.path.now a.labels.now a.from.depth a.from.branch.label l.path l.entries l.labels l.d l.b l.c.0 l.invariant c.entry_behind.result c.entry_behind.ensures
-    c.enum_told-1.given.1 c.enter-next.result c.enter-next.ensures c.if-first.true)
+    c.in-Child.is c.enter-next.result c.enter-next.ensures c.if-first.true)
 
 pub loop-stop-smaller : goal.loop-stop-smaller
 loop-stop-smaller c =
@@ -122,4 +135,4 @@ loop-stop-preserved c =
     let a = c.args in
     rw (c.keep_entry-in-loop-stop.ensures, c.keep_entry.ensures)
     (down_next a.image.now a.f c.requires.accepted a.path.now a.labels.now a.from.depth a.from.branch.label l.path l.entries l.labels l.d l.b l.c.0 l.invariant c.entry_behind.result c.entry_behind.ensures
-    c.enum_told-1.given.1 c.enter-next.result c.enter-next.ensures c.if-first.false)
+    c.in-Child.is c.enter-next.result c.enter-next.ensures c.if-first.false)
