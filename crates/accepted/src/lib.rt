@@ -1,6 +1,7 @@
 // One question at a time over an image that the check has accepted, without a question file. What is required of the image is the check's verdict alone; any key is taken or refused.
 
 #![tactic(auto)]
+
 ghost use Rattle.std.specs.Prelude.{◌≡◌, ◌≤◌, length};
 ghost use Rattle.spec.specs.Check.{verdict};
 ghost use Rattle.spec.specs.Frame.{read_settings};
