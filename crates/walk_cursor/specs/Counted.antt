@@ -1,15 +1,14 @@
 -- How many leaves stand behind the branches of a node, from a label on: differences of sums of slot numbers, level by level.
-use Prim.Native.Nat.{ℕ, zero, suc, ◌+◌, ◌-◌, ◌<◌, ◌≤◌}
+use Prim.Native.Nat.{ℕ, zero, suc, ◌+◌, ◌-◌, ◌≤◌}
 use Rattle.std.specs.Prelude.{◌≡◌, refl, Bool, true, false, length, take, drop, leb}
 use Rattle.std.proofs.Math.Path.{sym, ap}
-use Rattle.std.proofs.Common.{ap₂, ◌∙◌, length-append, take-append-drop, drop_at, drop-drop, leb-true, leb-false, le-leb}
+use Rattle.std.proofs.Common.{ap₂, ◌∙◌, length-append, drop_at, drop-drop, leb-true, leb-false}
 use mathlib.Core.List.{List, [], ◌∷◌, ◌++◌, map, map-append, append_assoc}
-use Rattle.std.proofs.Math.Option.{Option, none, some}
+use Rattle.std.proofs.Math.Option.{none, some}
 use native.Mathlib.Omega.{arith}
 use Rattle.std.proofs.lemmas.List.{length-map}
 use Rattle.std.proofs.Math.Seq.{take-nil}
-use Rattle.std.proofs.lemmas.Bool.{lt-leb}
-use Rattle.spec.specs.Bytes.{Bytes, Bits, bit}
+use Rattle.spec.specs.Bytes.{Bytes, bit}
 use Rattle.spec.specs.Leaves.{Leaf}
 use Rattle.spec.specs.Nodes.{Group, Branch, to_node, to_leaf, Node, node, label_of, branches_of, is_exact, prefix, exact_leaf, children, total, children_of}
 use Rattle.spec.specs.Trie.{open_leaves, leaf_count}

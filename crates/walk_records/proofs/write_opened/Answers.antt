@@ -4,8 +4,8 @@ use Rattle.walk_records.proofs.write_opened.Goals as goal
 
 pub returns-in-Refused : goal.returns-in-Refused
 returns-in-Refused c =
-    writes_refused c.args.image.now c.args.at.place c.args.out.now c.args.at c.requires _ c.status-1.given.1
+    writes_refused c.args.image.now c.args.at.place c.args.out.now c.args.at c.requires _ c.in-Refused.is
 
 pub returns-in-Opened : goal.returns-in-Opened
 returns-in-Opened c =
-    writes_records c.args.image.now c.args.at.place c.args.out.now c.args.at c.requires c.enum_told-1.given.1 _ _ c.write_leaves.ensures
+    writes_records c.args.image.now c.args.at.place c.args.out.now c.args.at c.requires c.in-Opened.is _ _ c.write_leaves.ensures

@@ -1,5 +1,4 @@
 -- The branch lies in the range, which gets narrower until it has one label.
-use Prim.Native.Nat.{◌-◌}
 use native.Mathlib.Omega.{arith}
 use Rattle.walk_cursor.specs.LocateLaws.{node_inside, whole_range}
 use Rattle.walk_cursor.proofs.branch.take_branch.Goals as goal

@@ -1,5 +1,4 @@
 -- The leaves from the place on are those of the path's node but the ones passed, and those behind the path.
-use Prim.Native.Nat.{◌-◌}
 use mathlib.Core.Path.{◌≡◌, refl, sym, ◌∙◌}
 use native.Mathlib.Omega.{arith}
 use Rattle.nav_nodes.specs.declared.BranchKind.{BranchKind}

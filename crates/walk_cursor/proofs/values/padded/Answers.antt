@@ -1,7 +1,7 @@
 -- The cut key is copied over zeros, and the suffix is the number of its low bits.
-use mathlib.Core.Path.{◌≡◌, sym, ◌∙◌}
+use mathlib.Core.Path.{◌≡◌, sym}
 use native.Mathlib.Omega.{arith}
-use lib.ListN.{length, length-map}
+use lib.ListN.{length}
 use lib.Seq.{length-take-le}
 use Rattle.walk_cursor.specs.LeafValues.{value_padded}
 use Rattle.walk_cursor.proofs.values.padded.Goals as goal
