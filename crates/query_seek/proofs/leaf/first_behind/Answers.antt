@@ -1,8 +1,9 @@
 -- On the way down the leaf stays the first behind the branch; the measure is what is left of the 64 levels.
 use Prim.Native.Nat.{◌+◌}
-use mathlib.Core.Path.{◌≡◌, refl, sym, ◌∙◌}
+use mathlib.Core.Path.{refl, sym, ◌∙◌}
 use lib.ListN.{set}
 use native.Mathlib.Omega.{arith}
+use Rattle.nav_branches.proofs.BranchTests.{ends_leaf}
 use Rattle.nav_branches.specs.declared.LeafStop.TheVariants.{Open}
 use Rattle.nav_nodes.specs.Accepted.{nodes}
 use Rattle.nav_nodes.specs.FoundBranch.{IsPosition}
@@ -10,15 +11,7 @@ use Rattle.nav_nodes.specs.NextBranch.{NamedBranch}
 use Rattle.nav_branches.specs.PathSteps.{node_in}
 use Rattle.query_descent.specs.FirstLeaf.{leaf_behind}
 use Rattle.query_seek.specs.LeafKeys.{FirstBelow, Reached, exact_reached, first_behind, open_reached, child_below}
-use Rattle.nav_nodes.specs.declared.BranchKind.{BranchKind}
-use Rattle.nav_nodes.specs.declared.BranchKind.TheVariants.{Absent, Leaf, Child}
 use Rattle.query_seek.proofs.leaf.first_behind.Goals as goal
-
--- a branch that is there and does not continue ends at a leaf
-ends_leaf : (k : BranchKind) → (k ≡ Child → ⊥) → (k ≡ Absent → ⊥) → k ≡ Leaf
-ends_leaf Absent h n = absurd (n refl)
-ends_leaf Leaf h n = refl
-ends_leaf Child h n = absurd (h refl)
 
 pub loop-m-init : goal.loop-m-init
 loop-m-init c =

@@ -1,17 +1,10 @@
 -- The leaves from the place on are those of the path's node but the ones passed, and those behind the path.
-use mathlib.Core.Path.{◌≡◌, refl, sym, ◌∙◌}
+use mathlib.Core.Path.{sym, ◌∙◌}
 use native.Mathlib.Omega.{arith}
-use Rattle.nav_nodes.specs.declared.BranchKind.{BranchKind}
-use Rattle.nav_nodes.specs.declared.BranchKind.TheVariants.{Absent, Leaf, Child}
+use Rattle.nav_branches.proofs.BranchTests.{ends_leaf}
 use Rattle.nav_branches.specs.PathSteps.{node_in}
 use Rattle.walk_cursor.specs.LocateLaws.{going_root, has_more, branch_position, label_small, leads_open, next_deep, next_on, leads_exact, own_passed, none_passed}
 use Rattle.walk_cursor.proofs.descent.descend_to.Goals as goal
-
--- a branch that is there and does not continue ends at a leaf
-ends_leaf : (k : BranchKind) → (k ≡ Child → ⊥) → (k ≡ Absent → ⊥) → k ≡ Leaf
-ends_leaf Absent h n = absurd (n refl)
-ends_leaf Leaf h n = refl
-ends_leaf Child h n = absurd (h refl)
 
 pub loop-p-init : goal.loop-p-init
 loop-p-init c =

@@ -1,17 +1,9 @@
 -- On the way down no leaf is passed; the measure is what is left of the 64 levels.
 use native.Mathlib.Omega.{arith}
-use mathlib.Core.Path.{◌≡◌, refl}
-use Rattle.nav_nodes.specs.declared.BranchKind.{BranchKind}
-use Rattle.nav_nodes.specs.declared.BranchKind.TheVariants.{Absent, Leaf, Child}
+use Rattle.nav_branches.proofs.BranchTests.{ends_leaf}
 use Rattle.walk_path.specs.LevelLaws.{numbered_at}
 use Rattle.walk_path.specs.DownLaws.{goes_first, goes_named, goes_position, goes_small, down_leaf, down_deep, down_node, down_behind, down_last, down_exact, down_next}
 use Rattle.walk_path.proofs.moves.first_behind.Goals as goal
-
--- a branch that is there and does not continue ends at a leaf
-ends_leaf : (k : BranchKind) → (k ≡ Child → ⊥) → (k ≡ Absent → ⊥) → k ≡ Leaf
-ends_leaf Absent h n = absurd (n refl)
-ends_leaf Leaf h n = refl
-ends_leaf Child h n = absurd (h refl)
 
 pub offset_bounds-path-d : goal.offset_bounds-path-d
 offset_bounds-path-d c =
