@@ -8,7 +8,7 @@ use Rattle.range_filter.proofs.code_length.Goals as goal
 
 pub returns-in-Bytes : goal.returns-in-Bytes
 returns-in-Bytes c =
-    omega (arith, ap (λ (l : Length). length_code (length_of l)) c.length-1.given.1)
+    omega (arith, ap (λ (l : Length). length_code (length_of l)) c.in-Bytes.is)
 
 pub returns-in-Refused : goal.returns-in-Refused
 returns-in-Refused c =

@@ -14,8 +14,8 @@ numbered a j k r e f g = g ∙ ap (λ (i : Answer). number_of (answer i)) (sym e
 
 pub returns-in-Accepted : goal.returns-in-Accepted
 returns-in-Accepted c =
-    numbered _ Accepted _ 0 c.enum_told-1.given.1 c.check-checked.ensures refl
+    numbered _ Accepted _ 0 c.in-Accepted.is c.check-checked.ensures refl
 
 pub returns-in-Refused : goal.returns-in-Refused
 returns-in-Refused c =
-    numbered _ (Refused _) _ _ c.checked-1.given.1 c.check-checked.ensures refl
+    numbered _ (Refused _) _ _ c.in-Refused.is c.check-checked.ensures refl

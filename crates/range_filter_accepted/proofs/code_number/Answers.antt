@@ -8,7 +8,7 @@ use Rattle.range_filter_accepted.proofs.code_number.Goals as goal
 
 pub returns-in-Of : goal.returns-in-Of
 returns-in-Of c =
-    omega (arith, ap (λ (w : Number). numbered_code (numbered_of w)) c.answer-1.given.1)
+    omega (arith, ap (λ (w : Number). numbered_code (numbered_of w)) c.in-Of.is)
 
 pub returns-in-Refused : goal.returns-in-Refused
 returns-in-Refused c =

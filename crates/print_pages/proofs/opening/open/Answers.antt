@@ -9,13 +9,13 @@ returns-then-input-gt-LONGEST_INPUT c =
 
 pub write_head-requires : goal.write_head-requires
 write_head-requires c =
-    let g = c.open_from-at.ensures.walks.going c.enum_told-1.given.1 in
+    let g = c.open_from-at.ensures.walks.going c.in-Opened.is in
     (omega (arith, g.accepted.writable.few, g.accepted.writable.leaf_total), c.requires)
 
 pub returns-in-Refused : goal.returns-in-Refused
 returns-in-Refused c =
-    opened_refused c.args.input.now _ _ _ _ c.open_from-at.ensures c.if-input-gt-LONGEST_INPUT.false _ c.status-1.given.1 c.write_refused.ensures
+    opened_refused c.args.input.now _ _ _ _ c.open_from-at.ensures c.if-input-gt-LONGEST_INPUT.false _ c.in-Refused.is c.write_refused.ensures
 
 pub returns-in-Opened : goal.returns-in-Opened
 returns-in-Opened c =
-    opened_listing c.args.input.now _ _ _ _ c.open_from-at.ensures c.if-input-gt-LONGEST_INPUT.false c.enum_told-1.given.1 c.write_head.ensures
+    opened_listing c.args.input.now _ _ _ _ c.open_from-at.ensures c.if-input-gt-LONGEST_INPUT.false c.in-Opened.is c.write_head.ensures

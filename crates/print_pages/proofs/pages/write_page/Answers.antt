@@ -1,12 +1,8 @@
 -- The page begins with the lines of the leaves passed.
 use Prim.Native.Nat.{◌-◌}
-use mathlib.Core.Path.{ap}
-use mathlib.Core.Logic.{⊎_elim}
 use native.Mathlib.Omega.{arith}
-use denote.Enum.Declared.{tag_of}
 use Rattle.spec.specs.Nodes.{read_leaves}
 use Rattle.walk_states.specs.StateLaws.{found_leaf, moved_on}
-use Rattle.walk_states.specs.contracts.Stand as R
 use Rattle.print_pages.specs.Parts.{leaf_found}
 use Rattle.print_pages.specs.PrintLaws.{place_small, filled_none, filled_more, finished_full, finished_done}
 use Rattle.print_pages.proofs.pages.write_page.Goals as goal
@@ -30,7 +26,7 @@ shape_of-page-in_default c =
 pub returns-in_default : goal.returns-in_default
 returns-in_default c =
     let a = c.args in
-    finished_done a.image.now a.from a.page.now c.loop-page.at c.loop-page.page c.loop-page.len c.loop-page.invariant c.stand_from-s.result c.stand_from-s.ensures (λ e. ⊎_elim (λ q. omega (arith, ap (tag_of R.the_type) e, q)) (λ q. omega (arith, ap (tag_of R.the_type) e, q)) c.in-Leaf.keys2)
+    finished_done a.image.now a.from a.page.now c.loop-page.at c.loop-page.page c.loop-page.len c.loop-page.invariant c.stand_from-s.result c.stand_from-s.ensures c.in_default.not-Leaf
 
 pub write_line-len-requires : goal.write_line-len-requires
 write_line-len-requires c =
@@ -47,7 +43,7 @@ loop-page-smaller c =
     let a = c.args in
     let i = c.loop-page.invariant in
     let s = c.stand_from-s in
-    let e = c.enum_told-1.given.1 in
+    let e = c.in-Leaf.is in
     let f = found_leaf a.image.now c.loop-page.at i.walks i.opened s.result s.ensures e in
     omega (arith, leaf_found (read_leaves a.image.now) c.loop-page.at.place f.0 f.1, moved_on a.image.now c.loop-page.at i.walks i.opened s.result s.ensures e c.move_from-at.result c.move_from-at.ensures)
 
@@ -55,7 +51,7 @@ pub loop-page-preserved : goal.loop-page-preserved
 loop-page-preserved c =
     let a = c.args in
     let s = c.stand_from-s in
-    filled_more a.image.now a.from a.page.now c.loop-page.at c.loop-page.page c.loop-page.len c.loop-page.invariant s.result s.ensures c.enum_told-1.given.1 c.move_from-at.result c.move_from-at.ensures _ _ c.write_line-len.auto.0 (omega (arith, c.loop-page.invariant.text.within, c.loop-page-test.true)) c.write_line-len.ensures
+    filled_more a.image.now a.from a.page.now c.loop-page.at c.loop-page.page c.loop-page.len c.loop-page.invariant s.result s.ensures c.in-Leaf.is c.move_from-at.result c.move_from-at.ensures _ _ c.write_line-len.auto.page (omega (arith, c.loop-page.invariant.text.within, c.loop-page-test.true)) c.write_line-len.ensures
 
 pub shape_of-page : goal.shape_of-page
 shape_of-page c =
