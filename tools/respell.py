@@ -19,6 +19,7 @@ DECLARED = re.compile(
 TYPE = re.compile(r"^\s*(?:pub )?(?:data|record|ruleset) (" + WORD + r")")
 # definitions that would have the name of a struct of src/
 OTHERWISE = {
+    "Laid_out": "LaidOut",
     "Counts-before": "IsCountsBefore",
     "Field-counts": "CountedFields",
     "First-branch": "IsFirstBranch",
@@ -86,7 +87,9 @@ def declared(root):
             if m and not m.group(1).split()[0] in ("abbrev", "unfoldable", "pub", "let", "data", "record"):
                 names |= {n for n in m.group(1).split() if "-" in n}
     made = {n for n in names if n.startswith(("+", "μ-"))}
-    return {n: spelled(n) for n in names - made - of_libraries(root)}, plain
+    # port.py took a dash from some names of types
+    names = (names - made - of_libraries(root)) | (plain & set(OTHERWISE))
+    return {n: spelled(n) for n in names}, plain - set(OTHERWISE)
 
 
 def main(root):

@@ -14,7 +14,7 @@ use Rattle.image.specs.declared.Header.{Header}
 use Rattle.image.specs.declared.DenseTotals.{DenseTotals}
 use Rattle.image.specs.declared.Frame.{Frame}
 use Rattle.theory.specs.Terms.{IsBytes}
-use Rattle.check_frame.specs.FrameLaws.{frame_at, header_starts, uncounted, Totals, Laid_out, accepted_laid, laid_totals, laid_frame, frame_laid}
+use Rattle.check_frame.specs.FrameLaws.{frame_at, header_starts, uncounted, Totals, LaidOut, accepted_laid, laid_totals, laid_frame, frame_laid}
 use Rattle.rank_tables.specs.Reading.{RankEntry, RankTable}
 use Rattle.nav_nodes.specs.Accepted.{Accepted, nodes}
 use Rattle.nav_nodes.specs.Slots.{leaves_before}
@@ -84,7 +84,7 @@ module _ (s : Bytes) (f : Frame) (u : Uncounted s f) where
   entries_left = let a = u.accepted in rw u.frame_is (λ h. omega (arith, all_entries s _ a h, a.items))
 
 module _ (s : Bytes) (h : Header) (v : verdict s ≡ 0) (r : ReadsHeader s h) (small : IsBytes s) where
-  laid : Laid_out s h
+  laid : LaidOut s h
   laid = accepted_laid s h v r
 
   -- An image that the check takes has the frame of its header, but for the totals.

@@ -24,7 +24,7 @@ use Rattle.build_records.specs.BodyChoice.{counters_of, level_range}
 use Rattle.build_records.specs.BodyRoom.{counters_few, body_room}
 use Rattle.build_records.specs.BodyFilled.{left_body, body_filled, left_flipped, flipped_fits, flipped_again, left_whole}
 use Rattle.build_passes.specs.FlippedBits.{flipped}
-use Rattle.build_records.specs.Plan.{Planned, plan_settings, source_at, source_counters, keys_counters, counters_at, list_body, body_at, size_at, start_at, span_at, body_size, ends_before, plan_short, entries_few, Laid_out, BodyRoom, RanksOf, SamplesOf, Gives, Writing, record_room}
+use Rattle.build_records.specs.Plan.{Planned, plan_settings, source_at, source_counters, keys_counters, counters_at, list_body, body_at, size_at, start_at, span_at, body_size, ends_before, plan_short, entries_few, LaidOut, BodyRoom, RanksOf, SamplesOf, Gives, Writing, record_room}
 use Rattle.build_laws.specs.declared.Body.{Body}
 use Rattle.build_laws.specs.declared.LevelRange.{LevelRange}
 use Rattle.build_laws.specs.declared.Pass.{Pass}
@@ -87,11 +87,11 @@ body_whole list p w b rest o f e = e ∙ ap (λ (z : Bytes). z ++ rest) (left_wh
 
 module _ (list : Bytes) (p : Plan) (i : ℕ) (out : Bytes) (w : Writing list p i out) where
   -- the span of record i, where the output is no longer than a number holds
-  pub own_laid : length out < 18446744073709551616 → Laid_out p i
+  pub own_laid : length out < 18446744073709551616 → LaidOut p i
   own_laid h = record { below = w.below; short = plan_short list p w.planned; fits = omega (arith, record_room list p i out w) }
 
   -- the span of an earlier record
-  pub earlier_laid : length out < 18446744073709551616 → (j : ℕ) → j < i → Laid_out p j
+  pub earlier_laid : length out < 18446744073709551616 → (j : ℕ) → j < i → LaidOut p j
   earlier_laid h j l = record {
     below = omega (arith, w.below);
     short = plan_short list p w.planned;

@@ -195,7 +195,7 @@ abbrev pub span_at : Plan → ℕ → Span
 span_at p i = record { at = start_at p i + 6; len = size_at p i }
 
 -- what is asked of a plan for that: a header that fits, and starts that fit
-pub record Laid_out (p : Plan) (i : ℕ) : Type 0 where
+pub record LaidOut (p : Plan) (i : ℕ) : Type 0 where
   pub below : i < 12  -- there is such a record
   pub short : ShortFields p.header
   pub fits : start_at p i + 6 < 18446744073709551616  -- its body starts at an offset that a number holds

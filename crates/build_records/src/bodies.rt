@@ -4,7 +4,7 @@ ghost use Rattle.bits.specs.Bits.{overlaid};
 ghost use Rattle.build_records.specs.BodyChoice.{level_range};
 ghost use Rattle.build_records.specs.BodyFilled.{left_flipped};
 ghost use Rattle.build_keys.specs.CountPass.{level_counts};
-ghost use Rattle.build_records.specs.Plan.{source_at, source_counters, counters_at, list_body, BodyRoom, Laid_out, span_at, body_at, start_at, Writing};
+ghost use Rattle.build_records.specs.Plan.{source_at, source_counters, counters_at, list_body, BodyRoom, LaidOut, span_at, body_at, start_at, Writing};
 
 use super::{Plan, Source};
 use build_keys::{COUNTERS, Counters};
@@ -140,7 +140,7 @@ fn fill_from_keys(out: &mut [u8], len: usize, list: &[u8], plan: Plan, cnt: &Cou
 
 // The bytes of record i's body in the output.
 fn body_span(plan: Plan, i: usize) -> Span
-    requires { Laid_out plan i }
+    requires { LaidOut plan i }
     ensures { result ≡ span_at plan i }
 {
     let starts = plan.starts;

@@ -114,7 +114,7 @@ pub record FrameStands (s : Bytes) (h : Header) : Type 0 where
   pub reads : ReadsHeader s h
 
 -- besides, what the header says is in range, and each record has the length that it gives
-pub record Laid_out (s : Bytes) (h : Header) : Type 0 where
+pub record LaidOut (s : Bytes) (h : Header) : Type 0 where
   pub stands : FrameStands s h
   pub settings : settings_valid h ≡ true
   pub lengths : lengths_agree (settings_of h) (counts_of h) rows s 22 ≡ true
@@ -272,7 +272,7 @@ unfolding read_settings
 version_read s h r = sym (ap (λ (st : Settings). st.version) r.settings)
 
 -- A laid-out image has the frame that its header gives.
-pub frame_laid : (s : Bytes) (h : Header) (t : DenseTotals) → Laid_out s h
+pub frame_laid : (s : Bytes) (h : Header) (t : DenseTotals) → LaidOut s h
     → Totals s (get_or (header_starts h) 0 0 + 6) (get_or (header_starts h) 1 0 + 6) (get_or (header_starts h) 2 0 + 6) h.dense.nodes t → FrameOf s (frame_at h (header_starts h) t)
 frame_laid s h t o n =
     let p = o.stands in
@@ -314,11 +314,11 @@ laid_totals s h = record {
 }
 
 -- A laid-out image has the frame with these totals.
-pub laid_frame : (s : Bytes) (h : Header) → Laid_out s h → FrameOf s (frame_at h (header_starts h) (laid_totals s h))
+pub laid_frame : (s : Bytes) (h : Header) → LaidOut s h → FrameOf s (frame_at h (header_starts h) (laid_totals s h))
 laid_frame s h o = frame_laid s h (laid_totals s h) o (record { children = refl; entries = refl })
 
 -- A laid-out image has each body within it.
-pub laid_within : (s : Bytes) (h : Header) → Laid_out s h → Within s (frame_at h (header_starts h) (laid_totals s h))
+pub laid_within : (s : Bytes) (h : Header) → LaidOut s h → Within s (frame_at h (header_starts h) (laid_totals s h))
 laid_within s h o = within s (frame_at h (header_starts h) (laid_totals s h)) (laid_frame s h o)
 
 -- the dense nodes' bodies and their tables lie within the image
@@ -332,7 +332,7 @@ pub record DenseInside (s : Bytes) (f : Frame) : Type 0 where
   pub rp : f.rp + 4 * blocks 64 f.dense.nodes ≤ length s
 
 -- A laid-out image has them there, whatever the totals are.
-pub dense_laid : (s : Bytes) (h : Header) (t : DenseTotals) → Laid_out s h → DenseInside s (frame_at h (header_starts h) t)
+pub dense_laid : (s : Bytes) (h : Header) (t : DenseTotals) → LaidOut s h → DenseInside s (frame_at h (header_starts h) t)
 dense_laid s h t o =
     let w = laid_within s h o in
     record { few = o.stands.reads.short.dense_nodes; dl = w.dl; dc = w.dc; dp = w.dp; rl = w.rl; rc = w.rc; rp = w.rp }
@@ -367,7 +367,7 @@ bodies_stand s bs l e = go (records_end (rows_of s) s 22) refl (sym (read_is (ro
     go (some n) r e = at_end n (eqb n (length s)) refl r e
 
 -- An image that the check takes is laid out as its header says.
-pub accepted_laid : (s : Bytes) (h : Header) → verdict s ≡ 0 → ReadsHeader s h → Laid_out s h
+pub accepted_laid : (s : Bytes) (h : Header) → verdict s ≡ 0 → ReadsHeader s h → LaidOut s h
 accepted_laid s h v r =
     let p = verdict_passes s v in
     let q = p.1.before.before.before.before in

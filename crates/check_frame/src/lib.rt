@@ -9,7 +9,7 @@ ghost use Rattle.spec.specs.Frame.{rows_of};
 ghost use Rattle.image.specs.FrameOf.{level_gap};
 ghost use Rattle.image.specs.Header.{settings_of, counts_of, ShortFields};
 ghost use Rattle.image.specs.Records.{records_end, lengths_agree};
-ghost use Rattle.check_frame.specs.FrameLaws.{settings_valid, RecordsStand, Laid_out, frame_at, header_starts, uncounted, DenseInside, Totals};
+ghost use Rattle.check_frame.specs.FrameLaws.{settings_valid, RecordsStand, LaidOut, frame_at, header_starts, uncounted, DenseInside, Totals};
 ghost use Rattle.check_tables.specs.Tables.{dense_agrees};
 ghost use Rattle.check_frame.specs.Found.{RecordFound, TwelveFound, end_found, IsRankedFrame, ReadAs};
 
@@ -195,7 +195,7 @@ pub fn frame_at(h: Header) -> Frame
 
 // The frame of an image whose records stand where its header says, with the totals of its dense nodes.
 fn laid_out(image: &[u8], h: Header) -> RankedFrame
-    requires { Laid_out image.now h }
+    requires { LaidOut image.now h }
     ensures { IsRankedFrame image.now result }
 {
     let mut frame = frame_at(h);

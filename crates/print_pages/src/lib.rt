@@ -1,6 +1,5 @@
 // The text of an input in pages: how it opens, the lines of its leaves, and its output.
 #![tactic(auto)]
-#![tactic(auto)]
 
 pub mod opening; // opening.rt: how a text opens
 pub mod pages; // pages.rt: the leaves' lines, a page at a time

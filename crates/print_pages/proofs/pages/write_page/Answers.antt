@@ -51,7 +51,7 @@ pub loop-page-preserved : goal.loop-page-preserved
 loop-page-preserved c =
     let a = c.args in
     let s = c.stand_from-s in
-    filled_more a.image.now a.from a.page.now c.loop-page.at c.loop-page.page c.loop-page.len c.loop-page.invariant s.result s.ensures c.in-Leaf.is c.move_from-at.result c.move_from-at.ensures _ _ c.write_line-len.auto.page (omega (arith, c.loop-page.invariant.text.within, c.loop-page-test.true)) c.write_line-len.ensures
+    filled_more a.image.now a.from a.page.now c.loop-page.at c.loop-page.page c.loop-page.len c.loop-page.invariant s.result s.ensures c.in-Leaf.is c.move_from-at.result c.move_from-at.ensures _ _ c.write_line-len.auto.out (omega (arith, c.loop-page.invariant.text.within, c.loop-page-test.true)) c.write_line-len.ensures
 
 pub shape_of-page : goal.shape_of-page
 shape_of-page c =
