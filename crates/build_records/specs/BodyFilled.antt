@@ -17,8 +17,8 @@ use Rattle.build_laws.specs.Counters.{entry_counts, CursorsAt}
 use Rattle.build_passes.specs.FlippedBits.{flipped, flipped_pack}
 use Rattle.build_laws.specs.Lengths.{length_SC, length_SB, length_SC_bits, length_SB_bits}
 use Rattle.build_laws.specs.KeyBits.{key_bodies, bodies_are, SC_bits, SB_bits}
-use Rattle.build_laws.specs.BodyLaws.{bit_at, slot_at, SC_filled, SB_filled, SV_filled, DL_filled, DC_filled, DP_filled}
-use Rattle.build_laws.proofs.BodyLaws.{SL_filled}
+use Rattle.build_laws.specs.BodyLaws.{bit_at, slot_at}
+use Rattle.build_laws.proofs.BodyLaws.{SC_filled, SB_filled, SV_filled, DL_filled, DC_filled, DP_filled, SL_filled}
 use Rattle.build_laws.specs.declared.Kind.TheVariants.{DL, DC, DP, SL, SC, SB}
 use Rattle.build_laws.specs.declared.Body.{Body}
 use Rattle.build_laws.specs.declared.Body.TheVariants.{Entries, Slots}

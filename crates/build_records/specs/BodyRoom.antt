@@ -19,8 +19,8 @@ use Rattle.build_laws.specs.Counters.{entry_counts, node_counts, leaf_counts, Cu
 use Rattle.build_keys.specs.CounterRoom.{entry_counts_few, node_counts_few, leaf_counts_few, sums_few}
 use Rattle.build_laws.specs.KeyBits.{key_bodies}
 use Rattle.build_laws.specs.Lengths.{length_DL, length_DC, length_DP, length_SL, length_SC, length_SB, length_SV}
-use Rattle.build_laws.specs.BodyLaws.{bit_at, slot_at, SC_room, SB_room, SV_room, DL_room, DC_room, DP_room}
-use Rattle.build_laws.proofs.BodyLaws.{SL_room}
+use Rattle.build_laws.specs.BodyLaws.{bit_at, slot_at}
+use Rattle.build_laws.proofs.BodyLaws.{SC_room, SB_room, SV_room, DL_room, DC_room, DP_room, SL_room}
 use Rattle.build_laws.specs.declared.Entry.{Entry}
 use Rattle.build_laws.specs.declared.Kind.TheVariants.{DL, DC, DP, SL, SC, SB}
 use Rattle.build_laws.specs.declared.Body.{Body}
