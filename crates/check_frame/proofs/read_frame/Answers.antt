@@ -1,6 +1,6 @@
 -- The tests in their order: each that fails gives 11 or 12, and where all pass the header and the records stand and their lengths agree.
 use Prim.Native.Nat.{◌≤◌}
-use mathlib.Core.Path.{sym, ap, ◌∙◌}
+use mathlib.Core.Path.{◌≡◌, sym, ap, ◌∙◌}
 use mathlib.Core.Option.{some}
 use native.Mathlib.Omega.{arith}
 use lib.ListN.{length}
@@ -33,9 +33,10 @@ returns-then-end-image c =
 pub returns-then-not-settings_valid : goal.returns-then-not-settings_valid
 returns-then-not-settings_valid c =
     let long : 22 ≤ length c.args.image.now = c.if-image-lt-HEADER.false in
+    let whole : c.in-At.end ≡ length c.args.image.now = omega arith in
     let stood : FrameStands c.args.image.now c.read_header-h.result = record {
       header = header_stands c.args.image.now long c.if-image-ne72.false c.if-image-ne68.false;
-      records = records_standing c.args.image.now long (sym c.last_end.ensures ∙ ap end_found c.in-At.is ∙ ap some c.if-end-image.false);
+      records = records_standing c.args.image.now long (sym c.last_end.ensures ∙ ap end_found c.in-At.is ∙ ap some whole);
       reads = c.read_header-h.ensures;
     } in
     (omega arith, settings_wrong c.args.image.now c.read_header-h.result stood (sym c.settings_valid.ensures ∙ c.if-not-settings_valid.true))
@@ -43,9 +44,10 @@ returns-then-not-settings_valid c =
 pub lengths_valid-requires : goal.lengths_valid-requires
 lengths_valid-requires c =
     let long : 22 ≤ length c.args.image.now = c.if-image-lt-HEADER.false in
+    let whole : c.in-At.end ≡ length c.args.image.now = omega arith in
     let stood : FrameStands c.args.image.now c.read_header-h.result = record {
       header = header_stands c.args.image.now long c.if-image-ne72.false c.if-image-ne68.false;
-      records = records_standing c.args.image.now long (sym c.last_end.ensures ∙ ap end_found c.in-At.is ∙ ap some c.if-end-image.false);
+      records = records_standing c.args.image.now long (sym c.last_end.ensures ∙ ap end_found c.in-At.is ∙ ap some whole);
       reads = c.read_header-h.ensures;
     } in
     (stood.reads.short, stood.records)
@@ -53,9 +55,10 @@ lengths_valid-requires c =
 pub returns-then-not-lengths_valid : goal.returns-then-not-lengths_valid
 returns-then-not-lengths_valid c =
     let long : 22 ≤ length c.args.image.now = c.if-image-lt-HEADER.false in
+    let whole : c.in-At.end ≡ length c.args.image.now = omega arith in
     let stood : FrameStands c.args.image.now c.read_header-h.result = record {
       header = header_stands c.args.image.now long c.if-image-ne72.false c.if-image-ne68.false;
-      records = records_standing c.args.image.now long (sym c.last_end.ensures ∙ ap end_found c.in-At.is ∙ ap some c.if-end-image.false);
+      records = records_standing c.args.image.now long (sym c.last_end.ensures ∙ ap end_found c.in-At.is ∙ ap some whole);
       reads = c.read_header-h.ensures;
     } in
     (omega arith, lengths_wrong c.args.image.now c.read_header-h.result stood (sym c.lengths_valid.ensures ∙ c.if-not-lengths_valid.true))
@@ -63,9 +66,10 @@ returns-then-not-lengths_valid c =
 pub laid_out-requires : goal.laid_out-requires
 laid_out-requires c =
     let long : 22 ≤ length c.args.image.now = c.if-image-lt-HEADER.false in
+    let whole : c.in-At.end ≡ length c.args.image.now = omega arith in
     let stood : FrameStands c.args.image.now c.read_header-h.result = record {
       header = header_stands c.args.image.now long c.if-image-ne72.false c.if-image-ne68.false;
-      records = records_standing c.args.image.now long (sym c.last_end.ensures ∙ ap end_found c.in-At.is ∙ ap some c.if-end-image.false);
+      records = records_standing c.args.image.now long (sym c.last_end.ensures ∙ ap end_found c.in-At.is ∙ ap some whole);
       reads = c.read_header-h.ensures;
     } in
     record {

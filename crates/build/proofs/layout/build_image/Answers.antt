@@ -1,5 +1,6 @@
 -- The plan decides 8 and 7, and the image is written where neither applies.
 use mathlib.Core.Path.{refl}
+use native.Mathlib.Omega.{arith}
 use Rattle.build_records.specs.Plan.{plan_fits}
 use Rattle.image.specs.Header.{asked}
 use Rattle.build.proofs.ImageLaws.{length_not_stated, too_long, image_room, image_built}
@@ -28,7 +29,7 @@ returns-then-out-end c =
     let a = c.args in
     let laid = c.lay_out-plan in
     let end = c.image_end-end in
-    too_long a.list.now laid.result laid.ensures.0 _ laid.ensures.2 (asked a.st) laid.ensures.1 end.result end.ensures a.stated a.out.now c.if-stated-end.false c.if-out-end.true
+    too_long a.list.now laid.result laid.ensures.0 _ laid.ensures.2 (asked a.st) laid.ensures.1 end.result end.ensures a.stated a.out.now (omega arith) c.if-out-end.true
 
 pub write_image-requires : goal.write_image-requires
 write_image-requires c =

@@ -8,7 +8,7 @@ use Rattle.spec.specs.Bytes.{Bytes}
 use Rattle.image.specs.declared.Frame.{Frame}
 use Rattle.check_levels.specs.Bodies.{dc_body, sc_body, sb_body}
 use Rattle.check_levels.specs.NodeBranches.{branches_le}
-use Rattle.check_levels.specs.LevelTests.{EndsTo, ends_first, ends_next, ends_level_64, ends_stuck, ends_over, ends_last, less_64}
+use Rattle.check_levels.specs.LevelTests.{EndsTo, ends_first, ends_next, ends_level_64, ends_stuck, ends_over, ends_last}
 use Rattle.check_levels.specs.Levels.{node_count, branches_before, level_root}
 use Rattle.check_levels.proofs.judge.levels_valid.Goals as goal
 
@@ -74,17 +74,19 @@ pub returns-then-next-end : goal.returns-then-next-end
 returns-then-next-end c =
     let a = c.args in
     let l = c.loop-end in
+    let deep : l.depth < 64 = omega (arith, l.invariant.0.most) in
     let r = c.next_level-level in
     let k = r.ensures.0.branches ∙ ap (branches_before a.image.now a.f) r.ensures.1 in
-    sym (ends_stuck (branches_before a.image.now a.f) (node_count a.f) a.f.dense.levels a.f.dense.nodes l.depth l.end l.above r.result.branches l.invariant.0 k c.loop-end-test.true (less_64 l.depth l.invariant.0.most c.if-depth-eq-MAX_LEVELS.false) c.if-next-end.true)
+    sym (ends_stuck (branches_before a.image.now a.f) (node_count a.f) a.f.dense.levels a.f.dense.nodes l.depth l.end l.above r.result.branches l.invariant.0 k c.loop-end-test.true deep c.if-next-end.true)
 
 pub returns-then-nodes-next : goal.returns-then-nodes-next
 returns-then-nodes-next c =
     let a = c.args in
     let l = c.loop-end in
+    let deep : l.depth < 64 = omega (arith, l.invariant.0.most) in
     let r = c.next_level-level in
     let k = r.ensures.0.branches ∙ ap (branches_before a.image.now a.f) r.ensures.1 in
-    sym (ends_over (branches_before a.image.now a.f) (node_count a.f) a.f.dense.levels a.f.dense.nodes l.depth l.end l.above r.result.branches l.invariant.0 k c.loop-end-test.true (less_64 l.depth l.invariant.0.most c.if-depth-eq-MAX_LEVELS.false) c.if-nodes-next.true)
+    sym (ends_over (branches_before a.image.now a.f) (node_count a.f) a.f.dense.levels a.f.dense.nodes l.depth l.end l.above r.result.branches l.invariant.0 k c.loop-end-test.true deep c.if-nodes-next.true)
 
 pub overflow_add-depth : goal.overflow_add-depth
 overflow_add-depth c =
@@ -99,9 +101,10 @@ loop-end-preserved c =
     let if2 = c.if-next-end in
     let a = c.args in
     let l = c.loop-end in
+    let deep : l.depth < 64 = omega (arith, l.invariant.0.most) in
     let r = c.next_level-level in
     let k = r.ensures.0.branches ∙ ap (branches_before a.image.now a.f) r.ensures.1 in
-    let next = ends_next (branches_before a.image.now a.f) (node_count a.f) a.f.dense.levels a.f.dense.nodes l.depth l.end l.above r.result.branches l.invariant.0 k c.loop-end-test.true (less_64 l.depth l.invariant.0.most c.if-depth-eq-MAX_LEVELS.false) if2.false c.if-nodes-next.false in
+    let next = ends_next (branches_before a.image.now a.f) (node_count a.f) a.f.dense.levels a.f.dense.nodes l.depth l.end l.above r.result.branches l.invariant.0 k c.loop-end-test.true deep if2.false c.if-nodes-next.false in
     (rw c.pick-above.ensures next, r.ensures.0, behind r.ensures.1 if2.false)
 
 pub returns : goal.returns

@@ -1,5 +1,6 @@
 -- In another version nothing is asked; without leaves LV is empty.
 use mathlib.Core.Path.{sym, ◌∙◌}
+use native.Mathlib.Omega.{arith}
 use Rattle.check_slots.specs.LevelBytes.{starts_test, starts_empty, starts_free}
 use Rattle.check_slots.proofs.level_table.starts_valid.Goals as goal
 
@@ -9,8 +10,8 @@ returns-then-f-ne-LEVELED_VERSION c =
 
 pub returns-then-f-eq0 : goal.returns-then-f-eq0
 returns-then-f-eq0 c =
-    sym (starts_empty c.args.image.now c.args.f c.requires c.if-f-ne-LEVELED_VERSION.false c.if-f-eq0.true)
+    sym (starts_empty c.args.image.now c.args.f c.requires (omega arith) c.if-f-eq0.true)
 
 pub returns : goal.returns
 returns c =
-    c.starts_equal.ensures ∙ sym (starts_test c.args.image.now c.args.f c.requires c.if-f-ne-LEVELED_VERSION.false)
+    c.starts_equal.ensures ∙ sym (starts_test c.args.image.now c.args.f c.requires (omega arith))

@@ -1,8 +1,9 @@
 -- By the tests in their order; what continues is no more than the labels, so a sole label continues where anything does.
-use mathlib.Core.Path.{sym, ap, ◌∙◌}
-use mathlib.Core.Bool.{Bool, not, ◌||◌}
+use mathlib.Core.Path.{◌≡◌, sym, ap, ◌∙◌}
+use mathlib.Core.Bool.{Bool, true, not, ◌||◌}
 use Prim.Native.Nat.{ℕ}
-use lib.Dec.{eqb}
+use lib.Dec.{ltb, eqb}
+use Rattle.bits.specs.Bits.{rank}
 use Rattle.check_trie.specs.DensePositions.{row_stray, row_none, row_root, row_kept, row_leaves}
 use Rattle.check_trie.proofs.dense.node_valid.Goals as goal
 
@@ -20,7 +21,7 @@ pub returns-then-root : goal.returns-then-root
 returns-then-root c =
     let a = c.args in
     let w = sym c.covered.ensures ∙ c.if-not-covered.false in
-    let some = sym c.some_set.ensures ∙ c.if-not-some_set.false in
+    let some : ltb 0 (rank a.labels.now 256) ≡ true = cc in
     rw c.if-root.true (sym (row_root a.labels.now a.children.now w some a.exact))
 
 pub returns-then-exact-some_set : goal.returns-then-exact-some_set
@@ -28,7 +29,7 @@ returns-then-exact-some_set c =
     let a = c.args in
     let p = c.requires in
     let w = sym c.covered.ensures ∙ c.if-not-covered.false in
-    let some = sym c.some_set.ensures ∙ c.if-not-some_set.false in
+    let some : ltb 0 (rank a.labels.now 256) ≡ true = cc in
     let kept = ap (λ (t : Bool). a.exact || t) (sym c.some_set-2.ensures) ∙ c.if-exact-some_set.true in
     rw c.if-root.false (sym (row_kept a.labels.now a.children.now w some p.0 p.1 a.exact kept))
 
@@ -36,6 +37,6 @@ pub returns : goal.returns
 returns c =
     let a = c.args in
     let w = sym c.covered.ensures ∙ c.if-not-covered.false in
-    let some = sym c.some_set.ensures ∙ c.if-not-some_set.false in
+    let some : ltb 0 (rank a.labels.now 256) ≡ true = cc in
     let ends = ap (λ (t : Bool). a.exact || t) (sym c.some_set-2.ensures) ∙ c.if-exact-some_set.false in
     rw c.if-root.false (ap (λ (k : ℕ). not (eqb k 1)) c.ones_of.ensures ∙ sym (row_leaves a.labels.now a.children.now w some a.exact ends))
