@@ -64,6 +64,7 @@ pub fn real_equals(image: &[u8], f: Frame, slot: ValuePos, key: &[u8], d: usize)
 }
 
 // Whether a key has the leaf's hash bits: the lowest bits of the slot's number are the number of the key's hash bits.
+#[tactic(auto, using(crate::proofs::NoHashBits::no_hash_bits))]
 pub fn hash_equals(image: &[u8], f: Frame, slot: ValuePos, key: &[u8]) -> bool
     requires { Accepted image.now f × (slot.0 < f.leaves) }
     ensures { result ≡ same_bits (hash_bits f.hash_width key.now) (hash_slot image.now f slot.0) }

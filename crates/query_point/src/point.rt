@@ -17,6 +17,7 @@ use query_descent::follow::follow;
 use query_descent::suffix::{hash_equals, real_equals};
 
 // Whether a key, whose first d bytes lead to the open leaf behind a branch, has the leaf's suffix: its real bits and its hash bits. No slot is looked up where slots have no bits, and no key is hashed whose real bits differ.
+#[tactic(auto, using(crate::proofs::NoSuffixBits::no_suffix_bits))]
 fn leaf_has(image: &[u8], f: Frame, m: NodeNum, at: BitPos, key: &[u8], d: usize) -> bool
     requires { IsPosition image.now f m.0 at.0 × (slot_at image.now f m.0 at.0 < f.leaves) × (d ≤ length key.now) }
     ensures { result ≡ slot_has f.hash_width key.now (slot_of f.width (nodes image.now f) (slot_at image.now f m.0 at.0)) (drop d key.now) }

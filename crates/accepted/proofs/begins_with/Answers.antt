@@ -14,4 +14,4 @@ returns-then-stem-gt-MAX_KEY_BYTES c =
 
 pub returns : goal.returns
 returns c =
-    replied_number c.args.image.now (QB c.args.stem.now) (stem_keys c.args.stem.now ∙ key_fits c.args.stem.now c.if-stem-gt-MAX_KEY_BYTES.false) c.accepted_frame.result c.accepted_frame.ensures _ (c.begins_with.ensures ∙ sym (ap (λ (r : Reply). r.number) (begins_reply c.accepted_frame.result.hash_width (read_leaves c.args.image.now) c.args.stem.now)))
+    replied_number c.args.image.now (QB c.args.stem.now) (stem_keys c.args.stem.now ∙ key_fits c.args.stem.now (omega arith)) c.accepted_frame.result c.accepted_frame.ensures _ (c.begins_with.ensures ∙ sym (ap (λ (r : Reply). r.number) (begins_reply c.accepted_frame.result.hash_width (read_leaves c.args.image.now) c.args.stem.now)))

@@ -22,4 +22,4 @@ record_end-requires c =
 pub returns : goal.returns
 returns c =
     let q = rw c.in-At.is at c.twelve_end.ensures in
-    level_found c.args.image.now c.in-At.end q.0 (sym c.wide.ensures.0 ∙ c.if-wide-ne-LEVELED_VERSION.false) c.record_end.result c.record_end.ensures
+    level_found c.args.image.now c.in-At.end q.0 (omega (arith, c.wide.ensures.0)) c.record_end.result c.record_end.ensures

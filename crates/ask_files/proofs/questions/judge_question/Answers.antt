@@ -1,6 +1,7 @@
 -- The mark's tests, and what the keys that its letter asks for give.
 use mathlib.Core.Path.{subst}
 use Prim.Native.Nat.{◌+◌}
+use native.Mathlib.Omega.{arith}
 use lib.ListN.{get_or}
 use Rattle.ask_files.specs.QuestionAt.{question_short, question_unmarked}
 use Rattle.ask_files.specs.Questions.{Asks}
@@ -20,14 +21,14 @@ returns-then-s-at-ne81 c =
 pub returns-in-One : goal.returns-in-One
 returns-in-One c =
     let a = c.args in
-    one_key_read a.s.now a.at c.if-s-at-lt2.false c.if-s-at-ne81.false (subst (Asks (get_or a.s.now (a.at + 1) 0)) c.in-One.is c.keys_asked-keys.ensures) c.read_key.result c.read_key.ensures
+    one_key_read a.s.now a.at c.if-s-at-lt2.false (omega arith) (subst (Asks (get_or a.s.now (a.at + 1) 0)) c.in-One.is c.keys_asked-keys.ensures) c.read_key.result c.read_key.ensures
 
 pub returns-in-Two : goal.returns-in-Two
 returns-in-Two c =
     let a = c.args in
-    two_keys_read a.s.now a.at c.if-s-at-lt2.false c.if-s-at-ne81.false (subst (Asks (get_or a.s.now (a.at + 1) 0)) c.in-Two.is c.keys_asked-keys.ensures) c.read_bounds.result c.read_bounds.ensures
+    two_keys_read a.s.now a.at c.if-s-at-lt2.false (omega arith) (subst (Asks (get_or a.s.now (a.at + 1) 0)) c.in-Two.is c.keys_asked-keys.ensures) c.read_bounds.result c.read_bounds.ensures
 
 pub returns-in-Wrong : goal.returns-in-Wrong
 returns-in-Wrong c =
     let a = c.args in
-    wrong_letter a.s.now a.at c.if-s-at-lt2.false c.if-s-at-ne81.false (subst (Asks (get_or a.s.now (a.at + 1) 0)) c.in-Wrong.is c.keys_asked-keys.ensures)
+    wrong_letter a.s.now a.at c.if-s-at-lt2.false (omega arith) (subst (Asks (get_or a.s.now (a.at + 1) 0)) c.in-Wrong.is c.keys_asked-keys.ensures)

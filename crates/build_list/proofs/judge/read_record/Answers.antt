@@ -57,7 +57,7 @@ returns-then-s-at c =
     let wide = c.wide-n in
     let if5 = c.if-n-eq0 in
     let a = c.args in
-    read_missing a.s.now a.at a.done (omega arith) if1.false if2.false if3.false if4.false wide.result wide.ensures.0 if5.false c.if-n-gt-MAX_KEY_BYTES.false c.if-s-at.true
+    read_missing a.s.now a.at a.done (omega arith) if1.false if2.false if3.false if4.false wide.result wide.ensures.0 if5.false (omega arith) c.if-s-at.true
 
 pub returns : goal.returns
 returns c =
@@ -68,4 +68,4 @@ returns c =
     let wide = c.wide-n in
     let if5 = c.if-n-eq0 in
     let a = c.args in
-    read_whole a.s.now a.at a.done (omega arith) if1.false if2.false if3.false if4.false wide.result wide.ensures.0 if5.false c.if-n-gt-MAX_KEY_BYTES.false (omega arith) c.if-s-at.false
+    read_whole a.s.now a.at a.done (omega arith) if1.false if2.false if3.false if4.false wide.result wide.ensures.0 if5.false (omega arith) (omega arith) c.if-s-at.false

@@ -2,7 +2,7 @@ use Rattle.bits.proofs.RankLaws.{one_shl}
 use Rattle.nav_nodes.specs.Accepted.{nodes, hash_slot}
 use Rattle.nav_nodes.specs.Slots.{slot_of}
 use Rattle.query_descent.specs.SuffixBytes.{hash_length}
-use Rattle.query_descent.specs.SuffixBits.{number_same, hash_none}
+use Rattle.query_descent.specs.SuffixBits.{number_same}
 use Rattle.spec.specs.Bytes.{Bits, bit}
 use Rattle.spec.specs.Leaves.{hash_bits}
 use Rattle.theory.proofs.KeyLeaves.{length_hash_bits}
@@ -14,12 +14,6 @@ use mathlib.Core.Path.{◌≡◌, sym, ap, ◌∙◌}
 use Prim.Native.Nat.{ℕ, ◌+◌}
 use native.Mathlib.Omega.{arith}
 use Rattle.query_descent.proofs.suffix.hash_equals.Goals as goal
-
-pub returns-then-f-eq0 : goal.returns-then-f-eq0
-returns-then-f-eq0 c =
-    let a = c.args in
-    let n = hash_length a.image.now a.f c.requires.0 a.slot.0 c.requires.1 in
-    sym (hash_none (hash_slot a.image.now a.f a.slot.0) a.f.hash_width a.key.now (omega (arith, n, c.if-f-eq0.true)) c.if-f-eq0.true)
 
 pub slot_bits-x-requires : goal.slot_bits-x-requires
 slot_bits-x-requires c =

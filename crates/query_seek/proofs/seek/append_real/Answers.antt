@@ -5,7 +5,7 @@ use Rattle.nav_nodes.specs.Accepted.{real_slot}
 use lib.ListN.{length-set}
 use mathlib.Core.Logic.{inl, inr}
 use native.Mathlib.Omega.{arith}
-use mathlib.Core.Path.{◌∙◌}
+use mathlib.Core.Path.{◌≡◌, ◌∙◌}
 use Rattle.query_seek.proofs.seek.append_real.Goals as goal
 
 pub loop-i-init : goal.loop-i-init
@@ -45,7 +45,8 @@ loop-i-preserved c =
     let x = c.real_byte-x.result in
     let s = real_slot a.image.now a.f a.slot.0 in
     let n = real_length a.image.now a.f p.0 a.slot.0 p.1 in
-    (omega arith, length-set l.key l.i x ∙ l.invariant.1, filling_zero a.key.now l.key a.depth l.end l.i s l.invariant.2 x (omega arith) (omega arith) c.real_byte-x.ensures.0 c.if-x-ne0.false)
+    let zero : c.real_byte-x.result ≡ 0 = cc in
+    (omega arith, length-set l.key l.i x ∙ l.invariant.1, filling_zero a.key.now l.key a.depth l.end l.i s l.invariant.2 x (omega arith) (omega arith) c.real_byte-x.ensures.0 zero)
 
 pub returns : goal.returns
 returns c =
