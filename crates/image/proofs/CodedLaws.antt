@@ -4,7 +4,8 @@ use mathlib.Core.Path.{◌≡◌, refl, ap, ◌∙◌}
 use native.Mathlib.Omega.{arith}
 use Rattle.spec.specs.Bytes.{Bytes}
 use Rattle.spec.specs.Answer.{Answer, Outcome, written, refused, bytes_written, refusal_weight, answer_code}
-use Rattle.image.specs.declared.Written.{Written}
+use Rattle.std.specs.Prelude.{Result}
+use Rattle.image.specs.declared.refusals.Refusal.{Refusal}
 use Rattle.image.specs.Outcomes.{answer_of, outcome}
 use Rattle.image.specs.Codes.{Coded}
 
@@ -14,7 +15,7 @@ few_bytes (written n) h = h n refl
 few_bytes (refused r) h = omega arith
 
 -- The number of an outcome whose bytes are few decodes.
-pub coded : (w : Written) (final : Bytes) (o : Outcome) (r : ℕ) → outcome w final ≡ o → r ≡ answer_code (answer_of w) → ((n : ℕ) → o.answer ≡ written n → n < refusal_weight) → Coded r final o
+pub coded : (w : Result ℕ Refusal) (final : Bytes) (o : Outcome) (r : ℕ) → outcome w final ≡ o → r ≡ answer_code (answer_of w) → ((n : ℕ) → o.answer ≡ written n → n < refusal_weight) → Coded r final o
 coded w final o r e f h =
     let c : r ≡ answer_code o.answer = f ∙ ap (λ (p : Outcome). answer_code p.answer) e in
     let few = few_bytes o.answer h in

@@ -5,7 +5,8 @@ ghost use Rattle.spec.specs.Build.{settings_from};
 ghost use Rattle.image.specs.Header.{asked};
 ghost use Rattle.image.specs.Outcomes.{answer_of};
 
-use super::{Settings, Written};
+use super::Settings;
+use super::refusals::Refusal;
 
 // 2^32: what the number of a refusal is multiplied with where an answer is one number.
 pub const REFUSAL_WEIGHT: u64 = 4294967296;
@@ -23,12 +24,12 @@ const REAL_WIDTH_WEIGHT: u64 = 65536;
 const HASH_WIDTH_WEIGHT: u64 = 16777216;
 
 // An answer as one number: the number of a refusal, 0 for success, times 2^32, plus the bytes written, 0 for a refusal.
-pub fn code(answer: Written) -> u64
+pub fn code(answer: Result<usize, Refusal>) -> u64
     ensures { result ≡ answer_code (answer_of answer) }
 {
     match answer {
-        Written::Bytes(written) => written as u64,
-        Written::Refused(number) => (number as u64) * REFUSAL_WEIGHT,
+        Ok(written) => written as u64,
+        Err(refusal) => u64::from(refusal.number()) * REFUSAL_WEIGHT,
     }
 }
 

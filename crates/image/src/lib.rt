@@ -1,11 +1,15 @@
-// An image: the three kinds of positions, what a header says, the frame, the answers of the calls that read one and of those that write, a leaf by value; and what the builder shares with the check and the questions: the table of the records, the range of the settings, and a key's suffix bits as a number.
+// An image: the three kinds of positions, what a header says, the frame, a leaf by value, refusals; and what the builder shares with the check and the questions: the table of the records, the range of the settings, and a key's suffix bits as a number.
 
 #![tactic(auto)]
+
+ghost use Rattle.std.specs.Prelude.{◌≡◌, ℕ, ◌<◌, slice_index};
+ghost use Rattle.spec.specs.Check.{verdict};
+ghost use Rattle.image.specs.FrameOf.{FrameOf};
 
 pub mod table; // table.rt: marks, body lengths and starts of the records
 pub mod header_bytes; // header_bytes.rt: settings judged, the header read and written, the beginning of a record, and cleared bytes
 pub mod suffix; // suffix.rt: a key's suffix bits as a number
-pub mod refusals; // refusals.rt: the numbers of refusals
+pub mod refusals; // refusals.rt: why a call refuses, with the numbers of refusals
 pub mod codes; // codes.rt: an answer as one number, and settings as one number
 
 // The version of the format whose images have a thirteenth record, LV: the first node of each level.
@@ -126,11 +130,14 @@ pub struct Frame {
     pub lv: usize,
 }
 
-// What reading an image gives: its frame, or the number with which it is refused.
+// An image that the check has accepted, with its frame: what the questions and the walk read.
 #[derive(Clone, Copy)]
-pub enum Framed {
-    At(Frame),
-    Refused(u32),
+pub struct AcceptedImage<'a> {
+    pub bytes: &'a [u8],
+    pub frame: Frame,
+    ghost in_range: { (i : ℕ) → slice_index bytes.now i < 256 },
+    ghost framed: { FrameOf bytes.now frame },
+    ghost checked: { verdict bytes.now ≡ 0 },
 }
 
 // A leaf by value: the cut key is the first len bytes of cut; the suffix bits are the low width bits of suffix, the first one lowest, as the suffix slots hold them.
@@ -141,11 +148,4 @@ pub struct Leaf {
     pub exact: bool,
     pub suffix: usize,
     pub width: usize,
-}
-
-// The answer of a call that writes into a buffer: so many bytes written, or a refusal's number.
-#[derive(Clone, Copy)]
-pub enum Written {
-    Bytes(usize),
-    Refused(u32),
 }

@@ -11,7 +11,7 @@ use lib.Seq.{drop-cons}
 use Rattle.spec.specs.Bytes.{Bytes, shared, equal}
 use Rattle.spec.specs.Keys.{below}
 use Rattle.keys.specs.Order.{order}
-use Rattle.keys.specs.declared.compare.Order.TheVariants.{Below, Equal, Above}
+use Rattle.std.specs.declared.cmp.Ordering.TheVariants.{Less, Equal, Greater}
 use Rattle.keys.proofs.PrefixLaws.{shared_add, shared_same}
 
 -- a shared prefix leaves the order to the rests
@@ -44,21 +44,21 @@ module _ (p q : Bytes) (i : ℕ) (is : i ≡ shared p q) where
       none (x ∷ r) t l m = absurd (omega arith)
 
   -- only the second has ended
-  pub order_above : length q ≤ i → i < length p → order p q ≡ Above
+  pub order_above : length q ≤ i → i < length p → order p q ≡ Greater
   unfolding order below equal
   order_above h g = at_rests ∙ none (drop i p) (drop i q) (omega (arith, length-drop i p)) (omega (arith, length-drop i q))
     where
-      none : (r t : Bytes) → 0 < length r → length t ≤ 0 → order r t ≡ Above
+      none : (r t : Bytes) → 0 < length r → length t ≤ 0 → order r t ≡ Greater
       none [] t l m = absurd (omega arith)
       none (x ∷ r) [] l m = refl
       none (x ∷ r) (y ∷ t) l m = absurd (omega arith)
 
   -- only the first has ended
-  pub order_below : i < length q → length p ≤ i → order p q ≡ Below
+  pub order_below : i < length q → length p ≤ i → order p q ≡ Less
   unfolding order below equal
   order_below h g = at_rests ∙ none (drop i p) (drop i q) (omega (arith, length-drop i p)) (omega (arith, length-drop i q))
     where
-      none : (r t : Bytes) → length r ≤ 0 → 0 < length t → order r t ≡ Below
+      none : (r t : Bytes) → length r ≤ 0 → 0 < length t → order r t ≡ Less
       none [] [] l m = absurd (omega arith)
       none [] (y ∷ t) l m = refl
       none (x ∷ r) t l m = absurd (omega arith)
@@ -72,33 +72,33 @@ module _ (p q : Bytes) (i : ℕ) (is : i ≡ shared p q) where
       one = rw (eq-eqb (get_or p i 0) (get_or q i 0) e)
 
   -- the lower byte decides
-  pub order_byte_below : i < length p → i < length q → get_or p i 0 < get_or q i 0 → order p q ≡ Below
+  pub order_byte_below : i < length p → i < length q → get_or p i 0 < get_or q i 0 → order p q ≡ Less
   unfolding order below equal
   order_byte_below h g l = at_rests ∙ ap₂ order (drop-cons p i 0 h) (drop-cons q i 0 g) ∙ rw (lt-ltb (get_or p i 0) (get_or q i 0) l)
 
   -- and so does the higher
-  pub order_byte_above : i < length p → i < length q → get_or q i 0 ≤ get_or p i 0 → order p q ≡ Above
+  pub order_byte_above : i < length p → i < length q → get_or q i 0 ≤ get_or p i 0 → order p q ≡ Greater
   unfolding order below equal
   order_byte_above h g l =
       at_rests ∙ ap₂ order (drop-cons p i 0 h) (drop-cons q i 0 g)
       ∙ rw (le-ltb (get_or p i 0) (get_or q i 0) l, ne_eqb (get_or p i 0) (get_or q i 0) (differ h g))
 
 -- the order says whether the first is below
-pub order_is_below : (p q : Bytes) → order p q ≡ Below → below p q ≡ true
+pub order_is_below : (p q : Bytes) → order p q ≡ Less → below p q ≡ true
 unfolding order
 order_is_below p q h = go (below p q) (equal p q) h
   where
-    go : (a b : Bool) → cond a Below (cond b Equal Above) ≡ Below → a ≡ true
+    go : (a b : Bool) → cond a Less (cond b Equal Greater) ≡ Less → a ≡ true
     go true b e = refl
     go false true e = let z : ◌≡◌ {A = ℕ} 0 1 = cc in absurd (omega arith)
     go false false e = let z : ◌≡◌ {A = ℕ} 0 1 = cc in absurd (omega arith)
 
 -- and whether it is not
-pub order_not_below : (p q : Bytes) → (order p q ≡ Equal) ⊎ (order p q ≡ Above) → below p q ≡ false
+pub order_not_below : (p q : Bytes) → (order p q ≡ Equal) ⊎ (order p q ≡ Greater) → below p q ≡ false
 unfolding order
 order_not_below p q h = go (below p q) (equal p q) h
   where
-    go : (a b : Bool) → (cond a Below (cond b Equal Above) ≡ Equal) ⊎ (cond a Below (cond b Equal Above) ≡ Above) → a ≡ false
+    go : (a b : Bool) → (cond a Less (cond b Equal Greater) ≡ Equal) ⊎ (cond a Less (cond b Equal Greater) ≡ Greater) → a ≡ false
     go true b (inl e) = let z : ◌≡◌ {A = ℕ} 0 1 = cc in absurd (omega arith)
     go true b (inr e) = let z : ◌≡◌ {A = ℕ} 0 1 = cc in absurd (omega arith)
     go false b e = refl

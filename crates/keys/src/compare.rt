@@ -4,17 +4,10 @@ ghost use Rattle.spec.specs.Bytes.{shared};
 ghost use Rattle.keys.specs.Order.{order};
 
 use bits::numbers::{read64, smaller};
+use std::cmp::Ordering;
 
 // The bytes that are compared by words without a loop.
 const WINDOW: usize = 40;
-
-// How a key stands to another.
-#[derive(Clone, Copy)]
-pub enum Order {
-    Below,
-    Equal,
-    Above,
-}
 
 // How many low bytes, up to eight, two words have in common before their first difference.
 fn equal_bytes(x: u64, y: u64) -> usize
@@ -133,27 +126,27 @@ pub fn shared_fronts(p: &[u8], n: usize, q: &[u8], m: usize) -> usize
 }
 
 // The order by unsigned bytes of two keys, the first n bytes of p and the first m bytes of q, a proper prefix first: the byte behind the i bytes that they share decides.
-fn order_behind(p: &[u8], n: usize, q: &[u8], m: usize, i: usize) -> Order
+fn order_behind(p: &[u8], n: usize, q: &[u8], m: usize, i: usize) -> Ordering
     requires { (n ≤ length p.now) × (m ≤ length q.now) × (i ≡ shared (take n p.now) (take m q.now)) }
     ensures { result ≡ order (take n p.now) (take m q.now) }
 {
     if m <= i {
         if n <= i {
-            return Order::Equal;
+            return Ordering::Equal;
         }
-        return Order::Above;
+        return Ordering::Greater;
     }
     if n <= i {
-        return Order::Below;
+        return Ordering::Less;
     }
     if p[i] < q[i] {
-        return Order::Below;
+        return Ordering::Less;
     }
-    Order::Above
+    Ordering::Greater
 }
 
 // The order of two keys, the first n bytes of p and the first m bytes of q, which is no longer than p.
-pub fn compare_fronts(p: &[u8], n: usize, q: &[u8], m: usize) -> Order
+pub fn compare_fronts(p: &[u8], n: usize, q: &[u8], m: usize) -> Ordering
     requires { (n ≤ length p.now) × (m ≤ length q.now) × (length q.now ≤ length p.now) }
     ensures { result ≡ order (take n p.now) (take m q.now) }
 {
@@ -162,7 +155,7 @@ pub fn compare_fronts(p: &[u8], n: usize, q: &[u8], m: usize) -> Order
 }
 
 // The order of two keys.
-pub fn compare(p: &[u8], q: &[u8]) -> Order
+pub fn compare(p: &[u8], q: &[u8]) -> Ordering
     ensures { result ≡ order p.now q.now }
 {
     let i = shared(p, q);

@@ -1,5 +1,5 @@
 -- An image that the check takes, with its frame, is accepted: where the facts that this crate asks for come from.
-use Rattle.std.specs.Prelude.{ℕ, ◌*◌, ◌≤◌, ◌≡◌, refl, Bool, true, cond, take, drop, eqb}
+use Rattle.std.specs.Prelude.{ℕ, suc, ◌*◌, ◌≤◌, ◌<◌, ◌≡◌, refl, Bool, true, cond, take, drop, eqb}
 use Rattle.std.proofs.Common.{sym, ap₂, subst, ◌∙◌, arith, length-append, take-append-drop, take_at, drop_at, eq-eqb}
 use Rattle.std.proofs.Math.Path.{ap}
 use mathlib.Core.List.{List, [], ◌∷◌, ◌++◌, map}
@@ -12,6 +12,7 @@ use Rattle.spec.specs.Frame.{rows_of, read_bodies, read_settings, Parts, parts, 
 use Rattle.spec.specs.Nodes.{Node, is_exact, levels_of, nodes_of, read_nodes, read_leaves}
 use Rattle.spec.specs.Check.{verdict}
 use Rattle.image.specs.declared.Frame.{Frame}
+use Rattle.image.specs.declared.AcceptedImage.{AcceptedImage}
 use Rattle.bits.specs.Bits.{part}
 use Rattle.image.specs.FrameOf.{FrameOf, Within, within, twelve_bodies, frame_bodies, frame_parts}
 use Rattle.nav_nodes.specs.NumberBounds.{node_total}
@@ -152,6 +153,11 @@ module _ (s : Bytes) (f : Frame) (fr : FrameOf s f) (st : Settings) (ls : List L
       subst (λ (z : List Leaf). Holds s f (dense_nodes s f) (sparse_nodes s f) z) e
       (subst (λ (z : List Node). Holds s f (dense_nodes s f) z ls) is_sparse (subst (λ (z : List Node). Holds s f z ss ls) is_dense holds))
 
+-- Numbers below 256 are bytes.
+pub all_bytes : (k : Bytes) → ((i : ℕ) → get_or k i 0 < 256) → IsBytes k
+all_bytes [] h = tt
+all_bytes (x ∷ k) h = (h 0, all_bytes k (λ i. h (suc i)))
+
 -- AN IMAGE THAT THE CHECK TAKES IS ACCEPTED, with the frame that is read from it.
 pub checked_accepted : (s : Bytes) (f : Frame) → IsBytes s → FrameOf s f → verdict s ≡ 0 → Accepted s f
 checked_accepted s f small fr v =
@@ -159,3 +165,7 @@ checked_accepted s f small fr v =
     let h = image_holds a.settings a.leaves a.fits in
     read_holds s f fr a.settings a.leaves h.dense_nodes h.sparse_nodes h.writable (a.image_is ∙ h.image_is) h.whole a.fits.realizable a.fits.well_sized a.fits.spare
     (sym (ap read_leaves a.image_is ∙ read_back a.settings a.leaves a.fits))
+
+-- The image of the code's type is accepted.
+pub accepted : (image : AcceptedImage) → Accepted image.bytes.now image.frame
+accepted image = checked_accepted image.bytes.now image.frame (all_bytes image.bytes.now image.in_range) image.framed image.checked
