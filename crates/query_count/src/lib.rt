@@ -48,7 +48,7 @@ pub fn count(image: &AcceptedImage, lo: &[u8], hi: &[u8]) -> usize
             count_apart(image, lo, hi, fork)
         }
         KeyEnd::Leaf(node, at, depth) => {
-            let leaf = slot(image.bytes, image.frame, node, at);
+            let leaf = slot(image, node, at);
             usize::from(open_between(image.bytes, image.frame, lo, hi, leaf, depth))
         }
     }

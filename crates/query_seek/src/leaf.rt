@@ -34,11 +34,11 @@ pub fn first_behind(
         let BranchKind::Child = kind else {
             return LeafEnd {
                 depth: d,
-                stop: LeafStop::Open(slot(image.bytes, image.frame, m, at)),
+                stop: LeafStop::Open(slot(image, m, at)),
             };
         };
-        m = child(image.bytes, image.frame, m, at);
-        let next = first_branch(image.bytes, image.frame, m);
+        m = child(image, m, at);
+        let next = first_branch(image, m);
         if next.exact {
             return LeafEnd {
                 depth: d,
@@ -54,7 +54,7 @@ pub fn first_below(image: &AcceptedImage, node: NodeNum, key: &mut [u8], depth: 
     requires { OnLevel (nodes image.now.bytes.now image.now.frame) (64 - depth) node.0 × (length key.old ≡ 64) }
     ensures { Reached image.now.bytes.now image.now.frame (leaf_below (nodes image.now.bytes.now image.now.frame) key.old node.0 depth) key.new result }
 {
-    let first = first_branch(image.bytes, image.frame, node);
+    let first = first_branch(image, node);
     if first.exact {
         return LeafEnd {
             depth,

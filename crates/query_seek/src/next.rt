@@ -49,7 +49,7 @@ fn leaf_above(image: &AcceptedImage, start: &[u8], higher: LastHigher, key: &mut
     match higher {
         LastHigher::None => NO_LEAF,
         LastHigher::At(node, depth, found) => {
-            let branch = next_higher(image.bytes, image.frame, node, wide(start[depth]), found);
+            let branch = next_higher(image, node, wide(start[depth]), found);
             first_behind(image, node, branch, key, depth)
         }
     }

@@ -49,11 +49,11 @@ pub fn follow_key(image: &AcceptedImage, start: &[u8]) -> Way
         let d = level.depth;
         let m = level.node;
         let y = wide(start[d]);
-        let found = find(image.bytes, image.frame, m, y);
-        if has_higher(image.bytes, image.frame, m, y, found) {
+        let found = find(image, m, y);
+        if has_higher(image, m, y, found) {
             higher = LastHigher::At(m, d, found);
         }
-        let next = child_and_slot(image.bytes, image.frame, m, found.at);
+        let next = child_and_slot(image, m, found.at);
         let slot = next.slot;
         let node = next.child;
         let depth = d + 1;

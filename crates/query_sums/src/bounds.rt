@@ -29,8 +29,8 @@ pub fn bound_from(image: &AcceptedImage, key: &[u8], from: LevelSum) -> Bound
     while level.depth < key.len() {
         let d = level.depth;
         let m = level.node;
-        let found = find(image.bytes, image.frame, m, wide(key[d]));
-        let next = child_and_slot(image.bytes, image.frame, m, found.at);
+        let found = find(image, m, wide(key[d]));
+        let next = child_and_slot(image, m, found.at);
         let slot = next.slot;
         let node = next.child;
         let depth = d + 1;
@@ -82,7 +82,7 @@ pub fn reached_at(image: &AcceptedImage, key: &[u8], bound: Bound) -> usize
     let end = bound.end;
     match end {
         BoundEnd::NoLeaf => 0,
-        BoundEnd::Node => one_if(is_exact(image.bytes, image.frame, level.node)),
+        BoundEnd::Node => one_if(is_exact(image, level.node)),
         BoundEnd::Leaf(slot) => one_if(!low_above(
             image.bytes,
             image.frame,

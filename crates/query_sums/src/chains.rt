@@ -62,8 +62,8 @@ fn sole_entries(image: &AcceptedImage, start: usize, width: usize, k: usize) -> 
     requires { LevelsFrom image.now.bytes.now image.now.frame start width k }
     ensures { (t : ℕ) → EqualLevels image.now.bytes.now image.now.frame t start width 0 → EqualLevels image.now.bytes.now image.now.frame t start width k → ChainOf image.now.bytes.now image.now.frame t result }
 {
-    let entries = entries_before(image.bytes, image.frame, NodeNum(start));
-    let behind = entries_before(image.bytes, image.frame, NodeNum(start + k * width));
+    let entries = entries_before(image, NodeNum(start));
+    let behind = entries_before(image, NodeNum(start + k * width));
     if behind != entries + k * width {
         return NO_CHAIN;
     }

@@ -39,7 +39,7 @@ pub fn go_down(image: &AcceptedImage, from: LevelSum, depth: usize) -> LevelSum
         let sum = from.sum + (depth - from.depth) * image.frame.leaves;
         return LevelSum { node, depth, sum };
     }
-    let before = counts_before(image.bytes, image.frame, node);
+    let before = counts_before(image, node);
     let next = LevelSum {
         node: NodeNum(before.children + 1),
         depth: from.depth + 1,
@@ -105,7 +105,7 @@ fn empty_key_sum_by_table(image: &AcceptedImage) -> usize
     while 0 < t {
         t = t - 1;
         let start = level_start(image, t);
-        sum = sum + entries_before(image.bytes, image.frame, NodeNum(start)) + 1 - next;
+        sum = sum + entries_before(image, NodeNum(start)) + 1 - next;
         next = start;
     }
     sum

@@ -14,7 +14,7 @@ entries_before-entries-requires c =
     let within : (c.args.start + c.args.k * c.args.width + c.args.width ≤ v.frame.dense.nodes + v.frame.sparse.nodes) × (v.frame.dense.nodes + v.frame.sparse.nodes ≤ 4294967296) = let a = c.args in
     let p = c.requires in
     (levels_within v.bytes.now v.frame (accepted v) p.0 a.start a.width a.k p.2, omega (arith, nodes_few v.bytes.now v.frame (accepted v), node_length v.bytes.now v.frame (accepted v))) in
-    (accepted v, omega (arith, within.0))
+    omega (arith, within.0)
 
 pub overflow_mul-k : goal.overflow_mul-k
 overflow_mul-k c =
@@ -38,7 +38,7 @@ entries_before-behind-requires c =
     let within : (c.args.start + c.args.k * c.args.width + c.args.width ≤ v.frame.dense.nodes + v.frame.sparse.nodes) × (v.frame.dense.nodes + v.frame.sparse.nodes ≤ 4294967296) = let a = c.args in
     let p = c.requires in
     (levels_within v.bytes.now v.frame (accepted v) p.0 a.start a.width a.k p.2, omega (arith, nodes_few v.bytes.now v.frame (accepted v), node_length v.bytes.now v.frame (accepted v))) in
-    (accepted v, omega (arith, within.0))
+    omega (arith, within.0)
 
 pub overflow_mul-k-2 : goal.overflow_mul-k-2
 overflow_mul-k-2 c =

@@ -59,7 +59,7 @@ level_start-start-requires c =
 pub entries_before-requires : goal.entries_before-requires
 entries_before-requires c =
     let v = c.args.image.now in
-    (accepted v, rw c.level_start-start.ensures (level_within v.bytes.now v.frame (accepted v) (c.loop-t.t - 1)))
+    rw c.level_start-start.ensures (level_within v.bytes.now v.frame (accepted v) (c.loop-t.t - 1))
 
 pub overflow_add-sum : goal.overflow_add-sum
 overflow_add-sum c =
