@@ -35,7 +35,7 @@ pub fn count(image: &AcceptedImage, lo: &[u8], hi: &[u8]) -> usize
     ensures { result ≡ counted (real_leaves image.now.bytes.now image.now.frame) lo.now hi.now }
 {
     let n = shared(lo, hi);
-    let end = follow(image.bytes, image.frame, lo, n);
+    let end = follow(image, lo, n);
     match end {
         KeyEnd::NoNodes => 0,
         KeyEnd::NoBranch => 0,
@@ -49,7 +49,7 @@ pub fn count(image: &AcceptedImage, lo: &[u8], hi: &[u8]) -> usize
         }
         KeyEnd::Leaf(node, at, depth) => {
             let leaf = slot(image, node, at);
-            usize::from(open_between(image.bytes, image.frame, lo, hi, leaf, depth))
+            usize::from(open_between(image, lo, hi, leaf, depth))
         }
     }
 }

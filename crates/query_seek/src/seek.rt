@@ -27,7 +27,7 @@ fn append_real(image: &AcceptedImage, slot: ValuePos, key: &mut [u8], depth: usi
         if 8 * (i - depth) >= n {
             return end;
         }
-        let x = real_byte(image.bytes, image.frame, slot, i - depth, false);
+        let x = real_byte(image, slot, i - depth, false);
         key[i] = x as u8;
         i = i + 1;
         if x != 0 {

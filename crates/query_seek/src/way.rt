@@ -26,7 +26,7 @@ fn end_at_leaf(image: &AcceptedImage, start: &[u8], slot: ValuePos, level: Level
     requires { LeafBranch image.now.bytes.now image.now.frame start.now slot level }
     ensures { EndsThere image.now.bytes.now image.now.frame start.now slot level result }
 {
-    if high_below(image.bytes, image.frame, slot, start, level.depth) {
+    if high_below(image, slot, start, level.depth) {
         let node = level.node;
         let depth = level.depth;
         let sum = level.sum + 1;

@@ -63,13 +63,7 @@ pub fn passed_at(image: &AcceptedImage, key: &[u8], bound: Bound) -> usize
     match end {
         BoundEnd::NoLeaf => 0,
         BoundEnd::Node => 0,
-        BoundEnd::Leaf(slot) => one_if(high_below(
-            image.bytes,
-            image.frame,
-            slot,
-            key,
-            level.depth,
-        )),
+        BoundEnd::Leaf(slot) => one_if(high_below(image, slot, key, level.depth)),
     }
 }
 
@@ -83,12 +77,6 @@ pub fn reached_at(image: &AcceptedImage, key: &[u8], bound: Bound) -> usize
     match end {
         BoundEnd::NoLeaf => 0,
         BoundEnd::Node => one_if(is_exact(image, level.node)),
-        BoundEnd::Leaf(slot) => one_if(!low_above(
-            image.bytes,
-            image.frame,
-            slot,
-            key,
-            level.depth,
-        )),
+        BoundEnd::Leaf(slot) => one_if(!low_above(image, slot, key, level.depth)),
     }
 }

@@ -15,7 +15,7 @@ use Rattle.query_count.proofs.count.Goals as goal
 pub follow-end-requires : goal.follow-end-requires
 follow-end-requires c =
     let v = c.args.image.now in
-    (accepted v, omega (arith, c.shared-n.ensures, shared_le c.args.lo.now c.args.hi.now))
+    omega (arith, c.shared-n.ensures, shared_le c.args.lo.now c.args.hi.now)
 
 pub count_apart-requires : goal.count_apart-requires
 count_apart-requires c =

@@ -29,7 +29,7 @@ returns-then-i-depth c =
 pub real_byte-x-requires : goal.real_byte-x-requires
 real_byte-x-requires c =
     let v = c.args.image.now in
-    (accepted v, c.requires.0, omega arith)
+    (c.requires.0, omega arith)
 
 pub loop-i-preserved-then-x-ne0 : goal.loop-i-preserved-then-x-ne0
 loop-i-preserved-then-x-ne0 c =

@@ -8,7 +8,7 @@ pub high_below-requires : goal.high_below-requires
 high_below-requires c =
     let v = c.args.image.now in
     let p = c.requires in
-    (p.accepted, slot_inside v.bytes.now v.frame c.args.key.now c.args.bound p c.in-Leaf.slot c.in-Leaf.is, p.stop_is.depth_in, p.short)
+    (slot_inside v.bytes.now v.frame c.args.key.now c.args.bound p c.in-Leaf.slot c.in-Leaf.is, p.stop_is.depth_in, p.short)
 
 pub returns-in-NoLeaf : goal.returns-in-NoLeaf
 returns-in-NoLeaf c =

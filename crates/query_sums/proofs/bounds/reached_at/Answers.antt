@@ -12,7 +12,7 @@ pub low_above-requires : goal.low_above-requires
 low_above-requires c =
     let v = c.args.image.now in
     let p = c.requires in
-    (p.accepted, slot_inside v.bytes.now v.frame c.args.key.now c.args.bound p c.in-Leaf.slot c.in-Leaf.is, p.stop_is.depth_in, p.short)
+    (slot_inside v.bytes.now v.frame c.args.key.now c.args.bound p c.in-Leaf.slot c.in-Leaf.is, p.stop_is.depth_in, p.short)
 
 pub returns-in-NoLeaf : goal.returns-in-NoLeaf
 returns-in-NoLeaf c =
