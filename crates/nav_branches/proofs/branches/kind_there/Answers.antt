@@ -5,6 +5,6 @@ pub returns-then-continues-eq1 : goal.returns-then-continues-eq1
 returns-then-continues-eq1 c =
     simp (eq-eqb _ _ c.if-continues-eq1.true)
 
-pub returns : goal.returns
-returns c =
+pub returns-else-continues-eq1 : goal.returns-else-continues-eq1
+returns-else-continues-eq1 c =
     simp (ne_eqb _ _ c.if-continues-eq1.false)

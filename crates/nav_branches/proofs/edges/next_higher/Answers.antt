@@ -1,3 +1,4 @@
+use Rattle.nav_branches.proofs.BranchTests.{bit_le}
 use Rattle.nav_branches.proofs.EdgeLaws.{end_room, higher_there}
 use Rattle.spec.specs.Bytes.{bit}
 use mathlib.Core.Path.{ap, ◌∙◌}
@@ -7,7 +8,7 @@ use Rattle.nav_branches.proofs.edges.next_higher.Goals as goal
 pub overflow_add-p : goal.overflow_add-p
 overflow_add-p c =
     let p = c.requires in
-    omega (arith, p.2.at_is.within.sparse (omega arith), p.0.accepted.entry_size, p.0.accepted.writable.few_entries)
+    omega (arith, c.from.ensures, bit_le c.is_there.result, p.2.at_is.within.sparse (omega arith), p.0.accepted.entry_size, p.0.accepted.writable.few_entries)
 
 pub entry_branch-requires : goal.entry_branch-requires
 entry_branch-requires c =
@@ -17,4 +18,4 @@ entry_branch-requires c =
 pub returns : goal.returns
 returns c =
     let v = c.args.image.now in
-    higher_there v.bytes.now v.frame c.args.m.0 (record { accepted = c.requires.0.accepted; behind_dense = omega arith; inside = c.requires.0.inside }) c.args.y c.args.b c.requires.2 _ (omega (arith, c.one_if.ensures.0 ∙ ap bit c.is_there.ensures)) c.entry_branch.result c.entry_branch.ensures
+    higher_there v.bytes.now v.frame c.args.m.0 (record { accepted = c.requires.0.accepted; behind_dense = omega arith; inside = c.requires.0.inside }) c.args.y c.args.b c.requires.2 _ (omega (arith, c.from.ensures ∙ ap bit c.is_there.ensures)) c.entry_branch.result c.entry_branch.ensures
