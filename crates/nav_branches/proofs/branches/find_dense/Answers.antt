@@ -1,7 +1,6 @@
 use Rattle.nav_nodes.specs.FromCheck.{accepted}
 use Rattle.nav_nodes.specs.Positions.{kind_dense, branch_dense}
 use Rattle.image.specs.Records.{tail_part}
-use Rattle.nav_nodes.specs.Tables.{labels_ranked, children_ranked}
 use Rattle.bits.specs.Bits.{bit_at}
 use mathlib.Core.List.{List}
 use Prim.Native.Nat.{ℕ, ◌+◌, ◌*◌}
@@ -9,16 +8,6 @@ use native.Mathlib.Omega.{arith}
 use mathlib.Core.Path.{ap, ◌∙◌}
 use Rattle.nav_branches.proofs.branches.find_dense.Goals as goal
 use Rattle.nav_branches.proofs.branches.find_dense.Goals.{then-label-eq0, else-label-eq0}
-
-pub bit_at-label-requires : goal.bit_at-label-requires
-bit_at-label-requires c =
-    let v = c.args.image.now in
-    rw (tail_part v.bytes.now v.frame.dl) (omega (arith, (labels_ranked v.bytes.now v.frame (accepted v)).0))
-
-pub bit_at-continues-requires : goal.bit_at-continues-requires
-bit_at-continues-requires c =
-    let v = c.args.image.now in
-    rw (tail_part v.bytes.now v.frame.dc) (omega (arith, (children_ranked v.bytes.now v.frame (accepted v)).0))
 
 pub returns : goal.returns
 returns c =

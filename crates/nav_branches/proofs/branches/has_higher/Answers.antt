@@ -1,19 +1,9 @@
-use Rattle.nav_branches.proofs.BranchTests.{bit_le}
 use Rattle.nav_nodes.specs.FoundBranch.{higher_found}
 use Rattle.nav_nodes.specs.NextLabel.{is_there}
 use Rattle.spec.specs.Bytes.{bit}
 use native.Mathlib.Omega.{arith}
 use mathlib.Core.Path.{◌≡◌, ap, sym, ◌∙◌}
 use Rattle.nav_branches.proofs.branches.has_higher.Goals as goal
-
-pub returns-then-m-image : goal.returns-then-m-image
-returns-then-m-image c =
-    c.is_there.ensures ∙ ap is_there c.next_dense.ensures.kind_is
-
-pub overflow_add-result : goal.overflow_add-result
-overflow_add-result c =
-    let p = c.requires in
-    omega (arith, c.from.ensures, bit_le c.is_there-2.result, p.2.at_is.within.sparse (omega arith), p.0.accepted.entry_size, p.0.accepted.writable.few_entries)
 
 pub returns : goal.returns
 returns c =

@@ -1,6 +1,5 @@
 use Rattle.nav_branches.proofs.EdgeLaws.{last_none, last_other, last_own}
 use Rattle.image.specs.Records.{tail_part}
-use Rattle.nav_nodes.specs.Tables.{entries_ranked}
 use Rattle.bits.specs.Bits.{bit_at}
 use mathlib.Core.List.{List}
 use Prim.Native.Nat.{ℕ, ◌-◌}
@@ -20,12 +19,6 @@ returns-then-last-y c =
     let e = c.entries_of-e in
     let w = c.from-last in
     last_other v.bytes.now v.frame c.args.m.0 c.requires c.args.y e.result.first.0 e.result.end.0 e.result.exact e.ensures (omega arith) w.result w.ensures _ refl c.if-last-y.true
-
-pub bit_at-requires : goal.bit_at-requires
-bit_at-requires c =
-    let v = c.args.image.now in
-    let e = c.entries_of-e in
-    rw (tail_part v.bytes.now v.frame.sc) (omega (arith, (entries_ranked v.bytes.now v.frame c.requires.accepted).0, e.ensures.end_inside))
 
 pub returns : goal.returns
 returns c =
