@@ -1,9 +1,5 @@
 -- What a test of a branch's kind says in the arm of the other kinds.
 use mathlib.Core.Path.{◌≡◌, refl}
-use Prim.Native.Nat.{◌≤◌}
-use mathlib.Core.Bool.{Bool, true, false}
-use native.Mathlib.Omega.{arith}
-use Rattle.spec.specs.Bytes.{bit}
 use Rattle.nav_nodes.specs.declared.BranchKind.{BranchKind}
 use Rattle.nav_nodes.specs.declared.BranchKind.TheVariants.{Absent, Leaf, Child}
 
@@ -12,8 +8,3 @@ pub ends_leaf : (k : BranchKind) → (k ≡ Child → ⊥) → (k ≡ Absent →
 ends_leaf Absent h n = absurd (n refl)
 ends_leaf Leaf h n = refl
 ends_leaf Child h n = absurd (h refl)
-
--- a truth value as a number
-pub bit_le : (b : Bool) → bit b ≤ 1
-bit_le true = omega arith
-bit_le false = omega arith

@@ -1,14 +1,8 @@
-use Rattle.nav_branches.proofs.BranchTests.{bit_le}
 use Rattle.nav_branches.proofs.EdgeLaws.{end_room, higher_there}
 use Rattle.spec.specs.Bytes.{bit}
 use mathlib.Core.Path.{ap, ◌∙◌}
 use native.Mathlib.Omega.{arith}
 use Rattle.nav_branches.proofs.edges.next_higher.Goals as goal
-
-pub overflow_add-p : goal.overflow_add-p
-overflow_add-p c =
-    let p = c.requires in
-    omega (arith, c.from.ensures, bit_le c.is_there.result, p.2.at_is.within.sparse (omega arith), p.0.accepted.entry_size, p.0.accepted.writable.few_entries)
 
 pub entry_branch-requires : goal.entry_branch-requires
 entry_branch-requires c =
