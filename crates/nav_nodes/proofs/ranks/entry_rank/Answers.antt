@@ -1,3 +1,4 @@
+use Rattle.nav_nodes.specs.FromCheck.{accepted}
 use mathlib.Core.Path.{ap, ◌∙◌}
 use mathlib.Core.List.{List}
 use Prim.Native.Nat.{ℕ}
@@ -8,11 +9,12 @@ use Rattle.nav_nodes.proofs.ranks.entry_rank.Goals as goal
 
 pub rank_512-requires : goal.rank_512-requires
 rank_512-requires c =
-    let a = c.args in
+    let v = c.args.image.now in
     let p = c.requires in
-    rw (tail_part a.image.now a.f.sc, tail_part a.image.now a.f.rs) (entries_ranked a.image.now a.f p.0, p.1)
+    rw (tail_part v.bytes.now v.frame.sc, tail_part v.bytes.now v.frame.rs) (entries_ranked v.bytes.now v.frame (accepted v), p)
 
 pub returns : goal.returns
 returns c =
     let a = c.args in
-    c.rank_512.ensures ∙ ap (λ (z : List ℕ). rank z a.at.0) (tail_part a.image.now a.f.sc)
+    let v = a.image.now in
+    c.rank_512.ensures ∙ ap (λ (z : List ℕ). rank z a.at.0) (tail_part v.bytes.now v.frame.sc)
