@@ -1,12 +1,11 @@
 // A seek's way along its start: from the root on as far as the start's bytes lead, with the last higher label that was passed.
 ghost use Rattle.std.specs.Prelude.{◌≤◌, ◌<◌, length};
-ghost use Rattle.nav_nodes.specs.Accepted.{Accepted};
 ghost use Rattle.nav_nodes.specs.FoundBranch.{node_count};
 ghost use Rattle.query_descent.specs.Seeking.{KeyFollowed};
 ghost use Rattle.query_seek.specs.WayContracts.{LeafBranch, EndsThere};
 
 use bits::numbers::wide;
-use image::{Frame, ValuePos};
+use image::{AcceptedImage, ValuePos};
 use nav_branches::branches::{find, has_higher};
 use nav_nodes::BranchKind;
 use nav_nodes::behind::child_and_slot;
@@ -23,11 +22,11 @@ pub struct Way {
 }
 
 // The bound of a start at the branch of an open leaf with this slot: it ends at the leaf, or at no leaf where the start has passed it, which then counts in the sum.
-fn end_at_leaf(image: &[u8], f: Frame, start: &[u8], slot: ValuePos, level: LevelSum) -> Bound
-    requires { LeafBranch image.now f start.now slot level }
-    ensures { EndsThere image.now f start.now slot level result }
+fn end_at_leaf(image: &AcceptedImage, start: &[u8], slot: ValuePos, level: LevelSum) -> Bound
+    requires { LeafBranch image.now.bytes.now image.now.frame start.now slot level }
+    ensures { EndsThere image.now.bytes.now image.now.frame start.now slot level result }
 {
-    if high_below(image, f, slot, start, level.depth) {
+    if high_below(image, slot, start, level.depth) {
         let node = level.node;
         let depth = level.depth;
         let sum = level.sum + 1;
@@ -40,9 +39,9 @@ fn end_at_leaf(image: &[u8], f: Frame, start: &[u8], slot: ValuePos, level: Leve
 }
 
 // Along the start from the root, one label search a level.
-pub fn follow_key(image: &[u8], f: Frame, start: &[u8]) -> Way
-    requires { Accepted image.now f × (0 < node_count f) × (length start.now ≤ 64) }
-    ensures { KeyFollowed image.now f start.now result.bound.end result.higher result.bound.level.node.0 result.bound.level.depth result.bound.level.sum }
+pub fn follow_key(image: &AcceptedImage, start: &[u8]) -> Way
+    requires { (0 < node_count image.now.frame) × (length start.now ≤ 64) }
+    ensures { KeyFollowed image.now.bytes.now image.now.frame start.now result.bound.end result.higher result.bound.level.node.0 result.bound.level.depth result.bound.level.sum }
 {
     let mut level = AT_ROOT;
     let mut higher = LastHigher::None;
@@ -50,11 +49,11 @@ pub fn follow_key(image: &[u8], f: Frame, start: &[u8]) -> Way
         let d = level.depth;
         let m = level.node;
         let y = wide(start[d]);
-        let found = find(image, f, m, y);
-        if has_higher(image, f, m, y, found) {
+        let found = find(image, m, y);
+        if has_higher(image, m, y, found) {
             higher = LastHigher::At(m, d, found);
         }
-        let next = child_and_slot(image, f, m, found.at);
+        let next = child_and_slot(image, m, found.at);
         let slot = next.slot;
         let node = next.child;
         let depth = d + 1;
@@ -68,7 +67,7 @@ pub fn follow_key(image: &[u8], f: Frame, start: &[u8]) -> Way
                 return Way { bound, higher };
             }
             BranchKind::Leaf => {
-                let bound = end_at_leaf(image, f, start, slot, level);
+                let bound = end_at_leaf(image, start, slot, level);
                 return Way { bound, higher };
             }
             BranchKind::Child => {}

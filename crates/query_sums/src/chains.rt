@@ -1,12 +1,11 @@
 // The levels of an accepted image by LV, in the version that has it: their first nodes, and chains of levels that the bounds of counts and seeks pass at once.
 ghost use Rattle.std.specs.Prelude.{◌≡◌, ℕ, ◌≤◌};
-ghost use Rattle.nav_nodes.specs.Accepted.{Accepted};
 ghost use Rattle.query_sums.specs.LevelTable.{level_count, level_at};
 ghost use Rattle.query_sums.specs.Chains.{EqualLevels, LevelsFrom, ChainOf};
 
 use super::Chain;
 use bits::numbers::read32;
-use image::{Frame, LEVEL_START_BYTES, LEVELED_VERSION, MAX_LEVELS, NodeNum};
+use image::{AcceptedImage, LEVEL_START_BYTES, LEVELED_VERSION, MAX_LEVELS, NodeNum};
 use nav_nodes::nodes::entries_before;
 
 // A shorter chain is not worth looking for: two searches for entries tell that it is one.
@@ -21,34 +20,34 @@ const NO_CHAIN: Chain = Chain {
 };
 
 // The number of levels that have nodes.
-pub fn level_count(image: &[u8], f: Frame) -> usize
-    requires { Accepted image.now f × (f.version ≡ 2) }
-    ensures { result ≡ level_count image.now f }
+pub fn level_count(image: &AcceptedImage) -> usize
+    requires { image.now.frame.version ≡ 2 }
+    ensures { result ≡ level_count image.now.bytes.now image.now.frame }
 {
-    (image.len() - f.lv) / LEVEL_START_BYTES
+    (image.bytes.len() - image.frame.lv) / LEVEL_START_BYTES
 }
 
 // The first node of a level, or the node count where there is no such level.
-pub fn level_start(image: &[u8], f: Frame, t: usize) -> usize
-    requires { Accepted image.now f × (f.version ≡ 2) × (t ≤ 65) }
-    ensures { result ≡ level_at image.now f t }
+pub fn level_start(image: &AcceptedImage, t: usize) -> usize
+    requires { (image.now.frame.version ≡ 2) × (t ≤ 65) }
+    ensures { result ≡ level_at image.now.bytes.now image.now.frame t }
 {
-    if level_count(image, f) <= t {
-        return f.dense.nodes + f.sparse.nodes;
+    if level_count(image) <= t {
+        return image.frame.dense.nodes + image.frame.sparse.nodes;
     }
-    read32(image, f.lv + LEVEL_START_BYTES * t)
+    read32(image.bytes, image.frame.lv + LEVEL_START_BYTES * t)
 }
 
 // How many levels behind level t, which has so many nodes from a node on, have as many, one behind the other; no more than `most` are looked at.
-fn equal_levels(image: &[u8], f: Frame, t: usize, start: usize, width: usize, most: usize) -> usize
-    requires { Accepted image.now f × (f.version ≡ 2) × EqualLevels image.now f t start width 0 }
-    ensures { EqualLevels image.now f t start width result }
+fn equal_levels(image: &AcceptedImage, t: usize, start: usize, width: usize, most: usize) -> usize
+    requires { (image.now.frame.version ≡ 2) × EqualLevels image.now.bytes.now image.now.frame t start width 0 }
+    ensures { EqualLevels image.now.bytes.now image.now.frame t start width result }
 {
-    let levels = level_count(image, f);
+    let levels = level_count(image);
     let mut k = 0usize;
     let mut next = start + width;
     while (k < most) & (t + k + 1 < levels) {
-        let end = level_start(image, f, t + k + 2);
+        let end = level_start(image, t + k + 2);
         if end != next + width {
             return k;
         }
@@ -59,12 +58,12 @@ fn equal_levels(image: &[u8], f: Frame, t: usize, start: usize, width: usize, mo
 }
 
 // The chain of k levels that have so many nodes each, from a node on; or none, where they have more entries than nodes.
-fn sole_entries(image: &[u8], f: Frame, start: usize, width: usize, k: usize) -> Chain
-    requires { Accepted image.now f × LevelsFrom image.now f start width k }
-    ensures { (t : ℕ) → EqualLevels image.now f t start width 0 → EqualLevels image.now f t start width k → ChainOf image.now f t result }
+fn sole_entries(image: &AcceptedImage, start: usize, width: usize, k: usize) -> Chain
+    requires { LevelsFrom image.now.bytes.now image.now.frame start width k }
+    ensures { (t : ℕ) → EqualLevels image.now.bytes.now image.now.frame t start width 0 → EqualLevels image.now.bytes.now image.now.frame t start width k → ChainOf image.now.bytes.now image.now.frame t result }
 {
-    let entries = entries_before(image, f, NodeNum(start));
-    let behind = entries_before(image, f, NodeNum(start + k * width));
+    let entries = entries_before(image, NodeNum(start));
+    let behind = entries_before(image, NodeNum(start + k * width));
     if behind != entries + k * width {
         return NO_CHAIN;
     }
@@ -77,20 +76,20 @@ fn sole_entries(image: &[u8], f: Frame, start: usize, width: usize, k: usize) ->
 }
 
 // The chain from level t on, which has so many nodes from a node on: the shortest, or all levels that have as many nodes, where these are one too. So levels that are no chain cost a look at the first of them alone.
-fn chain_from(image: &[u8], f: Frame, t: usize, start: usize, width: usize) -> Chain
-    requires { Accepted image.now f × (f.version ≡ 2) × EqualLevels image.now f t start width 0 }
-    ensures { ChainOf image.now f t result }
+fn chain_from(image: &AcceptedImage, t: usize, start: usize, width: usize) -> Chain
+    requires { (image.now.frame.version ≡ 2) × EqualLevels image.now.bytes.now image.now.frame t start width 0 }
+    ensures { ChainOf image.now.bytes.now image.now.frame t result }
 {
-    let near = equal_levels(image, f, t, start, width, SHORTEST_CHAIN);
+    let near = equal_levels(image, t, start, width, SHORTEST_CHAIN);
     if near < SHORTEST_CHAIN {
         return NO_CHAIN;
     }
-    let short = sole_entries(image, f, start, width, near);
+    let short = sole_entries(image, start, width, near);
     if short.levels == 0 {
         return NO_CHAIN;
     }
-    let all = equal_levels(image, f, t, start, width, MAX_LEVELS);
-    let long = sole_entries(image, f, start, width, all);
+    let all = equal_levels(image, t, start, width, MAX_LEVELS);
+    let long = sole_entries(image, start, width, all);
     if long.levels == 0 {
         return short;
     }
@@ -98,20 +97,20 @@ fn chain_from(image: &[u8], f: Frame, t: usize, start: usize, width: usize) -> C
 }
 
 // The chain from level t on, or none. In a version without LV there is none.
-pub fn chain_at(image: &[u8], f: Frame, t: usize) -> Chain
-    requires { Accepted image.now f × (t ≤ 64) }
-    ensures { ChainOf image.now f t result }
+pub fn chain_at(image: &AcceptedImage, t: usize) -> Chain
+    requires { t ≤ 64 }
+    ensures { ChainOf image.now.bytes.now image.now.frame t result }
 {
-    if f.version != LEVELED_VERSION {
+    if image.frame.version != LEVELED_VERSION {
         return NO_CHAIN;
     }
-    if level_count(image, f) <= t {
+    if level_count(image) <= t {
         return NO_CHAIN;
     }
-    let start = level_start(image, f, t);
-    let second = level_start(image, f, t + 1);
+    let start = level_start(image, t);
+    let second = level_start(image, t + 1);
     if second <= start {
         return NO_CHAIN;
     }
-    chain_from(image, f, t, start, second - start)
+    chain_from(image, t, start, second - start)
 }

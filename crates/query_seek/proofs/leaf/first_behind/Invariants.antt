@@ -6,7 +6,7 @@ use Rattle.query_seek.specs.LeafKeys.{FirstBehind}
 use Rattle.query_seek.proofs.leaf.first_behind.Given as goal
 
 abbrev pub invariant-loop-m : goal.invariant-loop-m
-invariant-loop-m l = FirstBehind l.image l.f (leaf_behind (nodes l.image l.f) l.initial.key l.initial.m.0 l.depth l.initial.b.label) l.key l.m.0 l.d l.b
+invariant-loop-m l = FirstBehind l.image.bytes.now l.image.frame (leaf_behind (nodes l.image.bytes.now l.image.frame) l.initial.key l.initial.m.0 l.depth l.initial.b.label) l.key l.m.0 l.d l.b
 
 abbrev pub decreases-loop-m : goal.decreases-loop-m
 decreases-loop-m l = 64 - l.d

@@ -13,29 +13,34 @@ use Rattle.query_seek.proofs.next.leaf_above.Goals as goal
 
 pub bounds-start-depth : goal.bounds-start-depth
 bounds-start-depth c =
-    let inside : HigherIn c.args.image.now c.args.f c.args.start.now (length c.args.start.now) (At c.in-At.node c.in-At.depth c.in-At.found) = subst (λ (h : LastHigher). HigherIn c.args.image.now c.args.f c.args.start.now (length c.args.start.now) h) c.in-At.is c.requires.inside in
+    let v = c.args.image.now in
+    let inside : HigherIn v.bytes.now v.frame c.args.start.now (length c.args.start.now) (At c.in-At.node c.in-At.depth c.in-At.found) = subst (λ (h : LastHigher). HigherIn v.bytes.now v.frame c.args.start.now (length c.args.start.now) h) c.in-At.is c.requires.inside in
     omega (arith, inside.0)
 
 pub next_higher-branch-requires : goal.next_higher-branch-requires
 next_higher-branch-requires c =
-    let inside : HigherIn c.args.image.now c.args.f c.args.start.now (length c.args.start.now) (At c.in-At.node c.in-At.depth c.in-At.found) = subst (λ (h : LastHigher). HigherIn c.args.image.now c.args.f c.args.start.now (length c.args.start.now) h) c.in-At.is c.requires.inside in
-    (record { accepted = c.requires.accepted; inside = node_in c.args.image.now c.args.f c.requires.accepted (64 - c.in-At.depth) c.in-At.node.0 inside.1.level }, c.wide.ensures.1, rw c.wide.ensures.0 inside.1.found)
+    let v = c.args.image.now in
+    let inside : HigherIn v.bytes.now v.frame c.args.start.now (length c.args.start.now) (At c.in-At.node c.in-At.depth c.in-At.found) = subst (λ (h : LastHigher). HigherIn v.bytes.now v.frame c.args.start.now (length c.args.start.now) h) c.in-At.is c.requires.inside in
+    (record { accepted = c.requires.accepted; inside = node_in v.bytes.now v.frame c.requires.accepted (64 - c.in-At.depth) c.in-At.node.0 inside.1.level }, c.wide.ensures.1, rw c.wide.ensures.0 inside.1.found)
 
 pub first_behind-requires : goal.first_behind-requires
 first_behind-requires c =
-    let inside : HigherIn c.args.image.now c.args.f c.args.start.now (length c.args.start.now) (At c.in-At.node c.in-At.depth c.in-At.found) = subst (λ (h : LastHigher). HigherIn c.args.image.now c.args.f c.args.start.now (length c.args.start.now) h) c.in-At.is c.requires.inside in
-    let behind : FirstBehind c.args.image.now c.args.f (leaf_behind (nodes c.args.image.now c.args.f) c.args.start.now c.in-At.node.0 c.in-At.depth (get_or c.args.start.now c.in-At.depth 0 + 1)) c.args.key.now c.in-At.node.0 c.in-At.depth c.next_higher-branch.result = let p = c.requires in
+    let v = c.args.image.now in
+    let inside : HigherIn v.bytes.now v.frame c.args.start.now (length c.args.start.now) (At c.in-At.node c.in-At.depth c.in-At.found) = subst (λ (h : LastHigher). HigherIn v.bytes.now v.frame c.args.start.now (length c.args.start.now) h) c.in-At.is c.requires.inside in
+    let behind : FirstBehind v.bytes.now v.frame (leaf_behind (nodes v.bytes.now v.frame) c.args.start.now c.in-At.node.0 c.in-At.depth (get_or c.args.start.now c.in-At.depth 0 + 1)) c.args.key.now c.in-At.node.0 c.in-At.depth c.next_higher-branch.result = let p = c.requires in
     start_behind p.accepted p.key_size p.begins inside.0 p.short inside.1 (rw c.wide.ensures.0 at c.next_higher-branch.ensures) in
-    let w = behind in (w.accepted, w.branch, w.key_size)
+    let w = behind in (w.branch, w.key_size)
 
 pub returns-in-None : goal.returns-in-None
 returns-in-None c =
-    rw c.in-None.is (record { key_is = no_key c.args.image.now c.args.f c.args.key.now; key_size = c.requires.key_size })
+    let v = c.args.image.now in
+    rw c.in-None.is (record { key_is = no_key v.bytes.now v.frame c.args.key.now; key_size = c.requires.key_size })
 
 pub returns-in-At : goal.returns-in-At
 returns-in-At c =
-    let inside : HigherIn c.args.image.now c.args.f c.args.start.now (length c.args.start.now) (At c.in-At.node c.in-At.depth c.in-At.found) = subst (λ (h : LastHigher). HigherIn c.args.image.now c.args.f c.args.start.now (length c.args.start.now) h) c.in-At.is c.requires.inside in
-    let behind : FirstBehind c.args.image.now c.args.f (leaf_behind (nodes c.args.image.now c.args.f) c.args.start.now c.in-At.node.0 c.in-At.depth (get_or c.args.start.now c.in-At.depth 0 + 1)) c.args.key.now c.in-At.node.0 c.in-At.depth c.next_higher-branch.result = let p = c.requires in
+    let v = c.args.image.now in
+    let inside : HigherIn v.bytes.now v.frame c.args.start.now (length c.args.start.now) (At c.in-At.node c.in-At.depth c.in-At.found) = subst (λ (h : LastHigher). HigherIn v.bytes.now v.frame c.args.start.now (length c.args.start.now) h) c.in-At.is c.requires.inside in
+    let behind : FirstBehind v.bytes.now v.frame (leaf_behind (nodes v.bytes.now v.frame) c.args.start.now c.in-At.node.0 c.in-At.depth (get_or c.args.start.now c.in-At.depth 0 + 1)) c.args.key.now c.in-At.node.0 c.in-At.depth c.next_higher-branch.result = let p = c.requires in
     start_behind p.accepted p.key_size p.begins inside.0 p.short inside.1 (rw c.wide.ensures.0 at c.next_higher-branch.ensures) in
     let r = c.first_behind in
-    subst (λ (h : LastHigher). Reached c.args.image.now c.args.f (higher_leaf (nodes c.args.image.now c.args.f) c.args.start.now h) r.new.key r.result) (sym c.in-At.is) (rw behind.leaf_is r.ensures)
+    subst (λ (h : LastHigher). Reached v.bytes.now v.frame (higher_leaf (nodes v.bytes.now v.frame) c.args.start.now h) r.new.key r.result) (sym c.in-At.is) (rw behind.leaf_is r.ensures)

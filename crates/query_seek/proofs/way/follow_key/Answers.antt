@@ -17,6 +17,7 @@ use Rattle.nav_nodes.specs.NextLabel.{first_kind, is_there}
 use Rattle.nav_nodes.specs.Positions.{branches, branch_index}
 use Rattle.query_descent.specs.declared.LastHigher.{LastHigher}
 use Rattle.query_descent.specs.declared.LastHigher.TheVariants.{At}
+use Rattle.nav_nodes.specs.FromCheck.{accepted}
 use Rattle.query_seek.proofs.way.follow_key.Goals as goal
 use Rattle.query_seek.proofs.way.follow_key.Goals.{then-has_higher, else-has_higher}
 
@@ -41,48 +42,56 @@ byte_passed {s} {f} {start} {before} {after} {m} {child} {d} {sum} {y} {b} {slot
 
 pub loop-level-init : goal.loop-level-init
 loop-level-init c =
-    following_root c.args.image.now c.args.f c.requires.0 c.args.start.now c.requires.1
+    let v = c.args.image.now in
+    following_root v.bytes.now v.frame (accepted v) c.args.start.now c.requires.0
 
 pub find-found-requires : goal.find-found-requires
 find-found-requires c =
-    (record { accepted = c.requires.0; inside = c.loop-level.invariant.leads.node_in }, c.wide-y.ensures.1)
+    let v = c.args.image.now in
+    (record { accepted = accepted v; inside = c.loop-level.invariant.leads.node_in }, c.wide-y.ensures.1)
 
 pub has_higher-requires : goal.has_higher-requires
 has_higher-requires c =
-    (record { accepted = c.requires.0; inside = c.loop-level.invariant.leads.node_in }, c.wide-y.ensures.1, c.find-found.ensures)
+    let v = c.args.image.now in
+    (record { accepted = accepted v; inside = c.loop-level.invariant.leads.node_in }, c.wide-y.ensures.1, c.find-found.ensures)
 
 pub child_and_slot-next-requires : goal.child_and_slot-next-requires
 child_and_slot-next-requires c =
-    record { accepted = c.requires.0; within = c.find-found.ensures.at_is.within }
+    let v = c.args.image.now in
+    record { accepted = accepted v; within = c.find-found.ensures.at_is.within }
 
 pub overflow_add-depth : goal.overflow_add-depth
 overflow_add-depth c =
     let more : c.loop-level.level.depth < length c.args.start.now = c.loop-level-test.true in
-    omega (arith, more, c.requires.2)
+    omega (arith, more, c.requires.1)
 
 pub overflow_add-sum : goal.overflow_add-sum
 overflow_add-sum c =
-    omega (arith, sum_small c.requires.0 (byte_passed c.loop-level.invariant c.loop-level-test.true c.requires.2 c.wide-y.ensures.0 c.find-found.ensures c.child_and_slot-next.ensures c.has_higher.ensures (elim c.if-has_higher.branch [ then-has_higher w ↦ inl (w.if-has_higher.true, w.higher-is) | else-has_higher w ↦ inr (w.if-has_higher.false, w.higher-is) ])))
+    let v = c.args.image.now in
+    omega (arith, sum_small (accepted v) (byte_passed c.loop-level.invariant c.loop-level-test.true c.requires.1 c.wide-y.ensures.0 c.find-found.ensures c.child_and_slot-next.ensures c.has_higher.ensures (elim c.if-has_higher.branch [ then-has_higher w ↦ inl (w.if-has_higher.true, w.higher-is) | else-has_higher w ↦ inr (w.if-has_higher.false, w.higher-is) ])))
 
 pub returns-in-Absent : goal.returns-in-Absent
 returns-in-Absent c =
-    followed_none c.requires.0 (byte_passed c.loop-level.invariant c.loop-level-test.true c.requires.2 c.wide-y.ensures.0 c.find-found.ensures c.child_and_slot-next.ensures c.has_higher.ensures (elim c.if-has_higher.branch [ then-has_higher w ↦ inl (w.if-has_higher.true, w.higher-is) | else-has_higher w ↦ inr (w.if-has_higher.false, w.higher-is) ])) c.in-Absent.is
+    let v = c.args.image.now in
+    followed_none (accepted v) (byte_passed c.loop-level.invariant c.loop-level-test.true c.requires.1 c.wide-y.ensures.0 c.find-found.ensures c.child_and_slot-next.ensures c.has_higher.ensures (elim c.if-has_higher.branch [ then-has_higher w ↦ inl (w.if-has_higher.true, w.higher-is) | else-has_higher w ↦ inr (w.if-has_higher.false, w.higher-is) ])) c.in-Absent.is
 
 pub end_at_leaf-bound-requires : goal.end_at_leaf-bound-requires
 end_at_leaf-bound-requires c =
+    let v = c.args.image.now in
     let more : c.loop-level.level.depth < length c.args.start.now = c.loop-level-test.true in
     record {
-      accepted = c.requires.0;
-      slot_in = leaf_slot c.requires.0 (byte_passed c.loop-level.invariant c.loop-level-test.true c.requires.2 c.wide-y.ensures.0 c.find-found.ensures c.child_and_slot-next.ensures c.has_higher.ensures (elim c.if-has_higher.branch [ then-has_higher w ↦ inl (w.if-has_higher.true, w.higher-is) | else-has_higher w ↦ inr (w.if-has_higher.false, w.higher-is) ])) c.in-Leaf.is;
+      accepted = accepted v;
+      slot_in = leaf_slot (accepted v) (byte_passed c.loop-level.invariant c.loop-level-test.true c.requires.1 c.wide-y.ensures.0 c.find-found.ensures c.child_and_slot-next.ensures c.has_higher.ensures (elim c.if-has_higher.branch [ then-has_higher w ↦ inl (w.if-has_higher.true, w.higher-is) | else-has_higher w ↦ inr (w.if-has_higher.false, w.higher-is) ])) c.in-Leaf.is;
       depth_in = omega (arith, more);
-      short = c.requires.2;
-      small = sum_small c.requires.0 (byte_passed c.loop-level.invariant c.loop-level-test.true c.requires.2 c.wide-y.ensures.0 c.find-found.ensures c.child_and_slot-next.ensures c.has_higher.ensures (elim c.if-has_higher.branch [ then-has_higher w ↦ inl (w.if-has_higher.true, w.higher-is) | else-has_higher w ↦ inr (w.if-has_higher.false, w.higher-is) ]));
+      short = c.requires.1;
+      small = sum_small (accepted v) (byte_passed c.loop-level.invariant c.loop-level-test.true c.requires.1 c.wide-y.ensures.0 c.find-found.ensures c.child_and_slot-next.ensures c.has_higher.ensures (elim c.if-has_higher.branch [ then-has_higher w ↦ inl (w.if-has_higher.true, w.higher-is) | else-has_higher w ↦ inr (w.if-has_higher.false, w.higher-is) ]));
     }
 
 pub returns-in-Leaf : goal.returns-in-Leaf
 returns-in-Leaf c =
+    let v = c.args.image.now in
     let e = c.end_at_leaf-bound.ensures in
-    rw (e.end_is, e.node_is, e.depth_is, e.sum_is) (followed_leaf c.requires.0 (byte_passed c.loop-level.invariant c.loop-level-test.true c.requires.2 c.wide-y.ensures.0 c.find-found.ensures c.child_and_slot-next.ensures c.has_higher.ensures (elim c.if-has_higher.branch [ then-has_higher w ↦ inl (w.if-has_higher.true, w.higher-is) | else-has_higher w ↦ inr (w.if-has_higher.false, w.higher-is) ])) c.in-Leaf.is _ refl)
+    rw (e.end_is, e.node_is, e.depth_is, e.sum_is) (followed_leaf (accepted v) (byte_passed c.loop-level.invariant c.loop-level-test.true c.requires.1 c.wide-y.ensures.0 c.find-found.ensures c.child_and_slot-next.ensures c.has_higher.ensures (elim c.if-has_higher.branch [ then-has_higher w ↦ inl (w.if-has_higher.true, w.higher-is) | else-has_higher w ↦ inr (w.if-has_higher.false, w.higher-is) ])) c.in-Leaf.is _ refl)
 
 pub loop-level-smaller : goal.loop-level-smaller
 loop-level-smaller c =
@@ -91,8 +100,10 @@ loop-level-smaller c =
 
 pub loop-level-preserved : goal.loop-level-preserved
 loop-level-preserved c =
-    following_child c.requires.0 (byte_passed c.loop-level.invariant c.loop-level-test.true c.requires.2 c.wide-y.ensures.0 c.find-found.ensures c.child_and_slot-next.ensures c.has_higher.ensures (elim c.if-has_higher.branch [ then-has_higher w ↦ inl (w.if-has_higher.true, w.higher-is) | else-has_higher w ↦ inr (w.if-has_higher.false, w.higher-is) ])) c.in-Child.is
+    let v = c.args.image.now in
+    following_child (accepted v) (byte_passed c.loop-level.invariant c.loop-level-test.true c.requires.1 c.wide-y.ensures.0 c.find-found.ensures c.child_and_slot-next.ensures c.has_higher.ensures (elim c.if-has_higher.branch [ then-has_higher w ↦ inl (w.if-has_higher.true, w.higher-is) | else-has_higher w ↦ inr (w.if-has_higher.false, w.higher-is) ])) c.in-Child.is
 
 pub returns : goal.returns
 returns c =
-    followed_end c.args.image.now c.args.f c.requires.0 c.args.start.now c.loop-level.invariant (omega (arith, c.loop-level-test.false))
+    let v = c.args.image.now in
+    followed_end v.bytes.now v.frame (accepted v) c.args.start.now c.loop-level.invariant (omega (arith, c.loop-level-test.false))

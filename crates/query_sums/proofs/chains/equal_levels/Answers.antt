@@ -9,6 +9,7 @@ use borrow.Author.Tests.{ltb-true}
 use Rattle.query_sums.specs.LevelTable.{level_count, levels_few, nodes_few}
 use Rattle.query_descent.specs.Followed.{node_length}
 use Rattle.query_sums.specs.Chains.{EqualLevels, levels_within, levels_more}
+use Rattle.nav_nodes.specs.FromCheck.{accepted}
 use Rattle.query_sums.proofs.chains.equal_levels.Goals as goal
 
 -- the second of two tests
@@ -18,47 +19,55 @@ second false b h = absurd (true≢false (sym h))
 
 pub level_count-levels-requires : goal.level_count-levels-requires
 level_count-levels-requires c =
-    (c.requires.0, c.requires.1)
+    let v = c.args.image.now in
+    c.requires.0
 
 pub overflow_add-next : goal.overflow_add-next
 overflow_add-next c =
-    let within : (k : ℕ) → EqualLevels c.args.image.now c.args.f c.args.t c.args.start c.args.width k → c.args.start + k * c.args.width + c.args.width ≤ 4294967296 = λ k q. let a = c.args in
-    omega (arith, levels_within a.image.now a.f c.requires.0 a.t a.start a.width k q, nodes_few a.image.now a.f c.requires.0, node_length a.image.now a.f c.requires.0) in
-    omega (arith, within 0 c.requires.2)
+    let v = c.args.image.now in
+    let within : (k : ℕ) → EqualLevels v.bytes.now v.frame c.args.t c.args.start c.args.width k → c.args.start + k * c.args.width + c.args.width ≤ 4294967296 = λ k q. let a = c.args in
+    omega (arith, levels_within v.bytes.now v.frame (accepted v) a.t a.start a.width k q, nodes_few v.bytes.now v.frame (accepted v), node_length v.bytes.now v.frame (accepted v)) in
+    omega (arith, within 0 c.requires.1)
 
 pub loop-k-init : goal.loop-k-init
 loop-k-init c =
-    (c.requires.2, omega arith)
+    (c.requires.1, omega arith)
 
 pub overflow_add-t : goal.overflow_add-t
 overflow_add-t c =
-    let counted : (c.level_count-levels.result ≡ level_count c.args.image.now c.args.f) × (level_count c.args.image.now c.args.f ≤ 64) = (c.level_count-levels.ensures, levels_few c.args.image.now c.args.f c.requires.0) in
+    let v = c.args.image.now in
+    let counted : (c.level_count-levels.result ≡ level_count v.bytes.now v.frame) × (level_count v.bytes.now v.frame ≤ 64) = (c.level_count-levels.ensures, levels_few v.bytes.now v.frame (accepted v)) in
     omega (arith, c.loop-k.invariant.0.inside, counted.1)
 
 pub overflow_add-t-in-loop-k : goal.overflow_add-t-in-loop-k
 overflow_add-t-in-loop-k c =
-    let counted : (c.level_count-levels.result ≡ level_count c.args.image.now c.args.f) × (level_count c.args.image.now c.args.f ≤ 64) = (c.level_count-levels.ensures, levels_few c.args.image.now c.args.f c.requires.0) in
+    let v = c.args.image.now in
+    let counted : (c.level_count-levels.result ≡ level_count v.bytes.now v.frame) × (level_count v.bytes.now v.frame ≤ 64) = (c.level_count-levels.ensures, levels_few v.bytes.now v.frame (accepted v)) in
     omega (arith, c.loop-k.invariant.0.inside, counted.1)
 
 pub overflow_add-t-in-loop-k-2 : goal.overflow_add-t-in-loop-k-2
 overflow_add-t-in-loop-k-2 c =
-    let counted : (c.level_count-levels.result ≡ level_count c.args.image.now c.args.f) × (level_count c.args.image.now c.args.f ≤ 64) = (c.level_count-levels.ensures, levels_few c.args.image.now c.args.f c.requires.0) in
+    let v = c.args.image.now in
+    let counted : (c.level_count-levels.result ≡ level_count v.bytes.now v.frame) × (level_count v.bytes.now v.frame ≤ 64) = (c.level_count-levels.ensures, levels_few v.bytes.now v.frame (accepted v)) in
     omega (arith, c.loop-k.invariant.0.inside, counted.1)
 
 pub overflow_add-t-in-loop-k-3 : goal.overflow_add-t-in-loop-k-3
 overflow_add-t-in-loop-k-3 c =
-    let counted : (c.level_count-levels.result ≡ level_count c.args.image.now c.args.f) × (level_count c.args.image.now c.args.f ≤ 64) = (c.level_count-levels.ensures, levels_few c.args.image.now c.args.f c.requires.0) in
+    let v = c.args.image.now in
+    let counted : (c.level_count-levels.result ≡ level_count v.bytes.now v.frame) × (level_count v.bytes.now v.frame ≤ 64) = (c.level_count-levels.ensures, levels_few v.bytes.now v.frame (accepted v)) in
     omega (arith, c.loop-k.invariant.0.inside, counted.1)
 
 pub level_start-end-requires : goal.level_start-end-requires
 level_start-end-requires c =
-    let counted : (c.level_count-levels.result ≡ level_count c.args.image.now c.args.f) × (level_count c.args.image.now c.args.f ≤ 64) = (c.level_count-levels.ensures, levels_few c.args.image.now c.args.f c.requires.0) in
-    (c.requires.0, c.requires.1, omega (arith, c.loop-k.invariant.0.inside, counted.1))
+    let v = c.args.image.now in
+    let counted : (c.level_count-levels.result ≡ level_count v.bytes.now v.frame) × (level_count v.bytes.now v.frame ≤ 64) = (c.level_count-levels.ensures, levels_few v.bytes.now v.frame (accepted v)) in
+    (c.requires.0, omega (arith, c.loop-k.invariant.0.inside, counted.1))
 
 pub overflow_add-next-in-loop-k : goal.overflow_add-next-in-loop-k
 overflow_add-next-in-loop-k c =
-    let within : (k : ℕ) → EqualLevels c.args.image.now c.args.f c.args.t c.args.start c.args.width k → c.args.start + k * c.args.width + c.args.width ≤ 4294967296 = λ k q. let a = c.args in
-    omega (arith, levels_within a.image.now a.f c.requires.0 a.t a.start a.width k q, nodes_few a.image.now a.f c.requires.0, node_length a.image.now a.f c.requires.0) in
+    let v = c.args.image.now in
+    let within : (k : ℕ) → EqualLevels v.bytes.now v.frame c.args.t c.args.start c.args.width k → c.args.start + k * c.args.width + c.args.width ≤ 4294967296 = λ k q. let a = c.args in
+    omega (arith, levels_within v.bytes.now v.frame (accepted v) a.t a.start a.width k q, nodes_few v.bytes.now v.frame (accepted v), node_length v.bytes.now v.frame (accepted v)) in
     omega (arith, c.loop-k.invariant.1, within c.loop-k.k c.loop-k.invariant.0)
 
 pub returns-then-end-next : goal.returns-then-end-next
@@ -67,7 +76,8 @@ returns-then-end-next c =
 
 pub overflow_add-k : goal.overflow_add-k
 overflow_add-k c =
-    let counted : (c.level_count-levels.result ≡ level_count c.args.image.now c.args.f) × (level_count c.args.image.now c.args.f ≤ 64) = (c.level_count-levels.ensures, levels_few c.args.image.now c.args.f c.requires.0) in
+    let v = c.args.image.now in
+    let counted : (c.level_count-levels.result ≡ level_count v.bytes.now v.frame) × (level_count v.bytes.now v.frame ≤ 64) = (c.level_count-levels.ensures, levels_few v.bytes.now v.frame (accepted v)) in
     omega (arith, c.loop-k.invariant.0.inside, counted.1)
 
 pub loop-k-smaller : goal.loop-k-smaller
@@ -80,14 +90,15 @@ loop-k-smaller c =
 
 pub loop-k-preserved : goal.loop-k-preserved
 loop-k-preserved c =
-    let counted : (c.level_count-levels.result ≡ level_count c.args.image.now c.args.f) × (level_count c.args.image.now c.args.f ≤ 64) = (c.level_count-levels.ensures, levels_few c.args.image.now c.args.f c.requires.0) in
+    let v = c.args.image.now in
+    let counted : (c.level_count-levels.result ≡ level_count v.bytes.now v.frame) × (level_count v.bytes.now v.frame ≤ 64) = (c.level_count-levels.ensures, levels_few v.bytes.now v.frame (accepted v)) in
     let more : c.args.t + c.loop-k.k + 1 < c.level_count-levels.result = let a = c.args in
     let l = c.loop-k in
     let n = c.level_count-levels.result in
     ltb-true (a.t + l.k + 1) n (second (ltb l.k a.most) (ltb (a.t + l.k + 1) n) c.loop-k-test.true) in
     let a = c.args in
     let e = sym c.level_start-end.ensures ∙ c.if-end-next.false in
-    let q = levels_more a.image.now a.f a.t a.start a.width c.loop-k.k c.loop-k.invariant.0 (omega (arith, more, counted.0)) (e ∙ ap (λ (n : ℕ). n + a.width) c.loop-k.invariant.1) in
+    let q = levels_more v.bytes.now v.frame a.t a.start a.width c.loop-k.k c.loop-k.invariant.0 (omega (arith, more, counted.0)) (e ∙ ap (λ (n : ℕ). n + a.width) c.loop-k.invariant.1) in
     (q, omega (arith, c.if-end-next.false, c.loop-k.invariant.1, add-mul c.loop-k.k 1 a.width))
 
 pub returns : goal.returns

@@ -35,36 +35,41 @@ module _ (s : Bytes) (f : Frame) (from : LevelSum) (depth : ℕ) (p : DownTo s f
     then_gone : (y : LevelSum) → GoneDown s f to depth y → GoneDown s f from depth y
     then_gone y g = gone_again s f from whole (from.depth + 1) (omega arith) to next_down depth (omega (arith, h)) y g
 
-pub returns-then-node-f : goal.returns-then-node-f
-returns-then-node-f t c =
+pub returns-then-node-image : goal.returns-then-node-image
+returns-then-node-image t c =
+    let v = c.args.image.now in
     let a = c.args in
-    full a.image.now a.f a.from a.depth c.requires _ (omega (arith, c.requires.from_in, c.if-from-depth.false)) c.if-node-f.true refl refl refl
+    full v.bytes.now v.frame a.from a.depth c.requires _ (omega (arith, c.requires.from_in, c.if-from-depth.false)) c.if-node-image.true refl refl refl
 
 pub overflow_add-next : goal.overflow_add-next
 overflow_add-next t c =
+    let v = c.args.image.now in
     let a = c.args in
     let p = c.requires.accepted in
-    omega (arith, c.counts_before-before.ensures.children_are, rest_node a.image.now a.f p a.from.node.0 (omega (arith, c.requires.node_in, c.if-node-f.false)), p.dense_size, p.sparse_size, p.writable.few_dense, p.writable.few_sparse)
+    omega (arith, c.counts_before-before.ensures.children_are, rest_node v.bytes.now v.frame p a.from.node.0 (omega (arith, c.requires.node_in, c.if-node-image.false)), p.dense_size, p.sparse_size, p.writable.few_dense, p.writable.few_sparse)
 
 pub overflow_add-next-3 : goal.overflow_add-next-3
 overflow_add-next-3 t c =
+    let v = c.args.image.now in
     let a = c.args in
     let p = c.requires in
-    omega (arith, c.counts_before-before.ensures.leaves_are, rest_leaves a.image.now a.f p.accepted a.from.node.0, p.small, p.from_in, p.depth_in)
+    omega (arith, c.counts_before-before.ensures.leaves_are, rest_leaves v.bytes.now v.frame p.accepted a.from.node.0, p.small, p.from_in, p.depth_in)
 
 pub go_down-requires : goal.go_down-requires
 go_down-requires t c =
+    let v = c.args.image.now in
     let a = c.args in
     let p = c.requires in
     let n = c.counts_before-before.ensures in
     let more : a.from.depth < a.depth = omega (arith, p.from_in, c.if-from-depth.false) in
-    (omega (arith, c.decreases, more), next_again a.image.now a.f a.from a.depth p more (omega (arith, p.node_in, c.if-node-f.false)) _ (omega (arith, n.children_are)) refl (omega (arith, n.leaves_are)))
+    (omega (arith, c.decreases, more), next_again v.bytes.now v.frame a.from a.depth p more (omega (arith, p.node_in, c.if-node-image.false)) _ (omega (arith, n.children_are)) refl (omega (arith, n.leaves_are)))
 
 pub returns : goal.returns
 returns t c =
+    let v = c.args.image.now in
     let a = c.args in
     let p = c.requires in
     let n = c.counts_before-before.ensures in
     let more : a.from.depth < a.depth = omega (arith, p.from_in, c.if-from-depth.false) in
     let to : LevelSum = record { node = record { 0 = c.counts_before-before.result.children + 1 }; depth = a.from.depth + 1; sum = a.from.sum + c.counts_before-before.result.leaves } in
-    then_gone a.image.now a.f a.from a.depth p more (omega (arith, p.node_in, c.if-node-f.false)) to (omega (arith, n.children_are)) refl (omega (arith, n.leaves_are)) c.go_down.result c.go_down.ensures
+    then_gone v.bytes.now v.frame a.from a.depth p more (omega (arith, p.node_in, c.if-node-image.false)) to (omega (arith, n.children_are)) refl (omega (arith, n.leaves_are)) c.go_down.result c.go_down.ensures

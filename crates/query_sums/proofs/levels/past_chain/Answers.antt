@@ -7,18 +7,21 @@ use Rattle.query_sums.proofs.levels.past_chain.Goals as goal
 
 pub pass_chain-requires : goal.pass_chain-requires
 pass_chain-requires c =
+    let v = c.args.image.now in
     let stands : OnChain c.chain_at-chain.result c.args.from.node.0 true = rw c.if-on_chain.true at c.on_chain.ensures in
-    chain_passable c.args.image.now c.args.f c.args.from c.requires c.chain_at-chain.result c.chain_at-chain.ensures stands
+    chain_passable v.bytes.now v.frame c.args.from c.requires c.chain_at-chain.result c.chain_at-chain.ensures stands
 
 pub returns-then-on_chain : goal.returns-then-on_chain
 returns-then-on_chain c =
+    let v = c.args.image.now in
     let stands : OnChain c.chain_at-chain.result c.args.from.node.0 true = rw c.if-on_chain.true at c.on_chain.ensures in
     let a = c.args in
-    let o = chain_passed a.image.now a.f a.from c.requires c.chain_at-chain.result c.chain_at-chain.ensures stands in
+    let o = chain_passed v.bytes.now v.frame a.from c.requires c.chain_at-chain.result c.chain_at-chain.ensures stands in
     let to = passed a.from c.chain_at-chain.result in
-    rw c.pass_chain.ensures (down_again a.image.now a.f a.from c.requires to.depth (omega (arith, o.deeper)) to o.gone 64 o.depth_in (omega arith), omega (arith, o.deeper), o.gone)
+    rw c.pass_chain.ensures (down_again v.bytes.now v.frame a.from c.requires to.depth (omega (arith, o.deeper)) to o.gone 64 o.depth_in (omega arith), omega (arith, o.deeper), o.gone)
 
 pub returns : goal.returns
 returns c =
+    let v = c.args.image.now in
     let a = c.args in
-    (c.requires, omega arith, down_none a.image.now a.f c.requires.accepted a.from a.from.depth refl c.requires.node_in)
+    (c.requires, omega arith, down_none v.bytes.now v.frame c.requires.accepted a.from a.from.depth refl c.requires.node_in)
