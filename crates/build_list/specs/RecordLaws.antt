@@ -125,3 +125,6 @@ module _ (s : Bytes) (at done : ℕ) (in_List : at < length s) where
                 higher f last q =
                     front f last ∙ above f done last (get_or s at 0) (drop (suc at) s) room two marked some' small' whole (rw key_is q)
                     ∙ ap₂ (λ (k r : Bytes). with_key k (parse_records f (suc done) k r)) key_is rest_is
+
+-- what refuses a record, for the proof of its reading
+pub ruleset records_refused = (read_many, read_short, read_unmarked, read_none, read_long, read_missing)

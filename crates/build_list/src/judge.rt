@@ -5,7 +5,6 @@ ghost use Rattle.bits.specs.Bits.{key};
 ghost use Rattle.build_list.specs.KeyList.{RecordRead, RecordJudged, numbered, key_list};
 
 use super::BEFORE_KEY;
-use bits::numbers::wide;
 use image::refusals::Refusal;
 use keys::MAX_KEY_BYTES;
 use keys::compare::compare_fronts;
@@ -15,7 +14,7 @@ use std::cmp::Ordering;
 const MAX_KEYS: usize = 65535;
 
 // The length of the key of the record at `at`, behind `done` others; or 4, a record follows 65,535 others; 1, fewer than three bytes or a wrong mark; 2, length 0 or over 64; 1, key bytes missing.
-#[tactic(auto, using(crate::specs::RecordLaws::read_many, crate::specs::RecordLaws::read_short, crate::specs::RecordLaws::read_unmarked, crate::specs::RecordLaws::read_none, crate::specs::RecordLaws::read_long, crate::specs::RecordLaws::read_missing, crate::specs::RecordLaws::read_whole))]
+#[tactic(auto, using(crate::specs::RecordLaws::records_refused))]
 fn read_record(s: &[u8], at: usize, done: usize) -> Result<usize, Refusal>
     requires { (at < length s.now) × (done ≤ 65535) }
     ensures { RecordRead s.now at done result }
