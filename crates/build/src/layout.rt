@@ -15,9 +15,9 @@ use build_records::Plan;
 use build_records::levels::{levels_size, write_levels};
 use build_records::records::write_records;
 use image::header_bytes::write_header;
-use image::refusals::{OUTPUT_TOO_SHORT, STATED_LENGTH_WRONG};
+use image::refusals::Refusal;
 use image::table::{RECORDS, record_starts};
-use image::{Dense, Header, MAX_LEVELS, Settings, Sparse, Written};
+use image::{Dense, Header, MAX_LEVELS, Settings, Sparse};
 
 // The plan of an accepted list of so many keys: each level's entries, nodes and leaves are counted from zero in one pass, and give the header's counts and the records' starts.
 fn lay_out(
@@ -93,7 +93,13 @@ fn write_image(
 }
 
 // The image of an accepted list of so many keys goes to the front of out; or the answer is 8, the stated length is not the image's, or 7, the image is longer than the output.
-pub fn build_image(list: &[u8], st: Settings, count: usize, stated: u64, out: &mut [u8]) -> Written
+pub fn build_image(
+    list: &[u8],
+    st: Settings,
+    count: usize,
+    stated: u64,
+    out: &mut [u8],
+) -> Result<usize, Refusal>
     requires { Ready list.now (asked st) × (count ≡ length (keys_of list.now)) }
     ensures { outcome result out.new ≡ write_stated stated (image_of list.now (asked st)) out.old }
 {
@@ -103,11 +109,11 @@ pub fn build_image(list: &[u8], st: Settings, count: usize, stated: u64, out: &m
     let plan = lay_out(&mut entries, &mut nodes, &mut leaves, list, st, count);
     let end = image_end(plan, &nodes);
     if stated != (end as u64) {
-        return Written::Refused(STATED_LENGTH_WRONG);
+        return Err(Refusal::StatedLengthWrong);
     }
     if out.len() < end {
-        return Written::Refused(OUTPUT_TOO_SHORT);
+        return Err(Refusal::OutputTooShort);
     }
     write_image(out, list, plan, &entries, &nodes, &leaves);
-    Written::Bytes(end)
+    Ok(end)
 }
