@@ -6,9 +6,21 @@ ghost use Rattle.build_list.specs.KeyList.{RecordRead, RecordJudged, key_list};
 
 use super::{BEFORE_KEY, KeyList, KeyRecord};
 use bits::numbers::wide;
-use image::refusals::{KEY_LENGTH_WRONG, KEYS_UNORDERED, LIST_MALFORMED, TOO_MANY_KEYS};
 use keys::MAX_KEY_BYTES;
-use keys::compare::{Order, compare_fronts};
+use keys::compare::compare_fronts;
+use std::cmp::Ordering;
+
+// Temporary.
+const LIST_MALFORMED: u32 = 1;
+
+// Temporary.
+const KEY_LENGTH_WRONG: u32 = 2;
+
+// Temporary.
+const KEYS_UNORDERED: u32 = 3;
+
+// Temporary.
+const TOO_MANY_KEYS: u32 = 4;
 
 // No list has more keys.
 const MAX_KEYS: usize = 65535;
@@ -55,9 +67,9 @@ fn judge_record(s: &[u8], at: usize, done: usize, last: usize, m: usize) -> KeyR
             let start = at + BEFORE_KEY;
             let o = compare_fronts(&s[last..], m, &s[start..], n);
             match o {
-                Order::Below => KeyRecord::Key(n),
-                Order::Equal => KeyRecord::Refused(KEYS_UNORDERED),
-                Order::Above => KeyRecord::Refused(KEYS_UNORDERED),
+                Ordering::Less => KeyRecord::Key(n),
+                Ordering::Equal => KeyRecord::Refused(KEYS_UNORDERED),
+                Ordering::Greater => KeyRecord::Refused(KEYS_UNORDERED),
             }
         }
     }

@@ -1,5 +1,5 @@
 use Rattle.spec.specs.Bytes.{Bytes}
-use Rattle.keys.specs.declared.compare.Order.{Order}
+use Rattle.std.specs.declared.cmp.Ordering.{Ordering as Order}
 use mathlib.Core.Path.{◌≡◌, sym, ap, ap₂, subst, ◌∙◌}
 use mathlib.Core.Logic.{inl, inr}
 use Prim.Native.Nat.{ℕ, ◌+◌, ◌-◌}
@@ -53,15 +53,15 @@ returns-in-Refused c =
     let r : RecordRead a.s.now a.at a.done (Record-refused found.r) = subst (RecordRead a.s.now a.at a.done) found.is read-record.ensures in
     λ f. r f (key a.s.now a.last a.m)
 
-pub returns-in-Below : goal.returns-in-Below
-returns-in-Below c =
+pub returns-in-Less : goal.returns-in-Less
+returns-in-Less c =
     let read-record = c.read_record-found in
     let found2 = c.in-Key in
     let compare = c.compare_fronts-o in
     let a = c.args in
     let n = found2.n in
     let r : RecordRead a.s.now a.at a.done (Key n) = subst (RecordRead a.s.now a.at a.done) found2.is read-record.ensures in
-    let o = fronts a.s.now a.last a.m (a.at + 3) n _ _ compare.ensures c.in-Below.is in
+    let o = fronts a.s.now a.last a.m (a.at + 3) n _ _ compare.ensures c.in-Less.is in
     record { within = r.within; few = r.few; high = λ f. r.high f (key a.s.now a.last a.m) (order_is_below (key a.s.now a.last a.m) (key a.s.now (a.at + 3) n) o) }
 
 pub returns-in-Equal : goal.returns-in-Equal
@@ -75,13 +75,13 @@ returns-in-Equal c =
     let o = fronts a.s.now a.last a.m (a.at + 3) n _ _ compare.ensures c.in-Equal.is in
     λ f. r.low f (key a.s.now a.last a.m) (order_not_below (key a.s.now a.last a.m) (key a.s.now (a.at + 3) n) (inl o))
 
-pub returns-in-Above : goal.returns-in-Above
-returns-in-Above c =
+pub returns-in-Greater : goal.returns-in-Greater
+returns-in-Greater c =
     let read-record = c.read_record-found in
     let found2 = c.in-Key in
     let compare = c.compare_fronts-o in
     let a = c.args in
     let n = found2.n in
     let r : RecordRead a.s.now a.at a.done (Key n) = subst (RecordRead a.s.now a.at a.done) found2.is read-record.ensures in
-    let o = fronts a.s.now a.last a.m (a.at + 3) n _ _ compare.ensures c.in-Above.is in
+    let o = fronts a.s.now a.last a.m (a.at + 3) n _ _ compare.ensures c.in-Greater.is in
     λ f. r.low f (key a.s.now a.last a.m) (order_not_below (key a.s.now a.last a.m) (key a.s.now (a.at + 3) n) (inr o))
