@@ -13,7 +13,8 @@ use Rattle.theory.proofs.OutcomeLaws.{write_fits, write_short}
 use Rattle.std.specs.Prelude.{Ok, Err}
 use Rattle.image.specs.declared.refusals.Refusal.TheVariants.{OutputTooShort, StatedLengthWrong}
 use Rattle.image.specs.Outcomes.{outcome}
-use Rattle.build_keys.specs.CountPass.{LevelCounts, list_counts}
+use Rattle.build_keys.specs.CountPass.{list_counts}
+use Rattle.build_keys.specs.declared.LevelCounts.{LevelCounts}
 use Rattle.build_records.specs.Plan.{Planned, plan_settings, start_at, plan_image, plan_levels, plan_end}
 use Rattle.build_records.specs.declared.Plan.{Plan}
 use Rattle.build.specs.Image.{image_of}
