@@ -14,3 +14,11 @@ pub const COUNTERS: usize = 65;
 
 // What is counted on each level; or where on each level the next thing goes.
 pub type Counters = [u32; COUNTERS];
+
+// Entries, nodes and leaves of each level.
+#[derive(Clone, Copy)]
+pub struct LevelCounts {
+    pub entries: Counters,
+    pub nodes: Counters,
+    pub leaves: Counters,
+}

@@ -5,10 +5,6 @@ use borrow.Author.Tests.{lt-ltb, le-ltb}
 use native.Mathlib.Omega.{arith}
 use Rattle.nav_nodes.proofs.behind.child.Goals as goal
 
-pub child_rank-requires : goal.child_rank-requires
-child_rank-requires c =
-    (c.requires.within.dense (omega arith)).0
-
 pub overflow_add-result : goal.overflow_add-result
 overflow_add-result c =
     let a = c.args in
@@ -21,10 +17,6 @@ returns-then-m-image c =
     let a = c.args in
     let v = a.image.now in
     rw (lt-ltb a.m.0 v.frame.dense.nodes (omega arith)) (omega (arith, c.child_rank.ensures))
-
-pub entry_rank-requires : goal.entry_rank-requires
-entry_rank-requires c =
-    c.requires.within.sparse (omega arith)
 
 pub overflow_add-result-2 : goal.overflow_add-result-2
 overflow_add-result-2 c =

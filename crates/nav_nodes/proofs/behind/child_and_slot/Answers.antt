@@ -8,24 +8,12 @@ use Prim.Native.Nat.{◌+◌}
 use native.Mathlib.Omega.{arith}
 use Rattle.nav_nodes.proofs.behind.child_and_slot.Goals as goal
 
-pub label_rank-labels-requires : goal.label_rank-labels-requires
-label_rank-labels-requires c =
-    (c.requires.within.dense (omega arith)).0
-
-pub child_rank-children-requires : goal.child_rank-children-requires
-child_rank-children-requires c =
-    (c.requires.within.dense (omega arith)).0
-
 pub overflow_add-result : goal.overflow_add-result
 overflow_add-result c =
     let a = c.args in
     let v = a.image.now in
     let p = c.requires in
     omega (arith, c.child_rank-children.ensures, rank_le (drop v.frame.dc v.bytes.now) a.at.0, (p.within.dense (omega arith)).0, p.accepted.dense_size, p.accepted.writable.few_dense)
-
-pub overflow_sub-result : goal.overflow_sub-result
-overflow_sub-result c =
-    omega (arith, c.label_rank-labels.ensures, c.child_rank-children.ensures, (c.requires.within.dense (omega arith)).1)
 
 pub overflow_add-result-then-m-image : goal.overflow_add-result-then-m-image
 overflow_add-result-then-m-image c =
@@ -41,10 +29,6 @@ returns-then-m-image c =
     let v = a.image.now in
     let l = lt-ltb a.m.0 v.frame.dense.nodes (omega arith) in
     record { child_is = rw l (omega (arith, c.child_rank-children.ensures)); slot_is = rw l (omega (arith, c.label_rank-labels.ensures, c.child_rank-children.ensures, c.exact_rank-exacts.ensures)) }
-
-pub entry_rank-children-requires : goal.entry_rank-children-requires
-entry_rank-children-requires c =
-    c.requires.within.sparse (omega arith)
 
 pub overflow_add-result-2 : goal.overflow_add-result-2
 overflow_add-result-2 c =

@@ -8,18 +8,6 @@ use Prim.Native.Nat.{◌+◌}
 use native.Mathlib.Omega.{arith}
 use Rattle.nav_nodes.proofs.behind.slot.Goals as goal
 
-pub label_rank-labels-requires : goal.label_rank-labels-requires
-label_rank-labels-requires c =
-    (c.requires.within.dense (omega arith)).0
-
-pub child_rank-children-requires : goal.child_rank-children-requires
-child_rank-children-requires c =
-    (c.requires.within.dense (omega arith)).0
-
-pub overflow_sub-result : goal.overflow_sub-result
-overflow_sub-result c =
-    omega (arith, c.label_rank-labels.ensures, c.child_rank-children.ensures, (c.requires.within.dense (omega arith)).1)
-
 pub overflow_add-result : goal.overflow_add-result
 overflow_add-result c =
     let a = c.args in
@@ -37,10 +25,6 @@ pub overflow_sub-result-2 : goal.overflow_sub-result-2
 overflow_sub-result-2 c =
     let v = c.args.image.now in
     omega (arith, (dense_totals v.bytes.now v.frame c.requires.accepted).1)
-
-pub entry_rank-requires : goal.entry_rank-requires
-entry_rank-requires c =
-    c.requires.within.sparse (omega arith)
 
 pub overflow_sub-result-3 : goal.overflow_sub-result-3
 overflow_sub-result-3 c =
