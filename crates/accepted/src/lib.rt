@@ -19,7 +19,7 @@ use image::refusals::Refusal;
 use keys::MAX_KEY_BYTES;
 use keys::compare::compare;
 use query_point::Rule;
-use query_point::point::{descend, rule_number, rule_says};
+use query_point::point::descend;
 use query_sums::levels::empty_key_sum;
 use std::cmp::Ordering;
 
@@ -65,7 +65,7 @@ pub fn point(image: &[u8], key: &[u8]) -> Result<usize, Refusal>
     ensures { numbered_of result ≡ reply_number (ask_one image.now (QP key.now)) }
 {
     judge_key(key)?;
-    Ok(rule_says(rule_behind(image, key)))
+    Ok(usize::from(rule_behind(image, key).says()))
 }
 
 // The rule behind the reply to a point, 1 to 6.
@@ -74,7 +74,7 @@ pub fn rule(image: &[u8], key: &[u8]) -> Result<usize, Refusal>
     ensures { numbered_of result ≡ reply_rule (ask_one image.now (QP key.now)) }
 {
     judge_key(key)?;
-    Ok(usize::from(rule_number(rule_behind(image, key))))
+    Ok(usize::from(rule_behind(image, key).number()))
 }
 
 // The number in the reply to a begins-with question.
@@ -83,7 +83,8 @@ pub fn begins_with(image: &[u8], stem: &[u8]) -> Result<usize, Refusal>
     ensures { numbered_of result ≡ reply_number (ask_one image.now (QB stem.now)) }
 {
     judge_key(stem)?;
-    Ok(query_point::stem::begins_with(&accepted_image(image), stem))
+    let held = query_point::stem::begins_with(&accepted_image(image), stem);
+    Ok(usize::from(held))
 }
 
 // The number in the reply to a range.
@@ -92,7 +93,8 @@ pub fn range(image: &[u8], lo: &[u8], hi: &[u8]) -> Result<usize, Refusal>
     ensures { numbered_of result ≡ reply_number (ask_one image.now (QR lo.now hi.now)) }
 {
     judge_bounds(lo, hi)?;
-    Ok(query_range::range::range(&accepted_image(image), lo, hi))
+    let held = query_range::range::range(&accepted_image(image), lo, hi);
+    Ok(usize::from(held))
 }
 
 // The number in the reply to a count.

@@ -55,5 +55,8 @@ pub fn replies_fit(image: &AcceptedImage, file: &[u8], count: usize, room: usize
     requires { TakenFrom file.now 0 × (count ≡ length (questions_of file.now)) }
     ensures { result ≡ leb (length (file_replies image.now.frame.hash_width image.now.bytes.now file.now)) room }
 {
-    LONGEST_REPLY * count <= room || replies_length(image, file) <= room
+    if LONGEST_REPLY * count <= room {
+        return true;
+    }
+    replies_length(image, file) <= room
 }

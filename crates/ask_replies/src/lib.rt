@@ -16,10 +16,9 @@ use ask_files::reply_bytes::{Answered, keyless, write_answered};
 use image::AcceptedImage;
 use keys::MAX_KEY_BYTES;
 use query_count::count;
-use query_point::point::{descend, rule_number, rule_says};
+use query_point::point::descend;
 use query_point::stem::begins_with;
 use query_range::range::range;
-use query_seek::SoughtLeaf;
 use query_seek::seek::seek;
 use query_sums::levels::empty_key_sum;
 
@@ -32,10 +31,10 @@ fn point_reply(image: &AcceptedImage, point: &[u8], key: &mut [u8]) -> Answered
     ensures { Sized result key.new × (reply_of result key.new ≡ reply image.now.frame.hash_width (read_leaves image.now.bytes.now) (QP point.now)) }
 {
     let rule = descend(image, point);
-    key[0] = rule_number(rule);
+    key[0] = rule.number();
     Answered {
         letter: b'P',
-        number: rule_says(rule),
+        number: usize::from(rule.says()),
         n: POINT_KEY,
     }
 }
@@ -48,13 +47,12 @@ pub fn seek_reply(image: &AcceptedImage, base: usize, start: &[u8], key: &mut [u
     requires { (base ≡ empty_key_sum image.now.bytes.now image.now.frame) × (length start.now ≤ 64) × (length key.old ≡ 64) }
     ensures { Sized result key.new × (reply_of result key.new ≡ reply image.now.frame.hash_width (read_leaves image.now.bytes.now) (QS start.now)) }
 {
-    let s = seek(image, base, start, key);
-    match s.leaf {
-        SoughtLeaf::None => keyless(b'S', NO_LEAF),
-        SoughtLeaf::At(number) => Answered {
+    match seek(image, base, start, key) {
+        None => keyless(b'S', NO_LEAF),
+        Some(sought) => Answered {
             letter: b'S',
-            number,
-            n: s.n,
+            number: sought.number,
+            n: sought.len,
         },
     }
 }
@@ -67,8 +65,8 @@ fn reply_to(image: &AcceptedImage, base: usize, question: Question, key: &mut [u
     match question {
         Question::Point(point) => point_reply(image, point, key),
         Question::Seek(start) => seek_reply(image, base, start, key),
-        Question::Begins(stem) => keyless(b'B', begins_with(image, stem)),
-        Question::Range(lo, hi) => keyless(b'R', range(image, lo, hi)),
+        Question::Begins(stem) => keyless(b'B', usize::from(begins_with(image, stem))),
+        Question::Range(lo, hi) => keyless(b'R', usize::from(range(image, lo, hi))),
         Question::Count(lo, hi) => keyless(b'C', count(image, lo, hi)),
     }
 }
