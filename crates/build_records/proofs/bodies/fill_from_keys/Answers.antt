@@ -6,7 +6,6 @@ use lib.ListN.{length, drop}
 use Rattle.spec.specs.Bytes.{Bytes}
 use Rattle.theory.proofs.Lists.{bytes_drop}
 use Rattle.build_laws.specs.PackedBody.{small_of}
-use Rattle.build_records.specs.Plan.{list_body}
 use Rattle.build_records.specs.BodyWritten.{ready_list, empty_body, sums_small, pass_room, pass_leaves, flip_room, body_again, body_whole}
 use native.Mathlib.Omega.{arith}
 use borrow.Author.Rules.{rules}
@@ -15,12 +14,6 @@ use Rattle.build_records.proofs.bodies.fill_from_keys.Goals as goal
 -- an empty body
 empty_len : (body out : Bytes) (len : ℕ) → len ≡ length body → len ≡ 0 → out ≡ body ++ drop len out
 empty_len body out len e z = empty_body body out (sym e ∙ z) ∙ ap (λ (n : ℕ). body ++ drop n out) (sym z)
-
-pub returns-then-len-eq0 : goal.returns-then-len-eq0
-returns-then-len-eq0 c =
-    let a = c.args in
-    let pre = c.requires in
-    empty_len (list_body a.list.now a.plan a.body) a.out.now a.len pre.size c.if-len-eq0.true
 
 pub set_offsets-requires : goal.set_offsets-requires
 set_offsets-requires c =
