@@ -10,14 +10,7 @@ pub const MODULUS_32: usize = 4294967296;
 pub fn wide(x: u8) -> usize
     ensures { (result ≡ x) × (result < 256) }
 {
-    x as usize
-}
-
-// A byte as a u64.
-fn wide64(x: u8) -> u64
-    ensures { (result ≡ x) × (result < 256) }
-{
-    x as u64
+    usize::from(x)
 }
 
 // A u32 as a usize.
@@ -31,21 +24,21 @@ pub fn wide32(x: u32) -> usize
 pub fn one_if(b: bool) -> usize
     ensures { (result ≡ bit b) × (result ≤ 1) }
 {
-    if b { 1 } else { 0 }
+    usize::from(b)
 }
 
 // The smaller of two numbers.
 pub fn smaller(a: usize, b: usize) -> usize
     ensures { result ≡ min a b }
 {
-    if a < b { a } else { b }
+    a.min(b)
 }
 
 // The larger of two numbers.
 pub fn larger(a: usize, b: usize) -> usize
     ensures { result ≡ max a b }
 {
-    if a < b { b } else { a }
+    a.max(b)
 }
 
 // How many blocks of w bits hold n bits. The last block may not be full.
@@ -68,7 +61,10 @@ pub fn read32(s: &[u8], at: usize) -> usize
     requires { at + 4 ≤ length s.now }
     ensures { (result ≡ from32 (drop at s.now)) × (result < 4294967296) }
 {
-    wide(s[at]) + 256 * wide(s[at + 1]) + 65536 * wide(s[at + 2]) + 16777216 * wide(s[at + 3])
+    usize::from(s[at])
+        + 256 * usize::from(s[at + 1])
+        + 65536 * usize::from(s[at + 2])
+        + 16777216 * usize::from(s[at + 3])
 }
 
 // The low four bytes of v go to s from at, and all else stays.
@@ -87,14 +83,14 @@ pub fn read64(s: &[u8], at: usize) -> u64
     requires { at + 8 ≤ length s.now }
     ensures { result ≡ word s.now at }
 {
-    let lo = wide64(s[at])
-        + 256 * wide64(s[at + 1])
-        + 65536 * wide64(s[at + 2])
-        + 16777216 * wide64(s[at + 3]);
-    let hi = wide64(s[at + 4])
-        + 256 * wide64(s[at + 5])
-        + 65536 * wide64(s[at + 6])
-        + 16777216 * wide64(s[at + 7]);
+    let lo = u64::from(s[at])
+        + 256 * u64::from(s[at + 1])
+        + 65536 * u64::from(s[at + 2])
+        + 16777216 * u64::from(s[at + 3]);
+    let hi = u64::from(s[at + 4])
+        + 256 * u64::from(s[at + 5])
+        + 65536 * u64::from(s[at + 6])
+        + 16777216 * u64::from(s[at + 7]);
     lo + 4294967296 * hi
 }
 
@@ -104,10 +100,8 @@ fn read_end(s: &[u8], at: usize) -> u64
     ensures { result ≡ word s.now at }
 {
     let mut w = 0u64;
-    let mut i = s.len();
-    while at < i {
-        i = i - 1;
-        w = w * 256 + wide64(s[i]);
+    for i in (at..s.len()).rev() {
+        w = w * 256 + u64::from(s[i]);
     }
     w
 }
