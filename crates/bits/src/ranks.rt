@@ -18,7 +18,7 @@ pub fn set_bit(out: &mut [u8], i: usize)
     ensures { out.new ≡ with_bit out.old i }
 {
     let b = i / 8;
-    out[b] = out[b] | (1u8 << (i % 8));
+    out[b] |= 1u8 << (i % 8);
 }
 
 // The ones of b are set in byte q of out, where out has that byte.
@@ -27,7 +27,7 @@ fn set_ones(out: &mut [u8], q: usize, b: usize)
     ensures { out.new ≡ with_ones out.old q b }
 {
     if q < out.len() {
-        out[q] = out[q] | (b as u8);
+        out[q] |= b as u8;
     }
 }
 
