@@ -67,7 +67,8 @@ struct Field {
 // The half, of w bits, that holds the one. The counts have the ones of each field of w bits.
 fn half_of(counts: u64, w: usize, field: Field) -> Field
     requires { (w < 64) × (field.at < 64) }
-    ensures { (x m k : ℕ) → Counts w (k + k) counts x → Narrowed x m (w + w) k field.at field.left → Narrowed x m w (k + k) result.at result.left }
+    ensures within { result.at ≤ field.at + w }
+    ensures narrowed { (x m k : ℕ) → Counts w (k + k) counts x → Narrowed x m (w + w) k field.at field.left → Narrowed x m w (k + k) result.at result.left }
 {
     let low = ((counts >> field.at) % (1u64 << w)) as usize;
     if field.left < low {
