@@ -123,18 +123,18 @@ pub fn shared_fronts(p: &[u8], n: usize, q: &[u8], m: usize) -> usize
     shared_behind_word(p, n, q, m)
 }
 
-// The order by unsigned bytes of two keys, the first n bytes of p and the first m bytes of q, a proper prefix first: the byte behind the i bytes that they share decides.
-fn order_behind(p: &[u8], n: usize, q: &[u8], m: usize, i: usize) -> Ordering
-    requires { (n ≤ length p.now) × (m ≤ length q.now) × (i ≡ shared (take n p.now) (take m q.now)) }
-    ensures { result ≡ order (take n p.now) (take m q.now) }
+// The order by unsigned bytes of two keys, a proper prefix first: the byte behind the i bytes that they share decides.
+fn order_behind(p: &[u8], q: &[u8], i: usize) -> Ordering
+    requires { i ≡ shared p.now q.now }
+    ensures { result ≡ order p.now q.now }
 {
-    if m <= i {
-        if n <= i {
+    if q.len() <= i {
+        if p.len() <= i {
             return Ordering::Equal;
         }
         return Ordering::Greater;
     }
-    if n <= i {
+    if p.len() <= i {
         return Ordering::Less;
     }
     if p[i] < q[i] {
@@ -149,13 +149,12 @@ pub fn compare_fronts(p: &[u8], n: usize, q: &[u8], m: usize) -> Ordering
     ensures { result ≡ order (take n p.now) (take m q.now) }
 {
     let i = shared_fronts(p, n, q, m);
-    order_behind(p, n, q, m, i)
+    order_behind(&p[..n], &q[..m], i)
 }
 
 // The order of two keys.
 pub fn compare(p: &[u8], q: &[u8]) -> Ordering
     ensures { result ≡ order p.now q.now }
 {
-    let i = shared(p, q);
-    order_behind(p, p.len(), q, q.len(), i)
+    order_behind(p, q, shared(p, q))
 }
