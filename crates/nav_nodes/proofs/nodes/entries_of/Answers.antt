@@ -36,7 +36,7 @@ returns c =
     let extra = first_exact v.bytes.now v.frame p.accepted a.m.0 p.behind_dense p.inside start end n e in
     let x : is_exact (node_at (nodes v.bytes.now v.frame) a.m.0) ≡ c.if-start-end.exact =
     elim c.if-start-end.branch [
-      | then-start-end w ↦ tested (eqb (get_or v.bytes.now (v.frame.sl + start) 0) 255) (λ t. extra w.if-start-end.true (eqb-true _ _ t)) (λ t. other (eqb-false _ _ t)) ∙ sym w.exact-is
+      | then-start-end w ↦ let h = w.if-start-end.true in tested (eqb (get_or v.bytes.now (v.frame.sl + start) 0) 255) (λ t. extra (omega arith) (eqb-true _ _ t)) (λ t. other (eqb-false _ _ t)) ∙ sym w.exact-is
       | else-start-end w ↦ let h = w.if-start-end.false in alone (omega arith) ∙ sym (w.exact-is ∙ lt-leb (start + 2) end (omega arith))
     ] in
     let r = entries_valid v.bytes.now v.frame p.accepted a.m.0 p.behind_dense p.inside start end c.if-start-end.exact n e x in
