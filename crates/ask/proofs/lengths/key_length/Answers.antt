@@ -9,24 +9,24 @@ pub returns-in-Seek : goal.returns-in-Seek
 returns-in-Seek c =
     let v = c.args.image.now in
     let r = c.seek_reply in
-    (reply_key v.frame.hash_width (read_leaves v.bytes.now) r.result _ (Seek c.in-Seek.start) r.ensures.0 r.ensures.1, r.ensures.0.small)
+    rw c.in-Seek.is (reply_key v.frame.hash_width (read_leaves v.bytes.now) r.result _ (Seek c.in-Seek.start) r.ensures.0 r.ensures.1, r.ensures.0.small)
 
 pub returns-in-Point : goal.returns-in-Point
 returns-in-Point c =
     let v = c.args.image.now in
-    (point_length v.frame.hash_width (read_leaves v.bytes.now) _, omega arith)
+    rw c.in-Point.is (point_length v.frame.hash_width (read_leaves v.bytes.now) _, omega arith)
 
 pub returns-in-Begins : goal.returns-in-Begins
 returns-in-Begins c =
     let v = c.args.image.now in
-    (begins_length v.frame.hash_width (read_leaves v.bytes.now) _, omega arith)
+    rw c.in-Begins.is (begins_length v.frame.hash_width (read_leaves v.bytes.now) _, omega arith)
 
 pub returns-in-Range : goal.returns-in-Range
 returns-in-Range c =
     let v = c.args.image.now in
-    (range_length v.frame.hash_width (read_leaves v.bytes.now) _ _, omega arith)
+    rw c.in-Range.is (range_length v.frame.hash_width (read_leaves v.bytes.now) _ _, omega arith)
 
 pub returns-in-Count : goal.returns-in-Count
 returns-in-Count c =
     let v = c.args.image.now in
-    (count_length v.frame.hash_width (read_leaves v.bytes.now) _ _, omega arith)
+    rw c.in-Count.is (count_length v.frame.hash_width (read_leaves v.bytes.now) _ _, omega arith)
