@@ -6,7 +6,7 @@ ghost use Rattle.check_levels.specs.Levels.{LoudsValid, LevelOf, node_count, lev
 use super::Level;
 use super::step::level_at;
 use super::tables::level_by_tables;
-use image::{BitPos, Frame, MAX_LEVELS, NodeNum};
+use image::{BitPos, FramedImage, MAX_LEVELS, NodeNum};
 
 // The first of two numbers, or the second.
 fn pick(first: bool, x: usize, y: usize) -> usize
@@ -16,21 +16,23 @@ fn pick(first: bool, x: usize, y: usize) -> usize
 }
 
 // The level that starts at a node, by the tables of the sparse bodies where these are right, else counted on from a level at or before it.
-pub fn next_level(image: &[u8], f: Frame, agrees: bool, from: Level, node: NodeNum) -> Level
-    requires { LoudsValid image.now f × (agrees ≡ sparse_agrees image.now f) × LevelOf image.now f from × (from.node.0 ≤ node.0) × (node.0 < node_count f) }
-    ensures { LevelOf image.now f result × (result.node.0 ≡ node.0) }
+pub fn next_level(image: &FramedImage, agrees: bool, from: Level, node: NodeNum) -> Level
+    requires { LoudsValid image.now.bytes.now image.now.frame × (agrees ≡ sparse_agrees image.now.bytes.now image.now.frame) × LevelOf image.now.bytes.now image.now.frame from × (from.node.0 ≤ node.0) × (node.0 < node_count image.now.frame) }
+    ensures { LevelOf image.now.bytes.now image.now.frame result × (result.node.0 ≡ node.0) }
 {
+    let f = image.frame;
     if agrees & (f.dense.nodes <= node.0) {
-        return level_by_tables(image, f, node);
+        return level_by_tables(image, node);
     }
-    level_at(image, f, from, node)
+    level_at(image, from, node)
 }
 
 // Whether the ends of the levels rise to the node count in at most 64 levels, and the dense nodes are those on the dense levels.
-pub fn levels_valid(image: &[u8], f: Frame, agrees: bool) -> bool
-    requires { LoudsValid image.now f × (0 < node_count f) × (agrees ≡ sparse_agrees image.now f) }
-    ensures { result ≡ levels_valid image.now f }
+pub fn levels_valid(image: &FramedImage, agrees: bool) -> bool
+    requires { LoudsValid image.now.bytes.now image.now.frame × (0 < node_count image.now.frame) × (agrees ≡ sparse_agrees image.now.bytes.now image.now.frame) }
+    ensures { result ≡ levels_valid image.now.bytes.now image.now.frame }
 {
+    let f = image.frame;
     let nodes = f.dense.nodes + f.sparse.nodes;
     let mut level = Level {
         node: NodeNum(0),
@@ -44,7 +46,7 @@ pub fn levels_valid(image: &[u8], f: Frame, agrees: bool) -> bool
         if depth == MAX_LEVELS {
             return false;
         }
-        level = next_level(image, f, agrees, level, NodeNum(end));
+        level = next_level(image, agrees, level, NodeNum(end));
         let next = level.branches + 1;
         if next <= end {
             return false;

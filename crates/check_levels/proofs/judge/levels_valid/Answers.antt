@@ -45,8 +45,8 @@ pub loop-end-init : goal.loop-end-init
 loop-end-init c =
     let a = c.args in
     let p = c.requires in (
-      ends_first (branches_before a.image.now a.f) (node_count a.f) a.f.dense.levels a.f.dense.nodes (some p.1),
-      level_root a.image.now a.f p.0 _ refl refl refl,
+      ends_first (branches_before a.image.now.bytes.now a.image.now.frame) (node_count a.image.now.frame) a.image.now.frame.dense.levels a.image.now.frame.dense.nodes (some p.1),
+      level_root a.image.now.bytes.now a.image.now.frame p.0 _ refl refl refl,
       omega arith,
     )
 
@@ -54,7 +54,7 @@ pub returns-then-depth-eq-MAX_LEVELS : goal.returns-then-depth-eq-MAX_LEVELS
 returns-then-depth-eq-MAX_LEVELS c =
     let a = c.args in
     let l = c.loop-end in
-    sym (ends_level_64 (branches_before a.image.now a.f) (node_count a.f) a.f.dense.levels a.f.dense.nodes l.depth l.end l.above _ l.invariant.0 refl c.loop-end-test.true (at_64 c.if-depth-eq-MAX_LEVELS.true))
+    sym (ends_level_64 (branches_before a.image.now.bytes.now a.image.now.frame) (node_count a.image.now.frame) a.image.now.frame.dense.levels a.image.now.frame.dense.nodes l.depth l.end l.above _ l.invariant.0 refl c.loop-end-test.true (at_64 c.if-depth-eq-MAX_LEVELS.true))
 
 pub next_level-level-requires : goal.next_level-level-requires
 next_level-level-requires c =
@@ -66,9 +66,9 @@ pub overflow_add-next : goal.overflow_add-next
 overflow_add-next c =
     let a = c.args in
     let o = c.requires.0.frame in
-    let s : Bytes = a.image.now in
+    let s : Bytes = a.image.now.bytes.now in
     let r = c.next_level-level in
-    branches_fit r.ensures.0.branches (branches_le a.f.dense.nodes a.f.sparse.entries (dc_body s a.f) (sc_body s a.f) (sb_body s a.f) r.result.node.0) o.dense o.entries
+    branches_fit r.ensures.0.branches (branches_le a.image.now.frame.dense.nodes a.image.now.frame.sparse.entries (dc_body s a.image.now.frame) (sc_body s a.image.now.frame) (sb_body s a.image.now.frame) r.result.node.0) o.dense o.entries
 
 pub returns-then-next-end : goal.returns-then-next-end
 returns-then-next-end c =
@@ -76,8 +76,8 @@ returns-then-next-end c =
     let l = c.loop-end in
     let deep : l.depth < 64 = omega (arith, l.invariant.0.most) in
     let r = c.next_level-level in
-    let k = r.ensures.0.branches ∙ ap (branches_before a.image.now a.f) r.ensures.1 in
-    sym (ends_stuck (branches_before a.image.now a.f) (node_count a.f) a.f.dense.levels a.f.dense.nodes l.depth l.end l.above r.result.branches l.invariant.0 k c.loop-end-test.true deep c.if-next-end.true)
+    let k = r.ensures.0.branches ∙ ap (branches_before a.image.now.bytes.now a.image.now.frame) r.ensures.1 in
+    sym (ends_stuck (branches_before a.image.now.bytes.now a.image.now.frame) (node_count a.image.now.frame) a.image.now.frame.dense.levels a.image.now.frame.dense.nodes l.depth l.end l.above r.result.branches l.invariant.0 k c.loop-end-test.true deep c.if-next-end.true)
 
 pub returns-then-nodes-next : goal.returns-then-nodes-next
 returns-then-nodes-next c =
@@ -85,8 +85,8 @@ returns-then-nodes-next c =
     let l = c.loop-end in
     let deep : l.depth < 64 = omega (arith, l.invariant.0.most) in
     let r = c.next_level-level in
-    let k = r.ensures.0.branches ∙ ap (branches_before a.image.now a.f) r.ensures.1 in
-    sym (ends_over (branches_before a.image.now a.f) (node_count a.f) a.f.dense.levels a.f.dense.nodes l.depth l.end l.above r.result.branches l.invariant.0 k c.loop-end-test.true deep c.if-nodes-next.true)
+    let k = r.ensures.0.branches ∙ ap (branches_before a.image.now.bytes.now a.image.now.frame) r.ensures.1 in
+    sym (ends_over (branches_before a.image.now.bytes.now a.image.now.frame) (node_count a.image.now.frame) a.image.now.frame.dense.levels a.image.now.frame.dense.nodes l.depth l.end l.above r.result.branches l.invariant.0 k c.loop-end-test.true deep c.if-nodes-next.true)
 
 pub overflow_add-depth : goal.overflow_add-depth
 overflow_add-depth c =
@@ -103,12 +103,12 @@ loop-end-preserved c =
     let l = c.loop-end in
     let deep : l.depth < 64 = omega (arith, l.invariant.0.most) in
     let r = c.next_level-level in
-    let k = r.ensures.0.branches ∙ ap (branches_before a.image.now a.f) r.ensures.1 in
-    let next = ends_next (branches_before a.image.now a.f) (node_count a.f) a.f.dense.levels a.f.dense.nodes l.depth l.end l.above r.result.branches l.invariant.0 k c.loop-end-test.true deep if2.false c.if-nodes-next.false in
+    let k = r.ensures.0.branches ∙ ap (branches_before a.image.now.bytes.now a.image.now.frame) r.ensures.1 in
+    let next = ends_next (branches_before a.image.now.bytes.now a.image.now.frame) (node_count a.image.now.frame) a.image.now.frame.dense.levels a.image.now.frame.dense.nodes l.depth l.end l.above r.result.branches l.invariant.0 k c.loop-end-test.true deep if2.false c.if-nodes-next.false in
     (rw c.pick-above.ensures next, r.ensures.0, behind r.ensures.1 if2.false)
 
 pub returns : goal.returns
 returns c =
     let a = c.args in
     let l = c.loop-end in
-    rw c.pick.ensures (sym (ends_last (branches_before a.image.now a.f) (node_count a.f) a.f.dense.levels a.f.dense.nodes l.depth l.end l.above l.invariant.0 c.loop-end-test.false))
+    rw c.pick.ensures (sym (ends_last (branches_before a.image.now.bytes.now a.image.now.frame) (node_count a.image.now.frame) a.image.now.frame.dense.levels a.image.now.frame.dense.nodes l.depth l.end l.above l.invariant.0 c.loop-end-test.false))

@@ -8,5 +8,5 @@ use Rattle.check_levels.proofs.judge.next_level.Goals as goal
 pub level_by_tables-requires : goal.level_by_tables-requires
 level_by_tables-requires c =
     let a = c.args in
-    let t = and_both a.agrees (leb a.f.dense.nodes a.node.0) c.if-agrees-f.true in
-    (record { louds = c.requires.0; agrees = sym c.requires.1 ∙ t.0 }, leb-true a.f.dense.nodes a.node.0 t.1, c.requires.4)
+    let t = and_both a.agrees (leb a.image.now.frame.dense.nodes a.node.0) c.if-agrees-f.true in
+    (record { louds = c.requires.0; agrees = sym c.requires.1 ∙ t.0 }, leb-true a.image.now.frame.dense.nodes a.node.0 t.1, c.requires.4)
