@@ -1,5 +1,5 @@
 // A level from one before it, by select on S-LOUDS and rank on S-HasChild, or by rank on D-HasChild.
-ghost use Rattle.std.specs.Prelude.{◌≡◌, ◌-◌, ◌≤◌, ◌<◌};
+ghost use Rattle.std.specs.Prelude.{◌≡◌, ◌≤◌, ◌<◌};
 ghost use Rattle.check_levels.specs.Levels.{LoudsValid, LevelOf, Behind};
 
 use super::Level;
@@ -8,16 +8,6 @@ use bits::parts::part;
 use bits::ranks::rank_on;
 use bits_select::select::select_from;
 use image::{BitPos, FramedImage, NodeNum, ROW_BITS, ROW_BYTES};
-
-// How much a number is above another, 0 where it is not.
-fn excess(x: usize, y: usize) -> usize
-    ensures { result ≡ x - y }
-{
-    if x <= y {
-        return 0;
-    }
-    x - y
-}
 
 // The level that starts at a dense node, or at the first sparse one, before which stand all branches of dense nodes: these the frame has counted.
 fn dense_level(image: &FramedImage, from: Level, node: NodeNum) -> Level
@@ -50,9 +40,9 @@ fn sparse_level(image: &FramedImage, from: Level, node: NodeNum) -> Level
     let entries = f.sparse.entries;
     let sc = part(image.bytes, f.sc, bytes_for(entries));
     let sb = part(image.bytes, f.sb, bytes_for(entries));
-    let starts = excess(from.node.0, f.dense.nodes);
+    let starts = from.node.0.saturating_sub(f.dense.nodes);
     let entry = select_from(sb, entries, from.entry.0, starts, node.0 - f.dense.nodes);
-    let children = excess(from.branches, f.totals.children);
+    let children = from.branches.saturating_sub(f.totals.children);
     let branches = f.totals.children + rank_on(sc, from.entry.0, children, entry);
     Level {
         node,
@@ -66,8 +56,7 @@ pub fn level_at(image: &FramedImage, from: Level, node: NodeNum) -> Level
     requires { LoudsValid image.now.bytes.now image.now.frame × LevelOf image.now.bytes.now image.now.frame from × Behind image.now.frame from node.0 }
     ensures { LevelOf image.now.bytes.now image.now.frame result × (result.node.0 ≡ node.0) }
 {
-    let f = image.frame;
-    if node.0 <= f.dense.nodes {
+    if node.0 <= image.frame.dense.nodes {
         return dense_level(image, from, node);
     }
     sparse_level(image, from, node)

@@ -2,6 +2,9 @@
 use mathlib.Core.Path.{◌≡◌, refl, sym, ap, ◌∙◌}
 use Prim.Native.Nat.{ℕ, ◌+◌, ◌-◌, ◌*◌, ◌≤◌, ◌<◌}
 use native.Mathlib.Omega.{arith}
+use Rattle.std.specs.Prelude.{cond, eqb, leb}
+use Rattle.std.proofs.Common.{le-leb, eq-eqb, ne_eqb}
+use Rattle.std.proofs.lemmas.Bool.{lt-leb}
 use mir.Val.{Fits}
 use mir.Syntax.{w64}
 use Rattle.spec.specs.Bytes.{Bytes}
@@ -10,6 +13,7 @@ use Rattle.check_levels.specs.Bodies.{dc_body, sc_body, sb_body}
 use Rattle.check_levels.specs.NodeBranches.{branches_le}
 use Rattle.check_levels.specs.LevelTests.{EndsTo, ends_first, ends_next, ends_level_64, ends_stuck, ends_over, ends_last}
 use Rattle.check_levels.specs.Levels.{node_count, branches_before, level_root}
+use Rattle.check_levels.proofs.judge.levels_valid.Goals.{then-depth-f, else-depth-f, then-depth-f-2, else-depth-f-2}
 use Rattle.check_levels.proofs.judge.levels_valid.Goals as goal
 
 -- what is known of the levels that were passed
@@ -105,10 +109,12 @@ loop-end-preserved c =
     let r = c.next_level-level in
     let k = r.ensures.0.branches ∙ ap (branches_before a.image.now.bytes.now a.image.now.frame) r.ensures.1 in
     let next = ends_next (branches_before a.image.now.bytes.now a.image.now.frame) (node_count a.image.now.frame) a.image.now.frame.dense.levels a.image.now.frame.dense.nodes l.depth l.end l.above r.result.branches l.invariant.0 k c.loop-end-test.true deep if2.false c.if-nodes-next.false in
-    (rw c.pick-above.ensures next, r.ensures.0, behind r.ensures.1 if2.false)
+    let above : c.if-depth-f.above ≡ cond (eqb l.depth a.image.now.frame.dense.levels) l.end l.above = elim c.if-depth-f.branch [ then-depth-f w ↦ rw (eq-eqb l.depth a.image.now.frame.dense.levels w.if-depth-f.true) w.above-is | else-depth-f w ↦ rw (ne_eqb l.depth a.image.now.frame.dense.levels w.if-depth-f.false) w.above-is ] in
+    (rw above next, r.ensures.0, behind r.ensures.1 if2.false)
 
 pub returns : goal.returns
 returns c =
     let a = c.args in
     let l = c.loop-end in
-    rw c.pick.ensures (sym (ends_last (branches_before a.image.now.bytes.now a.image.now.frame) (node_count a.image.now.frame) a.image.now.frame.dense.levels a.image.now.frame.dense.nodes l.depth l.end l.above l.invariant.0 c.loop-end-test.false))
+    let last : c.if-depth-f-2.last ≡ cond (leb l.depth a.image.now.frame.dense.levels) l.end l.above = elim c.if-depth-f-2.branch [ then-depth-f-2 w ↦ rw (le-leb l.depth a.image.now.frame.dense.levels w.if-depth-f-2.true) w.last-is | else-depth-f-2 w ↦ rw (lt-leb l.depth a.image.now.frame.dense.levels w.if-depth-f-2.false) w.last-is ] in
+    rw last (sym (ends_last (branches_before a.image.now.bytes.now a.image.now.frame) (node_count a.image.now.frame) a.image.now.frame.dense.levels a.image.now.frame.dense.nodes l.depth l.end l.above l.invariant.0 c.loop-end-test.false))

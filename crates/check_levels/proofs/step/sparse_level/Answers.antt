@@ -37,7 +37,7 @@ part-sb-requires c =
 pub select_from-entry-requires : goal.select_from-entry-requires
 select_from-entry-requires c =
     let part2 = c.part-sb in
-    let excess = c.excess-starts in
+    let excess = c.saturating_sub-starts in
     let a = c.args in
     let p = c.requires in
     let s : Bytes = a.image.now.bytes.now in
@@ -62,7 +62,7 @@ rank_on-requires c =
     rw sc (
       room e.1 (bits_room a.image.now.frame.sparse.entries (sc_body s a.image.now.frame) (bodies_sized s a.image.now.frame p.0.frame).sc),
       rw e.0 (entry_up s a.image.now.frame p.0 a.from p.1 a.node.0 p.2.from),
-      c.excess-children.ensures ∙ level_children s a.image.now.frame p.0 a.from p.1,
+      c.saturating_sub-children.ensures ∙ level_children s a.image.now.frame p.0 a.from p.1,
     )
 
 pub overflow_add-branches : goal.overflow_add-branches
