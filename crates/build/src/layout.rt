@@ -20,6 +20,13 @@ use image::refusals::Refusal;
 use image::table::{RECORDS, record_starts};
 use image::{Dense, Header, MAX_LEVELS, Sparse};
 
+// Nothing counted yet.
+const NO_COUNTS: LevelCounts = LevelCounts {
+    entries: [0; COUNTERS],
+    nodes: [0; COUNTERS],
+    leaves: [0; COUNTERS],
+};
+
 // The plan of an accepted list: each level's entries, nodes and leaves are counted from zero in one pass, and give the header's counts and the records' starts.
 fn lay_out(counts: &mut LevelCounts, list: &ReadyList) -> Plan
     requires { counts.old ≡ no_counts }
@@ -59,11 +66,7 @@ fn image_end(plan: Plan, nodes: &Counters) -> usize
 pub fn measure_image(list: &ReadyList) -> usize
     ensures { result ≡ length (image_of list.now.bytes.now (asked list.now.settings)) }
 {
-    let mut counts = LevelCounts {
-        entries: [0; COUNTERS],
-        nodes: [0; COUNTERS],
-        leaves: [0; COUNTERS],
-    };
+    let mut counts = NO_COUNTS;
     let plan = lay_out(&mut counts, list);
     image_end(plan, &counts.nodes)
 }
@@ -87,11 +90,7 @@ fn write_image(out: &mut [u8], list: &[u8], plan: Plan, counts: &LevelCounts)
 pub fn build_image(list: &ReadyList, stated: u64, out: &mut [u8]) -> Result<usize, Refusal>
     ensures { outcome result out.new ≡ write_stated stated (image_of list.now.bytes.now (asked list.now.settings)) out.old }
 {
-    let mut counts = LevelCounts {
-        entries: [0; COUNTERS],
-        nodes: [0; COUNTERS],
-        leaves: [0; COUNTERS],
-    };
+    let mut counts = NO_COUNTS;
     let plan = lay_out(&mut counts, list);
     let end = image_end(plan, &counts.nodes);
     if stated != end as u64 {
