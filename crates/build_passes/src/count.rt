@@ -9,7 +9,7 @@ ghost use Rattle.build_keys.specs.CountPass.{leaf_level_of, raised, level_counts
 ghost use Rattle.build_passes.specs.LevelSums.{Balanced, Summable, Summed};
 ghost use Rattle.build_laws.specs.Limits.{counters, counter_max};
 
-use build_keys::numbers::{leaf_level, one_less};
+use build_keys::numbers::{leaf_level, split_level};
 use build_keys::{Counters, LevelCounts};
 use build_laws::Key;
 use build_list::read::read_key;
@@ -29,9 +29,8 @@ fn count_key(counts: &mut LevelCounts, k: Key)
     requires first_bound { (get_or counts.old.entries (pred k.first) 0 + 1 ≤ counter_max) × (get_or counts.old.leaves (leaf_level_of k) 0 + 1 ≤ counter_max) }
     ensures { counts.new ≡ level_counts (raised counts.old.entries (pred k.first)) counts.old.nodes (raised counts.old.leaves (leaf_level_of k)) }
 {
-    let b = one_less(k.first);
-    count_one(&mut counts.entries, b);
-    count_one(&mut counts.leaves, leaf_level(b, k.next, k.len));
+    count_one(&mut counts.entries, split_level(k));
+    count_one(&mut counts.leaves, leaf_level(k));
 }
 
 // Where the keys of a list start, in `entries`, and where their leaves are, counted from zero.

@@ -4,7 +4,7 @@ use Prim.Native.Nat.{ℕ}
 use mathlib.Core.List.{List}
 use lib.ListN.{get_or}
 use native.Mathlib.Omega.{arith}
-use Rattle.build_passes.specs.LevelSums.{summing_root, summing_few, summing_next, summing_done}
+use Rattle.build_passes.specs.LevelSums.{summing_root, summing_few, summing_next}
 use Rattle.build_passes.proofs.count.sum_levels.Goals as goal
 
 pub loop-d-init : goal.loop-d-init

@@ -1,6 +1,6 @@
 -- The bytes are cleared, the cursors go to the levels' starts, and the pass leaves the body, or its bits flipped, which are flipped again.
 use Prim.Native.Nat.{ℕ}
-use mathlib.Core.Path.{◌≡◌, refl, sym, ap, ◌∙◌}
+use mathlib.Core.Path.{◌≡◌, sym, ap, ◌∙◌}
 use mathlib.Core.List.{◌++◌}
 use lib.ListN.{length, drop}
 use Rattle.spec.specs.Bytes.{Bytes}
@@ -20,7 +20,7 @@ set_offsets-requires c =
     let pre = c.requires in
     let level_range = c.level_range-levels in
     let a = c.args in
-    (refl, sums_small a.list.now a.plan pre.planned a.body a.cnt.now pre.counted level_range.result level_range.ensures)
+    sums_small a.list.now a.plan pre.planned a.body a.cnt.now pre.counted level_range.result level_range.ensures
 
 pub write_keys-requires : goal.write_keys-requires
 write_keys-requires c =
@@ -30,7 +30,7 @@ write_keys-requires c =
     let cleared = c.clear in
     let starts = c.set_offsets in
     record {
-      accepted_list = (ready_list a.list.now a.plan pre.planned, starts.ensures.1, pre.planned.ready.built.hash_range, pre.planned.ready.built.real_range);
+      accepted_list = (ready_list a.list.now a.plan pre.planned, pre.planned.ready.built.hash_range, pre.planned.ready.built.real_range);
       pass_room = pass_room a.list.now a.plan pre.planned a.body a.cnt.now pre.counted level_range.result level_range.ensures starts.new.cur starts.ensures.1 starts.ensures.0
           (length cleared.new.out) (omega (arith, pre.size, pre.room, cleared.auto.out));
     }
