@@ -25,13 +25,13 @@ pub part-ranks-requires : goal.part-ranks-requires
 part-ranks-requires c =
     rw c.blocks_for.ensures (within c.args.image.now.bytes.now c.args.image.now.frame c.requires.0.louds.frame).rs
 
-pub rank_512-requires : goal.rank_512-requires
-rank_512-requires c =
+pub rank_by_table-requires : goal.rank_by_table-requires
+rank_by_table-requires c =
     let a = c.args in
     let s : Bytes = a.image.now.bytes.now in
     let small : Small s = c.args.image.now.in_range in
-    rw (c.part-sc.ensures, c.bytes_for.ensures, c.part-ranks.ensures, c.blocks_for.ensures) (entries_ranked s a.image.now.frame c.requires.0 small, omega arith)
+    rw (c.part-sc.ensures, c.bytes_for.ensures, c.part-ranks.ensures, c.blocks_for.ensures) (entries_ranked s a.image.now.frame c.requires.0 small, omega arith, omega arith, omega arith)
 
 pub returns : goal.returns
 returns c =
-    rw (c.part-sc.ensures, c.bytes_for.ensures) at c.rank_512.ensures
+    rw (c.part-sc.ensures, c.bytes_for.ensures) at c.rank_by_table.ensures
