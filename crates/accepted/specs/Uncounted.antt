@@ -21,6 +21,7 @@ use Rattle.nav_nodes.specs.Slots.{leaves_before}
 use Rattle.nav_nodes.specs.Descent.{children_before}
 use Rattle.nav_nodes.specs.Positions.{before_sparse, dense_totals}
 use Rattle.nav_nodes.specs.FoundBranch.{node_count}
+use Rattle.image.specs.FrameOf.{FrameOf}
 use Rattle.nav_nodes.specs.FromCheck.{checked_accepted}
 use Rattle.nav_nodes.specs.Tables.{children_ranked, starts_sampled}
 use Rattle.query_descent.specs.Followed.{node_length}
@@ -93,5 +94,5 @@ module _ (s : Bytes) (h : Header) (v : verdict s ≡ 0) (r : ReadsHeader s h) (s
 
   -- With its dense nodes counted that is its frame.
   pub counted_frame : (t : DenseTotals) → Totals s (frame_at h (header_starts h) uncounted).dl (frame_at h (header_starts h) uncounted).dc (frame_at h (header_starts h) uncounted).dp h.dense.nodes t
-      → Accepted s (frame_at h (header_starts h) t)
-  counted_frame t n = checked_accepted s (frame_at h (header_starts h) t) small (frame_laid s h t laid n) v
+      → FrameOf s (frame_at h (header_starts h) t)
+  counted_frame t n = frame_laid s h t laid n

@@ -8,9 +8,9 @@ ghost use Rattle.spec.specs.Frame.{read_settings};
 ghost use Rattle.spec.specs.Nodes.{read_leaves};
 ghost use Rattle.spec.specs.Rules.{rule};
 ghost use Rattle.spec.specs.Questions.{QP, QS, QB, QR, QC};
-ghost use Rattle.spec.specs.OneQuestion.{key_refusal, bounds_refusal, ask_one, reply_number, reply_rule, key_written};
+ghost use Rattle.spec.specs.OneQuestion.{ask_one, reply_number, reply_rule, key_written};
 ghost use Rattle.query_point.specs.Rules.{rule_of};
-ghost use Rattle.accepted.specs.Numbers.{refusal_of, numbered_of};
+ghost use Rattle.accepted.specs.Numbers.{KeyJudged, BoundsJudged, numbered_of};
 
 use ask_replies::seek_reply;
 use bits::copy::write_bytes;
@@ -31,7 +31,7 @@ pub const FOUND_BYTES: usize = 65;
 
 // Whether a key is taken: 22, it is longer than 64 bytes.
 fn judge_key(key: &[u8]) -> Result<(), Refusal>
-    ensures { refusal_of result ≡ key_refusal key.now }
+    ensures { KeyJudged key.now result }
 {
     if MAX_KEY_BYTES < key.len() {
         return Err(Refusal::KeyTooLong);
@@ -41,7 +41,7 @@ fn judge_key(key: &[u8]) -> Result<(), Refusal>
 
 // Whether two bounds are taken: 22, a bound is longer than 64 bytes; 23, lower bound above upper.
 fn judge_bounds(lo: &[u8], hi: &[u8]) -> Result<(), Refusal>
-    ensures { refusal_of result ≡ bounds_refusal lo.now hi.now }
+    ensures { BoundsJudged lo.now hi.now result }
 {
     judge_key(lo)?;
     judge_key(hi)?;

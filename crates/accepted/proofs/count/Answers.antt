@@ -1,6 +1,6 @@
 -- The bounds are judged, then asked.
 use mathlib.Core.Path.{sym, ap, ◌∙◌}
-use native.Mathlib.Omega.{arith}
+use Rattle.std.proofs.lemmas.Result.{err_from_is_err_and}
 use Rattle.spec.specs.Nodes.{read_leaves}
 use Rattle.spec.specs.Questions.{QC, Reply}
 use Rattle.theory.proofs.OneQuestionLaws.{count_keys, bounds_short}
@@ -8,16 +8,20 @@ use Rattle.ask_files.specs.ReplyLaws.{count_reply}
 use Rattle.accepted.proofs.NumberLaws.{refused_number, replied_number}
 use Rattle.accepted.proofs.count.Goals as goal
 
-pub returns-then-refusal-ne0 : goal.returns-then-refusal-ne0
-returns-then-refusal-ne0 c =
-    refused_number c.args.image.now (QC c.args.lo.now c.args.hi.now) _ (count_keys c.args.lo.now c.args.hi.now ∙ sym c.bounds_refusal-refusal.ensures) (let z = c.if-refusal-ne0.true in omega arith)
+pub returns-in_err-judge_bounds : goal.returns-in_err-judge_bounds
+returns-in_err-judge_bounds c =
+    let a = c.args in
+    let p = err_from_is_err_and c.from_residual.result c.from_residual.ensures.1 in
+    rw (p.1, p.2) (refused_number a.image.now (QC a.lo.now a.hi.now) _ (sym (count_keys a.lo.now a.hi.now ∙ c.in_err-judge_bounds.ensures)))
 
 pub count-requires : goal.count-requires
 count-requires c =
-    let s = bounds_short c.args.lo.now c.args.hi.now (sym c.bounds_refusal-refusal.ensures ∙ c.if-refusal-ne0.false) in
-    (c.accepted_frame.ensures, s.0, s.1)
+    let s = bounds_short c.args.lo.now c.args.hi.now c.in_ok-judge_bounds.ensures in
+    (s.0, s.1)
 
 pub returns : goal.returns
 returns c =
-    let e = sym c.bounds_refusal-refusal.ensures ∙ c.if-refusal-ne0.false in
-    replied_number c.args.image.now (QC c.args.lo.now c.args.hi.now) (count_keys c.args.lo.now c.args.hi.now ∙ e) c.accepted_frame.result c.accepted_frame.ensures _ (c.count.ensures ∙ sym (ap (λ (r : Reply). r.number) (count_reply c.accepted_frame.result.hash_width (read_leaves c.args.image.now) c.args.lo.now c.args.hi.now)))
+    let a = c.args in
+    let v = c.accepted_image.result in
+    replied_number a.image.now (QC a.lo.now a.hi.now) (count_keys a.lo.now a.hi.now ∙ c.in_ok-judge_bounds.ensures) v c.accepted_image.ensures _
+    (c.count.ensures ∙ sym (ap (λ (r : Reply). r.number) (count_reply v.frame.hash_width (read_leaves v.bytes.now) a.lo.now a.hi.now)))

@@ -4,17 +4,22 @@ use Rattle.theory.proofs.CheckStages.{verdict_passes}
 use Rattle.check_frame.specs.FrameLaws.{header_long}
 use Rattle.query_descent.specs.Answers.{all_small}
 use Rattle.accepted.specs.Uncounted.{header_frame, counted_frame}
-use Rattle.accepted.proofs.frame.accepted_frame.Goals as goal
+use Rattle.accepted.proofs.frame.accepted_image.Goals as goal
 
 pub read_header-requires : goal.read_header-requires
 read_header-requires c =
     header_long c.args.image.now (verdict_passes c.args.image.now c.requires).1.before.before.before.before.before.header
 
-pub dense_totals-totals-requires : goal.dense_totals-totals-requires
-dense_totals-totals-requires c =
+pub dense_totals-frame-requires : goal.dense_totals-frame-requires
+dense_totals-frame-requires c =
     header_frame c.args.image.now c.read_header.result c.requires c.read_header.ensures (all_small c.args.image.now (λ i. omega (arith, c.type_inv.image i))) _ c.frame_at-frame.ensures
 
-pub returns : goal.returns
-returns c =
-    let e = rw c.frame_at-frame.ensures at c.dense_totals-totals.ensures in
-    rw c.frame_at-frame.ensures (counted_frame c.args.image.now c.read_header.result c.requires c.read_header.ensures (all_small c.args.image.now (λ i. omega (arith, c.type_inv.image i))) c.dense_totals-totals.result e)
+pub invariant_of-result : goal.invariant_of-result
+invariant_of-result c =
+    let s = c.args.image.now in
+    let e = rw c.frame_at-frame.ensures at c.dense_totals-frame.ensures in
+    record {
+      in_range = λ i. omega (arith, c.type_inv.image i);
+      framed = rw c.frame_at-frame.ensures (counted_frame s c.read_header.result c.requires c.read_header.ensures (all_small s (λ i. omega (arith, c.type_inv.image i))) c.dense_totals-frame.result e);
+      checked = c.requires;
+    }
