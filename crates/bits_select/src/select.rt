@@ -68,23 +68,16 @@ fn pass_steps(s: &[u8], n: usize, from: Ahead) -> Ahead
     requires { (n ≤ 8 * length s.now) × (64 * from.word ≤ n + 64) }
     ensures { (64 * result.word ≤ n + 64) × (rank s.now (64 * result.word) + result.ones ≡ rank s.now (64 * from.word) + from.ones) }
 {
-    let mut q = from.word;
-    let mut left = from.ones;
-    while q + STEP_WORDS <= n / 64 {
-        let w = ones_step(s, q);
-        if left < w {
-            return Ahead {
-                word: q,
-                ones: left,
-            };
+    let mut ahead = from;
+    while ahead.word + STEP_WORDS <= n / 64 {
+        let w = ones_step(s, ahead.word);
+        if ahead.ones < w {
+            return ahead;
         }
-        left -= w;
-        q += STEP_WORDS;
+        ahead.ones -= w;
+        ahead.word += STEP_WORDS;
     }
-    Ahead {
-        word: q,
-        ones: left,
-    }
+    ahead
 }
 
 // The position of the one that is ahead among the first n bits, or n where there is none, word by word.

@@ -7,7 +7,7 @@ use native.Mathlib.Nat.{mod-one, add-zero, mod-eq_of_lt}
 use native.Mathlib.Omega.{arith}
 use borrow.Author.Tests.{eq-eqb, ne_eqb, eqb-true, ltb-true, ltb-false}
 use lib.ListN.{length, get_or, take, drop, length-drop}
-use lib.Seq.{drop-cons, take-suc, take-add, take-take, drop-drop, get_or-drop}
+use lib.Seq.{drop-cons, take-add, take-take, drop-drop, get_or-drop}
 use lib.Dec.{eqb, ltb}
 use lib.Pow.{pow_pos, high, low, field, mod-mod-pow, mod-pow-add}
 use lib.Bits.{bit_xor, xor_mod, xor_self, xor_add_and, and_le_l, and_le_r}
@@ -56,12 +56,6 @@ module _ (p q : Bytes) (i : ℕ) (a : i ≤ length p) (b : i ≤ length q) (e : 
   pub shared_differ : i < length p → i < length q → (get_or p i 0 ≡ get_or q i 0 → ⊥) → shared p q ≡ i
   unfolding shared
   shared_differ f g h = shared_add i p q a b e ∙ ap (λ (n : ℕ). i + n) (ap₂ shared (drop-cons p i 0 f) (drop-cons q i 0 g) ∙ rw (ne_eqb (get_or p i 0) (get_or q i 0) h)) ∙ add-zero i
-
-  -- the next bytes are the same
-  pub same_next : i < length p → i < length q → get_or p i 0 ≡ get_or q i 0 → take (i + 1) p ≡ take (i + 1) q
-  same_next f g h =
-      let w : i + 1 ≡ suc i = omega arith in
-      rw w (take-suc p i 0 f ∙ ap₂ (λ (t : Bytes) (x : ℕ). t ++ (x ∷ [])) e h ∙ sym (take-suc q i 0 g))
 
 -- ---- words
 

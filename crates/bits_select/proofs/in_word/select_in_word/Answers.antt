@@ -13,11 +13,6 @@ returns-then-m-lowest_ones c =
     let a = c.args in
     (ones-le a.m (a.x % 2 ^ a.m) (mod-lt a.x (pow_pos a.m)), omega (arith, c.lowest_ones.ensures.0 a.m (omega arith)), omega (arith, c.lowest_ones.ensures.1))
 
-pub select_in_pair-requires : goal.select_in_pair-requires
-select_in_pair-requires c =
-    let f = c.pair_of-field in
-    (omega arith, omega (arith, f.ensures.held, ones-le 2 (c.args.x / 2 ^ f.result.at % 2 ^ 2) (omega arith)))
-
 pub returns : goal.returns
 returns c =
     let a = c.args in

@@ -1,12 +1,7 @@
 use native.Mathlib.Numerals.{add-one}
 use native.Mathlib.Omega.{arith}
-use lib.Count.{trailing_le}
 use Rattle.bits_select.specs.WordLaws.{lowest, power_lt}
 use Rattle.bits_select.proofs.select.lowest_one.Goals as goal
-
-pub overflow_cast-result : goal.overflow_cast-result
-overflow_cast-result c =
-    omega (arith, trailing_le 64 c.args.x)
 
 pub returns : goal.returns
 returns c =

@@ -1,18 +1,10 @@
 use mathlib.Core.Path.{◌≡◌, ap, ◌∙◌}
 use Prim.Native.Nat.{ℕ, ◌+◌, ◌*◌, ◌/◌, ◌%◌, ◌^◌}
-use native.Mathlib.Nat.{div-le_self}
 use native.Mathlib.Omega.{arith}
-use lib.Count.{ones-le}
 use Rattle.bits.specs.Bits.{rank, select}
 use Rattle.bits.proofs.ValueLaws.{Small}
 use Rattle.bits_select.specs.WordLaws.{one_reached, word_room, rank_rest, select_word}
 use Rattle.bits_select.proofs.select.select_from.Goals as goal
-
-pub overflow_cast-w : goal.overflow_cast-w
-overflow_cast-w c =
-    let x = c.read_word.result in
-    let j = c.args.from % 64 in
-    omega (arith, ones-le 64 (x / 2 ^ j) (omega (arith, div-le_self x (2 ^ j))))
 
 pub overflow_add-from : goal.overflow_add-from
 overflow_add-from c =

@@ -1,17 +1,13 @@
 use mathlib.Core.Path.{◌≡◌, sym, ap, ◌∙◌}
 use Prim.Native.Nat.{◌+◌, ◌*◌}
 use native.Mathlib.Omega.{arith}
-use lib.Count.{ones, ones-le}
+use lib.Count.{ones}
 use Rattle.bits.specs.Bits.{rank}
 use Rattle.bits.proofs.ValueLaws.{Small}
 use Rattle.bits.proofs.RankLaws.{rank_up, rank_whole_word}
 use Rattle.bits_select.specs.SelectLaws.{select_all}
 use Rattle.bits_select.specs.WordLaws.{select_word}
 use Rattle.bits_select.proofs.select.select_words.Goals as goal
-
-pub overflow_cast-w : goal.overflow_cast-w
-overflow_cast-w c =
-    omega (arith, ones-le 64 c.read_word-x.result (omega arith))
 
 pub returns-then-left-w : goal.returns-then-left-w
 returns-then-left-w c =

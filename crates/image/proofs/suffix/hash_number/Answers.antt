@@ -3,7 +3,6 @@ use mathlib.Core.Path.{◌≡◌, sym, ap, ◌∙◌}
 use Prim.Native.Nat.{ℕ, ◌%◌, ◌^◌}
 use native.Mathlib.Omega.{arith}
 use native.Mathlib.Nat.{mod-one}
-use lib.Pow.{pow_pos}
 use Rattle.spec.specs.Bytes.{Bytes, low_first}
 use Rattle.spec.specs.Fnv.{hash}
 use Rattle.spec.specs.Leaves.{hash_bits}
@@ -17,11 +16,6 @@ returns-then-h-eq0 c =
     let k : Bytes = a.key.now in
     let z : 0 ≡ a.h = omega (arith, c.if-h-eq0.true) in
     sym (hash_number 0 k ∙ mod-one (hash k)) ∙ ap (λ (h : ℕ). low_first (hash_bits h k)) z
-
-pub nonzero_rem-result : goal.nonzero_rem-result
-nonzero_rem-result c =
-    let h = c.args.h in
-    rw (one_shl 64 h (omega arith)) (pow_pos h)
 
 pub returns : goal.returns
 returns c =

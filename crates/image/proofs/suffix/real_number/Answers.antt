@@ -1,16 +1,10 @@
 -- The two bytes behind the cut hold all bits of the slot.
 use mathlib.Core.Path.{ap, ◌∙◌}
 use native.Mathlib.Omega.{arith}
-use lib.Pow.{pow_pos}
 use Rattle.bits.specs.Bits.{reversed}
 use Rattle.bits.proofs.RankLaws.{one_shl}
 use Rattle.image.specs.SuffixNumbers.{suffix_number}
 use Rattle.image.proofs.suffix.real_number.Goals as goal
-
-pub nonzero_rem-result : goal.nonzero_rem-result
-nonzero_rem-result c =
-    let n = c.args.n in
-    rw (one_shl 64 n (omega arith)) (pow_pos n)
 
 pub returns : goal.returns
 returns c =

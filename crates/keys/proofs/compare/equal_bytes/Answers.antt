@@ -5,10 +5,6 @@ use lib.Count.{trailing_le, count_trailing_zeros}
 use lib.Bits.{bit_xor}
 use Rattle.keys.proofs.compare.equal_bytes.Goals as goal
 
-pub overflow_cast-result : goal.overflow_cast-result
-overflow_cast-result c =
-    omega (arith, trailing_le 64 (bit_xor c.args.x c.args.y))
-
 pub returns : goal.returns
 returns c =
     let z = bit_xor c.args.x c.args.y in

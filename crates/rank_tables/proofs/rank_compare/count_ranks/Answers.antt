@@ -60,33 +60,6 @@ overflow_add-ones c =
     let e = word_counted a.body.now a.n l.q l.ones c.ones_among-ones.result lt l.invariant.0 c.ones_among-ones.ensures.0 in
     omega (arith, p.short, e.0, rank_le a.body.now (64 * l.q), c.ones_among-ones.ensures.1, lt)
 
-pub overflow_mul-b : goal.overflow_mul-b
-overflow_mul-b c =
-    let p = c.requires in
-    let l = c.loop-q in
-    let lt : 64 * l.q < c.args.n = omega arith in
-    omega (arith, p.sized, begun _ _ l.b l.q l.start p.some lt l.invariant.2 c.if-q-start.true)
-
-pub read32-requires : goal.read32-requires
-read32-requires c =
-    let p = c.requires in
-    let l = c.loop-q in
-    let lt : 64 * l.q < c.args.n = omega arith in
-    omega (arith, p.sized, begun _ _ l.b l.q l.start p.some lt l.invariant.2 c.if-q-start.true)
-
-pub overflow_add-b : goal.overflow_add-b
-overflow_add-b c =
-    let p = c.requires in
-    let l = c.loop-q in
-    let lt : 64 * l.q < c.args.n = omega arith in
-    omega (arith, p.sized, begun _ _ l.b l.q l.start p.some lt l.invariant.2 c.if-q-start.true)
-
-pub overflow_add-start : goal.overflow_add-start
-overflow_add-start c =
-    let p = c.requires in
-    let lt : 64 * c.loop-q.q < c.args.n = omega arith in
-    omega (arith, p.few, p.short, lt, c.if-q-start.true)
-
 pub loop-q-preserved : goal.loop-q-preserved
 loop-q-preserved c =
     let ones-among = c.ones_among-ones in

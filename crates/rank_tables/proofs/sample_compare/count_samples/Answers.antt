@@ -22,14 +22,6 @@ one_more r e t h b l = omega arith
 none_more : (r e t : ℕ) → t ≡ blocks 64 r → r ≤ e → e ≤ 64 * t → t ≡ blocks 64 e
 none_more r e t h a l = omega arith
 
--- no sample stands before the ones counted
-passed : (r t : ℕ) → t ≡ blocks 64 r → r ≤ 64 * t
-passed r t h = omega arith
-
--- the word's end is the next one's start
-word_end : (n q : ℕ) → min (64 * q + 64) n ≡ min (64 * (q + 1)) n
-word_end n q = omega arith
-
 pub loop-q-init : goal.loop-q-init
 loop-q-init c =
     let a = c.args in
@@ -52,33 +44,6 @@ overflow_mul-t c =
     let l = c.loop-q in
     let lt : 64 * l.q < a.n = omega arith in
     let e = word_counted a.s.now a.n l.q l.ones c.ones_among-ones.result lt l.invariant.0 c.ones_among-ones.ensures.0 in
-    omega (arith, p.1, e.0, rank_le a.s.now (64 * l.q), l.invariant.1, lt)
-
-pub sample_valid-agrees-requires : goal.sample_valid-agrees-requires
-sample_valid-agrees-requires c =
-    let ones-among = c.ones_among-ones in
-    let a = c.args in
-    let p = c.requires in
-    let l = c.loop-q in
-    let lt : 64 * l.q < a.n = omega arith in
-    let e = word_counted a.s.now a.n l.q l.ones ones-among.result lt l.invariant.0 ones-among.ensures.0 in
-    record {
-      within = p.0;
-      short = p.1;
-      begun = lt;
-      ones = e.0;
-      low = passed l.ones l.t l.invariant.1;
-      high = omega (arith, e.1, c.if-t-ones.true, ap (rank a.s.now) (word_end a.n l.q));
-    }
-
-pub overflow_add-t : goal.overflow_add-t
-overflow_add-t c =
-    let ones-among = c.ones_among-ones in
-    let a = c.args in
-    let p = c.requires in
-    let l = c.loop-q in
-    let lt : 64 * l.q < a.n = omega arith in
-    let e = word_counted a.s.now a.n l.q l.ones ones-among.result lt l.invariant.0 ones-among.ensures.0 in
     omega (arith, p.1, e.0, rank_le a.s.now (64 * l.q), l.invariant.1, lt)
 
 pub loop-q-preserved : goal.loop-q-preserved

@@ -4,7 +4,7 @@ use mathlib.Core.Path.{ap, ◌∙◌}
 use native.Mathlib.Omega.{arith}
 use lib.Dec.{eqb}
 use Rattle.bits.proofs.RankLaws.{rank_le}
-use Rattle.rank_tables.specs.Tables.{sample_missing, sample_early, sample_late, sample_past, sample_other, sample_bit}
+use Rattle.rank_tables.specs.Tables.{sample_early, sample_late, sample_past, sample_other, sample_bit}
 use Rattle.rank_tables.proofs.sample_compare.sample_valid.Goals as goal
 
 pub overflow_mul-t : goal.overflow_mul-t
@@ -14,12 +14,6 @@ overflow_mul-t c =
 pub overflow_add-t : goal.overflow_add-t
 overflow_add-t c =
     let a = c.args in let h = c.requires in omega (arith, h.high, h.short, rank_le a.s.now (min (64 * a.q + 64) a.n))
-
-pub returns-then-table-t : goal.returns-then-table-t
-returns-then-table-t c =
-    let pre = c.requires in
-    let a = c.args in
-    sample_missing a.s.now a.n a.q a.before a.t (pre) a.table.now c.if-table-t.true
 
 pub returns-then-p-q : goal.returns-then-p-q
 returns-then-p-q c =

@@ -4,10 +4,9 @@ use mathlib.Core.Path.{◌≡◌, refl, sym, ap, ap₂, ◌∙◌}
 use mathlib.Core.List.{List}
 use lib.ListN.{length, length-drop}
 use Rattle.spec.specs.Bytes.{blocks}
-use Rattle.bits.specs.Bits.{overlaid, rank, select, part}
+use Rattle.bits.specs.Bits.{rank, select, part}
 use Rattle.bits.proofs.RankLaws.{rank_zero, rank_slow, rank_le}
 use Rattle.bits.proofs.SliceParts.{length_part, mid_is}
-use Rattle.rank_tables.specs.TableEntries.{sample_table}
 use Rattle.rank_tables.specs.Filling.{filled_none, filled_more}
 use native.Mathlib.Omega.{arith}
 use Rattle.rank_tables.proofs.sample_write.fill_samples.Goals as goal
@@ -39,19 +38,6 @@ loop-q-init c =
     let w : min 0 a.bits ≡ 0 = omega arith in
     (filled_none _ _ _ _ _, sym (ap (rank (part a.out.now from (from + a.body.len - from))) w ∙ rank_zero _), refl)
 
-pub rank_from-ones-requires : goal.rank_from-ones-requires
-rank_from-ones-requires c =
-    let a = c.args in
-    let l = c.loop-q in
-    let from : ℕ = a.body.at in
-    let m : ℕ = from + a.body.len - from in
-    let next = c.min in
-    let lt : 64 * l.q < a.bits = omega arith in
-    let w = word_start l.q a.bits lt in
-    let size : length l.out ≡ length a.out.now = l.invariant.0.size in
-    let n = length_part l.out from m (omega (arith, size, c.requires.behind, c.requires.room)) in
-    (omega (arith, n, c.requires.within, next.ensures), omega (arith, lt, next.ensures), l.invariant.1 ∙ ap₂ rank (sym l.invariant.0.kept) (sym w))
-
 pub overflow_mul-t : goal.overflow_mul-t
 overflow_mul-t c =
     let a = c.args in
@@ -59,18 +45,6 @@ overflow_mul-t c =
     let from : ℕ = a.body.at in
     let s : List ℕ = part a.out.now from (from + a.body.len - from) in
     omega (arith, l.invariant.1, l.invariant.2, rank_le s (min (64 * l.q) a.bits), c.requires.short)
-
-pub overflow_mul-t-then-t-ones : goal.overflow_mul-t-then-t-ones
-overflow_mul-t-then-t-ones c =
-    let a = c.args in
-    let l = c.loop-q in
-    let from : ℕ = a.body.at in
-    let s : List ℕ = part a.out.now from (from + a.body.len - from) in
-    omega (arith, l.invariant.1, l.invariant.2, rank_le s (min (64 * l.q) a.bits), c.requires.short)
-
-pub overflow_sub-t : goal.overflow_sub-t
-overflow_sub-t c =
-    omega (arith, c.loop-q.invariant.2)
 
 pub select_in-p-requires : goal.select_in-p-requires
 select_in-p-requires c =
@@ -110,14 +84,6 @@ write32-requires c =
     let size : length l.out ≡ length a.out.now = l.invariant.0.size in
     omega (arith, n, room, size, c.requires.room, ap length (mid_is l.out a.table), length-drop a.table l.out)
 
-pub overflow_add-t : goal.overflow_add-t
-overflow_add-t c =
-    let a = c.args in
-    let l = c.loop-q in
-    let from : ℕ = a.body.at in
-    let s : List ℕ = part a.out.now from (from + a.body.len - from) in
-    omega (arith, l.invariant.1, l.invariant.2, rank_le s (min (64 * l.q) a.bits), c.requires.short)
-
 pub loop-q-preserved : goal.loop-q-preserved
 loop-q-preserved c =
     let a = c.args in
@@ -152,18 +118,3 @@ loop-q-preserved c =
         v.t-is ∙ same l.ones counted.result l.t l.invariant.2 (omega (arith, e, on.0, r)) (omega (arith, e, on.1, r, next.ensures)) v.if-t-ones.false,
       )
     ]
-
-pub shape_of-out : goal.shape_of-out
-shape_of-out c =
-    c.loop-q.invariant.0.size
-
-pub returns : goal.returns
-returns c =
-    let a = c.args in
-    let l = c.loop-q in
-    let from : ℕ = a.body.at in
-    let m : from + a.body.len - from ≡ a.body.len = omega arith in
-    let e : min (64 * l.q) a.bits ≡ a.bits = omega arith in
-    let n : l.t ≡ blocks 64 (rank (part a.out.now from (from + a.body.len - from)) a.bits) = l.invariant.2 ∙ ap (blocks 64) (l.invariant.1 ∙ ap (rank _) e) in
-    l.invariant.0.text ∙ ap (λ (i : ℕ). overlaid a.out.now a.table (sample_table (part a.out.now from (from + a.body.len - from)) a.bits i)) n
-    ∙ ap (λ (k : ℕ). overlaid a.out.now a.table (sample_table (part a.out.now from k) a.bits (blocks 64 (rank (part a.out.now from k) a.bits)))) m
