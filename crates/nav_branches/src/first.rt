@@ -2,30 +2,32 @@
 ghost use Rattle.nav_nodes.specs.FoundBranch.{IsNode, IsSparse, IsFirstBranch};
 
 use super::branches::{entry_branch, next_branch};
-use image::{Frame, NodeNum};
+use image::{AcceptedImage, NodeNum};
 use nav_nodes::FirstBranch;
 use nav_nodes::nodes::{entries_of, is_exact};
 
 // The first branch of a sparse node: the one at its first entry.
-fn first_sparse(image: &[u8], f: Frame, m: NodeNum) -> FirstBranch
-    requires { IsSparse image.now f m.0 }
-    ensures { IsFirstBranch image.now f m.0 result }
+fn first_sparse(image: &AcceptedImage, m: NodeNum) -> FirstBranch
+    requires { IsSparse image.now.bytes.now image.now.frame m.0 }
+    ensures { IsFirstBranch image.now.bytes.now image.now.frame m.0 result }
 {
-    let e = entries_of(image, f, m);
-    let exact = e.exact;
-    let branch = entry_branch(image, f, e.first, e.end);
-    FirstBranch { exact, branch }
+    let e = entries_of(image, m);
+    FirstBranch {
+        exact: e.exact,
+        branch: entry_branch(image, e.first, e.end),
+    }
 }
 
 // The first branch of a node.
-pub fn first_branch(image: &[u8], f: Frame, m: NodeNum) -> FirstBranch
-    requires { IsNode image.now f m.0 }
-    ensures { IsFirstBranch image.now f m.0 result }
+pub fn first_branch(image: &AcceptedImage, m: NodeNum) -> FirstBranch
+    requires { IsNode image.now.bytes.now image.now.frame m.0 }
+    ensures { IsFirstBranch image.now.bytes.now image.now.frame m.0 result }
 {
-    if m.0 < f.dense.nodes {
-        let branch = next_branch(image, f, m, 0);
-        let exact = is_exact(image, f, m);
-        return FirstBranch { exact, branch };
+    if m.0 < image.frame.dense.nodes {
+        return FirstBranch {
+            exact: is_exact(image, m),
+            branch: next_branch(image, m, 0),
+        };
     }
-    first_sparse(image, f, m)
+    first_sparse(image, m)
 }

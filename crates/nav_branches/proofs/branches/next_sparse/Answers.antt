@@ -7,17 +7,18 @@ use Rattle.nav_branches.proofs.branches.next_sparse.Goals as goal
 
 pub search-p-requires : goal.search-p-requires
 search-p-requires c =
-    let a = c.args in
+    let v = c.args.image.now in
     let r = c.entries_of-e.ensures in
-    rw (tail_part a.image.now a.f.sl) (omega (arith, r.end_is), omega (arith, r.end_inside, length-drop a.f.sl a.image.now, labels_room a.image.now a.f c.requires.accepted))
+    rw (tail_part v.bytes.now v.frame.sl) (omega (arith, r.end_is), omega (arith, r.end_inside, length-drop v.frame.sl v.bytes.now, labels_room v.bytes.now v.frame c.requires.accepted))
 
 pub returns : goal.returns
 returns c =
     let a = c.args in
+    let v = a.image.now in
     let p = c.requires in
     let e = c.entries_of-e in
     let r = e.ensures in
     let at = c.search-p.result in
-    let v = rw (tail_part a.image.now a.f.sl) at c.search-p.ensures in
-    let q = index_sparse a.image.now a.f p.accepted a.m.0 p.behind_dense p.inside e.result.first.0 r.first_is at a.y v.0 (omega (arith, v.1, r.end_is)) v.2 (λ k. v.3 (omega (arith, r.end_is))) in
-    sparse_next a.image.now a.f p.accepted a.m.0 a.y at e.result.first.0 p.behind_dense p.inside r.first_is q e.result.end.0 r.end_is r.end_inside c.entry_branch.result c.entry_branch.ensures
+    let w = rw (tail_part v.bytes.now v.frame.sl) at c.search-p.ensures in
+    let q = index_sparse v.bytes.now v.frame p.accepted a.m.0 p.behind_dense p.inside e.result.first.0 r.first_is at a.y w.0 (omega (arith, w.1, r.end_is)) w.2 (λ k. w.3 (omega (arith, r.end_is))) in
+    sparse_next v.bytes.now v.frame p.accepted a.m.0 a.y at e.result.first.0 p.behind_dense p.inside r.first_is q e.result.end.0 r.end_is r.end_inside c.entry_branch.result c.entry_branch.ensures

@@ -1,82 +1,59 @@
-use Rattle.nav_nodes.specs.Positions.{child_at, slot_at, few_children, dense_kids, dense_leaves, dense_totals}
-use Rattle.nav_nodes.specs.Accepted.{nodes}
-use lib.ListN.{drop}
-use Rattle.nav_nodes.specs.NumberBounds.{leaves_all}
-use Rattle.bits.proofs.RankLaws.{rank_le}
+use Rattle.nav_nodes.specs.Positions.{child_at, slot_at, dense_kids, dense_leaves, dense_totals}
 use borrow.Author.Tests.{lt-ltb, le-ltb}
-use Prim.Native.Nat.{◌+◌}
 use native.Mathlib.Omega.{arith}
+use Rattle.nav_nodes.proofs.BehindLaws.{dense_child_room, dense_slot_room, sparse_child_room, sparse_slot_room}
 use Rattle.nav_nodes.proofs.behind.child_and_slot.Goals as goal
-
-pub label_rank-labels-requires : goal.label_rank-labels-requires
-label_rank-labels-requires c =
-    (c.requires.accepted, (c.requires.within.dense (omega arith)).0)
-
-pub child_rank-children-requires : goal.child_rank-children-requires
-child_rank-children-requires c =
-    (c.requires.accepted, (c.requires.within.dense (omega arith)).0)
 
 pub overflow_add-result : goal.overflow_add-result
 overflow_add-result c =
     let a = c.args in
-    let p = c.requires in
-    omega (arith, c.child_rank-children.ensures, rank_le (drop a.f.dc a.image.now) a.at.0, (p.within.dense (omega arith)).0, p.accepted.dense_size, p.accepted.writable.few_dense)
+    omega (arith, c.child_rank-children.ensures, dense_child_room a.image.now.bytes.now a.image.now.frame a.m.0 a.at.0 c.requires (omega arith))
 
-pub overflow_sub-result : goal.overflow_sub-result
-overflow_sub-result c =
-    omega (arith, c.label_rank-labels.ensures, c.child_rank-children.ensures, (c.requires.within.dense (omega arith)).1)
-
-pub overflow_add-result-then-m-f : goal.overflow_add-result-then-m-f
-overflow_add-result-then-m-f c =
+pub overflow_add-result-then-m-image : goal.overflow_add-result-then-m-image
+overflow_add-result-then-m-image c =
     let a = c.args in
-    let p = c.requires in
-    omega (arith, c.label_rank-labels.ensures, rank_le (drop a.f.dl a.image.now) a.at.0, c.exact_rank-exacts.ensures, rank_le (drop a.f.dp a.image.now) (a.m.0 + 1), (p.within.dense (omega arith)).0, p.accepted.dense_size, p.accepted.writable.few_dense)
+    omega (arith, c.label_rank-labels.ensures, c.exact_rank-exacts.ensures, dense_slot_room a.image.now.bytes.now a.image.now.frame a.m.0 a.at.0 c.requires (omega arith))
 
-pub returns-then-m-f : goal.returns-then-m-f
+pub returns-then-m-image : goal.returns-then-m-image
 unfolding child_at slot_at
-returns-then-m-f c =
+returns-then-m-image c =
     let a = c.args in
-    let l = lt-ltb a.m.0 a.f.dense.nodes (omega arith) in
+    let v = a.image.now in
+    let l = lt-ltb a.m.0 v.frame.dense.nodes (omega arith) in
     record { child_is = rw l (omega (arith, c.child_rank-children.ensures)); slot_is = rw l (omega (arith, c.label_rank-labels.ensures, c.child_rank-children.ensures, c.exact_rank-exacts.ensures)) }
-
-pub entry_rank-children-requires : goal.entry_rank-children-requires
-entry_rank-children-requires c =
-    (c.requires.accepted, c.requires.within.sparse (omega arith))
 
 pub overflow_add-result-2 : goal.overflow_add-result-2
 overflow_add-result-2 c =
     let a = c.args in
-    let p = c.requires in
-    omega (arith, (dense_totals a.image.now a.f p.accepted).0, few_children a.image.now a.f p.accepted a.f.dense.nodes (omega arith), c.entry_rank-children.ensures, rank_le (drop a.f.sc a.image.now) a.at.0, p.within.sparse (omega arith), p.accepted.entry_size, p.accepted.writable.few_entries)
+    omega (arith, c.entry_rank-children.ensures, sparse_child_room a.image.now.bytes.now a.image.now.frame a.m.0 a.at.0 c.requires (omega arith))
 
 pub overflow_add-result-3 : goal.overflow_add-result-3
 overflow_add-result-3 c =
     let a = c.args in
-    let p = c.requires in
-    omega (arith, (dense_totals a.image.now a.f p.accepted).0, few_children a.image.now a.f p.accepted a.f.dense.nodes (omega arith), c.entry_rank-children.ensures, rank_le (drop a.f.sc a.image.now) a.at.0, p.within.sparse (omega arith), p.accepted.entry_size, p.accepted.writable.few_entries)
+    omega (arith, c.entry_rank-children.ensures, sparse_child_room a.image.now.bytes.now a.image.now.frame a.m.0 a.at.0 c.requires (omega arith))
 
 pub overflow_sub-result-2 : goal.overflow_sub-result-2
 overflow_sub-result-2 c =
     let a = c.args in
-    omega (arith, (dense_totals a.image.now a.f c.requires.accepted).1)
+    omega (arith, sparse_slot_room a.image.now.bytes.now a.image.now.frame a.m.0 a.at.0 c.requires (omega arith))
 
 pub overflow_sub-result-3 : goal.overflow_sub-result-3
 overflow_sub-result-3 c =
     let a = c.args in
-    omega (arith, c.entry_rank-children.ensures, rank_le (drop a.f.sc a.image.now) a.at.0)
+    omega (arith, c.entry_rank-children.ensures, sparse_slot_room a.image.now.bytes.now a.image.now.frame a.m.0 a.at.0 c.requires (omega arith))
 
 pub overflow_add-result-4 : goal.overflow_add-result-4
 overflow_add-result-4 c =
     let a = c.args in
-    let p = c.requires in
-    omega (arith, (dense_totals a.image.now a.f p.accepted).1, leaves_all (nodes a.image.now a.f) a.f.dense.nodes, p.accepted.writable.leaf_total, p.accepted.writable.few, p.within.sparse (omega arith), p.accepted.writable.few_entries, p.accepted.entry_size)
+    omega (arith, sparse_slot_room a.image.now.bytes.now a.image.now.frame a.m.0 a.at.0 c.requires (omega arith))
 
 pub returns : goal.returns
 unfolding child_at slot_at
 returns c =
     let a = c.args in
+    let v = a.image.now in
     let p = c.requires.accepted in
-    let d = dense_totals a.image.now a.f p in
+    let d = dense_totals v.bytes.now v.frame p in
     let e = c.entry_rank-children.ensures in
-    let l = le-ltb a.m.0 a.f.dense.nodes (omega arith) in
-    record { child_is = rw l (omega (arith, d.0, e, dense_kids a.image.now a.f p)); slot_is = rw l (omega (arith, d.1, e, dense_leaves a.image.now a.f p)) }
+    let l = le-ltb a.m.0 v.frame.dense.nodes (omega arith) in
+    record { child_is = rw l (omega (arith, d.0, e, dense_kids v.bytes.now v.frame p)); slot_is = rw l (omega (arith, d.1, e, dense_leaves v.bytes.now v.frame p)) }

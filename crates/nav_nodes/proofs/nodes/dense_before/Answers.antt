@@ -1,3 +1,4 @@
+use Rattle.nav_nodes.specs.FromCheck.{accepted}
 use Rattle.nav_nodes.specs.Positions.{before_dense}
 use Rattle.nav_nodes.specs.Accepted.{nodes}
 use Rattle.nav_nodes.specs.NumberBounds.{leaves_all}
@@ -7,7 +8,8 @@ use Rattle.nav_nodes.proofs.nodes.dense_before.Goals as goal
 pub overflow_sub-result : goal.overflow_sub-result
 overflow_sub-result c =
     let a = c.args in
-    let q = before_dense a.image.now a.f c.requires.0 a.m.0 c.requires.1 in
+    let v = a.image.now in
+    let q = before_dense v.bytes.now v.frame (accepted v) a.m.0 c.requires in
     let l = c.label_rank-labels.ensures in
     let k = c.child_rank-children.ensures in
     omega arith
@@ -15,18 +17,20 @@ overflow_sub-result c =
 pub overflow_add-result : goal.overflow_add-result
 overflow_add-result c =
     let a = c.args in
-    let q = before_dense a.image.now a.f c.requires.0 a.m.0 c.requires.1 in
+    let v = a.image.now in
+    let q = before_dense v.bytes.now v.frame (accepted v) a.m.0 c.requires in
     let l = c.label_rank-labels.ensures in
     let k = c.child_rank-children.ensures in
     let x = c.exact_rank-exacts.ensures in
-    let w = leaves_all (nodes a.image.now a.f) a.m.0 in
-    let t = c.requires.0.writable in
+    let w = leaves_all (nodes v.bytes.now v.frame) a.m.0 in
+    let t = (accepted v).writable in
     omega (arith, t.leaf_total, t.few)
 
 pub returns : goal.returns
 returns c =
     let a = c.args in
-    let q = before_dense a.image.now a.f c.requires.0 a.m.0 c.requires.1 in
+    let v = a.image.now in
+    let q = before_dense v.bytes.now v.frame (accepted v) a.m.0 c.requires in
     let l = c.label_rank-labels.ensures in
     let k = c.child_rank-children.ensures in
     let x = c.exact_rank-exacts.ensures in

@@ -4,7 +4,6 @@ use Rattle.nav_nodes.specs.Accepted.{nodes}
 use Rattle.nav_nodes.specs.Slots.{node_at}
 use Rattle.spec.specs.Nodes.{is_exact}
 use Rattle.image.specs.Records.{tail_part}
-use Rattle.nav_nodes.specs.Tables.{exacts_ranked}
 use Rattle.bits.specs.Bits.{bit_at}
 use mathlib.Core.List.{List}
 use Prim.Native.Nat.{ℕ}
@@ -13,13 +12,9 @@ use native.Mathlib.Omega.{arith}
 use mathlib.Core.Path.{ap, ◌∙◌}
 use Rattle.nav_nodes.proofs.nodes.is_exact.Goals as goal
 
-pub bit_at-requires : goal.bit_at-requires
-bit_at-requires c =
+pub returns-then-m-image : goal.returns-then-m-image
+returns-then-m-image c =
     let a = c.args in
-    rw (tail_part a.image.now a.f.dp) (omega (arith, (exacts_ranked a.image.now a.f c.requires.accepted).0))
-
-pub returns-then-m-f : goal.returns-then-m-f
-returns-then-m-f c =
-    let a = c.args in
-    let bit_is = c.bit_at.ensures ∙ ap (λ (z : List ℕ). bit_at z a.m.0) (tail_part a.image.now a.f.dp) ∙ exact_dense a.image.now a.f c.requires.accepted a.m.0 0 (omega arith) in
-    ap (λ (z : ℕ). eqb z 1) bit_is ∙ bit_one (is_exact (node_at (nodes a.image.now a.f) a.m.0))
+    let v = a.image.now in
+    let bit_is = c.bit_at.ensures ∙ ap (λ (z : List ℕ). bit_at z a.m.0) (tail_part v.bytes.now v.frame.dp) ∙ exact_dense v.bytes.now v.frame c.requires.accepted a.m.0 0 (omega arith) in
+    ap (λ (z : ℕ). eqb z 1) bit_is ∙ bit_one (is_exact (node_at (nodes v.bytes.now v.frame) a.m.0))

@@ -1,8 +1,9 @@
+use Rattle.nav_nodes.specs.FromCheck.{accepted}
 use Rattle.nav_nodes.specs.Tables.{children_ranked}
 use Rattle.nav_nodes.proofs.ranks.child_rank.Goals as goal
 
 pub rank_at-requires : goal.rank_at-requires
 rank_at-requires c =
-    let a = c.args in
+    let v = c.args.image.now in
     let p = c.requires in
-    (p.0.DC.0, p.0.RC.0, children_ranked a.image.now a.f p.0, p.1)
+    ((accepted v).DC.0, (accepted v).RC.0, children_ranked v.bytes.now v.frame (accepted v), p)
