@@ -3,7 +3,7 @@ use Rattle.std.specs.Prelude.{ℕ, zero, suc, ◌+◌, ◌-◌, ◌≤◌, ◌<�
 use Rattle.std.proofs.Common.{sym, ap, ap₂, ◌∙◌, append_assoc, append-nil, arith, add-one, add-zero, length-append, ltb-true, ltb-false, lt-ltb, le-ltb, eq-eqb, ne_eqb}
 use Rattle.spec.specs.Bytes.{Bytes, concat, iota, filter, le32}
 use Rattle.spec.specs.Image.{first_nodes, level_starts, level_rows, level_bodies, write_records}
-use Rattle.bits.proofs.Overlaying.{length_le32}
+use Rattle.bits.proofs.Overlaying.{length_le32, overlaid_nil}
 use Rattle.image.specs.Records.{row_at, length_marked}
 use Rattle.build_laws.specs.Cursors.{sums, sums_none}
 use Rattle.build_passes.specs.CounterSums.{sums_in}
@@ -145,3 +145,6 @@ levels_some v c h =
 -- its length
 pub levels_length : (v : ℕ) (c : List ℕ) → v ≡ 2 → length (level_bytes v c) ≡ 6 + length (starts_below c 64)
 levels_length v c h = ap length (levels_some v c h) ∙ length_marked (row_at 12).first (row_at 12).second (starts_below c 64)
+
+-- a level with nodes or without, and a version with LV or without, for the proofs of what is written of either
+pub ruleset level_cases = (size_some, size_none, start_some, start_none, levels_none, levels_length, overlaid_nil)

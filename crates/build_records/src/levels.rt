@@ -12,6 +12,7 @@ use image::table::{BEFORE_BODY, RECORDS, mark};
 use image::{LEVEL_START_BYTES, LEVELED_VERSION, MAX_LEVELS};
 
 // The bytes that a level of so many nodes has in LV's body: none where it has no node.
+#[tactic(auto, using(crate::specs::LevelRecord::level_cases))]
 fn start_size(count: u32) -> usize
     ensures { result ≡ start_size count }
 {
@@ -19,6 +20,7 @@ fn start_size(count: u32) -> usize
 }
 
 // The first node of a level of so many nodes goes to out from at, and all else stays; nothing goes there where the level has no node.
+#[tactic(auto, using(crate::specs::LevelRecord::level_cases))]
 fn write_start(out: &mut [u8], at: usize, first: usize, count: u32)
     requires { at + start_size count ≤ length out.old }
     ensures { out.new ≡ overlaid out.old at (start_bytes count first) }
@@ -56,6 +58,7 @@ fn fill_starts(out: &mut [u8], nodes: &Counters)
 }
 
 // The bytes of the records behind the twelve, of a version.
+#[tactic(auto, using(crate::specs::LevelRecord::level_cases))]
 pub fn levels_size(version: usize, nodes: &Counters) -> usize
     ensures { result ≡ length (level_bytes version nodes.now) }
 {
@@ -67,7 +70,7 @@ pub fn levels_size(version: usize, nodes: &Counters) -> usize
 }
 
 // The records behind the twelve, of a version, go to out from at, and all else stays.
-#[tactic(auto, using(crate::specs::LevelRecord::levels_length))]
+#[tactic(auto, using(crate::specs::LevelRecord::level_cases))]
 pub fn write_levels(out: &mut [u8], at: usize, version: usize, nodes: &Counters)
     requires { (sums nodes.now 0 counters ≤ counter_max) × (at + length (level_bytes version nodes.now) ≤ length out.old) }
     ensures { out.new ≡ overlaid out.old at (level_bytes version nodes.now) }

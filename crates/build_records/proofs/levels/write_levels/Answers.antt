@@ -5,16 +5,11 @@ use borrow.Rule.Slice.PartMut.{put_mid}
 use lib.ListN.{length, drop, length-drop}
 use lib.Seq.{length-take-le}
 use Rattle.bits.specs.Bits.{overlaid}
-use Rattle.bits.proofs.Overlaying.{overlaid_nil, lent_overlaid}
-use Rattle.build_records.specs.LevelRecord.{starts_below, levels_none, levels_some, levels_length}
+use Rattle.bits.proofs.Overlaying.{lent_overlaid}
+use Rattle.build_records.specs.LevelRecord.{starts_below, levels_some, levels_length}
 use Rattle.build_records.specs.RecordsWritten.{record_done}
 use native.Mathlib.Omega.{arith}
 use Rattle.build_records.proofs.levels.write_levels.Goals as goal
-
-pub returns-else-version-eq-LEVELED_VERSION : goal.returns-else-version-eq-LEVELED_VERSION
-returns-else-version-eq-LEVELED_VERSION c =
-    let a = c.args in
-    overlaid_nil a.out.now a.at ∙ ap (overlaid a.out.now a.at) (sym (levels_none a.version a.nodes.now c.if-version-eq-LEVELED_VERSION.false))
 
 pub fill_starts-requires : goal.fill_starts-requires
 fill_starts-requires c =
