@@ -123,7 +123,7 @@ pub fn fill_body(out: &mut [u8], list: &[u8], plan: Plan, cnt: &Counters, i: usi
     let start = span.at;
     let end = start + span.len;
     match Source::of_record(i) {
-        Source::Keys(body) => { fill_from_keys(&mut out[start..end], list, plan, cnt, body) }
+        Source::Keys(body) => fill_from_keys(&mut out[start..end], list, plan, cnt, body),
         Source::Ranks(j, words) => {
             fill_ranks(out, plan.body_span(j), start, span.len / 4, words)
         }
