@@ -35,10 +35,9 @@ fn set_wide_number(out: &mut [u8], i: usize, v: usize)
     ensures { out.new ≡ with_number (with_number out.old i (v % 65536)) (i + 16) (v / 65536) }
 {
     set_number(out, i, v % NUMBER_LIMIT);
-    if v < NUMBER_LIMIT {
-        return;
+    if NUMBER_LIMIT <= v {
+        set_number(out, i + NUMBER_BITS, v / NUMBER_LIMIT);
     }
-    set_number(out, i + NUMBER_BITS, v / NUMBER_LIMIT);
 }
 
 // Writes the slot of a key's leaf, of so many bits, at the cursor of the leaf's level, which moves on by one. An exact leaf's slot is zero.

@@ -1,5 +1,5 @@
 // Entries, nodes and leaves of each level: one pass over the list counts where keys start and where their leaves are, and one over the levels sums.
-ghost use Rattle.std.specs.Prelude.{◌≡◌, ◌+◌, ◌≤◌, ◌<◌, length, get_or};
+ghost use Rattle.std.specs.Prelude.{◌≡◌, ◌+◌, ◌≤◌, length, get_or};
 ghost use Rattle.spec.specs.Keys.{keys_of};
 ghost use Rattle.build_laws.specs.LevelEntries.{pred};
 ghost use Rattle.build_laws.specs.PassEmissions.{KeyNumbers};
@@ -10,18 +10,10 @@ ghost use Rattle.build_passes.specs.LevelSums.{Balanced, Summable, Summed};
 ghost use Rattle.build_laws.specs.Limits.{counters, counter_max};
 
 use build_keys::numbers::{leaf_level, split_level};
-use build_keys::{Counters, LevelCounts};
+use build_keys::LevelCounts;
 use build_laws::Key;
 use build_list::read::read_key;
 use image::MAX_LEVELS;
-
-// The counter of level d is raised by one.
-fn count_one(cnt: &mut Counters, d: usize)
-    requires { (d < counters) × (get_or cnt.old d 0 + 1 ≤ counter_max) }
-    ensures { cnt.new ≡ raised cnt.old d }
-{
-    cnt[d] += 1;
-}
 
 // The level where a key leaves the key before it is counted among the entries, and the level of its leaf among the leaves.
 fn count_key(counts: &mut LevelCounts, k: Key)
@@ -29,8 +21,8 @@ fn count_key(counts: &mut LevelCounts, k: Key)
     requires first_bound { (get_or counts.old.entries (pred k.first) 0 + 1 ≤ counter_max) × (get_or counts.old.leaves (leaf_level_of k) 0 + 1 ≤ counter_max) }
     ensures { counts.new ≡ level_counts (raised counts.old.entries (pred k.first)) counts.old.nodes (raised counts.old.leaves (leaf_level_of k)) }
 {
-    count_one(&mut counts.entries, split_level(k));
-    count_one(&mut counts.leaves, leaf_level(k));
+    counts.entries[split_level(k)] += 1;
+    counts.leaves[leaf_level(k)] += 1;
 }
 
 // Where the keys of a list start, in `entries`, and where their leaves are, counted from zero.

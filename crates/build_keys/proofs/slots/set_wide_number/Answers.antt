@@ -7,14 +7,9 @@ use Rattle.bits.specs.Bits.{with_number}
 use Rattle.build_keys.specs.SuffixLaws.{no_number}
 use Rattle.build_keys.proofs.slots.set_wide_number.Goals as goal
 
-pub returns-then-v-lt-NUMBER_LIMIT : goal.returns-then-v-lt-NUMBER_LIMIT
-returns-then-v-lt-NUMBER_LIMIT c =
+pub returns-else-v-ge-NUMBER_LIMIT : goal.returns-else-v-ge-NUMBER_LIMIT
+returns-else-v-ge-NUMBER_LIMIT c =
     let a = c.args in
     let o : Bytes = with_number a.out.now a.i (a.v % 65536) in
-    let z : 0 ≡ a.v / 65536 = omega arith in
-    c.set_number.ensures ∙ sym (no_number o (a.i + 16)) ∙ ap (with_number o (a.i + 16)) z
-
-pub returns : goal.returns
-returns c =
-    let a = c.args in
-    c.set_number-2.ensures ∙ ap (λ (o : Bytes). with_number o (a.i + 16) (a.v / 65536)) c.set_number.ensures
+    let none : 0 ≡ a.v / 65536 = omega arith in
+    c.set_number.ensures ∙ sym (no_number o (a.i + 16)) ∙ ap (with_number o (a.i + 16)) none
