@@ -1,14 +1,12 @@
 -- What fills a record's body leaves that body: a pass over the keys, ranks, and samples. Used by the functions that fill the records of a plan.
-use Rattle.std.specs.Prelude.{ℕ, ◌+◌, ◌*◌, ◌-◌, ◌/◌, ◌≤◌, ◌<◌, ◌≡◌, refl, true, false, List, [], ◌∷◌, ◌++◌, length, drop, replicate}
-use Rattle.std.proofs.Common.{sym, ap, ap₂, subst, ◌∙◌, arith, length-drop}
-use borrow.Rule.Slice.PartMut.{put_mid, mid_of}
+use Rattle.std.specs.Prelude.{ℕ, ◌+◌, ◌*◌, ◌-◌, ◌/◌, ◌≤◌, ◌<◌, ◌≡◌, refl, true, false, List, [], ◌∷◌, ◌++◌, length, take, drop, replicate}
+use Rattle.std.proofs.Common.{sym, ap, ap₂, subst, ◌∙◌, append_assoc, arith}
+use borrow.Rule.Slice.PartMut.{put_mid, mid_of, mid_len, Post-is}
 use Rattle.spec.specs.Bytes.{Bytes, blocks}
 use Rattle.spec.specs.Keys.{keys_of}
 use Rattle.spec.specs.Image.{Counts}
 use Rattle.theory.specs.Terms.{IsBytes}
 use Rattle.bits.specs.Bits.{overlaid, rank}
-use Rattle.bits.proofs.Overlaying.{lent_front}
-use Rattle.bits.proofs.SliceParts.{mid_is}
 use Rattle.rank_tables.specs.TableEntries.{rank_table, sample_table}
 use Rattle.rank_tables.specs.Tables.{spanned, RanksRoom, SamplesRoom}
 use Rattle.rank_tables.specs.declared.Span.{Span}
@@ -38,9 +36,10 @@ pub ready_list : (list : Bytes) (p : Plan) → Planned list p → AcceptedList l
 ready_list list p w = record { records = w.ready.records; each = w.ready.built.keys; up = w.ready.built.up }
 
 -- an empty body
-pub empty_body : (body out : Bytes) → length body ≡ 0 → out ≡ body ++ drop 0 out
-empty_body [] out e = refl
-empty_body (x ∷ body) out e = absurd (omega arith)
+pub empty_body : (body out : Bytes) → length out ≡ length body → length out ≡ 0 → out ≡ body
+empty_body [] [] h e = refl
+empty_body [] (y ∷ out) h e = absurd (omega arith)
+empty_body (x ∷ body) out h e = absurd (omega arith)
 
 module _ (list : Bytes) (p : Plan) (w : Planned list p) (b : Body) (cnt : List ℕ) (k : cnt ≡ counters_of b (keys_of list)) (l : LevelRange) (e : l ≡ level_range b p.header.dense.levels) where
   -- the counters' sums are small
@@ -85,6 +84,10 @@ body_whole list p w b rest o f e = e ∙ ap (λ (z : Bytes). z ++ rest) (left_wh
 
 -- ---- a record's body by its source
 
+-- a part from k to below e, lent, with as many bytes in its place, and back
+lent_part : (o ys : Bytes) (k e : ℕ) → k ≤ e → e ≡ k + length ys → put_mid k (e - k) o ys ≡ overlaid o k ys
+lent_part o ys k e h f = ap (λ (x : Bytes). take k o ++ (ys ++ x)) (Post-is k e o h ∙ ap (λ (n : ℕ). drop n o) f) ∙ sym (append_assoc (take k o) ys (drop (k + length ys) o))
+
 module _ (list : Bytes) (p : Plan) (i : ℕ) (out : Bytes) (w : Writing list p i out) where
   -- the span of record i, where the output is no longer than a number holds
   pub own_laid : length out < 18446744073709551616 → LaidOut p i
@@ -113,19 +116,17 @@ module _ (list : Bytes) (p : Plan) (i : ℕ) (out : Bytes) (w : Writing list p i
     keys_size b g = len_is ∙ sym (body_size list p w.planned i) ∙ ap length (sym g)
 
     -- what a pass asks
-    pub keys_ask : (b : Body) (cnt : List ℕ) → Gives list p i (Keys b) → source_at i ≡ Keys b → cnt ≡ counters_at list i → BodyRoom list p cnt b s.len (mid_of s.at (length out - s.at) out)
+    pub keys_ask : (b : Body) (cnt : List ℕ) → Gives list p i (Keys b) → source_at i ≡ Keys b → cnt ≡ counters_at list i → BodyRoom list p cnt b (mid_of s.at (s.at + s.len - s.at) out)
     keys_ask b cnt g q k = record {
       planned = w.planned;
       counted = k ∙ ap (source_counters (list_counts (keys_of list))) q ∙ keys_counters (keys_of list) b;
-      size = keys_size b g;
-      room = omega (arith, ap length (mid_is out s.at), length-drop s.at out, span_within);
+      size = mid_len s.at (s.at + s.len) out span_within ∙ omega (arith, keys_size b g);
     }
 
     -- what a pass leaves
-    pub keys_leave : (b : Body) → Gives list p i (Keys b) → (ys : Bytes) → ys ≡ list_body list p b ++ drop s.len (mid_of s.at (length out - s.at) out)
-        → put_mid s.at (length out - s.at) out ys ≡ overlaid out (start_at p i + 6) (body_at list p i)
+    pub keys_leave : (b : Body) → Gives list p i (Keys b) → (ys : Bytes) → ys ≡ list_body list p b → put_mid s.at (s.at + s.len - s.at) out ys ≡ overlaid out (start_at p i + 6) (body_at list p i)
     keys_leave b g ys f =
-        lent_front out ys (list_body list p b) s.at s.len (keys_size b g) span_within f ∙ ap₂ (λ (n : ℕ) (x : Bytes). overlaid out n x) at_is g
+        lent_part out ys s.at (s.at + s.len) (omega arith) (omega (arith, keys_size b g, ap length f)) ∙ ap₂ (λ (n : ℕ) (x : Bytes). overlaid out n x) at_is (f ∙ g)
 
     module _ (j : ℕ) (t : Span) (f : t ≡ span_at p j) where
       -- the counted body is an earlier record's

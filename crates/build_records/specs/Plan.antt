@@ -182,12 +182,11 @@ module _ (list : Bytes) (st : Settings) (r : Ready list st) (c : LevelCounts) (e
 abbrev pub list_body : Bytes → Plan → Body → Bytes
 list_body list p b = body_of b (key_bodies (plan_settings p) (keys_of list))
 
--- a body of so many bytes has room at the front of `out`
-pub record BodyRoom (list : Bytes) (p : Plan) (cnt : List ℕ) (b : Body) (len : ℕ) (out : Bytes) : Type 0 where
+-- a body has its room in `out`, and no more
+pub record BodyRoom (list : Bytes) (p : Plan) (cnt : List ℕ) (b : Body) (out : Bytes) : Type 0 where
   pub planned : Planned list p  -- the plan is the list's
   pub counted : cnt ≡ counters_of b (keys_of list)  -- the counters are the body's
-  pub size : len ≡ length (list_body list p b)  -- the body has so many bytes
-  pub room : len ≤ length out  -- they are there
+  pub size : length out ≡ length (list_body list p b)  -- the body has so many bytes
 
 -- ---- where each body stands
 

@@ -1,5 +1,5 @@
 // The body of a record: filled by a pass over the keys, or counted in the finished body of an earlier record. A further record is a row of the table and a case of its source.
-ghost use Rattle.std.specs.Prelude.{◌≡◌, ◌++◌, ◌+◌, ◌<◌, drop};
+ghost use Rattle.std.specs.Prelude.{◌≡◌, ◌+◌, ◌<◌};
 ghost use Rattle.bits.specs.Bits.{overlaid};
 ghost use Rattle.build_records.specs.BodyChoice.{level_range};
 ghost use Rattle.build_records.specs.BodyFilled.{left_flipped};
@@ -11,7 +11,6 @@ use build_laws::{Body, Kind, LevelRange, Pass, SlotBits};
 use build_passes::fill::write_keys;
 use build_passes::flip::flip;
 use build_passes::offsets::set_offsets;
-use image::header_bytes::clear;
 use image::table::{BEFORE_BODY, body_size};
 use image::{DENSE_BLOCK_WORDS, MAX_LEVELS, SPARSE_BLOCK_WORDS};
 use rank_tables::Span;
@@ -89,15 +88,15 @@ fn leaves_flipped(body: Body) -> bool
     matches!(body, Body::Entries(Kind::SC | Kind::SB))
 }
 
-// A body of so many bytes, filled by a pass over the keys, goes to the front of out, and all else stays; an empty one takes no pass.
-fn fill_from_keys(out: &mut [u8], len: usize, list: &[u8], plan: Plan, cnt: &Counters, body: Body)
-    requires { BodyRoom list.now plan cnt.now body len out.old }
-    ensures { out.new ≡ list_body list.now plan body ++ drop len out.old }
+// A body, filled by a pass over the keys, takes the place of the bytes of out; an empty one takes no pass.
+fn fill_from_keys(out: &mut [u8], list: &[u8], plan: Plan, cnt: &Counters, body: Body)
+    requires { BodyRoom list.now plan cnt.now body out.old }
+    ensures { out.new ≡ list_body list.now plan body }
 {
-    if len == 0 {
+    if out.is_empty() {
         return;
     }
-    clear(out, len);
+    out.fill(0);
     let levels = level_range(body, plan.header.dense.levels);
     let mut cur = [0u32; COUNTERS];
     set_offsets(&mut cur, cnt, levels.lo);
@@ -122,8 +121,9 @@ pub fn fill_body(out: &mut [u8], list: &[u8], plan: Plan, cnt: &Counters, i: usi
 {
     let span = plan.body_span(i);
     let start = span.at;
+    let end = start + span.len;
     match Source::of_record(i) {
-        Source::Keys(body) => { fill_from_keys(&mut out[start..], span.len, list, plan, cnt, body) }
+        Source::Keys(body) => fill_from_keys(&mut out[start..end], list, plan, cnt, body),
         Source::Ranks(j, words) => {
             fill_ranks(out, plan.body_span(j), start, span.len / 4, words)
         }

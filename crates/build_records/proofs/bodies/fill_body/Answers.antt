@@ -18,14 +18,14 @@ body_span-span-requires c =
     let a = c.args in
     own_laid a.list.now a.plan a.i a.out.now c.requires.0 (omega arith)
 
-pub slice_bounds-fill_from_keys-count : goal.slice_bounds-fill_from_keys-count
-slice_bounds-fill_from_keys-count c =
+pub overflow_add-end : goal.overflow_add-end
+overflow_add-end c =
     let a = c.args in
     let w = span_within a.list.now a.plan a.i a.out.now c.requires.0 c.body_span-span.result c.body_span-span.ensures in
     omega arith
 
-pub slice_bounds-fill_from_keys-start : goal.slice_bounds-fill_from_keys-start
-slice_bounds-fill_from_keys-start c =
+pub slice_bounds-fill_from_keys-end : goal.slice_bounds-fill_from_keys-end
+slice_bounds-fill_from_keys-end c =
     let a = c.args in
     let w = span_within a.list.now a.plan a.i a.out.now c.requires.0 c.body_span-span.result c.body_span-span.ensures in
     omega arith
