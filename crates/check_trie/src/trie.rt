@@ -106,7 +106,10 @@ pub fn trie_valid(image: &FramedImage, counts: SparseCounts) -> bool
     if !louds_valid(image, counts.starts) {
         return false;
     }
-    if !(dense_part_valid(image) & sparse_part_valid(image)) {
+    if !dense_part_valid(image) {
+        return false;
+    }
+    if !sparse_part_valid(image) {
         return false;
     }
     counts_valid(image, counts)
