@@ -13,7 +13,7 @@ ghost use Rattle.check_frame.specs.FrameLaws.{settings_valid, RecordsStand, Laid
 ghost use Rattle.check_tables.specs.Tables.{dense_agrees};
 ghost use Rattle.check_frame.specs.Found.{RecordFound, TwelveFound, end_found, ReadAs};
 
-use bits::numbers::{read32, wide};
+use bits::numbers::read32;
 use check_tables::judge::ranks_at;
 use image::header_bytes::{MAX_LEAVES, VERSION_AT, read_header, settings_in_range};
 use image::refusals::Refusal;
@@ -66,7 +66,7 @@ fn last_end(image: &[u8]) -> Option<usize>
     ensures { end_found result ≡ records_end (rows_of image.now) image.now 22 }
 {
     let end = twelve_end(image)?;
-    if wide(image[VERSION_AT]) != LEVELED_VERSION {
+    if usize::from(image[VERSION_AT]) != LEVELED_VERSION {
         return Some(end);
     }
     record_end(image, RECORDS, end)

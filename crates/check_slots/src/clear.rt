@@ -29,7 +29,7 @@ fn bytes_clear(s: &[u8], from: usize, to: usize) -> bool
         if greatest < byte {
             greatest = byte;
         }
-        i = i + 1;
+        i += 1;
     }
     greatest == 0
 }

@@ -58,7 +58,7 @@ pub fn dense_clear(image: &FramedImage) -> bool
         if !exact_clear(image, node, exacts) {
             return false;
         }
-        exacts = exacts + 1;
+        exacts += 1;
         node = next_exact(image, NodeNum(node.0 + 1));
     }
     true

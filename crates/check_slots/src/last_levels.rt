@@ -50,7 +50,7 @@ fn find_level(image: &FramedImage, number: usize) -> Level
             return level;
         }
         level = level_below(image, level);
-        depth = depth + 1;
+        depth += 1;
     }
     level
 }

@@ -35,7 +35,7 @@ fn starts_equal(image: &FramedImage) -> bool
         }
         level = next_level(image, true, level, NodeNum(start));
         start = level.branches + 1;
-        at = at + LEVEL_START_BYTES;
+        at += LEVEL_START_BYTES;
     }
     at == image.bytes.len()
 }

@@ -22,7 +22,7 @@ fn several(sb: &[u8], q: usize) -> u64
     requires { q * 8 + 8 < length sb.now }
     ensures { SeveralStarts sb.now q result }
 {
-    lone(read64(sb, q * 8), (sb[q * 8 + 8] % 2) as u64)
+    lone(read64(sb, q * 8), u64::from(sb[q * 8 + 8] % 2))
 }
 
 // The starts of nodes with several entries in the last word of S-LOUDS, by its number.
@@ -45,7 +45,7 @@ fn none_full(sl: &[u8], at: usize) -> bool
         if greatest < label {
             greatest = label;
         }
-        i = i + 1;
+        i += 1;
     }
     greatest < EXTRA_LABEL
 }
@@ -57,11 +57,11 @@ fn from_full(sl: &[u8], q: usize, starts: u64) -> u64
 {
     let mut rest = starts;
     while rest != 0 {
-        let at = u64::trailing_zeros(rest) as usize;
+        let at = rest.trailing_zeros() as usize;
         if sl[64 * q + at] == EXTRA_LABEL {
             return rest;
         }
-        rest = rest - (1u64 << at);
+        rest -= 1u64 << at;
     }
     0
 }

@@ -59,7 +59,7 @@ fn starts_clear(
     let mut rest = starts;
     let mut j = 0usize;
     while rest != 0 {
-        let step = u64::trailing_zeros(rest) as usize;
+        let step = rest.trailing_zeros() as usize;
         let at = j + step;
         if z.entries <= 64 * word.number + at + 1 {
             return true;

@@ -6,7 +6,6 @@ ghost use Rattle.spec.specs.Check.{no_spare, spare_clear};
 ghost use Rattle.bits.specs.Bits.{part};
 ghost use Rattle.image.specs.FrameOf.{frame_named};
 
-use bits::numbers::wide;
 use image::FramedImage;
 
 // Whether no bit is set behind the first n of the body at an offset: only its last byte has such bits.
@@ -17,7 +16,7 @@ fn no_spare(image: &[u8], at: usize, n: usize) -> bool
     if n % 8 == 0 {
         return true;
     }
-    wide(image[at + n / 8]) >> (n % 8) == 0
+    usize::from(image[at + n / 8]) >> (n % 8) == 0
 }
 
 // Whether number 13 does not apply: no spare bit is set in DP, SC, SB and SV.

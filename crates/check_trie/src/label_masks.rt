@@ -1,5 +1,5 @@
 // Masks of 64 labels: which are below the next one, and which are FF. Eight labels are compared at once, in lanes of 16 bits.
-ghost use Rattle.std.specs.Prelude.{◌≡◌, ◌+◌, ◌≤◌, ◌<◌, length};
+ghost use Rattle.std.specs.Prelude.{◌≡◌, ℕ, Bool, ◌+◌, ◌≤◌, ◌<◌, length};
 ghost use Rattle.std.specs.Int.Bits.{bit_and};
 ghost use Rattle.check_levels.specs.MaskLaws.{mask};
 ghost use Rattle.check_trie.specs.WordEntries.{ascends, full};
@@ -48,13 +48,7 @@ pub fn ascents(sl: &[u8], at: usize) -> u64
     requires { at + 64 < length sl.now }
     ensures { result ≡ mask (ascends sl.now at) 64 }
 {
-    let mut m = 0u64;
-    let mut i = 64usize;
-    while 0 < i {
-        i = i - 8;
-        m = m * 256 + ascents_of_eight(sl, at + i);
-    }
-    m
+    mask_of_64(|i| ascents_of_eight(sl, i), at)
 }
 
 // The mask of those of the eight labels from at on that are FF: one more than FF carries.
@@ -73,11 +67,22 @@ pub fn full_labels(sl: &[u8], at: usize) -> u64
     requires { at + 64 ≤ length sl.now }
     ensures { result ≡ mask (full sl.now at) 64 }
 {
+    mask_of_64(|i| full_of_eight(sl, i), at)
+}
+
+// The mask of those of the 64 labels from at on that pass a test, by the masks of eight labels each.
+fn mask_of_64<F: Fn(usize) -> u64>(eight: F, at: usize) -> u64
+    ghost test: { ℕ → Bool }
+    requires few { at + 64 < 18446744073709551616 }
+    requires callable { (i : ℕ) → i ≤ 56 → F.pre eight (at + i) }
+    requires masks { (i m : ℕ) → i ≤ 56 → F.post eight (at + i) m → m ≡ mask (λ k. test (at + i + k)) 8 }
+    ensures { result ≡ mask (λ k. test (at + k)) 64 }
+{
     let mut m = 0u64;
     let mut i = 64usize;
     while 0 < i {
-        i = i - 8;
-        m = m * 256 + full_of_eight(sl, at + i);
+        i -= 8;
+        m = m * 256 + eight(at + i);
     }
     m
 }

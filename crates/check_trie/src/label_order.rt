@@ -31,7 +31,7 @@ fn flag_descents(flags: &mut [u8; LABELS], sl: &[u8], at: usize)
         let label = sl[at + i];
         let next = sl[at + i + 1];
         flags[i] = descent_flag(label < next);
-        i = i + 1;
+        i += 1;
     }
 }
 

@@ -11,7 +11,7 @@ ghost use Rattle.check_levels.specs.Levels.{LoudsValid};
 ghost use Rattle.check_levels.specs.BodyTests.{louds_test, dense_test, sparse_test, sums_test, CountsFew};
 
 use super::dense::dense_valid;
-use super::sparse::sparse_valid;
+use super::sparse::{SparseBodies, sparse_valid};
 use bits::numbers::bytes_for;
 use bits::parts::part;
 use bits::ranks::bit_at;
@@ -62,7 +62,12 @@ fn sparse_part_valid(image: &FramedImage) -> bool
     let sl = part(image.bytes, f.sl, entries);
     let sc = part(image.bytes, f.sc, bytes_for(entries));
     let sb = part(image.bytes, f.sb, bytes_for(entries));
-    sparse_valid(sl, sc, sb, entries, f.dense.nodes == 0)
+    let bodies = SparseBodies {
+        labels: sl,
+        children: sc,
+        starts: sb,
+    };
+    sparse_valid(&bodies, entries, f.dense.nodes == 0)
 }
 
 // Whether the counts agree, where so many branches continue: the entries are leaves and continuing branches, there is a leaf,
@@ -101,7 +106,10 @@ pub fn trie_valid(image: &FramedImage, counts: SparseCounts) -> bool
     if !louds_valid(image, counts.starts) {
         return false;
     }
-    if !(dense_part_valid(image) & sparse_part_valid(image)) {
+    if !dense_part_valid(image) {
+        return false;
+    }
+    if !sparse_part_valid(image) {
         return false;
     }
     counts_valid(image, counts)

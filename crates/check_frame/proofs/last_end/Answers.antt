@@ -9,10 +9,10 @@ pub returns-in_err-end : goal.returns-in_err-end
 returns-in_err-end c =
     rw c.from_residual.ensures (sym (end_missing c.args.image.now (rw c.in_err-end.was at c.twelve_end.ensures)))
 
-pub returns-then-wide-ne-LEVELED_VERSION : goal.returns-then-wide-ne-LEVELED_VERSION
-returns-then-wide-ne-LEVELED_VERSION c =
+pub returns-then-from-ne-LEVELED_VERSION : goal.returns-then-from-ne-LEVELED_VERSION
+returns-then-from-ne-LEVELED_VERSION c =
     let q = rw c.in_ok-end.was at c.twelve_end.ensures in
-    sym (end_twelve c.args.image.now c.in_ok-end.end q.0 (λ e. c.if-wide-ne-LEVELED_VERSION.true (c.wide.ensures.0 ∙ e)))
+    sym (end_twelve c.args.image.now c.in_ok-end.end q.0 (λ e. c.if-from-ne-LEVELED_VERSION.true (c.from.ensures ∙ e)))
 
 pub record_end-requires : goal.record_end-requires
 record_end-requires c =
@@ -22,4 +22,4 @@ record_end-requires c =
 pub returns : goal.returns
 returns c =
     let q = rw c.in_ok-end.was at c.twelve_end.ensures in
-    level_found c.args.image.now c.in_ok-end.end q.0 (omega (arith, c.wide.ensures.0)) c.record_end.result c.record_end.ensures
+    level_found c.args.image.now c.in_ok-end.end q.0 (omega (arith, c.from.ensures)) c.record_end.result c.record_end.ensures

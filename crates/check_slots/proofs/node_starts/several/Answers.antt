@@ -10,4 +10,4 @@ pub returns : goal.returns
 returns c =
     let a = c.args in
     let small : Small a.sb.now = λ i. (c.shared_slice_known-2-1.given i).fits in
-    rw c.lone.ensures (starts_are a.sb.now small a.q _ _ c.read64.ensures (sym (bit_low a.sb.now (a.q * 8 + 8))))
+    rw (c.lone.ensures, c.from.ensures) (starts_are a.sb.now small a.q _ _ c.read64.ensures (sym (bit_low a.sb.now (a.q * 8 + 8))))

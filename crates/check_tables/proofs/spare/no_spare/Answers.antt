@@ -22,5 +22,5 @@ returns c =
     let k : ℕ = blocks 8 a.n in
     let small : Small a.image.now = λ i. (c.shared_slice_known-2-1.given i).fits in
     let ne = c.if-n-eq0.false in
-    ap (λ (x : ℕ). eqb (x / 2 ^ (a.n % 8)) 0) (c.wide.ensures.0 ∙ sym (byte_part a.image.now a.at k (a.n / 8) (omega arith)))
+    ap (λ (x : ℕ). eqb (x / 2 ^ (a.n % 8)) 0) (c.from.ensures ∙ sym (byte_part a.image.now a.at k (a.n / 8) (omega arith)))
     ∙ sym (spare_last a.n (part a.image.now a.at k) (length_part a.image.now a.at k c.requires) (small_part a.image.now a.at k small) ne)

@@ -1,12 +1,6 @@
--- The loop: the mask of the labels from i on, eight at a time.
-use mathlib.Core.Path.{◌≡◌}
-use Prim.Native.Nat.{◌+◌, ◌-◌, ◌%◌, ◌≤◌}
-use Rattle.check_levels.specs.MaskLaws.{mask}
-use Rattle.check_trie.specs.WordEntries.{ascends}
+-- The test of a label by its position.
+use Rattle.std.specs.Prelude.{suc, get_or, ltb}
 use Rattle.check_trie.proofs.label_masks.ascents.Given as goal
 
-abbrev pub invariant-loop-i : goal.invariant-loop-i
-invariant-loop-i l = (l.i ≤ 64) × (l.i % 8 ≡ 0) × (l.m ≡ mask (ascends l.sl (l.at + l.i)) (64 - l.i))
-
-abbrev pub decreases-loop-i : goal.decreases-loop-i
-decreases-loop-i l = l.i
+abbrev pub ghost-mask_of_64 : goal.ghost-mask_of_64
+ghost-mask_of_64 a = λ j. ltb (get_or a.eight.0.now j 0) (get_or a.eight.0.now (suc j) 0)

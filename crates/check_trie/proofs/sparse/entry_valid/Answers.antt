@@ -6,16 +6,16 @@ pub returns-then-begins : goal.returns-then-begins
 returns-then-begins c =
     let a = c.args in
     let b = c.bit_at-continues in
-    entry_last a.sl.now a.sc.now a.at.0 b.result b.ensures a.root a.start a.begins c.if-begins.true
+    entry_last a.bodies.now.labels.now a.bodies.now.children.now a.at.0 b.result b.ensures a.root a.start a.begins c.if-begins.true
 
-pub returns-then-start-sl : goal.returns-then-start-sl
-returns-then-start-sl c =
+pub returns-then-start-bodies : goal.returns-then-start-bodies
+returns-then-start-bodies c =
     let a = c.args in
     let b = c.bit_at-continues in
-    entry_extra a.sl.now a.sc.now a.at.0 b.result b.ensures a.root a.start a.begins c.if-begins.false c.if-start-sl.true
+    entry_extra a.bodies.now.labels.now a.bodies.now.children.now a.at.0 b.result b.ensures a.root a.start a.begins c.if-begins.false c.if-start-bodies.true
 
 pub returns : goal.returns
 returns c =
     let a = c.args in
     let b = c.bit_at-continues in
-    entry_label a.sl.now a.sc.now a.at.0 b.result b.ensures a.root a.start a.begins c.if-begins.false c.if-start-sl.false
+    entry_label a.bodies.now.labels.now a.bodies.now.children.now a.at.0 b.result b.ensures a.root a.start a.begins c.if-begins.false c.if-start-bodies.false

@@ -13,7 +13,7 @@ pub returns-then-words-eq0 : goal.returns-then-words-eq0
 returns-then-words-eq0 c =
     let a = c.args in
     let e = c.last_valid-end in
-    later_few a.sl.now a.sc.now a.sb.now a.last.0 e.result c.requires.0 e.ensures c.range_valid.result c.range_valid.ensures
+    later_few a.bodies.now.labels.now a.bodies.now.children.now a.bodies.now.starts.now a.last.0 e.result c.requires.0 e.ensures c.range_valid.result c.range_valid.ensures
 
 pub returns : goal.returns
 returns c =
@@ -21,5 +21,5 @@ returns c =
     let a = c.args in
     let e = c.last_valid-end in
     let w = words a.last.0 c.if-words-eq0.false in
-    later_words a.sl.now a.sc.now a.sb.now a.last.0 e.result c.requires.0 e.ensures (a.last.0 / 64) range-valid2.result c.words_valid-middle.result c.range_valid-rest.result
+    later_words a.bodies.now.labels.now a.bodies.now.children.now a.bodies.now.starts.now a.last.0 e.result c.requires.0 e.ensures (a.last.0 / 64) range-valid2.result c.words_valid-middle.result c.range_valid-rest.result
     w.0 w.1 range-valid2.ensures c.words_valid-middle.ensures c.range_valid-rest.ensures

@@ -31,16 +31,16 @@ pub returns-then-not-entry_valid : goal.returns-then-not-entry_valid
 returns-then-not-entry_valid c =
     let a = c.args in
     let l = c.loop-j in
-    let e = entry_judged a.sl.now a.sc.now a.sb.now l.j c.bit_at-start.ensures c.bit_at-begins.ensures c.entry_valid.ensures in
-    sym (l.invariant.1 ∙ from_fail (later_entry_valid a.sl.now a.sc.now a.sb.now) l.j a.to.0 c.loop-j-test.true (e ∙ c.if-not-entry_valid.true))
+    let e = entry_judged a.bodies.now.labels.now a.bodies.now.children.now a.bodies.now.starts.now l.j c.bit_at-start.ensures c.bit_at-begins.ensures c.entry_valid.ensures in
+    sym (l.invariant.1 ∙ from_fail (later_entry_valid a.bodies.now.labels.now a.bodies.now.children.now a.bodies.now.starts.now) l.j a.to.0 c.loop-j-test.true (e ∙ c.if-not-entry_valid.true))
 
 pub loop-j-preserved : goal.loop-j-preserved
 loop-j-preserved c =
     let if1 = c.loop-j-test in
     let a = c.args in
     let l = c.loop-j in
-    let e = entry_judged a.sl.now a.sc.now a.sb.now l.j c.bit_at-start.ensures c.bit_at-begins.ensures c.entry_valid.ensures in
-    (next if1.true, l.invariant.1 ∙ from_step (later_entry_valid a.sl.now a.sc.now a.sb.now) l.j a.to.0 if1.true (e ∙ c.if-not-entry_valid.false))
+    let e = entry_judged a.bodies.now.labels.now a.bodies.now.children.now a.bodies.now.starts.now l.j c.bit_at-start.ensures c.bit_at-begins.ensures c.entry_valid.ensures in
+    (next if1.true, l.invariant.1 ∙ from_step (later_entry_valid a.bodies.now.labels.now a.bodies.now.children.now a.bodies.now.starts.now) l.j a.to.0 if1.true (e ∙ c.if-not-entry_valid.false))
   where
     next : {j to : ℕ} → j < to → j + 1 ≤ to
     next h = omega arith
@@ -49,4 +49,4 @@ pub returns : goal.returns
 returns c =
     let a = c.args in
     let l = c.loop-j in
-    sym (l.invariant.1 ∙ from_end (later_entry_valid a.sl.now a.sc.now a.sb.now) l.j a.to.0 c.loop-j-test.false)
+    sym (l.invariant.1 ∙ from_end (later_entry_valid a.bodies.now.labels.now a.bodies.now.children.now a.bodies.now.starts.now) l.j a.to.0 c.loop-j-test.false)

@@ -18,7 +18,7 @@ pub returns-then-n-eq0 : goal.returns-then-n-eq0
 returns-then-n-eq0 c =
     let a = c.args in
     let z = c.requires in
-    sym (sparse_none a.sl.now a.sc.now a.sb.now a.n z.labels z.children z.starts a.root c.if-n-eq0.true)
+    sym (sparse_none a.bodies.now.labels.now a.bodies.now.children.now a.bodies.now.starts.now a.n z.labels z.children z.starts a.root c.if-n-eq0.true)
 
 pub returns-then-n-eq1 : goal.returns-then-n-eq1
 returns-then-n-eq1 c =
@@ -26,7 +26,7 @@ returns-then-n-eq1 c =
     let z = c.requires in
     let k = one c.if-n-eq1.true in
     ap (λ (k : ℕ). eqb k 1 || a.root) c.bit_at.ensures
-    ∙ sym (sparse_some a.sl.now a.sc.now a.sb.now a.n z.labels z.children z.starts a.root k.0 ∙ ap (entries_from a.sl.now a.sc.now a.sb.now a.root true 0) k.1 ∙ entries_last a.sl.now a.sc.now a.sb.now a.root true 0)
+    ∙ sym (sparse_some a.bodies.now.labels.now a.bodies.now.children.now a.bodies.now.starts.now a.n z.labels z.children z.starts a.root k.0 ∙ ap (entries_from a.bodies.now.labels.now a.bodies.now.children.now a.bodies.now.starts.now a.root true 0) k.1 ∙ entries_last a.bodies.now.labels.now a.bodies.now.children.now a.bodies.now.starts.now a.root true 0)
 
 pub returns : goal.returns
 returns c =
@@ -34,5 +34,5 @@ returns c =
     let a = c.args in
     let z = c.requires in
     let k = several a.n c.if-n-eq0.false c.if-n-eq1.false in
-    first_later a.sl.now a.sc.now a.sb.now a.root c.entry_valid-valid.result c.later_valid.result a.n bit-at2.result k.1 bit-at2.ensures c.entry_valid-valid.ensures c.later_valid.ensures
-    ∙ sym (sparse_some a.sl.now a.sc.now a.sb.now a.n z.labels z.children z.starts a.root k.0)
+    first_later a.bodies.now.labels.now a.bodies.now.children.now a.bodies.now.starts.now a.root c.entry_valid-valid.result c.later_valid.result a.n bit-at2.result k.1 bit-at2.ensures c.entry_valid-valid.ensures c.later_valid.ensures
+    ∙ sym (sparse_some a.bodies.now.labels.now a.bodies.now.children.now a.bodies.now.starts.now a.n z.labels z.children z.starts a.root k.0)
