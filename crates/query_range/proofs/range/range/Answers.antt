@@ -44,4 +44,4 @@ pub returns-in-Leaf : goal.returns-in-Leaf
 returns-in-Leaf c =
     let v = c.args.image.now in
     let leaf = range_leaf v.bytes.now v.frame c.args.lo.now c.args.hi.now (accepted v) c.requires.0 c.requires.1 (omega (arith, c.shared-n.ensures)) c.in-Leaf.ensures in
-    leaf.decides ∙ ap bit (rw c.slot.ensures at (sym c.open_between.ensures))
+    rw (c.open_between.ensures, c.slot.ensures) leaf.decides
