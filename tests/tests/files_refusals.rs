@@ -16,7 +16,7 @@ const NUMBERS: [u32; 19] = [
 /// The number that order 9 has retired.
 const RETIRED: u32 = 6;
 
-/// A refusal as the table and the page have it.
+/// A refusal as the table and the page have it, under the name that other languages have for it.
 #[derive(Debug, PartialEq)]
 struct Refusal {
     number: u32,
@@ -42,18 +42,29 @@ fn between<'a>(text: &'a str, opening: &str, closing: &str) -> &'a str {
     part
 }
 
-/// Reads a comment of the table and the constant below it:
-/// `// 15, check, ask, walk: the cause.` and `pub const TABLE_WRONG: u32 = 15;`.
-fn read_constant(lines: &str) -> Option<Refusal> {
-    let (comment, constant) = lines.split_once('\n')?;
-    let comment = comment.strip_prefix("// ")?.strip_suffix('.')?;
+/// Gives the name that other languages have for a variant: TABLE_WRONG for `TableWrong`.
+fn name_of(variant: &str) -> String {
+    let mut name = String::new();
+    for letter in variant.chars() {
+        if letter.is_uppercase() && !name.is_empty() {
+            name.push('_');
+        }
+        name.extend(letter.to_uppercase());
+    }
+    name
+}
+
+/// Reads a comment of the table and the variant below it:
+/// `// 15, check, ask, walk: the cause.` and `TableWrong = 15,`.
+fn read_refusal(lines: &str) -> Option<Refusal> {
+    let (comment, variant) = lines.split_once('\n')?;
+    let comment = comment.trim().strip_prefix("// ")?.strip_suffix('.')?;
     let (head, cause) = comment.split_once(": ")?;
     let (number, calls) = head.split_once(", ")?;
-    let constant = constant.strip_prefix("pub const ")?.strip_suffix(';')?;
-    let (name, value) = constant.split_once(": u32 = ")?;
+    let (variant, value) = variant.trim().strip_suffix(',')?.split_once(" = ")?;
     (value == number).then_some(Refusal {
         number: number.parse().ok()?,
-        name: name.to_owned(),
+        name: name_of(variant),
         calls: calls.to_owned(),
         cause: cause.to_owned(),
     })
@@ -62,12 +73,12 @@ fn read_constant(lines: &str) -> Option<Refusal> {
 /// Gives the refusals of the table. Its first line says what it is.
 fn table() -> Vec<Refusal> {
     let text = read(&root().join(TABLE));
-    let mut parts = text.trim_end().split("\n\n");
-    let first = parts.next().expect("the table has a first line");
-    assert!(first.starts_with("// ") && first.lines().count() == 1);
+    let first = text.lines().next().expect("the table has a first line");
+    assert!(first.starts_with("// "));
     assert!(first.contains(&format!("Number {RETIRED} is retired")));
-    let refusal = |part| read_constant(part).unwrap_or_else(|| panic!("no constant: {part}"));
-    parts.map(refusal).collect()
+    let variants = between(&text, "\npub enum Refusal {\n", "\n}\n");
+    let refusal = |part| read_refusal(part).unwrap_or_else(|| panic!("no variant: {part}"));
+    variants.split("\n\n").map(refusal).collect()
 }
 
 /// Reads a row of the page's table. A retired number has no name.
@@ -181,17 +192,23 @@ fn sources(folder: &Path) -> Vec<PathBuf> {
     found
 }
 
-/// Gives the name of the number of 32 bits that a line of Rattle declares: `const NAME: u32 = 15;`.
-fn declared(line: &str) -> Option<&str> {
+/// Gives the number of 32 bits that a line of Rattle declares, `const NAME: u32 = 15;`, if it is one.
+fn declared(line: &str) -> Option<u32> {
     let line = line.trim_start();
     let line = line.strip_prefix("pub ").unwrap_or(line);
-    let (name, _) = line.strip_prefix("const ")?.split_once(": u32 =")?;
-    Some(name)
+    let (_, value) = line.strip_prefix("const ")?.split_once(": u32 = ")?;
+    value.strip_suffix(';')?.parse().ok()
+}
+
+/// Gives the number of a refusal that a line of Rattle makes by itself: `Err(15)`.
+fn made(line: &str) -> Option<u32> {
+    let (_, behind) = line.split_once("Err(")?;
+    let (number, _) = behind.split_once(')')?;
+    number.parse().ok()
 }
 
 #[test]
 fn no_other_file_declares_a_refusal() {
-    let names = names();
     let files = sources(&root().join("crates")).into_iter();
     let (tables, others): (Vec<PathBuf>, Vec<PathBuf>) =
         files.partition(|path| *path == root().join(TABLE));
@@ -199,12 +216,14 @@ fn no_other_file_declares_a_refusal() {
     let mut again = Vec::new();
     for path in others {
         let text = read(&path);
-        let constants = text.lines().filter_map(declared);
-        let refusals = constants.filter(|constant| names.iter().any(|(_, name)| name == constant));
-        again.extend(refusals.map(|name| format!("{name} in {}", path.display())));
+        let numbers = text
+            .lines()
+            .filter_map(|line| declared(line).or(made(line)));
+        let refusals = numbers.filter(|number| NUMBERS.contains(number));
+        again.extend(refusals.map(|number| format!("{number} in {}", path.display())));
     }
     assert!(
         again.is_empty(),
-        "use the constants of {TABLE} in the place of these: {again:#?}"
+        "use the variants of {TABLE} in the place of these: {again:#?}"
     );
 }

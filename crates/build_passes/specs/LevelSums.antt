@@ -18,7 +18,8 @@ use Rattle.build_laws.specs.PassEmissions.{leaf_level, leaf_level_from, leaf_lev
 use Rattle.build_laws.specs.Counters.{zeros_at}
 use Rattle.build_passes.specs.CounterSums.{cursor_more}
 use Rattle.build_laws.specs.KeyLaws.{pred_sub, level_exact, level_open}
-use Rattle.build_keys.specs.CountPass.{starts_of, leaf_level_of, raised, LevelCounts, level_counts, no_counts, count_key, counts_same}
+use Rattle.build_keys.specs.CountPass.{starts_of, leaf_level_of, raised, level_counts, no_counts, count_key, counts_same}
+use Rattle.build_keys.specs.declared.LevelCounts.{LevelCounts}
 use Rattle.build_laws.specs.declared.Key.{Key}
 use Rattle.build_laws.specs.Limits.{counters, counter_max}
 

@@ -3,11 +3,10 @@ ghost use Rattle.std.specs.Prelude.{◌≡◌, ◌++◌, ◌+◌, ◌<◌, drop}
 ghost use Rattle.bits.specs.Bits.{overlaid};
 ghost use Rattle.build_records.specs.BodyChoice.{level_range};
 ghost use Rattle.build_records.specs.BodyFilled.{left_flipped};
-ghost use Rattle.build_keys.specs.CountPass.{level_counts};
 ghost use Rattle.build_records.specs.Plan.{source_at, source_counters, counters_at, list_body, BodyRoom, LaidOut, span_at, body_at, start_at, Writing};
 
 use super::{Plan, Source};
-use build_keys::{COUNTERS, Counters};
+use build_keys::{COUNTERS, Counters, LevelCounts};
 use build_laws::{Body, Kind, LevelRange, Pass, SlotBits};
 use build_passes::fill::write_keys;
 use build_passes::flip::flip;
@@ -49,49 +48,22 @@ fn level_range(body: Body, dense: usize) -> LevelRange
             lo: 0,
             hi: MAX_LEVELS,
         },
-        Body::Entries(kind) => match kind {
-            Kind::DL => LevelRange { lo: 0, hi: dense },
-            Kind::DC => LevelRange { lo: 0, hi: dense },
-            Kind::DP => LevelRange { lo: 0, hi: dense },
-            Kind::SL => LevelRange {
-                lo: dense,
-                hi: MAX_LEVELS,
-            },
-            Kind::SC => LevelRange {
-                lo: dense,
-                hi: MAX_LEVELS,
-            },
-            Kind::SB => LevelRange {
-                lo: dense,
-                hi: MAX_LEVELS,
-            },
+        Body::Entries(Kind::DL | Kind::DC | Kind::DP) => LevelRange { lo: 0, hi: dense },
+        Body::Entries(Kind::SL | Kind::SC | Kind::SB) => LevelRange {
+            lo: dense,
+            hi: MAX_LEVELS,
         },
     }
 }
 
 // The counters that say where the levels of a body start, by its source; of a body that no pass fills, any of them.
-pub fn counters_of(
-    source: Source,
-    entries: &Counters,
-    nodes: &Counters,
-    leaves: &Counters,
-) -> Counters
-    ensures { result ≡ source_counters (level_counts entries.now nodes.now leaves.now) source }
+pub fn counters_of(source: Source, counts: &LevelCounts) -> &Counters
+    ensures { result.now ≡ source_counters counts.now source }
 {
     match source {
-        Source::Keys(body) => match body {
-            Body::Slots => *leaves,
-            Body::Entries(kind) => match kind {
-                Kind::DL => *nodes,
-                Kind::DC => *nodes,
-                Kind::DP => *nodes,
-                Kind::SL => *entries,
-                Kind::SC => *entries,
-                Kind::SB => *entries,
-            },
-        },
-        Source::Ranks(_, _) => *leaves,
-        Source::Samples(_) => *leaves,
+        Source::Keys(Body::Entries(Kind::DL | Kind::DC | Kind::DP)) => &counts.nodes,
+        Source::Keys(Body::Entries(Kind::SL | Kind::SC | Kind::SB)) => &counts.entries,
+        _ => &counts.leaves,
     }
 }
 
@@ -99,17 +71,7 @@ pub fn counters_of(
 fn leaves_flipped(body: Body) -> bool
     ensures { result ≡ left_flipped body }
 {
-    match body {
-        Body::Slots => false,
-        Body::Entries(kind) => match kind {
-            Kind::DL => false,
-            Kind::DC => false,
-            Kind::DP => false,
-            Kind::SL => false,
-            Kind::SC => true,
-            Kind::SB => true,
-        },
-    }
+    matches!(body, Body::Entries(Kind::SC | Kind::SB))
 }
 
 // A body of so many bytes, filled by a pass over the keys, goes to the front of out, and all else stays; an empty one takes no pass.
@@ -125,8 +87,8 @@ fn fill_from_keys(out: &mut [u8], len: usize, list: &[u8], plan: Plan, cnt: &Cou
     let mut cur = [0u32; COUNTERS];
     set_offsets(&mut cur, cnt, levels.lo);
     let pass = Pass {
-        body: body,
-        levels: levels,
+        body,
+        levels,
         slot: SlotBits {
             hash_width: plan.header.hash_width,
             real_width: plan.header.real_width,
@@ -143,11 +105,9 @@ fn body_span(plan: Plan, i: usize) -> Span
     requires { LaidOut plan i }
     ensures { result ≡ span_at plan i }
 {
-    let starts = plan.starts;
-    let h = plan.header;
     Span {
-        at: starts[i] + BEFORE_BODY,
-        len: body_size(h, i),
+        at: plan.starts[i] + BEFORE_BODY,
+        len: body_size(plan.header, i),
     }
 }
 
@@ -159,8 +119,7 @@ pub fn fill_body(out: &mut [u8], list: &[u8], plan: Plan, cnt: &Counters, i: usi
     let span = body_span(plan, i);
     let start = span.at;
     let len = span.len;
-    let source = source_of(i);
-    match source {
+    match source_of(i) {
         Source::Keys(body) => fill_from_keys(&mut out[start..], len, list, plan, cnt, body),
         Source::Ranks(j, words) => {
             let counted = body_span(plan, j);

@@ -16,67 +16,53 @@ ghost use Rattle.check_frame.specs.Found.{RecordFound, TwelveFound, end_found, I
 use bits::numbers::{read32, wide};
 use check_tables::judge::ranks_at;
 use image::header_bytes::{MAX_LEAVES, VERSION_AT, read_header, settings_in_range};
-use image::refusals::{FRAME_WRONG, HEADER_WRONG};
+use image::refusals::Refusal;
 use image::table::{BEFORE_BODY, HEADER, MARK_BYTES, RECORDS, body_size, mark, record_starts};
 use image::{DENSE_BLOCK_WORDS, DenseTotals, Frame, Header, LEVELED_VERSION, ROW_BITS, Settings};
 
-// Where the record at an offset ends, or that no such record stands there.
-#[derive(Clone, Copy)]
-pub enum RecordEnd {
-    At(usize),
-    Missing,
-}
-
 // Where record number i ends, if it stands at an offset: its mark, its length, and its body within the image.
-fn record_end(image: &[u8], i: usize, at: usize) -> RecordEnd
+fn record_end(image: &[u8], i: usize, at: usize) -> Option<usize>
     requires { (i < 13) × (at ≤ length image.now) }
     ensures { RecordFound image.now i at result }
 {
     let mark = mark(i);
     let left = image.len() - at;
     if left < BEFORE_BODY {
-        return RecordEnd::Missing;
+        return None;
     }
     let len = read32(image, at + MARK_BYTES);
     if left - BEFORE_BODY < len {
-        return RecordEnd::Missing;
+        return None;
     }
     if image[at] != mark[0] {
-        return RecordEnd::Missing;
+        return None;
     }
     if image[at + 1] != mark[1] {
-        return RecordEnd::Missing;
+        return None;
     }
-    RecordEnd::At(at + BEFORE_BODY + len)
+    Some(at + BEFORE_BODY + len)
 }
 
 // Where the last of the twelve records ends, if all stand behind the header.
-fn twelve_end(image: &[u8]) -> RecordEnd
+fn twelve_end(image: &[u8]) -> Option<usize>
     requires { 22 ≤ length image.now }
     ensures { TwelveFound image.now result }
 {
     let mut at = HEADER;
-    let mut i = 0usize;
-    while i < RECORDS {
-        let RecordEnd::At(end) = record_end(image, i, at) else {
-            return RecordEnd::Missing;
-        };
-        at = end;
-        i = i + 1;
+    for i in 0..RECORDS {
+        at = record_end(image, i, at)?;
     }
-    RecordEnd::At(at)
+    Some(at)
 }
 
 // Where the last record ends, if all of the version stand: in the version that has it, LV behind the twelve.
-fn last_end(image: &[u8]) -> RecordEnd
+fn last_end(image: &[u8]) -> Option<usize>
     requires { 22 ≤ length image.now }
     ensures { end_found result ≡ records_end (rows_of image.now) image.now 22 }
 {
-    let RecordEnd::At(end) = twelve_end(image) else {
-        return RecordEnd::Missing;
-    };
+    let end = twelve_end(image)?;
     if wide(image[VERSION_AT]) != LEVELED_VERSION {
-        return RecordEnd::At(end);
+        return Some(end);
     }
     record_end(image, RECORDS, end)
 }
@@ -91,7 +77,7 @@ fn settings_valid(h: Header) -> bool
         real_width: h.real_width,
         hash_width: h.hash_width,
     };
-    settings_in_range(settings) & (h.leaves <= MAX_LEAVES)
+    settings_in_range(settings) && (h.leaves <= MAX_LEAVES)
 }
 
 // Each of the twelve records has just the body length that the header gives.
@@ -100,14 +86,12 @@ fn lengths_valid(image: &[u8], h: Header) -> bool
     ensures { result ≡ lengths_agree (settings_of h) (counts_of h) rows image.now 22 }
 {
     let mut at = HEADER;
-    let mut i = 0usize;
-    while i < RECORDS {
+    for i in 0..RECORDS {
         let len = read32(image, at + MARK_BYTES);
         if len != body_size(h, i) {
             return false;
         }
         at = at + BEFORE_BODY + len;
-        i = i + 1;
     }
     true
 }
@@ -208,38 +192,29 @@ fn laid_out(image: &[u8], h: Header) -> RankedFrame
     }
 }
 
-// What reading an image gives: its frame, or the number with which it is refused.
-#[derive(Clone, Copy)]
-pub enum FrameRead {
-    At(RankedFrame),
-    Refused(u32),
-}
-
 // The frame of an image, or 11 where a part of it does not stand there, or 12 where the header or a length is wrong.
-pub fn read_frame(image: &[u8]) -> FrameRead
+pub fn read_frame(image: &[u8]) -> Result<RankedFrame, Refusal>
     ensures { ReadAs image.now result }
 {
     if image.len() < HEADER {
-        return FrameRead::Refused(FRAME_WRONG);
+        return Err(Refusal::FrameWrong);
     }
     if image[0] != b'H' {
-        return FrameRead::Refused(FRAME_WRONG);
+        return Err(Refusal::FrameWrong);
     }
     if image[1] != b'D' {
-        return FrameRead::Refused(FRAME_WRONG);
+        return Err(Refusal::FrameWrong);
     }
-    let RecordEnd::At(end) = last_end(image) else {
-        return FrameRead::Refused(FRAME_WRONG);
-    };
+    let end = last_end(image).ok_or(Refusal::FrameWrong)?;
     if end != image.len() {
-        return FrameRead::Refused(FRAME_WRONG);
+        return Err(Refusal::FrameWrong);
     }
     let h = read_header(image);
     if !settings_valid(h) {
-        return FrameRead::Refused(HEADER_WRONG);
+        return Err(Refusal::HeaderWrong);
     }
     if !lengths_valid(image, h) {
-        return FrameRead::Refused(HEADER_WRONG);
+        return Err(Refusal::HeaderWrong);
     }
-    FrameRead::At(laid_out(image, h))
+    Ok(laid_out(image, h))
 }

@@ -1,26 +1,23 @@
 -- What the public call check answers, as document 01's numbers, and what accepting an image gives.
-use Rattle.std.specs.Prelude.{ℕ, ◌≤◌, ◌≡◌}
-use Rattle.std.proofs.Common.{arith}
+use Rattle.std.specs.Prelude.{◌≡◌, Result, Ok, Err}
 use Rattle.spec.specs.Bytes.{Bytes}
 use Rattle.spec.specs.Check.{verdict, Checked, accepted, refused}
 use Rattle.theory.specs.Demands.{CheckRefusal}
-use Rattle.theory.proofs.CheckStages.{refusal_verdict, refusal_number}
-use Rattle.image.specs.FrameOf.{FrameOf}
-use Rattle.check_image.specs.declared.Checked.{Checked as Answer}
-use Rattle.check_image.specs.declared.Checked.TheVariants.{Accepted, Refused}
-use Rattle.image.specs.declared.Framed.{Framed}
-use Rattle.image.specs.declared.Framed.TheVariants as framed
+use Rattle.theory.proofs.CheckStages.{refusal_verdict}
+use Rattle.image.specs.Refusals.{number_of}
+use Rattle.image.specs.declared.refusals.Refusal.{Refusal}
+use Rattle.image.specs.declared.AcceptedImage.{AcceptedImage}
 
 -- the document's answer for each case
-abbrev pub answer : Answer → Checked
-answer Accepted = accepted
-answer (Refused n) = refused n
+abbrev pub answer : Result (Unit {0}) Refusal → Checked
+answer (Ok _) = accepted
+answer (Err r) = refused (number_of r)
 
--- what accepting an image gives: its frame, with a verdict of 0; or the verdict's number
-abbrev pub CheckedAs : Bytes → Framed → Type 0
-CheckedAs s (framed.At f) = FrameOf s f × (verdict s ≡ 0)
-CheckedAs s (framed.Refused n) = (verdict s ≡ n) × (1 ≤ n)
+-- what accepting an image gives: the image, with a frame of it and a verdict of 0; or a refusal by the verdict's number
+abbrev pub CheckedAs : Bytes → Result AcceptedImage Refusal → Type 0
+CheckedAs s (Ok a) = a.bytes.now ≡ s
+CheckedAs s (Err r) = verdict s ≡ number_of r
 
--- A refusal is the verdict's number.
-pub refuses : {s : Bytes} {n : ℕ} → CheckRefusal s n → CheckedAs s (framed.Refused n)
-refuses r = (refusal_verdict r, omega (arith, refusal_number r))
+-- A refusal is by the verdict's number.
+pub refuses : {s : Bytes} (r : Refusal) → CheckRefusal s (number_of r) → CheckedAs s (Err r)
+refuses r h = refusal_verdict h

@@ -7,63 +7,54 @@ ghost use Rattle.spec.specs.Check.{check};
 ghost use Rattle.check_frame.specs.Found.{IsRankedFrame};
 ghost use Rattle.check_image.specs.Answers.{answer, CheckedAs};
 
-use check_frame::{FrameRead, RankedFrame, read_frame};
+use check_frame::{RankedFrame, read_frame};
 use check_slots::judge::slots_valid;
 use check_slots::level_table::starts_valid;
 use check_tables::judge::count_sparse;
 use check_tables::spare::spare_clear;
 use check_trie::trie::trie_valid;
-use image::Framed;
-use image::refusals::{SLOT_WRONG, SPARE_BIT_SET, TABLE_WRONG, TRIE_WRONG};
+use image::AcceptedImage;
+use image::refusals::Refusal;
 
-// What check says of an image: accepted, or refused with the first of 11 to 16 that applies.
-#[derive(Clone, Copy)]
-pub enum Checked {
-    Accepted,
-    Refused(u32),
-}
-
-// The frame, if none of the numbers 13 to 16 applies, or the number of the refusal. The ranks are compared where the ones are counted, and judged in their turn.
-fn judge(image: &[u8], read: RankedFrame) -> Framed
+// The image with its frame, if none of the numbers 13 to 16 applies, or the refusal. The ranks are compared where the ones are counted, and judged in their turn.
+fn judge<'a>(image: &'a [u8], read: RankedFrame) -> Result<AcceptedImage<'a>, Refusal>
     requires { IsRankedFrame image.now read }
     ensures { CheckedAs image.now result }
 {
     let f = read.frame;
     if !spare_clear(image, f) {
-        return Framed::Refused(SPARE_BIT_SET);
+        return Err(Refusal::SpareBitSet);
     }
     let counts = count_sparse(image, f);
     if !trie_valid(image, f, counts) {
-        return Framed::Refused(TRIE_WRONG);
+        return Err(Refusal::TrieWrong);
     }
-    if !(read.agrees & counts.agrees) {
-        return Framed::Refused(TABLE_WRONG);
+    if !(read.agrees && counts.agrees) {
+        return Err(Refusal::TableWrong);
     }
     if !starts_valid(image, f) {
-        return Framed::Refused(TABLE_WRONG);
+        return Err(Refusal::TableWrong);
     }
     if !slots_valid(image, f) {
-        return Framed::Refused(SLOT_WRONG);
+        return Err(Refusal::SlotWrong);
     }
-    Framed::At(f)
+    Ok(AcceptedImage {
+        bytes: image,
+        frame: f,
+    })
 }
 
-// The frame of an accepted image, or the number of the refusal.
-pub fn accept(image: &[u8]) -> Framed
+// An accepted image with its frame, or the refusal.
+pub fn accept<'a>(image: &'a [u8]) -> Result<AcceptedImage<'a>, Refusal>
     ensures { CheckedAs image.now result }
 {
-    match read_frame(image) {
-        FrameRead::At(read) => judge(image, read),
-        FrameRead::Refused(n) => Framed::Refused(n),
-    }
+    judge(image, read_frame(image)?)
 }
 
-// What check says of an image.
-pub fn check(image: &[u8]) -> Checked
+// What check says of an image: accepted, or refused with the first of 11 to 16 that applies.
+pub fn check(image: &[u8]) -> Result<(), Refusal>
     ensures { answer result ≡ check image.now }
 {
-    match accept(image) {
-        Framed::At(_) => Checked::Accepted,
-        Framed::Refused(n) => Checked::Refused(n),
-    }
+    accept(image)?;
+    Ok(())
 }

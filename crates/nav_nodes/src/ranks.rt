@@ -4,15 +4,15 @@ ghost use Rattle.bits.specs.Bits.{rank, select};
 ghost use Rattle.rank_tables.specs.Reading.{RankTable, SampleTable};
 
 use bits_select::select::next_one;
-use image::{AcceptedImage, BitPos, NodeNum, ROW_BITS};
-use rank_tables::read::{rank_64, rank_512, select_64};
+use image::{AcceptedImage, BitPos, DENSE_BLOCK_WORDS, NodeNum, ROW_BITS, SPARSE_BLOCK_WORDS};
+use rank_tables::read::{rank_by_table, select_64};
 
 // The ones before bit k of the n bits of the body at an offset, by the table of those before each block of 64 at another.
 fn rank_at(image: &[u8], body: usize, table: usize, n: usize, k: usize) -> usize
     requires { (body ≤ length image.now) × (table ≤ length image.now) × RankTable 64 n (drop body image.now) (drop table image.now) × (k ≤ n) }
     ensures { result ≡ rank (drop body image.now) k }
 {
-    rank_64(&image[body..], &image[table..], n, k)
+    rank_by_table::<DENSE_BLOCK_WORDS>(&image[body..], &image[table..], n, k)
 }
 
 // The labels before a bit of DL.
@@ -62,7 +62,7 @@ pub fn entry_rank(image: &AcceptedImage, at: BitPos) -> usize
     requires { at.0 ≤ image.now.frame.sparse.entries }
     ensures { result ≡ rank (drop image.now.frame.sc image.now.bytes.now) at.0 }
 {
-    rank_512(
+    rank_by_table::<SPARSE_BLOCK_WORDS>(
         &image.bytes[image.frame.sc..],
         &image.bytes[image.frame.rs..],
         image.frame.sparse.entries,

@@ -19,8 +19,8 @@ use Rattle.image.specs.declared.ValuePos.{ValuePos}
 use Rattle.nav_branches.specs.declared.LeafStop.{LeafStop}
 use Rattle.nav_branches.specs.declared.LeafStop.TheVariants.{Nowhere, Open}
 use Rattle.keys.specs.Order.{order}
-use Rattle.keys.specs.declared.compare.Order.TheVariants.{Below, Equal, Above}
-use Rattle.keys.proofs.OrderLaws.{order_is_below, order_not_below}
+use Rattle.std.specs.declared.cmp.Ordering.TheVariants.{Less, Equal, Greater}
+use Rattle.keys.proofs.OrderLaws.{order_not_below}
 use Rattle.nav_nodes.specs.Accepted.{Accepted, nodes, real_leaves, real_slot, real_realizable, real_sized}
 use Rattle.query_descent.specs.Bounds.{low_rest}
 use Rattle.query_descent.specs.Ordered.{passed, next_leaf, seek_is}
@@ -39,25 +39,20 @@ low_open s f v d key low h q = rw (length-take-le d key h) (ap some (sym q))
 -- ---- the greater of two keys, by their order
 
 module _ (a b : Bytes) where
-  -- the second of two that rise
-  pub greater_below : order a b ≡ Below → b ≡ greater a b
-  unfolding greater
-  greater_below e = rw (order_is_below a b e)
-
-  -- either of two that are the same, here the second
-  pub greater_equal : order a b ≡ Equal → b ≡ greater a b
-  unfolding order greater
-  greater_equal e = go (below a b) (equal a b) refl e
-    where
-      go : (l q : Bool) → equal a b ≡ q → cond l Below (cond q Equal Above) ≡ Equal → b ≡ cond l b a
-      go true q h e = refl
-      go false true h e = sym (equal_true a b h)
-      go false false h e = let z : ◌≡◌ {A = ℕ} 0 1 = cc in absurd (omega arith)
-
   -- the first of two that fall
-  pub greater_above : order a b ≡ Above → a ≡ greater a b
+  pub greater_above : order a b ≡ Greater → a ≡ greater a b
   unfolding greater
   greater_above e = rw (order_not_below a b (inr e))
+
+  -- the second of two that do not fall
+  pub greater_not_above : (order a b ≡ Greater → ⊥) → b ≡ greater a b
+  unfolding order greater
+  greater_not_above h = go (below a b) (equal a b) refl h
+    where
+      go : (l q : Bool) → equal a b ≡ q → (cond l Less (cond q Equal Greater) ≡ Greater → ⊥) → b ≡ cond l b a
+      go true q e n = refl
+      go false true e n = sym (equal_true a b e)
+      go false false e n = absurd (n refl)
 
 -- ---- what is found
 

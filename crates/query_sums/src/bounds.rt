@@ -4,8 +4,7 @@ ghost use Rattle.query_descent.specs.Summed.{Leading, passed_there, reached_ther
 ghost use Rattle.query_sums.specs.Bounds.{LeadsOn, BoundEnded, KeyEnded};
 
 use super::levels::LevelSum;
-use bits::numbers::{one_if, wide};
-use image::Frame;
+use image::AcceptedImage;
 use nav_branches::branches::find;
 use nav_nodes::BranchKind;
 use nav_nodes::behind::child_and_slot;
@@ -21,29 +20,26 @@ pub struct Bound {
 }
 
 // The bound of a key, from a node to which its first bytes lead: each level adds the slot number at the branch of the next byte.
-pub fn bound_from(image: &[u8], f: Frame, key: &[u8], from: LevelSum) -> Bound
-    requires { LeadsOn image.now f key.now from }
-    ensures { (above : ℕ) → Leading image.now f key.now from.node.0 from.depth (above + from.sum) → BoundEnded image.now f key.now above result }
+pub fn bound_from(image: &AcceptedImage, key: &[u8], from: LevelSum) -> Bound
+    requires { LeadsOn image.now.bytes.now image.now.frame key.now from }
+    ensures { (above : ℕ) → Leading image.now.bytes.now image.now.frame key.now from.node.0 from.depth (above + from.sum) → BoundEnded image.now.bytes.now image.now.frame key.now above result }
 {
     let mut level = from;
     while level.depth < key.len() {
-        let d = level.depth;
-        let m = level.node;
-        let found = find(image, f, m, wide(key[d]));
-        let next = child_and_slot(image, f, m, found.at);
-        let slot = next.slot;
-        let node = next.child;
-        let depth = d + 1;
-        let sum = level.sum + slot.0;
-        level = LevelSum { node, depth, sum };
-        let kind = found.kind;
-        match kind {
+        let found = find(image, level.node, usize::from(key[level.depth]));
+        let behind = child_and_slot(image, level.node, found.at);
+        level = LevelSum {
+            node: behind.child,
+            depth: level.depth + 1,
+            sum: level.sum + behind.slot.0,
+        };
+        match found.kind {
             BranchKind::Absent => {
                 let end = BoundEnd::NoLeaf;
                 return Bound { level, end };
             }
             BranchKind::Leaf => {
-                let end = BoundEnd::Leaf(slot);
+                let end = BoundEnd::Leaf(behind.slot);
                 return Bound { level, end };
             }
             BranchKind::Child => {}
@@ -54,29 +50,25 @@ pub fn bound_from(image: &[u8], f: Frame, key: &[u8], from: LevelSum) -> Bound
 }
 
 // 1 if the key leads to an open leaf whose highest key lies below it, else 0.
-pub fn passed_at(image: &[u8], f: Frame, key: &[u8], bound: Bound) -> usize
-    requires { KeyEnded image.now f key.now bound }
-    ensures { (result ≡ passed_there image.now f key.now) × (result ≤ 1) }
+pub fn passed_at(image: &AcceptedImage, key: &[u8], bound: Bound) -> usize
+    requires { KeyEnded image.now.bytes.now image.now.frame key.now bound }
+    ensures { (result ≡ passed_there image.now.bytes.now image.now.frame key.now) × (result ≤ 1) }
 {
-    let level = bound.level;
-    let end = bound.end;
-    match end {
+    match bound.end {
         BoundEnd::NoLeaf => 0,
         BoundEnd::Node => 0,
-        BoundEnd::Leaf(slot) => one_if(high_below(image, f, slot, key, level.depth)),
+        BoundEnd::Leaf(slot) => usize::from(high_below(image, slot, key, bound.level.depth)),
     }
 }
 
 // 1 if the key leads to a leaf whose lowest key does not lie above it, else 0.
-pub fn reached_at(image: &[u8], f: Frame, key: &[u8], bound: Bound) -> usize
-    requires { KeyEnded image.now f key.now bound }
-    ensures { (result ≡ reached_there image.now f key.now) × (result ≤ 1) }
+pub fn reached_at(image: &AcceptedImage, key: &[u8], bound: Bound) -> usize
+    requires { KeyEnded image.now.bytes.now image.now.frame key.now bound }
+    ensures { (result ≡ reached_there image.now.bytes.now image.now.frame key.now) × (result ≤ 1) }
 {
-    let level = bound.level;
-    let end = bound.end;
-    match end {
+    match bound.end {
         BoundEnd::NoLeaf => 0,
-        BoundEnd::Node => one_if(is_exact(image, f, level.node)),
-        BoundEnd::Leaf(slot) => one_if(!low_above(image, f, slot, key, level.depth)),
+        BoundEnd::Node => usize::from(is_exact(image, bound.level.node)),
+        BoundEnd::Leaf(slot) => usize::from(!low_above(image, slot, key, bound.level.depth)),
     }
 }

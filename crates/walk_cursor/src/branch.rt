@@ -5,7 +5,7 @@ ghost use Rattle.nav_nodes.specs.Positions.{child_at, slot_at};
 ghost use Rattle.query_descent.specs.LevelSums.{slots_below};
 ghost use Rattle.walk_cursor.specs.Located.{lowered_range, Summable, MoreLeaves, Ranges, Narrows, Takes};
 
-use image::{BitPos, Frame, NodeNum};
+use image::{AcceptedImage, BitPos, NodeNum};
 use nav_branches::branches::{is_there, next_branch};
 use nav_nodes::NextBranch;
 use nav_nodes::behind::child_and_slot;
@@ -24,20 +24,17 @@ pub struct Range {
 }
 
 // The sum of a branch of a node at a depth: its slot number, and the leaves before the first node behind it on each of the levels below. The leaves between two branches are the difference of their sums.
-fn branch_sum(image: &[u8], f: Frame, m: NodeNum, depth: usize, at: BitPos) -> usize
-    requires { Summable image.now f m.0 depth at.0 }
-    ensures { result ≡ slot_at image.now f m.0 at.0 + slots_below (nodes image.now f) (63 - depth) (child_at image.now f m.0 at.0) [] }
+fn branch_sum(image: &AcceptedImage, m: NodeNum, depth: usize, at: BitPos) -> usize
+    requires { Summable image.now.bytes.now image.now.frame m.0 depth at.0 }
+    ensures { result ≡ slot_at image.now.bytes.now image.now.frame m.0 at.0 + slots_below (nodes image.now.bytes.now image.now.frame) (63 - depth) (child_at image.now.bytes.now image.now.frame m.0 at.0) [] }
 {
-    let next = child_and_slot(image, f, m, at);
-    let slot = next.slot;
-    let child = next.child;
+    let next = child_and_slot(image, m, at);
     sum_below(
         image,
-        f,
         LevelSum {
-            node: child,
+            node: next.child,
             depth: depth + 1,
-            sum: slot.0,
+            sum: next.slot.0,
         },
     )
 }
@@ -46,61 +43,49 @@ fn branch_sum(image: &[u8], f: Frame, m: NodeNum, depth: usize, at: BitPos) -> u
 fn lowered(r: Range, high: usize) -> Range
     ensures { result ≡ lowered_range r high }
 {
-    let first = r.first;
-    let low = r.low;
-    Range {
-        first,
-        low,
-        before: r.before,
-        high,
-    }
+    Range { high, ..r }
 }
 
 // A range that is narrower by half at least, by the first branch from its middle on: it becomes the low one if no more than skip leaves stand before it.
 // Sums are taken only where there is such a branch before the range's end.
-fn narrow(image: &[u8], f: Frame, m: NodeNum, depth: usize, skip: usize, r: Range) -> Range
-    requires { MoreLeaves image.now f m.0 depth skip × Ranges image.now f m.0 depth skip r × (r.low.label + 1 < r.high) }
-    ensures { Narrows image.now f m.0 depth skip r result }
+fn narrow(image: &AcceptedImage, m: NodeNum, depth: usize, skip: usize, r: Range) -> Range
+    requires { MoreLeaves image.now.bytes.now image.now.frame m.0 depth skip × Ranges image.now.bytes.now image.now.frame m.0 depth skip r × (r.low.label + 1 < r.high) }
+    ensures { Narrows image.now.bytes.now image.now.frame m.0 depth skip r result }
 {
-    let low = r.low;
-    let first = r.first;
-    let middle = low.label + (r.high - low.label) / 2;
-    let b = next_branch(image, f, m, middle);
-    let kind = b.kind;
-    if !is_there(kind) {
+    let middle = r.low.label + (r.high - r.low.label) / 2;
+    let b = next_branch(image, m, middle);
+    if !is_there(b.kind) {
         return lowered(r, middle);
     }
     if r.high <= b.label {
         return lowered(r, middle);
     }
-    let start = branch_sum(image, f, m, depth, first);
-    let before = branch_sum(image, f, m, depth, b.at) - start;
+    let start = branch_sum(image, m, depth, r.first);
+    let before = branch_sum(image, m, depth, b.at) - start;
     if skip < before {
         return lowered(r, middle);
     }
     Range {
-        first,
         low: b,
         before,
-        high: r.high,
+        ..r
     }
 }
 
 // The branch of a node at a depth behind which the leaf with skip of the node's leaves before it stands, as the low one of a range with no other label.
-pub fn take_branch(image: &[u8], f: Frame, m: NodeNum, depth: usize, skip: usize) -> Range
-    requires { MoreLeaves image.now f m.0 depth skip }
-    ensures { Takes image.now f m.0 depth skip result }
+pub fn take_branch(image: &AcceptedImage, m: NodeNum, depth: usize, skip: usize) -> Range
+    requires { MoreLeaves image.now.bytes.now image.now.frame m.0 depth skip }
+    ensures { Takes image.now.bytes.now image.now.frame m.0 depth skip result }
 {
-    let low = next_branch(image, f, m, 0);
-    let first = low.at;
+    let low = next_branch(image, m, 0);
     let mut r = Range {
-        first,
+        first: low.at,
         low,
         before: 0,
         high: LABELS,
     };
     while r.low.label + 1 < r.high {
-        r = narrow(image, f, m, depth, skip, r);
+        r = narrow(image, m, depth, skip, r);
     }
     r
 }

@@ -1,10 +1,9 @@
 // The path from the root of an accepted image to the leaf at a place.
 ghost use Rattle.std.specs.Prelude.{◌<◌};
-ghost use Rattle.nav_nodes.specs.Accepted.{Accepted};
 ghost use Rattle.walk_cursor.specs.Located.{Leads};
 
 use super::branch::take_branch;
-use image::Frame;
+use image::AcceptedImage;
 use nav_branches::LeafStop;
 use nav_branches::path_leaf::PathEnd;
 use nav_branches::paths::root_path;
@@ -13,32 +12,30 @@ use nav_nodes::behind::{child, slot};
 use nav_nodes::nodes::is_exact;
 
 // The path to the leaf at a place. On each level the branch is taken that has the leaf behind it, and the leaves before that branch are passed.
-pub fn descend_to(image: &[u8], f: Frame, place: usize) -> PathEnd
-    requires { Accepted image.now f × (place < f.leaves) }
-    ensures { Leads image.now f place result }
+pub fn descend_to(image: &AcceptedImage, place: usize) -> PathEnd
+    requires { place < image.now.frame.leaves }
+    ensures { Leads image.now.bytes.now image.now.frame place result }
 {
     let mut p = root_path();
     let mut d = 0usize;
     let mut skip = place;
     loop {
         let m = p.nodes[d];
-        let taken = take_branch(image, f, m, d, skip);
+        let taken = take_branch(image, m, d, skip);
         let b = taken.low;
-        let at = b.at;
-        let kind = b.kind;
-        skip = skip - taken.before;
+        skip -= taken.before;
         p.labels[d] = b.label as u8;
-        d = d + 1;
-        let BranchKind::Child = kind else {
+        d += 1;
+        let BranchKind::Child = b.kind else {
             return PathEnd {
                 path: p,
-                stop: LeafStop::Open(slot(image, f, m, at)),
+                stop: LeafStop::Open(slot(image, m, b.at)),
                 depth: d,
             };
         };
-        let c = child(image, f, m, at);
+        let c = child(image, m, b.at);
         p.nodes[d] = c;
-        if is_exact(image, f, c) {
+        if is_exact(image, c) {
             if skip == 0 {
                 return PathEnd {
                     path: p,
@@ -46,7 +43,7 @@ pub fn descend_to(image: &[u8], f: Frame, place: usize) -> PathEnd
                     depth: d,
                 };
             }
-            skip = skip - 1;
+            skip -= 1;
         }
     }
 }

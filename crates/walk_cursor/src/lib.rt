@@ -5,11 +5,10 @@
 ghost use Rattle.std.specs.Prelude.{◌≡◌, ◌+◌, ◌<◌};
 ghost use Rattle.spec.specs.Bytes.{low_bits};
 ghost use Rattle.nav_nodes.specs.Slots.{slot_of};
-ghost use Rattle.nav_nodes.specs.Accepted.{Accepted, nodes};
+ghost use Rattle.nav_nodes.specs.Accepted.{nodes};
 ghost use Rattle.walk_cursor.specs.Stands.{AtLeaf, StandsAt, NoLeaf, CanAdvance, Advances, HasEnd, SlotInside, ResumesFrom, ReadsLeaf, IsLeaf};
 
-use bits::numbers::wide;
-use image::{Frame, Leaf, ValuePos};
+use image::{AcceptedImage, Leaf, ValuePos};
 use nav_branches::branches::is_there;
 use nav_branches::{LeafEnd, LeafStop};
 use query_descent::suffix::slot_bits;
@@ -51,8 +50,7 @@ fn resume(labels: &[u8; 64], end: LeafEnd) -> Resume
     requires { HasEnd end }
     ensures { ResumesFrom labels.now end result }
 {
-    let stop = end.stop;
-    let LeafStop::Open(_) = stop else {
+    let LeafStop::Open(_) = end.stop else {
         return Resume {
             depth: end.depth,
             from: 0,
@@ -61,28 +59,25 @@ fn resume(labels: &[u8; 64], end: LeafEnd) -> Resume
     let depth = end.depth - 1;
     Resume {
         depth,
-        from: wide(labels[depth]) + 1,
+        from: usize::from(labels[depth]) + 1,
     }
 }
 
 // The leaf behind the one where the path ends: up to the next higher branch, and down to the first leaf behind it.
 pub fn advance(
-    image: &[u8],
-    f: Frame,
+    image: &AcceptedImage,
     path: &mut [usize; 64],
     entries: &mut [usize; 128],
     labels: &mut [u8; 64],
     end: LeafEnd,
 ) -> LeafEnd
-    requires { CanAdvance image.now f path.old entries.old labels.old end }
-    ensures { Advances image.now f path.old entries.old labels.old end path.new entries.new labels.new result }
+    requires { CanAdvance image.now.bytes.now image.now.frame path.old entries.old labels.old end }
+    ensures { Advances image.now.bytes.now image.now.frame path.old entries.old labels.old end path.new entries.new labels.new result }
 {
     let from = resume(labels, end);
-    let higher = climb(image, f, path, entries, labels, from);
-    let branch = higher.branch;
-    let kind = branch.kind;
-    if is_there(kind) {
-        return first_behind(image, f, path, entries, labels, higher);
+    let higher = climb(image, path, entries, labels, from);
+    if is_there(higher.branch.kind) {
+        return first_behind(image, path, entries, labels, higher);
     }
     LeafEnd {
         depth: 0,
@@ -91,15 +86,14 @@ pub fn advance(
 }
 
 // The cursor at the leaf behind the one where it stands.
-pub fn step(image: &[u8], f: Frame, c: Cursor) -> Cursor
-    requires { AtLeaf image.now f c }
-    ensures { StandsAt image.now f (c.place + 1) result }
+pub fn step(image: &AcceptedImage, c: Cursor) -> Cursor
+    requires { AtLeaf image.now.bytes.now image.now.frame c }
+    ensures { StandsAt image.now.bytes.now image.now.frame (c.place + 1) result }
 {
     let mut path = c.path;
     let mut entries = c.entries;
     let mut labels = c.labels;
-    let at = c.end;
-    let end = advance(image, f, &mut path, &mut entries, &mut labels, at);
+    let end = advance(image, &mut path, &mut entries, &mut labels, c.end);
     Cursor {
         path,
         entries,
@@ -110,46 +104,43 @@ pub fn step(image: &[u8], f: Frame, c: Cursor) -> Cursor
 }
 
 // The bits of a slot as a number, the first bit lowest; what stands above the width's bits is not said.
-fn suffix(image: &[u8], f: Frame, slot: ValuePos) -> usize
-    requires { Accepted image.now f × (slot.0 < f.leaves) }
-    ensures { low_bits f.width result ≡ slot_of f.width (nodes image.now f) slot.0 }
+fn suffix(image: &AcceptedImage, slot: ValuePos) -> usize
+    requires { slot.0 < image.now.frame.leaves }
+    ensures { low_bits image.now.frame.width result ≡ slot_of image.now.frame.width (nodes image.now.bytes.now image.now.frame) slot.0 }
 {
-    if f.width == 0 {
+    if image.frame.width == 0 {
         return 0;
     }
-    slot_bits(image, f, slot, 0) as usize
+    slot_bits(image, slot, 0) as usize
 }
 
 // The leaf where a path with these labels ends. The suffix of an exact leaf is all zeros.
-pub fn leaf_of(image: &[u8], f: Frame, labels: [u8; 64], end: LeafEnd) -> Leaf
-    requires { Accepted image.now f × SlotInside f end }
-    ensures { ReadsLeaf image.now f labels end result }
+pub fn leaf_of(image: &AcceptedImage, labels: [u8; 64], end: LeafEnd) -> Leaf
+    requires { SlotInside image.now.frame end }
+    ensures { ReadsLeaf image.now.bytes.now image.now.frame labels end result }
 {
-    let stop = end.stop;
-    let LeafStop::Open(slot) = stop else {
+    let LeafStop::Open(slot) = end.stop else {
         return Leaf {
             cut: labels,
             len: end.depth,
             exact: true,
             suffix: 0,
-            width: f.width,
+            width: image.frame.width,
         };
     };
     Leaf {
         cut: labels,
         len: end.depth,
         exact: false,
-        suffix: suffix(image, f, slot),
-        width: f.width,
+        suffix: suffix(image, slot),
+        width: image.frame.width,
     }
 }
 
 // The leaf where the cursor stands.
-pub fn leaf_at(image: &[u8], f: Frame, c: Cursor) -> Leaf
-    requires { AtLeaf image.now f c }
-    ensures { IsLeaf image.now c.place result }
+pub fn leaf_at(image: &AcceptedImage, c: Cursor) -> Leaf
+    requires { AtLeaf image.now.bytes.now image.now.frame c }
+    ensures { IsLeaf image.now.bytes.now c.place result }
 {
-    let labels = c.labels;
-    let end = c.end;
-    leaf_of(image, f, labels, end)
+    leaf_of(image, c.labels, c.end)
 }

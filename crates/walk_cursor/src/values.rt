@@ -3,7 +3,6 @@ ghost use Rattle.std.specs.Prelude.{◌≡◌, ◌≤◌, ◌<◌};
 ghost use Rattle.spec.specs.Bytes.{low_first, low_bits};
 ghost use Rattle.image.specs.Value.{leaf_of, Sized, value_of};
 
-use bits::copy::write_bytes;
 use image::Leaf;
 
 // The number of the low width bits.
@@ -19,15 +18,11 @@ pub fn padded(l: Leaf) -> Leaf
     requires { Sized l }
     ensures { result ≡ value_of (leaf_of l) }
 {
-    let cut = l.cut;
-    let len = l.len;
-    let mut field = [0u8; 64];
-    write_bytes(&mut field, 0, &cut[..len]);
+    let mut cut = [0u8; 64];
+    cut[..l.len].copy_from_slice(&l.cut[..l.len]);
     Leaf {
-        cut: field,
-        len,
-        exact: l.exact,
+        cut,
         suffix: suffix_number(l.suffix, l.width),
-        width: l.width,
+        ..l
     }
 }

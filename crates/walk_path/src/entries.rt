@@ -3,12 +3,11 @@
 ghost use Rattle.std.specs.Prelude.{◌≡◌, ◌≤◌, ◌<◌};
 ghost use Rattle.nav_nodes.specs.Positions.{child_at, slot_at};
 ghost use Rattle.nav_nodes.specs.NextBranch.{IsNextBranch};
-ghost use Rattle.nav_nodes.specs.Accepted.{Accepted};
 ghost use Rattle.nav_nodes.specs.FoundBranch.{IsNode, IsPosition, IsFirstBranch};
 ghost use Rattle.walk_path.specs.Entries.{start_of, child_from, TellsEnd, NextEntry, BehindNode, StartsAt};
 
 use bits::ranks::bit_at;
-use image::{BitPos, EXTRA_LABEL, Frame, NodeNum, ValuePos};
+use image::{AcceptedImage, BitPos, EXTRA_LABEL, NodeNum, ValuePos};
 use nav_branches::branches::{branch_at, next_branch};
 use nav_branches::first::first_branch;
 use nav_nodes::behind::child;
@@ -26,27 +25,25 @@ pub struct Entry {
 }
 
 // Whether an entry that is behind the first one of a sparse node belongs to the node: it does if it starts no node.
-fn goes_on(image: &[u8], f: Frame, at: BitPos) -> bool
-    requires { Accepted image.now f }
-    ensures { TellsEnd image.now f at.0 result }
+fn goes_on(image: &AcceptedImage, at: BitPos) -> bool
+    ensures { TellsEnd image.now.bytes.now image.now.frame at.0 result }
 {
-    let sb = f.sb;
-    if at.0 >= f.sparse.entries {
+    if at.0 >= image.frame.sparse.entries {
         return false;
     }
-    bit_at(&image[sb..], at.0) == 0
+    bit_at(&image.bytes[image.frame.sb..], at.0) == 0
 }
 
 // The first branch of a node whose label is not below y; `at` is the entry where it stands, if it is there, and is behind the first entry of the node.
-pub fn next_at(image: &[u8], f: Frame, m: NodeNum, y: usize, at: BitPos) -> NextBranch
-    requires { IsNode image.now f m.0 × (y ≤ 256) × NextEntry image.now f m.0 y at.0 }
-    ensures { IsNextBranch image.now f m.0 y result.kind result.label result.at.0 }
+pub fn next_at(image: &AcceptedImage, m: NodeNum, y: usize, at: BitPos) -> NextBranch
+    requires { IsNode image.now.bytes.now image.now.frame m.0 × (y ≤ 256) × NextEntry image.now.bytes.now image.now.frame m.0 y at.0 }
+    ensures { IsNextBranch image.now.bytes.now image.now.frame m.0 y result.kind result.label result.at.0 }
 {
     if at.0 == 0 {
-        return next_branch(image, f, m, y);
+        return next_branch(image, m, y);
     }
-    if goes_on(image, f, at) {
-        return branch_at(image, f, at);
+    if goes_on(image, at) {
+        return branch_at(image, at);
     }
     NextBranch {
         kind: BranchKind::Absent,
@@ -56,19 +53,19 @@ pub fn next_at(image: &[u8], f: Frame, m: NodeNum, y: usize, at: BitPos) -> Next
 }
 
 // The first branch of a node, and whether it is an exact leaf; a sparse node starts at the entry `at`.
-pub fn first_at(image: &[u8], f: Frame, m: NodeNum, at: BitPos) -> FirstBranch
-    requires { IsNode image.now f m.0 × (f.dense.nodes ≤ m.0 → at.0 ≡ start_of image.now f m.0) }
-    ensures { IsFirstBranch image.now f m.0 result }
+pub fn first_at(image: &AcceptedImage, m: NodeNum, at: BitPos) -> FirstBranch
+    requires { IsNode image.now.bytes.now image.now.frame m.0 × (image.now.frame.dense.nodes ≤ m.0 → at.0 ≡ start_of image.now.bytes.now image.now.frame m.0) }
+    ensures { IsFirstBranch image.now.bytes.now image.now.frame m.0 result }
 {
-    if m.0 < f.dense.nodes {
-        return first_branch(image, f, m);
+    if m.0 < image.frame.dense.nodes {
+        return first_branch(image, m);
     }
-    let first = branch_at(image, f, at);
+    let first = branch_at(image, at);
     if first.label == EXTRA {
-        if goes_on(image, f, BitPos(at.0 + 1)) {
+        if goes_on(image, BitPos(at.0 + 1)) {
             return FirstBranch {
                 exact: true,
-                branch: branch_at(image, f, BitPos(at.0 + 1)),
+                branch: branch_at(image, BitPos(at.0 + 1)),
             };
         }
     }
@@ -79,11 +76,11 @@ pub fn first_at(image: &[u8], f: Frame, m: NodeNum, at: BitPos) -> FirstBranch
 }
 
 // Where a node starts among the entries, and the node behind its first continuing branch. `last` is the last node that was visited on its level, and `known` the entry behind that node, if it is known.
-pub fn start_at(image: &[u8], f: Frame, m: NodeNum, last: NodeNum, known: Entry) -> Entry
-    requires { IsNode image.now f m.0 × (0 < m.0) × BehindNode image.now f last.0 known }
-    ensures { f.dense.nodes ≤ m.0 → StartsAt image.now f m.0 result }
+pub fn start_at(image: &AcceptedImage, m: NodeNum, last: NodeNum, known: Entry) -> Entry
+    requires { IsNode image.now.bytes.now image.now.frame m.0 × (0 < m.0) × BehindNode image.now.bytes.now image.now.frame last.0 known }
+    ensures { image.now.frame.dense.nodes ≤ m.0 → StartsAt image.now.bytes.now image.now.frame m.0 result }
 {
-    if m.0 < f.dense.nodes {
+    if m.0 < image.frame.dense.nodes {
         return Entry {
             at: BitPos(0),
             child: NodeNum(0),
@@ -94,34 +91,34 @@ pub fn start_at(image: &[u8], f: Frame, m: NodeNum, last: NodeNum, known: Entry)
             return known;
         }
     }
-    let start = node_start(image, f, m);
+    let start = node_start(image, m);
     Entry {
         at: start,
-        child: NodeNum(f.totals.children + entry_rank(image, f, start) + 1),
+        child: NodeNum(image.frame.totals.children + entry_rank(image, start) + 1),
     }
 }
 
 // The node behind a branch that continues, by its position; `known` is an entry of the node, if one is known.
-pub fn child_at(image: &[u8], f: Frame, m: NodeNum, at: BitPos, known: Entry) -> NodeNum
-    requires { IsPosition image.now f m.0 at.0 × (0 < known.at.0 → (f.dense.nodes ≤ m.0) × (known.child.0 ≡ child_from image.now f known.at.0)) }
-    ensures { result.0 ≡ child_at image.now f m.0 at.0 }
+pub fn child_at(image: &AcceptedImage, m: NodeNum, at: BitPos, known: Entry) -> NodeNum
+    requires { IsPosition image.now.bytes.now image.now.frame m.0 at.0 × (0 < known.at.0 → (image.now.frame.dense.nodes ≤ m.0) × (known.child.0 ≡ child_from image.now.bytes.now image.now.frame known.at.0)) }
+    ensures { result.0 ≡ child_at image.now.bytes.now image.now.frame m.0 at.0 }
 {
     if known.at.0 != 0 {
         if known.at.0 == at.0 {
             return known.child;
         }
     }
-    child(image, f, m, at)
+    child(image, m, at)
 }
 
 // The slot of the leaf behind a branch that ends, by the node behind the first continuing branch from it on.
-pub fn slot_at(image: &[u8], f: Frame, m: NodeNum, at: BitPos, child: NodeNum) -> ValuePos
-    requires { IsPosition image.now f m.0 at.0 × (child.0 ≡ child_at image.now f m.0 at.0) }
-    ensures { result.0 ≡ slot_at image.now f m.0 at.0 }
+pub fn slot_at(image: &AcceptedImage, m: NodeNum, at: BitPos, child: NodeNum) -> ValuePos
+    requires { IsPosition image.now.bytes.now image.now.frame m.0 at.0 × (child.0 ≡ child_at image.now.bytes.now image.now.frame m.0 at.0) }
+    ensures { result.0 ≡ slot_at image.now.bytes.now image.now.frame m.0 at.0 }
 {
-    if m.0 < f.dense.nodes {
-        let labels = label_rank(image, f, at);
-        return ValuePos(labels + 1 - child.0 + exact_rank(image, f, NodeNum(m.0 + 1)));
+    if m.0 < image.frame.dense.nodes {
+        let labels = label_rank(image, at);
+        return ValuePos(labels + 1 - child.0 + exact_rank(image, NodeNum(m.0 + 1)));
     }
-    ValuePos(f.totals.entries + at.0 + 1 - child.0)
+    ValuePos(image.frame.totals.entries + at.0 + 1 - child.0)
 }

@@ -1,13 +1,11 @@
 // From leaf to leaf in key order: up the path to the next higher branch, and down to the first leaf behind it. For each level the node last visited there is kept,
 // and, for sparse levels, the entry behind the last one visited (the first 64 of `entries`) with the child from it on (the others).
 ghost use Rattle.std.specs.Prelude.{◌≡◌, ◌<◌};
-ghost use Rattle.nav_nodes.specs.Accepted.{Accepted};
 ghost use Rattle.walk_path.specs.Entries.{BehindNode};
 ghost use Rattle.walk_path.specs.Levels.{CanClimb, Climbs, CanDescend, Descended, OnNode, Enters, BehindTaken, entry_on, with_entry};
 
 use super::entries::{Entry, child_at, first_at, next_at, slot_at, start_at};
-use bits::numbers::wide;
-use image::{BitPos, Frame, NodeNum};
+use image::{AcceptedImage, BitPos, Frame, NodeNum};
 use nav_branches::branches::is_there;
 use nav_branches::path_higher::Higher;
 use nav_branches::{LeafEnd, LeafStop};
@@ -29,44 +27,42 @@ pub struct Entered {
 
 // The next higher branch of the path. Its levels stay as they are: a node without a branch left is left behind its last entry.
 pub fn climb(
-    image: &[u8],
-    f: Frame,
+    image: &AcceptedImage,
     path: &[usize; 64],
     entries: &[usize; 128],
     labels: &[u8; 64],
     r: Resume,
 ) -> Higher
-    requires { CanClimb image.now f path.now entries.now labels.now r }
-    ensures { Climbs image.now f path.now entries.now labels.now r result }
+    requires { CanClimb image.now.bytes.now image.now.frame path.now entries.now labels.now r }
+    ensures { Climbs image.now.bytes.now image.now.frame path.now entries.now labels.now r result }
 {
     let mut d = r.depth;
     let mut y = r.from;
     loop {
-        let branch = next_at(image, f, NodeNum(path[d]), y, BitPos(entries[d]));
-        let kind = branch.kind;
-        if is_there(kind) || d == 0 {
+        let branch = next_at(image, NodeNum(path[d]), y, BitPos(entries[d]));
+        if is_there(branch.kind) || d == 0 {
             return Higher { depth: d, branch };
         }
-        d = d - 1;
-        y = wide(labels[d]) + 1;
+        d -= 1;
+        y = usize::from(labels[d]) + 1;
     }
 }
 
 // The first branch of node m of a level, where `last` is the node last visited there and `known` the entry behind it.
-fn enter(image: &[u8], f: Frame, m: NodeNum, last: NodeNum, known: Entry) -> Entered
-    requires { Accepted image.now f × (0 < m.0) × OnNode image.now f m.0 × BehindNode image.now f last.0 known }
-    ensures { Enters image.now f m.0 result }
+fn enter(image: &AcceptedImage, m: NodeNum, last: NodeNum, known: Entry) -> Entered
+    requires { (0 < m.0) × OnNode image.now.bytes.now image.now.frame m.0 × BehindNode image.now.bytes.now image.now.frame last.0 known }
+    ensures { Enters image.now.bytes.now image.now.frame m.0 result }
 {
-    let start = start_at(image, f, m, last, known);
-    let first = first_at(image, f, m, start.at);
+    let start = start_at(image, m, last, known);
+    let first = first_at(image, m, start.at);
     let branch = first.branch;
     let at = branch.at;
-    if m.0 < f.dense.nodes {
+    if m.0 < image.frame.dense.nodes {
         let none = Entry {
             at: BitPos(0),
             child: NodeNum(0),
         };
-        let child = child_at(image, f, m, at, none);
+        let child = child_at(image, m, at, none);
         let entry = Entry {
             at: BitPos(0),
             child,
@@ -109,51 +105,42 @@ fn entry_behind(f: Frame, m: NodeNum, b: NextBranch, child: NodeNum) -> Entry
             child: NodeNum(0),
         };
     }
-    let at = b.at;
-    let kind = b.kind;
-    match kind {
-        BranchKind::Absent => Entry {
-            at: BitPos(at.0 + 1),
-            child,
-        },
-        BranchKind::Leaf => Entry {
-            at: BitPos(at.0 + 1),
-            child,
-        },
-        BranchKind::Child => Entry {
-            at: BitPos(at.0 + 1),
-            child: NodeNum(child.0 + 1),
-        },
+    let mut next = child;
+    if matches!(b.kind, BranchKind::Child) {
+        next = NodeNum(child.0 + 1);
+    }
+    Entry {
+        at: BitPos(b.at.0 + 1),
+        child: next,
     }
 }
 
 // The first leaf behind a branch of the path. On each level that is entered the node is the next one, and its first entry the one behind the last.
 pub fn first_behind(
-    image: &[u8],
-    f: Frame,
+    image: &AcceptedImage,
     path: &mut [usize; 64],
     entries: &mut [usize; 128],
     labels: &mut [u8; 64],
     from: Higher,
 ) -> LeafEnd
-    requires { CanDescend image.now f path.old entries.old labels.old from }
-    ensures { Descended image.now f path.old labels.old from.depth from.branch.label path.new entries.new labels.new result }
+    requires { CanDescend image.now.bytes.now image.now.frame path.old entries.old labels.old from }
+    ensures { Descended image.now.bytes.now image.now.frame path.old labels.old from.depth from.branch.label path.new entries.new labels.new result }
 {
     let mut d = from.depth;
     let mut b = from.branch;
-    let mut c = child_at(image, f, NodeNum(path[d]), b.at, entry_on(entries, d));
+    let mut c = child_at(image, NodeNum(path[d]), b.at, entry_on(entries, d));
     loop {
         let m = NodeNum(path[d]);
         let at = b.at;
         let kind = b.kind;
         labels[d] = b.label as u8;
-        keep_entry(entries, d, entry_behind(f, m, b, c));
+        keep_entry(entries, d, entry_behind(image.frame, m, b, c));
         d = d + 1;
         let BranchKind::Child = kind else {
-            let stop = LeafStop::Open(slot_at(image, f, m, at, c));
+            let stop = LeafStop::Open(slot_at(image, m, at, c));
             return LeafEnd { depth: d, stop };
         };
-        let next = enter(image, f, c, NodeNum(path[d]), entry_on(entries, d));
+        let next = enter(image, c, NodeNum(path[d]), entry_on(entries, d));
         let first = next.first;
         let entry = next.entry;
         path[d] = c.0;

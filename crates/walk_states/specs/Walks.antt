@@ -1,59 +1,51 @@
--- What a walk says, by value, and what holds of the state of a walk over an image.
-use Rattle.std.specs.Prelude.{ℕ, ◌≡◌, false, replicate}
+-- What a walk says, by value, and what is said of a walker that is opened or moved.
+use Rattle.std.specs.Prelude.{ℕ, ◌≡◌, Option, Some, None, Result, Ok, Err}
 use Rattle.spec.specs.Bytes.{Bytes}
-use Rattle.spec.specs.Check.{verdict}
 use Rattle.spec.specs.Walk as Walk
 use Rattle.spec.specs.Walk.{open_walk, next_place, next}
 use Rattle.image.specs.declared.Leaf.{Leaf as Value}
-use Rattle.image.specs.Value.{Sized, value_of}
-use Rattle.nav_nodes.specs.Accepted.{Accepted}
+use Rattle.image.specs.declared.refusals.Refusal.{Refusal}
+use Rattle.image.specs.Refusals.{number_of}
+use Rattle.image.specs.Value.{leaf_of, Sized, value_of}
 use Rattle.walk_cursor.specs.Stands.{Stands}
-use Rattle.walk_states.specs.declared.Stand.TheVariants as Stand
-use Rattle.walk_states.specs.declared.Standing.{Standing}
-use Rattle.walk_states.specs.declared.Status.TheVariants as Status
-use Rattle.walk_states.specs.declared.State.{State}
+use Rattle.walk_states.specs.declared.Walker.{Walker}
 
 -- ---- what a walk says
 
--- the leaf by value where a walk stands at none: all of it is zero
-abbrev pub no_leaf : Value
-no_leaf = record { cut = replicate 64 0; len = 0; exact = false; suffix = 0; width = 0 }
-
--- each case of what a walk says, by value
-abbrev pub standing_of : Walk.Stand → Standing
-standing_of (Walk.refused r) = record { stand = Stand.Refused r; leaf = no_leaf }
-standing_of (Walk.leaf l) = record { stand = Stand.Leaf; leaf = value_of l }
-standing_of Walk.done = record { stand = Stand.Done; leaf = no_leaf }
+-- each case of what a walk says: a refusal by its number, done, or a leaf
+abbrev pub standing_of : Result (Option Value) Refusal → Walk.Stand
+standing_of (Err r) = Walk.refused (number_of r)
+standing_of (Ok None) = Walk.done
+standing_of (Ok (Some v)) = Walk.leaf (leaf_of v)
 
 -- A walk gives what document 01's walk says.
-pub record Gives (said : Walk.Stand) (r : Standing) : Type 0 where
-  -- all of the answer, zeros included
-  pub says : r ≡ standing_of said
+pub record Gives (said : Walk.Stand) (r : Result (Option Value) Refusal) : Type 0 where
+  pub says : standing_of r ≡ said
+  -- all of a leaf is settled: zeros stand behind its cut key and above its suffix bits
+  pub settled : (v : Value) → r ≡ Ok (Some v) → v ≡ value_of (leaf_of v)
   -- the leaf's key has at most 64 bytes, and its suffix at most 32 bits
-  pub sized : Sized r.leaf
+  pub sized : (v : Value) → r ≡ Ok (Some v) → Sized v
 
--- ---- the state of a walk
+-- ---- a walker
 
--- The state of a walk that is not refused: the image is accepted with the state's frame, and the cursor stands at the place.
-pub record AtPlace (s : Bytes) (w : State) : Type 0 where
-  pub checked : verdict s ≡ 0
-  pub accepted : Accepted s w.frame
-  pub stands : Stands s w.frame w.cursor
-  pub place_is : w.cursor.place ≡ w.place
+-- The walker's cursor stands in its image.
+abbrev pub Walks : Walker → Type 0
+Walks w = Stands w.image.bytes.now w.image.frame w.cursor
 
--- The state is that of a walk over the image s: refused at its place with its number, or at its place.
-pub record Walks (s : Bytes) (w : State) : Type 0 where
-  pub refusal : (r : ℕ) → w.status ≡ Status.Refused r → open_walk s w.place ≡ Walk.refused r
-  pub going : w.status ≡ Status.Opened → AtPlace s w
+-- The walker stands at this place of the image s.
+pub record StandsIn (s : Bytes) (place : ℕ) (w : Walker) : Type 0 where
+  pub walks : Walks w
+  pub image_is : w.image.bytes.now ≡ s
+  pub place_is : w.cursor.place ≡ place
 
--- The state is that of a walk that was opened at the place.
-pub record Opens (s : Bytes) (place : ℕ) (w : State) : Type 0 where
-  pub walks : Walks s w
-  pub place_is : w.place ≡ place
+-- A walk over the image s is opened at the place: a walker stands there, or the walk is refused.
+abbrev pub Opens : Bytes → ℕ → Result Walker Refusal → Type 0
+Opens s place (Ok w) = StandsIn s place w
+Opens s place (Err r) = open_walk s place ≡ Walk.refused (number_of r)
 
--- The state r is behind the state w: it says what document 01's next says, and stands at the next place unless the walk is refused.
-pub record Moved (s : Bytes) (w r : State) : Type 0 where
-  pub walks : Walks s r
-  pub status_is : r.status ≡ w.status
-  pub stands : open_walk s r.place ≡ next s w.place
-  pub place_is : w.status ≡ Status.Opened → r.place ≡ next_place s w.place
+-- The walker r is behind the walker w: it says what document 01's next says, and stands at the next place.
+pub record Moved (w r : Walker) : Type 0 where
+  pub walks : Walks r
+  pub image_is : r.image ≡ w.image
+  pub stands : open_walk w.image.bytes.now r.cursor.place ≡ next w.image.bytes.now w.cursor.place
+  pub place_is : r.cursor.place ≡ next_place w.image.bytes.now w.cursor.place

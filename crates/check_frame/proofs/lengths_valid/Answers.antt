@@ -64,14 +64,6 @@ overflow_add-at-in-loop-i-2 c =
     let w = next_within s l.i l.at l.invariant.2.0 c.loop-i-test.true l.invariant.1 l.invariant.2.1 in
     omega (arith, w.1, c.read32-len.ensures.0)
 
-pub overflow_add-i : goal.overflow_add-i
-overflow_add-i c =
-    omega arith
-
-pub loop-i-smaller : goal.loop-i-smaller
-loop-i-smaller c =
-    omega arith
-
 pub loop-i-preserved : goal.loop-i-preserved
 loop-i-preserved c =
     let l = c.loop-i in

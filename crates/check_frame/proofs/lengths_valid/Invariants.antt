@@ -1,5 +1,5 @@
 -- The loop's invariant: the records left, from where the loop is, stand up to the end, and all lengths agree if theirs do.
-use Prim.Native.Nat.{ℕ, ◌+◌, ◌-◌, ◌≤◌, ◌<◌}
+use Prim.Native.Nat.{ℕ, ◌+◌, ◌≤◌, ◌<◌}
 use mathlib.Core.Path.{◌≡◌}
 use mathlib.Core.Bool.{true}
 use mathlib.Core.Option.{some}
@@ -22,6 +22,3 @@ module _ (s : Bytes) (i at e : ℕ) (h : i < 12) (l : at ≤ length s) (f : reco
 abbrev pub invariant-loop-i : goal.invariant-loop-i
 invariant-loop-i l = (l.i ≤ 12) × (l.at ≤ length l.image) × ((e : ℕ) × (records_end (drop l.i rows) l.image l.at ≡ some e))
     × (lengths_agree (settings_of l.h) (counts_of l.h) rows l.image 22 ≡ lengths_agree (settings_of l.h) (counts_of l.h) (drop l.i rows) l.image l.at)
-
-abbrev pub decreases-loop-i : goal.decreases-loop-i
-decreases-loop-i l = 12 - l.i

@@ -1,12 +1,27 @@
 -- The tests in their order: each that fails gives 11 or 12, and where all pass the header and the records stand and their lengths agree.
-use Prim.Native.Nat.{◌≤◌}
+use Prim.Native.Nat.{ℕ, ◌≤◌}
 use mathlib.Core.Path.{◌≡◌, sym, ap, ◌∙◌}
 use mathlib.Core.Option.{some}
 use native.Mathlib.Omega.{arith}
-use lib.ListN.{length}
+use lib.ListN.{length, get_or}
+use Rattle.std.proofs.lemmas.Result.{err_from_is_err_and}
+use Rattle.spec.specs.Bytes.{Bytes}
+use Rattle.spec.specs.Frame.{rows_of}
+use Rattle.image.specs.Header.{ReadsHeader}
+use Rattle.image.specs.Records.{records_end}
+use Rattle.image.specs.declared.Header.{Header}
+use Rattle.image.specs.declared.refusals.Refusal.TheVariants.{FrameWrong}
 use Rattle.check_frame.specs.FrameLaws.{header_short, header_first, header_second, header_stands, records_standing, records_absent, records_short, FrameStands, settings_wrong, lengths_wrong}
-use Rattle.check_frame.specs.Found.{end_found}
+use Rattle.check_frame.specs.Found.{end_used, end_refused}
 use Rattle.check_frame.proofs.read_frame.Goals as goal
+
+-- what the tests of number 11 have shown
+stood : (s : Bytes) (h : Header) (e : ℕ) → 22 ≤ length s → get_or s 0 0 ≡ 72 → get_or s 1 0 ≡ 68 → records_end (rows_of s) s 22 ≡ some e → e ≡ length s → ReadsHeader s h → FrameStands s h
+stood s h e long first second all whole reads = record {
+  header = header_stands s long first second;
+  records = records_standing s long (all ∙ ap some whole);
+  reads = reads;
+}
 
 pub returns-then-image-lt-HEADER : goal.returns-then-image-lt-HEADER
 returns-then-image-lt-HEADER c =
@@ -20,60 +35,40 @@ pub returns-then-image-ne68 : goal.returns-then-image-ne68
 returns-then-image-ne68 c =
     (omega arith, header_second c.args.image.now c.if-image-ne68.true)
 
-pub returns-in_default : goal.returns-in_default
-returns-in_default c =
-    let long : 22 ≤ length c.args.image.now = c.if-image-lt-HEADER.false in
-    (omega arith, records_absent c.args.image.now long (sym c.last_end.ensures ∙ ap end_found c.in_default.is))
+pub returns-in_err-end : goal.returns-in_err-end
+returns-in_err-end c =
+    let p = err_from_is_err_and c.from_residual.result c.from_residual.ensures.1 in
+    let q = end_refused c.last_end.result FrameWrong c.in_err-end.field-0.0 (sym c.ok_or.ensures.value ∙ c.in_err-end.was) in
+    rw (p.1, p.2, q.1) (omega arith, records_absent c.args.image.now c.if-image-lt-HEADER.false (sym c.last_end.ensures ∙ q.0))
 
 pub returns-then-end-image : goal.returns-then-end-image
 returns-then-end-image c =
-    let long : 22 ≤ length c.args.image.now = c.if-image-lt-HEADER.false in
-    (omega arith, records_short c.args.image.now c.in-At.end long (sym c.last_end.ensures ∙ ap end_found c.in-At.is) c.if-end-image.true)
+    let end = sym c.last_end.ensures ∙ end_used c.last_end.result FrameWrong c.in_ok-end.end (sym c.ok_or.ensures.value ∙ c.in_ok-end.was) in
+    (omega arith, records_short c.args.image.now c.in_ok-end.end c.if-image-lt-HEADER.false end c.if-end-image.true)
 
 pub returns-then-not-settings_valid : goal.returns-then-not-settings_valid
 returns-then-not-settings_valid c =
-    let long : 22 ≤ length c.args.image.now = c.if-image-lt-HEADER.false in
-    let whole : c.in-At.end ≡ length c.args.image.now = omega arith in
-    let stood : FrameStands c.args.image.now c.read_header-h.result = record {
-      header = header_stands c.args.image.now long c.if-image-ne72.false c.if-image-ne68.false;
-      records = records_standing c.args.image.now long (sym c.last_end.ensures ∙ ap end_found c.in-At.is ∙ ap some whole);
-      reads = c.read_header-h.ensures;
-    } in
-    (omega arith, settings_wrong c.args.image.now c.read_header-h.result stood (sym c.settings_valid.ensures ∙ c.if-not-settings_valid.true))
+    let end = sym c.last_end.ensures ∙ end_used c.last_end.result FrameWrong c.in_ok-end.end (sym c.ok_or.ensures.value ∙ c.in_ok-end.was) in
+    let p = stood c.args.image.now c.read_header-h.result c.in_ok-end.end c.if-image-lt-HEADER.false c.if-image-ne72.false c.if-image-ne68.false end c.if-end-image.false c.read_header-h.ensures in
+    (omega arith, settings_wrong c.args.image.now c.read_header-h.result p (sym c.settings_valid.ensures ∙ c.if-not-settings_valid.true))
 
 pub lengths_valid-requires : goal.lengths_valid-requires
 lengths_valid-requires c =
-    let long : 22 ≤ length c.args.image.now = c.if-image-lt-HEADER.false in
-    let whole : c.in-At.end ≡ length c.args.image.now = omega arith in
-    let stood : FrameStands c.args.image.now c.read_header-h.result = record {
-      header = header_stands c.args.image.now long c.if-image-ne72.false c.if-image-ne68.false;
-      records = records_standing c.args.image.now long (sym c.last_end.ensures ∙ ap end_found c.in-At.is ∙ ap some whole);
-      reads = c.read_header-h.ensures;
-    } in
-    (stood.reads.short, stood.records)
+    let end = sym c.last_end.ensures ∙ end_used c.last_end.result FrameWrong c.in_ok-end.end (sym c.ok_or.ensures.value ∙ c.in_ok-end.was) in
+    let p = stood c.args.image.now c.read_header-h.result c.in_ok-end.end c.if-image-lt-HEADER.false c.if-image-ne72.false c.if-image-ne68.false end c.if-end-image.false c.read_header-h.ensures in
+    (p.reads.short, p.records)
 
 pub returns-then-not-lengths_valid : goal.returns-then-not-lengths_valid
 returns-then-not-lengths_valid c =
-    let long : 22 ≤ length c.args.image.now = c.if-image-lt-HEADER.false in
-    let whole : c.in-At.end ≡ length c.args.image.now = omega arith in
-    let stood : FrameStands c.args.image.now c.read_header-h.result = record {
-      header = header_stands c.args.image.now long c.if-image-ne72.false c.if-image-ne68.false;
-      records = records_standing c.args.image.now long (sym c.last_end.ensures ∙ ap end_found c.in-At.is ∙ ap some whole);
-      reads = c.read_header-h.ensures;
-    } in
-    (omega arith, lengths_wrong c.args.image.now c.read_header-h.result stood (sym c.lengths_valid.ensures ∙ c.if-not-lengths_valid.true))
+    let end = sym c.last_end.ensures ∙ end_used c.last_end.result FrameWrong c.in_ok-end.end (sym c.ok_or.ensures.value ∙ c.in_ok-end.was) in
+    let p = stood c.args.image.now c.read_header-h.result c.in_ok-end.end c.if-image-lt-HEADER.false c.if-image-ne72.false c.if-image-ne68.false end c.if-end-image.false c.read_header-h.ensures in
+    (omega arith, lengths_wrong c.args.image.now c.read_header-h.result p (sym c.lengths_valid.ensures ∙ c.if-not-lengths_valid.true))
 
 pub laid_out-requires : goal.laid_out-requires
 laid_out-requires c =
-    let long : 22 ≤ length c.args.image.now = c.if-image-lt-HEADER.false in
-    let whole : c.in-At.end ≡ length c.args.image.now = omega arith in
-    let stood : FrameStands c.args.image.now c.read_header-h.result = record {
-      header = header_stands c.args.image.now long c.if-image-ne72.false c.if-image-ne68.false;
-      records = records_standing c.args.image.now long (sym c.last_end.ensures ∙ ap end_found c.in-At.is ∙ ap some whole);
-      reads = c.read_header-h.ensures;
-    } in
+    let end = sym c.last_end.ensures ∙ end_used c.last_end.result FrameWrong c.in_ok-end.end (sym c.ok_or.ensures.value ∙ c.in_ok-end.was) in
     record {
-      stands = stood;
+      stands = stood c.args.image.now c.read_header-h.result c.in_ok-end.end c.if-image-lt-HEADER.false c.if-image-ne72.false c.if-image-ne68.false end c.if-end-image.false c.read_header-h.ensures;
       settings = sym c.settings_valid.ensures ∙ c.if-not-settings_valid.false;
       lengths = sym c.lengths_valid.ensures ∙ c.if-not-lengths_valid.false;
     }

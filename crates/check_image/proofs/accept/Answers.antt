@@ -1,11 +1,14 @@
--- A frame that was read is judged; a refusal of the reader is the verdict.
+-- A frame that was read is judged; a refusal of the reader is by the verdict's number.
+use Rattle.std.proofs.lemmas.Result.{err_from_is_err_and}
 use Rattle.check_image.specs.Answers.{refuses}
 use Rattle.check_image.proofs.accept.Goals as goal
 
 pub judge-requires : goal.judge-requires
 judge-requires c =
-    rw c.in-At.is at c.read_frame.ensures
+    rw c.in_ok-read_frame.was at c.read_frame.ensures
 
-pub returns-in-Refused : goal.returns-in-Refused
-returns-in-Refused c =
-    refuses (rw c.in-Refused.is at c.read_frame.ensures).1
+pub returns-in_err-read_frame : goal.returns-in_err-read_frame
+returns-in_err-read_frame c =
+    let p = err_from_is_err_and c.from_residual.result c.from_residual.ensures.1 in
+    let q = rw c.in_err-read_frame.was at c.read_frame.ensures in
+    rw (p.1, p.2) (refuses c.in_err-read_frame.field-0.0 q.1)

@@ -14,7 +14,7 @@ returns-in_default c =
 
 pub suffix-requires : goal.suffix-requires
 suffix-requires c =
-    (c.requires.0, c.requires.1 _ c.in-Open.is)
+    c.requires _ c.in-Open.is
 
 pub returns : goal.returns
 returns c =
@@ -25,5 +25,5 @@ returns c =
       len_is = refl;
       width_is = refl;
       exact_end = λ e. let t = sym told ∙ e in let z : ◌≡◌ {A = ℕ} 0 1 = cc in absurd (omega arith);
-      open_end = λ v e. let t = sym told ∙ e in let same : c.in-Open.slot ≡ v = cc in (refl, c.suffix.ensures ∙ ap (λ (x : ValuePos). slot_of a.f.width (nodes a.image.now a.f) x.0) same);
+      open_end = λ v e. let t = sym told ∙ e in let same : c.in-Open.slot ≡ v = cc in (refl, c.suffix.ensures ∙ ap (λ (x : ValuePos). slot_of a.image.now.frame.width (nodes a.image.now.bytes.now a.image.now.frame) x.0) same);
     }

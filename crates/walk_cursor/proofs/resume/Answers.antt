@@ -1,7 +1,7 @@
 -- An open leaf has a label; its number is one behind.
 use mathlib.Core.Path.{◌≡◌, refl, sym, ap, ◌∙◌}
 use Prim.Native.Nat.{ℕ, ◌+◌}
-use native.Mathlib.Omega.{arith}
+use Rattle.std.proofs.Common.{arith, rules}
 use Rattle.walk_cursor.proofs.resume.Goals as goal
 
 pub returns-in_default : goal.returns-in_default
@@ -21,4 +21,4 @@ pub returns : goal.returns
 returns c =
     let a = c.args in
     let told = c.in-Open.is in
-    record { exact_end = λ e. let t = sym told ∙ e in let z : ◌≡◌ {A = ℕ} 0 1 = cc in absurd (omega arith); open_end = λ v e. (refl, ap (λ (x : ℕ). x + 1) c.wide.ensures.0, omega (arith, c.wide.ensures.1)) }
+    record { exact_end = λ e. let t = sym told ∙ e in let z : ◌≡◌ {A = ℕ} 0 1 = cc in absurd (omega arith); open_end = λ v e. (refl, ap (λ (x : ℕ). x + 1) c.from.ensures, search rules) }

@@ -1,15 +1,9 @@
 -- The plan decides 8 and 7, and the image is written where neither applies.
-use mathlib.Core.Path.{refl}
 use native.Mathlib.Omega.{arith}
 use Rattle.build_records.specs.Plan.{plan_fits}
 use Rattle.image.specs.Header.{asked}
 use Rattle.build.proofs.ImageLaws.{length_not_stated, too_long, image_room, image_built}
 use Rattle.build.proofs.layout.build_image.Goals as goal
-
-pub lay_out-plan-requires : goal.lay_out-plan-requires
-lay_out-plan-requires c =
-    let pre = c.requires in
-    (pre.0, pre.1, refl)
 
 pub image_end-end-requires : goal.image_end-end-requires
 image_end-end-requires c =

@@ -1,14 +1,8 @@
 -- The plan's end is the image's length.
-use mathlib.Core.Path.{refl}
 use Rattle.build_records.specs.Plan.{plan_fits}
 use Rattle.image.specs.Header.{asked}
 use Rattle.build.proofs.ImageLaws.{image_end}
 use Rattle.build.proofs.layout.measure_image.Goals as goal
-
-pub lay_out-plan-requires : goal.lay_out-plan-requires
-lay_out-plan-requires c =
-    let pre = c.requires in
-    (pre.0, pre.1, refl)
 
 pub image_end-requires : goal.image_end-requires
 image_end-requires c =

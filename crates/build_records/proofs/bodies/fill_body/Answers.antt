@@ -20,10 +20,6 @@ body_span-span-requires c =
     let pre = c.requires.0 in
     own_laid args.list.now args.plan args.i args.out.now (pre) (omega arith)
 
-pub source_of-source-requires : goal.source_of-source-requires
-source_of-source-requires c =
-    c.requires.0.below
-
 pub slice_bounds-fill_from_keys-count : goal.slice_bounds-fill_from_keys-count
 slice_bounds-fill_from_keys-count c =
     let pre = c.requires.0 in
@@ -43,7 +39,7 @@ slice_bounds-fill_from_keys-start c =
 pub fill_from_keys-requires : goal.fill_from_keys-requires
 fill_from_keys-requires c =
     let body-span = c.body_span-span in
-    let source_of = c.source_of-source in
+    let source_of = c.source_of in
     let source = c.in-Keys in
     let a = c.args in
     let pre = c.requires.0 in
@@ -52,7 +48,7 @@ fill_from_keys-requires c =
 
 pub body_span-counted-requires : goal.body_span-counted-requires
 body_span-counted-requires c =
-    let source_of = c.source_of-source in
+    let source_of = c.source_of in
     let source2 = c.in-Ranks in
     let a = c.args in
     let pre = c.requires.0 in
@@ -62,7 +58,7 @@ body_span-counted-requires c =
 pub fill_ranks-requires : goal.fill_ranks-requires
 fill_ranks-requires c =
     let body-span = c.body_span-span in
-    let source_of = c.source_of-source in
+    let source_of = c.source_of in
     let source2 = c.in-Ranks in
     let body-span2 = c.body_span-counted in
     let a = c.args in
@@ -72,7 +68,7 @@ fill_ranks-requires c =
 
 pub body_span-counted-requires-in-Samples : goal.body_span-counted-requires-in-Samples
 body_span-counted-requires-in-Samples c =
-    let source_of = c.source_of-source in
+    let source_of = c.source_of in
     let source3 = c.in-Samples in
     let a = c.args in
     let pre = c.requires.0 in
@@ -82,7 +78,7 @@ body_span-counted-requires-in-Samples c =
 pub fill_samples-requires : goal.fill_samples-requires
 fill_samples-requires c =
     let body-span = c.body_span-span in
-    let source_of = c.source_of-source in
+    let source_of = c.source_of in
     let source3 = c.in-Samples in
     let body-span3 = c.body_span-counted-in-Samples in
     let a = c.args in
@@ -93,7 +89,7 @@ fill_samples-requires c =
 pub returns-in-Keys : goal.returns-in-Keys
 returns-in-Keys c =
     let body-span = c.body_span-span in
-    let source_of = c.source_of-source in
+    let source_of = c.source_of in
     let source = c.in-Keys in
     let fill-from-keys = c.fill_from_keys in
     let a = c.args in
@@ -104,7 +100,7 @@ returns-in-Keys c =
 pub returns-in-Ranks : goal.returns-in-Ranks
 returns-in-Ranks c =
     let body-span = c.body_span-span in
-    let source_of = c.source_of-source in
+    let source_of = c.source_of in
     let source2 = c.in-Ranks in
     let body-span2 = c.body_span-counted in
     let fill-ranks = c.fill_ranks in
@@ -116,7 +112,7 @@ returns-in-Ranks c =
 pub returns-in-Samples : goal.returns-in-Samples
 returns-in-Samples c =
     let body-span = c.body_span-span in
-    let source_of = c.source_of-source in
+    let source_of = c.source_of in
     let source3 = c.in-Samples in
     let body-span3 = c.body_span-counted-in-Samples in
     let fill-samples = c.fill_samples in

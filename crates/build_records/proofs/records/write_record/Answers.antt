@@ -9,10 +9,6 @@ use Rattle.build_records.specs.Plan.{body_at, start_at, body_size, plan_short, W
 use native.Mathlib.Omega.{arith}
 use Rattle.build_records.proofs.records.write_record.Goals as goal
 
-pub mark-m-requires : goal.mark-m-requires
-mark-m-requires c =
-    let pre = c.requires.0 in omega (arith, pre.below)
-
 pub body_size-requires : goal.body_size-requires
 body_size-requires c =
     let args = c.args in
@@ -28,7 +24,7 @@ begin_record-requires c =
 pub fill_body-requires : goal.fill_body-requires
 fill_body-requires c =
     let pre = c.requires.0 in
-    let mark = c.mark-m in
+    let mark = c.mark in
     let body-size-known = c.body_size in
     let begin-record = c.begin_record in
     let a = c.args in
@@ -36,7 +32,7 @@ fill_body-requires c =
 
 pub returns : goal.returns
 returns c =
-    let mark = c.mark-m in
+    let mark = c.mark in
     let body-size-known = c.body_size in
     let begin-record = c.begin_record in
     let fill-body = c.fill_body in

@@ -1,5 +1,6 @@
 use Rattle.query_seek.specs.LeafKeys.{no_key}
 use Rattle.query_descent.specs.Seeks.{next_nowhere}
+use Rattle.nav_nodes.specs.FromCheck.{accepted}
 use Rattle.query_seek.proofs.NextLaws.{overlaid_front}
 use Rattle.bits.proofs.Overlaying.{length_overlaid}
 use lib.ListN.{length, take}
@@ -7,20 +8,22 @@ use mathlib.Core.Path.{refl, ap, ◌∙◌}
 use native.Mathlib.Omega.{arith}
 use Rattle.query_seek.proofs.next.next_leaf.Goals as goal
 
-pub returns-then-f-eq0 : goal.returns-then-f-eq0
-returns-then-f-eq0 c =
+pub returns-then-image-eq0 : goal.returns-then-image-eq0
+returns-then-image-eq0 c =
+    let v = c.args.image.now in
     record {
-      leaf = record { key_is = rw (next_nowhere c.args.image.now c.args.f c.requires.0 c.if-f-eq0.true c.args.start.now) (no_key c.args.image.now c.args.f c.args.key.now); key_size = c.requires.2 };
+      leaf = record { key_is = rw (next_nowhere v.bytes.now v.frame (accepted v) c.if-image-eq0.true c.args.start.now) (no_key v.bytes.now v.frame c.args.key.now); key_size = c.requires.1 };
       bound = λ q. absurd (q refl);
     }
 
-pub leaf_of_way-end-requires : goal.leaf_of_way-end-requires
-leaf_of_way-end-requires c =
+pub leaf_of_way-requires : goal.leaf_of_way-requires
+leaf_of_way-requires c =
+    let v = c.args.image.now in
     let written = c.write_bytes.ensures in
     record {
-      accepted = c.requires.0;
-      short = c.requires.1;
-      key_size = ap length written ∙ length_overlaid c.args.key.now 0 c.args.start.now (omega (arith, c.requires.1, c.requires.2)) ∙ c.requires.2;
+      accepted = accepted v;
+      short = c.requires.0;
+      key_size = ap length written ∙ length_overlaid c.args.key.now 0 c.args.start.now (omega (arith, c.requires.0, c.requires.1)) ∙ c.requires.1;
       begins = ap (take (length c.args.start.now)) written ∙ overlaid_front c.args.key.now c.args.start.now;
       ended = c.follow_key-way.ensures;
     }

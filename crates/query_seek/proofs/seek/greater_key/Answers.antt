@@ -1,5 +1,5 @@
 use Rattle.query_seek.proofs.NextLaws.{overlaid_front}
-use Rattle.query_seek.proofs.SeekLaws.{greater_below, greater_equal, greater_above}
+use Rattle.query_seek.proofs.SeekLaws.{greater_above, greater_not_above}
 use Rattle.bits.proofs.Overlaying.{length_overlaid}
 use lib.Seq.{length-take-le}
 use lib.ListN.{length, take}
@@ -11,24 +11,18 @@ pub slice_bounds-compare-end-2 : goal.slice_bounds-compare-end-2
 slice_bounds-compare-end-2 c =
     let a = c.args in sym (length-take-le a.n a.key.now (omega arith))
 
-pub returns-in-Below : goal.returns-in-Below
-returns-in-Below c =
+pub returns-in_default : goal.returns-in_default
+returns-in_default c =
     let a = c.args in
     let p = c.requires in
-    (greater_below a.start.now (take a.n a.key.now) (sym c.compare-order.ensures ∙ c.in-Below.is), p.2, p.1)
+    (greater_not_above a.start.now (take a.n a.key.now) (λ e. c.in_default.not-Greater (c.compare.ensures ∙ e)), p.2, p.1)
 
-pub returns-in-Equal : goal.returns-in-Equal
-returns-in-Equal c =
-    let a = c.args in
-    let p = c.requires in
-    (greater_equal a.start.now (take a.n a.key.now) (sym c.compare-order.ensures ∙ c.in-Equal.is), p.2, p.1)
-
-pub returns-in-Above : goal.returns-in-Above
-returns-in-Above c =
+pub returns-in-Greater : goal.returns-in-Greater
+returns-in-Greater c =
     let a = c.args in
     let p = c.requires in
     let written = c.write_bytes.ensures in (
-      ap (take (length a.start.now)) written ∙ overlaid_front a.key.now a.start.now ∙ greater_above a.start.now (take a.n a.key.now) (sym c.compare-order.ensures ∙ c.in-Above.is),
+      ap (take (length a.start.now)) written ∙ overlaid_front a.key.now a.start.now ∙ greater_above a.start.now (take a.n a.key.now) (sym c.compare.ensures ∙ c.in-Greater.is),
       p.0,
       ap length written ∙ length_overlaid a.key.now 0 a.start.now (omega (arith, p.0, p.1)) ∙ p.1,
     )

@@ -1,12 +1,10 @@
 -- LV has four bytes for each level.
 use native.Mathlib.Omega.{arith}
 use Rattle.query_sums.specs.LevelTable.{table_length}
+use Rattle.nav_nodes.specs.FromCheck.{accepted}
 use Rattle.query_sums.proofs.chains.level_count.Goals as goal
-
-pub overflow_sub-result : goal.overflow_sub-result
-overflow_sub-result c =
-    omega (arith, table_length c.args.image.now c.args.f c.requires.0 c.requires.1)
 
 pub returns : goal.returns
 returns c =
-    omega (arith, table_length c.args.image.now c.args.f c.requires.0 c.requires.1)
+    let v = c.args.image.now in
+    omega (arith, table_length v.bytes.now v.frame (accepted v) c.requires)

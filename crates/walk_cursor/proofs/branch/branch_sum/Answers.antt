@@ -12,5 +12,5 @@ returns c =
     let a = c.args in
     let e : 64 - (a.depth + 1) ≡ 63 - a.depth = omega arith in
     c.sum_below.ensures.0
-    ∙ ap (λ (l : ℕ). c.child_and_slot-next.result.slot.0 + slots_below (nodes a.image.now a.f) l c.child_and_slot-next.result.child.0 []) e
-    ∙ ap₂ (λ (x y : ℕ). x + slots_below (nodes a.image.now a.f) (63 - a.depth) y []) c.child_and_slot-next.ensures.slot_is c.child_and_slot-next.ensures.child_is
+    ∙ ap (λ (l : ℕ). c.child_and_slot-next.result.slot.0 + slots_below (nodes a.image.now.bytes.now a.image.now.frame) l c.child_and_slot-next.result.child.0 []) e
+    ∙ ap₂ (λ (x y : ℕ). x + slots_below (nodes a.image.now.bytes.now a.image.now.frame) (63 - a.depth) y []) c.child_and_slot-next.ensures.slot_is c.child_and_slot-next.ensures.child_is

@@ -6,12 +6,12 @@ use Rattle.walk_cursor.proofs.branch.take_branch.Goals as goal
 pub next_branch-low-requires : goal.next_branch-low-requires
 next_branch-low-requires c =
     let a = c.args in
-    (record { accepted = c.requires.accepted; inside = node_inside a.image.now a.f a.m.0 a.depth a.skip c.requires }, omega arith)
+    (record { accepted = c.requires.accepted; inside = node_inside a.image.now.bytes.now a.image.now.frame a.m.0 a.depth a.skip c.requires }, omega arith)
 
 pub loop-r-init : goal.loop-r-init
 loop-r-init c =
     let a = c.args in
-    whole_range a.image.now a.f a.m.0 a.depth a.skip c.requires c.next_branch-low.result c.next_branch-low.ensures
+    whole_range a.image.now.bytes.now a.image.now.frame a.m.0 a.depth a.skip c.requires c.next_branch-low.result c.next_branch-low.ensures
 
 pub overflow_add-r : goal.overflow_add-r
 overflow_add-r c =

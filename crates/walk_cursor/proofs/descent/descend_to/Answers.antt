@@ -1,6 +1,7 @@
 -- The leaves from the place on are those of the path's node but the ones passed, and those behind the path.
 use mathlib.Core.Path.{sym, ◌∙◌}
 use native.Mathlib.Omega.{arith}
+use Rattle.nav_nodes.specs.FromCheck.{accepted}
 use Rattle.nav_branches.proofs.BranchTests.{ends_leaf}
 use Rattle.nav_branches.specs.PathSteps.{node_in}
 use Rattle.walk_cursor.specs.LocateLaws.{going_root, has_more, branch_position, label_small, leads_open, next_deep, next_on, leads_exact, own_passed, none_passed}
@@ -9,7 +10,7 @@ use Rattle.walk_cursor.proofs.descent.descend_to.Goals as goal
 pub loop-p-init : goal.loop-p-init
 loop-p-init c =
     let a = c.args in
-    going_root a.image.now a.f c.requires.0 a.place c.requires.1 c.root_path-p.result c.root_path-p.ensures
+    going_root a.image.now.bytes.now a.image.now.frame (accepted a.image.now) a.place c.requires c.root_path-p.result c.root_path-p.ensures
 
 pub offset_bounds-p-d : goal.offset_bounds-p-d
 offset_bounds-p-d c =
@@ -22,7 +23,7 @@ bounds-p-d c =
 pub take_branch-taken-requires : goal.take_branch-taken-requires
 take_branch-taken-requires c =
     let a = c.args in
-    has_more a.image.now a.f c.requires.0 a.place c.loop-p.p c.loop-p.d c.loop-p.skip c.loop-p.invariant
+    has_more a.image.now.bytes.now a.image.now.frame (accepted a.image.now) a.place c.loop-p.p c.loop-p.d c.loop-p.skip c.loop-p.invariant
 
 pub overflow_sub-skip : goal.overflow_sub-skip
 overflow_sub-skip c =
@@ -32,7 +33,7 @@ pub overflow_cast-p : goal.overflow_cast-p
 overflow_cast-p c =
     let a = c.args in
     let t = c.take_branch-taken in
-    omega (arith, label_small a.image.now a.f c.requires.0 a.place c.loop-p.p c.loop-p.d c.loop-p.skip c.loop-p.invariant t.result t.ensures)
+    omega (arith, label_small a.image.now.bytes.now a.image.now.frame (accepted a.image.now) a.place c.loop-p.p c.loop-p.d c.loop-p.skip c.loop-p.invariant t.result t.ensures)
 
 pub bounds-p-d-in-loop-p : goal.bounds-p-d-in-loop-p
 bounds-p-d-in-loop-p c =
@@ -46,19 +47,19 @@ pub slot-requires : goal.slot-requires
 slot-requires c =
     let a = c.args in
     let t = c.take_branch-taken in
-    branch_position a.image.now a.f c.requires.0 a.place c.loop-p.p c.loop-p.d c.loop-p.skip c.loop-p.invariant t.result t.ensures
+    branch_position a.image.now.bytes.now a.image.now.frame (accepted a.image.now) a.place c.loop-p.p c.loop-p.d c.loop-p.skip c.loop-p.invariant t.result t.ensures
 
 pub returns-in_default : goal.returns-in_default
 returns-in_default c =
     let a = c.args in
     let t = c.take_branch-taken in
-    leads_open a.image.now a.f c.requires.0 a.place c.loop-p.p c.loop-p.d c.loop-p.skip c.loop-p.invariant t.result t.ensures c.slot.result c.slot.ensures (ends_leaf t.result.low.kind c.in_default.not-Child t.ensures.ranges.there)
+    leads_open a.image.now.bytes.now a.image.now.frame (accepted a.image.now) a.place c.loop-p.p c.loop-p.d c.loop-p.skip c.loop-p.invariant t.result t.ensures c.slot.result c.slot.ensures (ends_leaf t.result.low.kind c.in_default.not-Child t.ensures.ranges.there)
 
 pub child-c-requires : goal.child-c-requires
 child-c-requires c =
     let a = c.args in
     let t = c.take_branch-taken in
-    branch_position a.image.now a.f c.requires.0 a.place c.loop-p.p c.loop-p.d c.loop-p.skip c.loop-p.invariant t.result t.ensures
+    branch_position a.image.now.bytes.now a.image.now.frame (accepted a.image.now) a.place c.loop-p.p c.loop-p.d c.loop-p.skip c.loop-p.invariant t.result t.ensures
 
 pub offset_bounds-p-d-in-loop-p : goal.offset_bounds-p-d-in-loop-p
 offset_bounds-p-d-in-loop-p c =
@@ -68,20 +69,20 @@ pub bounds-p-d-in-loop-p-2 : goal.bounds-p-d-in-loop-p-2
 bounds-p-d-in-loop-p-2 c =
     let a = c.args in
     let t = c.take_branch-taken in
-    next_deep a.image.now a.f c.requires.0 a.place c.loop-p.p c.loop-p.d c.loop-p.skip c.loop-p.invariant t.result t.ensures c.child-c.result c.child-c.ensures c.in-Child.is
+    next_deep a.image.now.bytes.now a.image.now.frame (accepted a.image.now) a.place c.loop-p.p c.loop-p.d c.loop-p.skip c.loop-p.invariant t.result t.ensures c.child-c.result c.child-c.ensures c.in-Child.is
 
 pub is_exact-requires : goal.is_exact-requires
 is_exact-requires c =
     let a = c.args in
     let t = c.take_branch-taken in
-    let on = next_on a.image.now a.f c.requires.0 a.place c.loop-p.p c.loop-p.d c.loop-p.skip c.loop-p.invariant t.result t.ensures c.child-c.result c.child-c.ensures c.in-Child.is in
-    record { accepted = c.requires.0; inside = node_in a.image.now a.f c.requires.0 _ c.child-c.result.0 on }
+    let on = next_on a.image.now.bytes.now a.image.now.frame (accepted a.image.now) a.place c.loop-p.p c.loop-p.d c.loop-p.skip c.loop-p.invariant t.result t.ensures c.child-c.result c.child-c.ensures c.in-Child.is in
+    record { accepted = (accepted a.image.now); inside = node_in a.image.now.bytes.now a.image.now.frame (accepted a.image.now) _ c.child-c.result.0 on }
 
 pub returns-then-skip-eq0 : goal.returns-then-skip-eq0
 returns-then-skip-eq0 c =
     let a = c.args in
     let t = c.take_branch-taken in
-    leads_exact a.image.now a.f c.requires.0 a.place c.loop-p.p c.loop-p.d c.loop-p.skip c.loop-p.invariant t.result t.ensures c.child-c.result c.child-c.ensures c.in-Child.is (sym c.is_exact.ensures ∙ c.if-is_exact.true) c.if-skip-eq0.true
+    leads_exact a.image.now.bytes.now a.image.now.frame (accepted a.image.now) a.place c.loop-p.p c.loop-p.d c.loop-p.skip c.loop-p.invariant t.result t.ensures c.child-c.result c.child-c.ensures c.in-Child.is (sym c.is_exact.ensures ∙ c.if-is_exact.true) c.if-skip-eq0.true
 
 pub overflow_sub-skip-then-is_exact : goal.overflow_sub-skip-then-is_exact
 overflow_sub-skip-then-is_exact c =
@@ -95,7 +96,7 @@ pub loop-p-preserved-then-is_exact : goal.loop-p-preserved-then-is_exact
 loop-p-preserved-then-is_exact c =
     let a = c.args in
     let t = c.take_branch-taken in
-    own_passed a.image.now a.f c.requires.0 a.place c.loop-p.p c.loop-p.d c.loop-p.skip c.loop-p.invariant t.result t.ensures c.child-c.result c.child-c.ensures c.in-Child.is (sym c.is_exact.ensures ∙ c.if-is_exact.true) c.if-skip-eq0.false
+    own_passed a.image.now.bytes.now a.image.now.frame (accepted a.image.now) a.place c.loop-p.p c.loop-p.d c.loop-p.skip c.loop-p.invariant t.result t.ensures c.child-c.result c.child-c.ensures c.in-Child.is (sym c.is_exact.ensures ∙ c.if-is_exact.true) c.if-skip-eq0.false
 
 pub loop-p-smaller : goal.loop-p-smaller
 loop-p-smaller c =
@@ -105,4 +106,4 @@ pub loop-p-preserved : goal.loop-p-preserved
 loop-p-preserved c =
     let a = c.args in
     let t = c.take_branch-taken in
-    none_passed a.image.now a.f c.requires.0 a.place c.loop-p.p c.loop-p.d c.loop-p.skip c.loop-p.invariant t.result t.ensures c.child-c.result c.child-c.ensures c.in-Child.is (sym c.is_exact.ensures ∙ c.if-is_exact.false)
+    none_passed a.image.now.bytes.now a.image.now.frame (accepted a.image.now) a.place c.loop-p.p c.loop-p.d c.loop-p.skip c.loop-p.invariant t.result t.ensures c.child-c.result c.child-c.ensures c.in-Child.is (sym c.is_exact.ensures ∙ c.if-is_exact.false)

@@ -4,7 +4,7 @@ use Rattle.walk_cursor.specs.LocateLaws.{Going}
 use Rattle.walk_cursor.proofs.descent.descend_to.Given as goal
 
 abbrev pub invariant-loop-p : goal.invariant-loop-p
-invariant-loop-p l = Going l.image l.f l.place l.p l.d l.skip
+invariant-loop-p l = Going l.image.bytes.now l.image.frame l.place l.p l.d l.skip
 
 abbrev pub decreases-loop-p : goal.decreases-loop-p
 decreases-loop-p l = 64 - l.d

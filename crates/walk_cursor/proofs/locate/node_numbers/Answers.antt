@@ -31,10 +31,6 @@ pub bounds-numbers-i : goal.bounds-numbers-i
 bounds-numbers-i c =
     omega (arith, c.loop-i-test.true, c.loop-i.invariant.0)
 
-pub overflow_add-i : goal.overflow_add-i
-overflow_add-i c =
-    omega (arith, c.loop-i-test.true)
-
 pub loop-i-smaller : goal.loop-i-smaller
 loop-i-smaller c =
     omega (arith, c.loop-i-test.true)

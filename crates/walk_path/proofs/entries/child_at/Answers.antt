@@ -12,4 +12,4 @@ returns-then-known-at c =
     let a = c.args in
     let z = c.if-known-ne0.true in
     let k = c.requires.1 (omega arith) in
-    rw (le-ltb a.m.0 a.f.dense.nodes k.0) (k.1 ∙ ap (child_from a.image.now a.f) c.if-known-at.true)
+    rw (le-ltb a.m.0 a.image.now.frame.dense.nodes k.0) (k.1 ∙ ap (child_from a.image.now.bytes.now a.image.now.frame) c.if-known-at.true)

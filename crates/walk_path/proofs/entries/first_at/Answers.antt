@@ -11,58 +11,58 @@ use Rattle.walk_path.proofs.entries.first_at.Goals as goal
 
 pub branch_at-first-requires : goal.branch_at-first-requires
 branch_at-first-requires c =
-    let sparse : IsSparse c.args.image.now c.args.f c.args.m.0 = let n = c.if-m-f.false in record { accepted = c.requires.0.accepted; behind_dense = omega arith; inside = c.requires.0.inside } in
-    let starts : c.args.at.0 ≡ start_of c.args.image.now c.args.f c.args.m.0 = let n = c.if-m-f.false in c.requires.1 (omega arith) in
-    let few : (k : ℕ) → start_of c.args.image.now c.args.f k ≤ c.args.f.sparse.entries = λ k. select_le (drop c.args.f.sb c.args.image.now) c.args.f.sparse.entries (k - c.args.f.dense.nodes) in
+    let sparse : IsSparse c.args.image.now.bytes.now c.args.image.now.frame c.args.m.0 = let n = c.if-m-image.false in record { accepted = c.requires.0.accepted; behind_dense = omega arith; inside = c.requires.0.inside } in
+    let starts : c.args.at.0 ≡ start_of c.args.image.now.bytes.now c.args.image.now.frame c.args.m.0 = let n = c.if-m-image.false in c.requires.1 (omega arith) in
+    let few : (k : ℕ) → start_of c.args.image.now.bytes.now c.args.image.now.frame k ≤ c.args.image.now.frame.sparse.entries = λ k. select_le (drop c.args.image.now.frame.sb c.args.image.now.bytes.now) c.args.image.now.frame.sparse.entries (k - c.args.image.now.frame.dense.nodes) in
     let a = c.args in
     let n = sparse in
-    (n.accepted, omega (arith, starts, start_below a.image.now a.f n.accepted a.m.0 n.behind_dense n.inside, few (a.m.0 + 1)))
+    omega (arith, starts, start_below a.image.now.bytes.now a.image.now.frame n.accepted a.m.0 n.behind_dense n.inside, few (a.m.0 + 1))
 
 pub overflow_add-at : goal.overflow_add-at
 overflow_add-at c =
-    let starts : c.args.at.0 ≡ start_of c.args.image.now c.args.f c.args.m.0 = let n = c.if-m-f.false in c.requires.1 (omega arith) in
-    let few : (k : ℕ) → start_of c.args.image.now c.args.f k ≤ c.args.f.sparse.entries = λ k. select_le (drop c.args.f.sb c.args.image.now) c.args.f.sparse.entries (k - c.args.f.dense.nodes) in
+    let starts : c.args.at.0 ≡ start_of c.args.image.now.bytes.now c.args.image.now.frame c.args.m.0 = let n = c.if-m-image.false in c.requires.1 (omega arith) in
+    let few : (k : ℕ) → start_of c.args.image.now.bytes.now c.args.image.now.frame k ≤ c.args.image.now.frame.sparse.entries = λ k. select_le (drop c.args.image.now.frame.sb c.args.image.now.bytes.now) c.args.image.now.frame.sparse.entries (k - c.args.image.now.frame.dense.nodes) in
     omega (arith, starts, few c.args.m.0, c.requires.0.accepted.writable.few_entries, c.requires.0.accepted.entry_size)
 
 pub overflow_add-at-then-goes_on : goal.overflow_add-at-then-goes_on
 overflow_add-at-then-goes_on c =
-    let starts : c.args.at.0 ≡ start_of c.args.image.now c.args.f c.args.m.0 = let n = c.if-m-f.false in c.requires.1 (omega arith) in
-    let few : (k : ℕ) → start_of c.args.image.now c.args.f k ≤ c.args.f.sparse.entries = λ k. select_le (drop c.args.f.sb c.args.image.now) c.args.f.sparse.entries (k - c.args.f.dense.nodes) in
+    let starts : c.args.at.0 ≡ start_of c.args.image.now.bytes.now c.args.image.now.frame c.args.m.0 = let n = c.if-m-image.false in c.requires.1 (omega arith) in
+    let few : (k : ℕ) → start_of c.args.image.now.bytes.now c.args.image.now.frame k ≤ c.args.image.now.frame.sparse.entries = λ k. select_le (drop c.args.image.now.frame.sb c.args.image.now.bytes.now) c.args.image.now.frame.sparse.entries (k - c.args.image.now.frame.dense.nodes) in
     omega (arith, starts, few c.args.m.0, c.requires.0.accepted.writable.few_entries, c.requires.0.accepted.entry_size)
 
 pub branch_at-requires : goal.branch_at-requires
 branch_at-requires c =
-    let sparse : IsSparse c.args.image.now c.args.f c.args.m.0 = let n = c.if-m-f.false in record { accepted = c.requires.0.accepted; behind_dense = omega arith; inside = c.requires.0.inside } in
-    let starts : c.args.at.0 ≡ start_of c.args.image.now c.args.f c.args.m.0 = let n = c.if-m-f.false in c.requires.1 (omega arith) in
-    let extra : c.args.at.0 + 1 < start_of c.args.image.now c.args.f (c.args.m.0 + 1) = let a = c.args in
+    let sparse : IsSparse c.args.image.now.bytes.now c.args.image.now.frame c.args.m.0 = let n = c.if-m-image.false in record { accepted = c.requires.0.accepted; behind_dense = omega arith; inside = c.requires.0.inside } in
+    let starts : c.args.at.0 ≡ start_of c.args.image.now.bytes.now c.args.image.now.frame c.args.m.0 = let n = c.if-m-image.false in c.requires.1 (omega arith) in
+    let extra : c.args.at.0 + 1 < start_of c.args.image.now.bytes.now c.args.image.now.frame (c.args.m.0 + 1) = let a = c.args in
     let n = sparse in
-    c.goes_on.ensures.inside a.m.0 n (omega (arith, starts, start_below a.image.now a.f n.accepted a.m.0 n.behind_dense n.inside)) c.if-goes_on.true in
-    let few : (k : ℕ) → start_of c.args.image.now c.args.f k ≤ c.args.f.sparse.entries = λ k. select_le (drop c.args.f.sb c.args.image.now) c.args.f.sparse.entries (k - c.args.f.dense.nodes) in
-    (c.requires.0.accepted, omega (arith, extra, few (c.args.m.0 + 1)))
+    c.goes_on.ensures.inside a.m.0 n (omega (arith, starts, start_below a.image.now.bytes.now a.image.now.frame n.accepted a.m.0 n.behind_dense n.inside)) c.if-goes_on.true in
+    let few : (k : ℕ) → start_of c.args.image.now.bytes.now c.args.image.now.frame k ≤ c.args.image.now.frame.sparse.entries = λ k. select_le (drop c.args.image.now.frame.sb c.args.image.now.bytes.now) c.args.image.now.frame.sparse.entries (k - c.args.image.now.frame.dense.nodes) in
+    omega (arith, extra, few (c.args.m.0 + 1))
 
 pub returns-then-goes_on : goal.returns-then-goes_on
 returns-then-goes_on c =
-    let sparse : IsSparse c.args.image.now c.args.f c.args.m.0 = let n = c.if-m-f.false in record { accepted = c.requires.0.accepted; behind_dense = omega arith; inside = c.requires.0.inside } in
-    let starts : c.args.at.0 ≡ start_of c.args.image.now c.args.f c.args.m.0 = let n = c.if-m-f.false in c.requires.1 (omega arith) in
-    let extra : c.args.at.0 + 1 < start_of c.args.image.now c.args.f (c.args.m.0 + 1) = let a = c.args in
+    let sparse : IsSparse c.args.image.now.bytes.now c.args.image.now.frame c.args.m.0 = let n = c.if-m-image.false in record { accepted = c.requires.0.accepted; behind_dense = omega arith; inside = c.requires.0.inside } in
+    let starts : c.args.at.0 ≡ start_of c.args.image.now.bytes.now c.args.image.now.frame c.args.m.0 = let n = c.if-m-image.false in c.requires.1 (omega arith) in
+    let extra : c.args.at.0 + 1 < start_of c.args.image.now.bytes.now c.args.image.now.frame (c.args.m.0 + 1) = let a = c.args in
     let n = sparse in
-    c.goes_on.ensures.inside a.m.0 n (omega (arith, starts, start_below a.image.now a.f n.accepted a.m.0 n.behind_dense n.inside)) c.if-goes_on.true in
+    c.goes_on.ensures.inside a.m.0 n (omega (arith, starts, start_below a.image.now.bytes.now a.image.now.frame n.accepted a.m.0 n.behind_dense n.inside)) c.if-goes_on.true in
     let a = c.args in
     let n = sparse in
-    first_extra a.image.now a.f n.accepted a.m.0 n.behind_dense n.inside a.at.0 starts c.branch_at.result (sym c.branch_at-first.ensures.label_is ∙ c.if-first-eq-EXTRA.true) extra c.branch_at.ensures
+    first_extra a.image.now.bytes.now a.image.now.frame n.accepted a.m.0 n.behind_dense n.inside a.at.0 starts c.branch_at.result (sym c.branch_at-first.ensures.label_is ∙ c.if-first-eq-EXTRA.true) extra c.branch_at.ensures
 
 pub returns-else-goes_on : goal.returns-else-goes_on
 returns-else-goes_on c =
-    let sparse : IsSparse c.args.image.now c.args.f c.args.m.0 = let n = c.if-m-f.false in record { accepted = c.requires.0.accepted; behind_dense = omega arith; inside = c.requires.0.inside } in
-    let starts : c.args.at.0 ≡ start_of c.args.image.now c.args.f c.args.m.0 = let n = c.if-m-f.false in c.requires.1 (omega arith) in
+    let sparse : IsSparse c.args.image.now.bytes.now c.args.image.now.frame c.args.m.0 = let n = c.if-m-image.false in record { accepted = c.requires.0.accepted; behind_dense = omega arith; inside = c.requires.0.inside } in
+    let starts : c.args.at.0 ≡ start_of c.args.image.now.bytes.now c.args.image.now.frame c.args.m.0 = let n = c.if-m-image.false in c.requires.1 (omega arith) in
     let a = c.args in
     let n = sparse in
-    first_sole a.image.now a.f n.accepted a.m.0 n.behind_dense n.inside a.at.0 starts c.branch_at-first.result (c.goes_on.ensures.outside a.m.0 n (omega (arith, starts)) c.if-goes_on.false) c.branch_at-first.ensures
+    first_sole a.image.now.bytes.now a.image.now.frame n.accepted a.m.0 n.behind_dense n.inside a.at.0 starts c.branch_at-first.result (c.goes_on.ensures.outside a.m.0 n (omega (arith, starts)) c.if-goes_on.false) c.branch_at-first.ensures
 
 pub returns-else-first-eq-EXTRA : goal.returns-else-first-eq-EXTRA
 returns-else-first-eq-EXTRA c =
-    let sparse : IsSparse c.args.image.now c.args.f c.args.m.0 = let n = c.if-m-f.false in record { accepted = c.requires.0.accepted; behind_dense = omega arith; inside = c.requires.0.inside } in
-    let starts : c.args.at.0 ≡ start_of c.args.image.now c.args.f c.args.m.0 = let n = c.if-m-f.false in c.requires.1 (omega arith) in
+    let sparse : IsSparse c.args.image.now.bytes.now c.args.image.now.frame c.args.m.0 = let n = c.if-m-image.false in record { accepted = c.requires.0.accepted; behind_dense = omega arith; inside = c.requires.0.inside } in
+    let starts : c.args.at.0 ≡ start_of c.args.image.now.bytes.now c.args.image.now.frame c.args.m.0 = let n = c.if-m-image.false in c.requires.1 (omega arith) in
     let a = c.args in
     let n = sparse in
-    first_other a.image.now a.f n.accepted a.m.0 n.behind_dense n.inside a.at.0 starts c.branch_at-first.result (λ e. c.if-first-eq-EXTRA.false (c.branch_at-first.ensures.label_is ∙ e)) c.branch_at-first.ensures
+    first_other a.image.now.bytes.now a.image.now.frame n.accepted a.m.0 n.behind_dense n.inside a.at.0 starts c.branch_at-first.result (λ e. c.if-first-eq-EXTRA.false (c.branch_at-first.ensures.label_is ∙ e)) c.branch_at-first.ensures

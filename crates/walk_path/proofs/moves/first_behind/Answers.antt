@@ -26,13 +26,13 @@ child_at-c-requires c =
 pub loop-stop-init : goal.loop-stop-init
 loop-stop-init c =
     let a = c.args in
-    goes_first a.image.now a.f a.path.now a.entries.now a.labels.now a.from c.requires c.child_at-c.result.0 c.child_at-c.ensures
+    goes_first a.image.now.bytes.now a.image.now.frame a.path.now a.entries.now a.labels.now a.from c.requires c.child_at-c.result.0 c.child_at-c.ensures
 
 pub overflow_cast-labels : goal.overflow_cast-labels
 overflow_cast-labels c =
     let l = c.loop-stop in
     let a = c.args in
-    omega (arith, (goes_named a.image.now a.f c.requires.accepted a.path.now a.labels.now a.from.depth a.from.branch.label l.path l.entries l.labels l.d l.b l.c.0 l.invariant).label_byte)
+    omega (arith, (goes_named a.image.now.bytes.now a.image.now.frame c.requires.accepted a.path.now a.labels.now a.from.depth a.from.branch.label l.path l.entries l.labels l.d l.b l.c.0 l.invariant).label_byte)
 
 pub bounds-labels-d : goal.bounds-labels-d
 bounds-labels-d c =
@@ -42,7 +42,7 @@ pub entry_behind-requires : goal.entry_behind-requires
 entry_behind-requires c =
     let l = c.loop-stop in
     let a = c.args in
-    goes_small a.image.now a.f c.requires.accepted a.path.now a.labels.now a.from.depth a.from.branch.label l.path l.entries l.labels l.d l.b l.c.0 l.invariant
+    goes_small a.image.now.bytes.now a.image.now.frame c.requires.accepted a.path.now a.labels.now a.from.depth a.from.branch.label l.path l.entries l.labels l.d l.b l.c.0 l.invariant
 
 pub keep_entry-requires : goal.keep_entry-requires
 keep_entry-requires c =
@@ -56,21 +56,21 @@ pub slot_at-requires : goal.slot_at-requires
 slot_at-requires c =
     let l = c.loop-stop in
     let a = c.args in
-    (goes_position a.image.now a.f c.requires.accepted a.path.now a.labels.now a.from.depth a.from.branch.label l.path l.entries l.labels l.d l.b l.c.0 l.invariant, l.invariant.child_is)
+    (goes_position a.image.now.bytes.now a.image.now.frame c.requires.accepted a.path.now a.labels.now a.from.depth a.from.branch.label l.path l.entries l.labels l.d l.b l.c.0 l.invariant, l.invariant.child_is)
 
 pub returns-in_default : goal.returns-in_default
 returns-in_default c =
     let l = c.loop-stop in
     let a = c.args in
     rw c.keep_entry.ensures
-    (down_leaf a.image.now a.f c.requires.accepted a.path.now a.labels.now a.from.depth a.from.branch.label l.path l.entries l.labels l.d l.b l.c.0 l.invariant c.entry_behind.result c.entry_behind.ensures
+    (down_leaf a.image.now.bytes.now a.image.now.frame c.requires.accepted a.path.now a.labels.now a.from.depth a.from.branch.label l.path l.entries l.labels l.d l.b l.c.0 l.invariant c.entry_behind.result c.entry_behind.ensures
     c.slot_at.result c.slot_at.ensures (ends_leaf l.b.kind c.in_default.not-Child l.invariant.descends.branch.there))
 
 pub entry_on-requires-in-loop-stop : goal.entry_on-requires-in-loop-stop
 entry_on-requires-in-loop-stop c =
     let l = c.loop-stop in
     let a = c.args in
-    omega (arith, down_deep a.image.now a.f c.requires.accepted a.path.now a.labels.now a.from.depth a.from.branch.label l.path l.entries l.labels l.d l.b l.c.0 l.invariant c.entry_behind.result c.entry_behind.ensures c.in-Child.is)
+    omega (arith, down_deep a.image.now.bytes.now a.image.now.frame c.requires.accepted a.path.now a.labels.now a.from.depth a.from.branch.label l.path l.entries l.labels l.d l.b l.c.0 l.invariant c.entry_behind.result c.entry_behind.ensures c.in-Child.is)
 
 pub enter-next-requires : goal.enter-next-requires
 enter-next-requires c =
@@ -79,42 +79,41 @@ enter-next-requires c =
     let e = c.entry_behind.result in
     let w = c.entry_behind.ensures in
     let k = c.in-Child.is in (
-      c.requires.accepted,
-      down_behind a.image.now a.f c.requires.accepted a.path.now a.labels.now a.from.depth a.from.branch.label l.path l.entries l.labels l.d l.b l.c.0 l.invariant e w k,
-      down_node a.image.now a.f c.requires.accepted a.path.now a.labels.now a.from.depth a.from.branch.label l.path l.entries l.labels l.d l.b l.c.0 l.invariant e w k,
-      rw (c.entry_on-in-loop-stop.ensures, c.keep_entry.ensures) (down_last a.image.now a.f c.requires.accepted a.path.now a.labels.now a.from.depth a.from.branch.label l.path l.entries l.labels l.d l.b l.c.0 l.invariant e w k),
+      down_behind a.image.now.bytes.now a.image.now.frame c.requires.accepted a.path.now a.labels.now a.from.depth a.from.branch.label l.path l.entries l.labels l.d l.b l.c.0 l.invariant e w k,
+      down_node a.image.now.bytes.now a.image.now.frame c.requires.accepted a.path.now a.labels.now a.from.depth a.from.branch.label l.path l.entries l.labels l.d l.b l.c.0 l.invariant e w k,
+      rw (c.entry_on-in-loop-stop.ensures, c.keep_entry.ensures) (down_last a.image.now.bytes.now a.image.now.frame c.requires.accepted a.path.now a.labels.now a.from.depth a.from.branch.label l.path l.entries l.labels l.d l.b l.c.0 l.invariant e w k),
     )
 
 pub bounds-path-d-in-loop-stop-2 : goal.bounds-path-d-in-loop-stop-2
 bounds-path-d-in-loop-stop-2 c =
     let l = c.loop-stop in
     let a = c.args in
-    omega (arith, down_deep a.image.now a.f c.requires.accepted a.path.now a.labels.now a.from.depth a.from.branch.label l.path l.entries l.labels l.d l.b l.c.0 l.invariant c.entry_behind.result c.entry_behind.ensures c.in-Child.is)
+    omega (arith, down_deep a.image.now.bytes.now a.image.now.frame c.requires.accepted a.path.now a.labels.now a.from.depth a.from.branch.label l.path l.entries l.labels l.d l.b l.c.0 l.invariant c.entry_behind.result c.entry_behind.ensures c.in-Child.is)
 
 pub offset_bounds-path-d-in-loop-stop-3 : goal.offset_bounds-path-d-in-loop-stop-3
 offset_bounds-path-d-in-loop-stop-3 c =
     let l = c.loop-stop in
     let a = c.args in
-    omega (arith, down_deep a.image.now a.f c.requires.accepted a.path.now a.labels.now a.from.depth a.from.branch.label l.path l.entries l.labels l.d l.b l.c.0 l.invariant c.entry_behind.result c.entry_behind.ensures c.in-Child.is)
+    omega (arith, down_deep a.image.now.bytes.now a.image.now.frame c.requires.accepted a.path.now a.labels.now a.from.depth a.from.branch.label l.path l.entries l.labels l.d l.b l.c.0 l.invariant c.entry_behind.result c.entry_behind.ensures c.in-Child.is)
 
 pub bounds-path-d-in-loop-stop-3 : goal.bounds-path-d-in-loop-stop-3
 bounds-path-d-in-loop-stop-3 c =
     let l = c.loop-stop in
     let a = c.args in
-    omega (arith, down_deep a.image.now a.f c.requires.accepted a.path.now a.labels.now a.from.depth a.from.branch.label l.path l.entries l.labels l.d l.b l.c.0 l.invariant c.entry_behind.result c.entry_behind.ensures c.in-Child.is)
+    omega (arith, down_deep a.image.now.bytes.now a.image.now.frame c.requires.accepted a.path.now a.labels.now a.from.depth a.from.branch.label l.path l.entries l.labels l.d l.b l.c.0 l.invariant c.entry_behind.result c.entry_behind.ensures c.in-Child.is)
 
 pub keep_entry-requires-in-loop-stop : goal.keep_entry-requires-in-loop-stop
 keep_entry-requires-in-loop-stop c =
     let l = c.loop-stop in
     let a = c.args in
-    omega (arith, down_deep a.image.now a.f c.requires.accepted a.path.now a.labels.now a.from.depth a.from.branch.label l.path l.entries l.labels l.d l.b l.c.0 l.invariant c.entry_behind.result c.entry_behind.ensures c.in-Child.is)
+    omega (arith, down_deep a.image.now.bytes.now a.image.now.frame c.requires.accepted a.path.now a.labels.now a.from.depth a.from.branch.label l.path l.entries l.labels l.d l.b l.c.0 l.invariant c.entry_behind.result c.entry_behind.ensures c.in-Child.is)
 
 pub returns-then-first : goal.returns-then-first
 returns-then-first c =
     let l = c.loop-stop in
     let a = c.args in
     rw (c.keep_entry-in-loop-stop.ensures, c.keep_entry.ensures)
-    (down_exact a.image.now a.f c.requires.accepted a.path.now a.labels.now a.from.depth a.from.branch.label l.path l.entries l.labels l.d l.b l.c.0 l.invariant c.entry_behind.result c.entry_behind.ensures
+    (down_exact a.image.now.bytes.now a.image.now.frame c.requires.accepted a.path.now a.labels.now a.from.depth a.from.branch.label l.path l.entries l.labels l.d l.b l.c.0 l.invariant c.entry_behind.result c.entry_behind.ensures
     c.in-Child.is c.enter-next.result c.enter-next.ensures c.if-first.true)
 
 pub loop-stop-smaller : goal.loop-stop-smaller
@@ -126,5 +125,5 @@ loop-stop-preserved c =
     let l = c.loop-stop in
     let a = c.args in
     rw (c.keep_entry-in-loop-stop.ensures, c.keep_entry.ensures)
-    (down_next a.image.now a.f c.requires.accepted a.path.now a.labels.now a.from.depth a.from.branch.label l.path l.entries l.labels l.d l.b l.c.0 l.invariant c.entry_behind.result c.entry_behind.ensures
+    (down_next a.image.now.bytes.now a.image.now.frame c.requires.accepted a.path.now a.labels.now a.from.depth a.from.branch.label l.path l.entries l.labels l.d l.b l.c.0 l.invariant c.entry_behind.result c.entry_behind.ensures
     c.in-Child.is c.enter-next.result c.enter-next.ensures c.if-first.false)
