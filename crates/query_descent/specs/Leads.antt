@@ -70,12 +70,12 @@ module _ (s : Bytes) (f : Frame) (k : Bytes) (n : ℕ) (h : n ≤ length k) wher
   first_byte : {d m : ℕ} {b : Found} → AtByte s f (take n k) d m b → AtByte s f k d m b
   first_byte {d} a = let e = length-take-le n k h in record { more = omega (arith, a.more, e); found = rw (get_or-take n k d 0 (omega (arith, a.more, e))) at a.found }
 
-  -- where they lead the key's own lead
+  -- they lead to the same node whether the key goes on or not
   first_leads : {d m : ℕ} → Leads s f (take n k) d m → Leads s f k d m
   first_leads (root z) = root z
   first_leads (next l b) = next (first_leads l) (record { branch = b.branch; here = first_byte b.here; continues = b.continues; child_is = b.child_is })
 
-  -- and so does the end to which they lead
+  -- and to the same end
   first_bytes : (e : KeyEnd) → LeadsTo s f (take n k) (length (take n k)) e → LeadsTo s f k n e
   first_bytes End.NoNodes z = z
   first_bytes End.NoBranch b = record { depth = b.depth; node = b.node; leads = first_leads b.leads; inside = omega (arith, b.inside, length-take-le n k h); branch = b.branch; here = first_byte b.here; absent = b.absent }
