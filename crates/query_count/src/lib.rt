@@ -35,10 +35,8 @@ pub fn count(image: &AcceptedImage, lo: &[u8], hi: &[u8]) -> usize
     ensures { result ≡ counted (real_leaves image.now.bytes.now image.now.frame) lo.now hi.now }
 {
     let n = shared(lo, hi);
-    let end = follow(image, lo, n);
-    match end {
-        KeyEnd::NoNodes => 0,
-        KeyEnd::NoBranch => 0,
+    match follow(image, &lo[..n]) {
+        KeyEnd::NoNodes | KeyEnd::NoBranch => 0,
         KeyEnd::Node(node) => {
             let fork = LevelSum {
                 node,

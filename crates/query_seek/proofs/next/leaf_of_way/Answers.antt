@@ -7,25 +7,28 @@ use lib.ListN.{length}
 use native.Mathlib.Omega.{arith}
 use mathlib.Core.Path.{◌∙◌}
 use Rattle.query_seek.proofs.next.leaf_of_way.Goals as goal
+use Rattle.query_seek.proofs.next.leaf_of_way.Goals.{In-Node}
+
+-- the node where the way ends
+below : (c : In-Node) → FirstBelow c.args.image.now.bytes.now c.args.image.now.frame (leaf_below (nodes c.args.image.now.bytes.now c.args.image.now.frame) c.args.start.now c.args.way.bound.level.node.0 c.args.way.bound.level.depth) c.args.key.now c.args.way.bound.level.node.0 c.args.way.bound.level.depth
+below c = let p = c.requires in start_below p.accepted p.key_size p.begins p.ended.sums.depth_in (ended_node p.ended c.in-Node.is).1
 
 pub leaf_above-requires : goal.leaf_above-requires
 leaf_above-requires c =
     let v = c.args.image.now in
-    let e = c.requires.ended in
+    let p = c.requires in
     record {
-      accepted = c.requires.accepted;
-      short = c.requires.short;
-      key_size = c.requires.key_size;
-      begins = c.requires.begins;
-      inside = higher_within v.bytes.now v.frame c.args.start.now c.args.way.bound.level.depth (length c.args.start.now) c.args.way.higher e.sums.depth_in e.higher_in;
+      accepted = p.accepted;
+      short = p.short;
+      key_size = p.key_size;
+      begins = p.begins;
+      inside = higher_within v.bytes.now v.frame c.args.start.now c.args.way.bound.level.depth (length c.args.start.now) c.args.way.higher p.ended.sums.depth_in p.ended.higher_in;
     }
 
 pub first_below-requires : goal.first_below-requires
 first_below-requires c =
-    let v = c.args.image.now in
-    let below : FirstBelow v.bytes.now v.frame (leaf_below (nodes v.bytes.now v.frame) c.args.start.now c.args.way.bound.level.node.0 c.args.way.bound.level.depth) c.args.key.now c.args.way.bound.level.node.0 c.args.way.bound.level.depth = let p = c.requires in
-    start_below p.accepted p.key_size p.begins p.ended.sums.depth_in (ended_node p.ended c.in-Node.is).1 in
-    let w = below in (w.level, w.key_size)
+    let w = below (goal.at.first_below-requires c).In-Node in
+    (w.level, w.key_size)
 
 pub returns-in-NoLeaf : goal.returns-in-NoLeaf
 returns-in-NoLeaf c =
@@ -33,10 +36,8 @@ returns-in-NoLeaf c =
 
 pub returns-in-Node : goal.returns-in-Node
 returns-in-Node c =
-    let v = c.args.image.now in
-    let below : FirstBelow v.bytes.now v.frame (leaf_below (nodes v.bytes.now v.frame) c.args.start.now c.args.way.bound.level.node.0 c.args.way.bound.level.depth) c.args.key.now c.args.way.bound.level.node.0 c.args.way.bound.level.depth = let p = c.requires in
-    start_below p.accepted p.key_size p.begins p.ended.sums.depth_in (ended_node p.ended c.in-Node.is).1 in
-    rw ((ended_node c.requires.ended c.in-Node.is).0 ∙ below.leaf_is) c.first_below.ensures
+    let w = below (goal.at.returns-in-Node c).In-Node in
+    rw ((ended_node c.requires.ended c.in-Node.is).0 ∙ w.leaf_is) c.first_below.ensures
 
 pub returns-in-Leaf : goal.returns-in-Leaf
 returns-in-Leaf c =

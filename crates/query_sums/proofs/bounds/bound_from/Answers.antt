@@ -13,22 +13,10 @@ use Rattle.query_sums.proofs.bounds.bound_from.Goals.{After-find-found}
 here : (c : After-find-found) → FoundBranch c.args.image.now.bytes.now c.args.image.now.frame c.loop-level.level.node.0 (get_or c.args.key.now c.loop-level.level.depth 0) c.find-found.result
 here c = rw c.from.ensures at c.find-found.ensures
 
-pub loop-level-init : goal.loop-level-init
-loop-level-init c =
-    λ above o. o
-
 pub find-found-requires : goal.find-found-requires
 find-found-requires c =
     let leads = c.loop-level.invariant c.requires.above c.requires.leads in
     (record { accepted = c.requires.accepted; inside = leads.node_in }, omega arith)
-
-pub child_and_slot-behind-requires : goal.child_and_slot-behind-requires
-child_and_slot-behind-requires c =
-    record { accepted = c.requires.accepted; within = c.find-found.ensures.at_is.within }
-
-pub overflow_add-level : goal.overflow_add-level
-overflow_add-level c =
-    omega (arith, c.loop-level-test.true, c.requires.short)
 
 pub overflow_add-level-in-loop-level : goal.overflow_add-level-in-loop-level
 overflow_add-level-in-loop-level c =
@@ -49,10 +37,6 @@ returns-in-Leaf c =
     let v = c.args.image.now in
     let found = here (goal.at.returns-in-Leaf c).After-find-found in
     λ above o. bound_leaf v.bytes.now v.frame c.requires.accepted c.args.key.now c.requires.short above c.loop-level.level (c.loop-level.invariant above o) c.loop-level-test.true c.find-found.result found _ c.child_and_slot-behind.result.slot c.child_and_slot-behind.ensures refl refl c.in-Leaf.is
-
-pub loop-level-smaller : goal.loop-level-smaller
-loop-level-smaller c =
-    omega (arith, c.loop-level-test.true)
 
 pub loop-level-preserved : goal.loop-level-preserved
 loop-level-preserved c =

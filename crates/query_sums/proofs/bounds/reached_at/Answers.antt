@@ -6,10 +6,6 @@ use mathlib.Core.Path.{◌≡◌, sym, ap, ◌∙◌}
 use mathlib.Core.Bool.{not}
 use Rattle.query_sums.proofs.bounds.reached_at.Goals as goal
 
-pub is_exact-requires : goal.is_exact-requires
-is_exact-requires c =
-    let p = c.requires in record { accepted = p.accepted; inside = p.inside c.in-Node.is }
-
 pub low_above-requires : goal.low_above-requires
 low_above-requires c =
     let v = c.args.image.now in

@@ -1,6 +1,6 @@
 -- The loop: k levels behind the level have as many nodes, and so has the one behind these.
 use Prim.Native.Nat.{ℕ, ◌+◌, ◌*◌, ◌≤◌, ◌<◌}
-use mathlib.Core.Path.{◌≡◌, sym, ap, ◌∙◌}
+use mathlib.Core.Path.{sym, ap, ◌∙◌}
 use native.Mathlib.Omega.{arith}
 use native.Mathlib.Nat.{add-mul}
 use Rattle.image.specs.declared.AcceptedImage.{AcceptedImage}
@@ -29,22 +29,6 @@ pub overflow_add-next-2 : goal.overflow_add-next-2
 overflow_add-next-2 c =
     omega (arith, short c.args.image.now c.args.level c.args.known c.requires.1)
 
-pub overflow_add-level : goal.overflow_add-level
-overflow_add-level c =
-    omega (arith, short c.args.image.now c.args.level c.loop-k.k c.loop-k.invariant.0)
-
-pub overflow_add-level-in-loop-k : goal.overflow_add-level-in-loop-k
-overflow_add-level-in-loop-k c =
-    omega (arith, short c.args.image.now c.args.level c.loop-k.k c.loop-k.invariant.0)
-
-pub overflow_add-level-in-loop-k-2 : goal.overflow_add-level-in-loop-k-2
-overflow_add-level-in-loop-k-2 c =
-    omega (arith, short c.args.image.now c.args.level c.loop-k.k c.loop-k.invariant.0)
-
-pub overflow_add-level-in-loop-k-3 : goal.overflow_add-level-in-loop-k-3
-overflow_add-level-in-loop-k-3 c =
-    omega (arith, short c.args.image.now c.args.level c.loop-k.k c.loop-k.invariant.0)
-
 pub overflow_add-next-in-loop-k : goal.overflow_add-next-in-loop-k
 overflow_add-next-in-loop-k c =
     omega (arith, c.loop-k.invariant.1, short c.args.image.now c.args.level c.loop-k.k c.loop-k.invariant.0)
@@ -60,16 +44,3 @@ loop-k-preserved c =
     let e = sym c.level_start-end.ensures ∙ c.if-end-next.false in
     let q = levels_more v.bytes.now v.frame l.number l.start l.width c.loop-k.k c.loop-k.invariant.0 (omega (arith, c.level_count-levels.ensures, c.if-levels-level.false)) (e ∙ ap (λ (n : ℕ). n + l.width) c.loop-k.invariant.1) in
     (q, omega (arith, c.if-end-next.false, c.loop-k.invariant.1, add-mul c.loop-k.k 1 l.width))
-
-pub returns-then-levels-level : goal.returns-then-levels-level
-returns-then-levels-level c =
-    (c.loop-k.invariant.0, omega arith, omega arith)
-
-pub returns-then-end-next : goal.returns-then-end-next
-returns-then-end-next c =
-    (c.loop-k.invariant.0, omega arith, omega arith)
-
-pub returns : goal.returns
-returns c =
-    let e : c.loop-k.k ≡ c.args.most = omega arith in
-    (rw e at c.loop-k.invariant.0, omega arith, omega arith)

@@ -4,11 +4,6 @@ use Rattle.query_sums.specs.LevelTable.{table_length}
 use Rattle.nav_nodes.specs.FromCheck.{accepted}
 use Rattle.query_sums.proofs.chains.level_count.Goals as goal
 
-pub overflow_sub-result : goal.overflow_sub-result
-overflow_sub-result c =
-    let v = c.args.image.now in
-    omega (arith, table_length v.bytes.now v.frame (accepted v) c.requires)
-
 pub returns : goal.returns
 returns c =
     let v = c.args.image.now in

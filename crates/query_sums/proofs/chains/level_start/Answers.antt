@@ -10,11 +10,6 @@ returns-then-level_count-t c =
     let v = c.args.image.now in
     sym (level_behind v.bytes.now v.frame (accepted v) c.args.t (omega (arith, c.level_count.ensures, c.if-level_count-t.true)))
 
-pub overflow_add-image : goal.overflow_add-image
-overflow_add-image c =
-    let v = c.args.image.now in
-    omega (arith, table_length v.bytes.now v.frame (accepted v) c.requires.0, c.level_count.ensures, c.if-level_count-t.false)
-
 pub read32-requires : goal.read32-requires
 read32-requires c =
     let v = c.args.image.now in

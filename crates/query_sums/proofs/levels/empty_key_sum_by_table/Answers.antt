@@ -8,32 +8,16 @@ use Rattle.nav_nodes.specs.Accepted.{nodes}
 use Rattle.nav_nodes.specs.Slots.{leaves_before}
 use Rattle.nav_nodes.specs.Descent.{children_before}
 use Rattle.query_descent.specs.LevelSums.{slots_below}
-use Rattle.query_descent.specs.Summed.{rest_few, rest_leaves}
-use Rattle.query_sums.specs.LevelTable.{level_count, level_at, levels_few, level_first, level_behind, level_within, level_next, nodes_few, entries_few, sums_end, sums_up}
-use Rattle.query_descent.specs.Followed.{node_length}
+use Rattle.query_descent.specs.Summed.{rest_leaves}
+use Rattle.query_sums.specs.LevelTable.{level_count, level_at, levels_few, level_first, level_behind, level_within, level_next, entries_few, sums_end, sums_up}
 use Rattle.nav_nodes.specs.FromCheck.{accepted}
 use Rattle.query_sums.proofs.levels.empty_key_sum_by_table.Goals as goal
 use Rattle.query_sums.proofs.levels.empty_key_sum_by_table.Goals.{After-entries_before}
-
-pub level_count-levels-requires : goal.level_count-levels-requires
-level_count-levels-requires c =
-    let v = c.args.image.now in
-    c.requires
 
 pub overflow_sub-sum : goal.overflow_sub-sum
 overflow_sub-sum c =
     let v = c.args.image.now in
     omega (arith, c.level_count-levels.ensures, levels_few v.bytes.now v.frame (accepted v))
-
-pub overflow_mul-sum : goal.overflow_mul-sum
-overflow_mul-sum c =
-    let v = c.args.image.now in
-    omega (arith, rest_few v.bytes.now v.frame (accepted v) (64 - c.level_count-levels.result) (omega arith))
-
-pub overflow_add-next : goal.overflow_add-next
-overflow_add-next c =
-    let v = c.args.image.now in
-    omega (arith, nodes_few v.bytes.now v.frame (accepted v), node_length v.bytes.now v.frame (accepted v))
 
 pub loop-t-init : goal.loop-t-init
 loop-t-init c =

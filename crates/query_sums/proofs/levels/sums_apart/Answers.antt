@@ -48,10 +48,6 @@ step_both-next-requires c =
       c.loop-lower-test.true,
     )
 
-pub loop-lower-smaller : goal.loop-lower-smaller
-loop-lower-smaller c =
-    let o = c.step_both-next.ensures.0 in omega (arith, o.deeper, o.depth_in)
-
 pub loop-lower-preserved : goal.loop-lower-preserved
 loop-lower-preserved c =
     let v = c.args.image.now in
