@@ -1,15 +1,10 @@
 use Rattle.query_seek.proofs.NextLaws.{overlaid_front}
 use Rattle.query_seek.proofs.SeekLaws.{greater_above, greater_not_above}
 use Rattle.bits.proofs.Overlaying.{length_overlaid}
-use lib.Seq.{length-take-le}
 use lib.ListN.{length, take}
 use native.Mathlib.Omega.{arith}
 use mathlib.Core.Path.{sym, ap, ◌∙◌}
 use Rattle.query_seek.proofs.seek.greater_key.Goals as goal
-
-pub slice_bounds-compare-end-2 : goal.slice_bounds-compare-end-2
-slice_bounds-compare-end-2 c =
-    let a = c.args in sym (length-take-le a.n a.key.now (omega arith))
 
 pub returns-in_default : goal.returns-in_default
 returns-in_default c =
