@@ -5,9 +5,10 @@ ghost use Rattle.spec.specs.Build.{write_stated};
 ghost use Rattle.image.specs.Header.{asked};
 ghost use Rattle.image.specs.Outcomes.{outcome};
 ghost use Rattle.build_keys.specs.CountPass.{no_counts, list_counts};
-ghost use Rattle.build_records.specs.Plan.{Ready, Planned, plan_settings, start_at, plan_image, plan_levels};
+ghost use Rattle.build_records.specs.Plan.{Planned, plan_settings, start_at, plan_image, plan_levels};
 ghost use Rattle.build.specs.Image.{image_of};
 
+use super::ready::ReadyList;
 use build_keys::{COUNTERS, Counters, LevelCounts};
 use build_passes::count::count_levels;
 use build_passes::offsets::total;
@@ -17,19 +18,27 @@ use build_records::records::write_records;
 use image::header_bytes::write_header;
 use image::refusals::Refusal;
 use image::table::{RECORDS, record_starts};
-use image::{Dense, Header, MAX_LEVELS, Settings, Sparse};
+use image::{Dense, Header, MAX_LEVELS, Sparse};
 
-// The plan of an accepted list of so many keys: each level's entries, nodes and leaves are counted from zero in one pass, and give the header's counts and the records' starts.
-fn lay_out(counts: &mut LevelCounts, list: &[u8], st: Settings, count: usize) -> Plan
-    requires { Ready list.now (asked st) × (count ≡ length (keys_of list.now)) × (counts.old ≡ no_counts) }
-    ensures { Planned list.now result × (plan_settings result ≡ asked st) × (counts.new ≡ list_counts (keys_of list.now)) }
+// Nothing counted yet.
+const NO_COUNTS: LevelCounts = LevelCounts {
+    entries: [0; COUNTERS],
+    nodes: [0; COUNTERS],
+    leaves: [0; COUNTERS],
+};
+
+// The plan of an accepted list: each level's entries, nodes and leaves are counted from zero in one pass, and give the header's counts and the records' starts.
+fn lay_out(counts: &mut LevelCounts, list: &ReadyList) -> Plan
+    requires { counts.old ≡ no_counts }
+    ensures { Planned list.now.bytes.now result × (plan_settings result ≡ asked list.now.settings) × (counts.new ≡ list_counts (keys_of list.now.bytes.now)) }
 {
-    count_levels(counts, list);
+    count_levels(counts, list.bytes);
+    let st = list.settings;
     let h = Header {
         version: st.version,
         real_width: st.real_width,
         hash_width: st.hash_width,
-        leaves: count,
+        leaves: list.count,
         dense: Dense {
             levels: st.dense_levels,
             nodes: total(&counts.nodes, 0, st.dense_levels),
@@ -53,17 +62,12 @@ fn image_end(plan: Plan, nodes: &Counters) -> usize
     plan.starts[RECORDS] + levels_size(plan.header.version, nodes)
 }
 
-// The length of the image of an accepted list of so many keys: where it ends.
-pub fn measure_image(list: &[u8], st: Settings, count: usize) -> usize
-    requires { Ready list.now (asked st) × (count ≡ length (keys_of list.now)) }
-    ensures { result ≡ length (image_of list.now (asked st)) }
+// The length of the image of an accepted list: where it ends.
+pub fn measure_image(list: &ReadyList) -> usize
+    ensures { result ≡ length (image_of list.now.bytes.now (asked list.now.settings)) }
 {
-    let mut counts = LevelCounts {
-        entries: [0; COUNTERS],
-        nodes: [0; COUNTERS],
-        leaves: [0; COUNTERS],
-    };
-    let plan = lay_out(&mut counts, list, st, count);
+    let mut counts = NO_COUNTS;
+    let plan = lay_out(&mut counts, list);
     image_end(plan, &counts.nodes)
 }
 
@@ -82,23 +86,12 @@ fn write_image(out: &mut [u8], list: &[u8], plan: Plan, counts: &LevelCounts)
     );
 }
 
-// The image of an accepted list of so many keys goes to the front of out; or the answer is 8, the stated length is not the image's, or 7, the image is longer than the output.
-pub fn build_image(
-    list: &[u8],
-    st: Settings,
-    count: usize,
-    stated: u64,
-    out: &mut [u8],
-) -> Result<usize, Refusal>
-    requires { Ready list.now (asked st) × (count ≡ length (keys_of list.now)) }
-    ensures { outcome result out.new ≡ write_stated stated (image_of list.now (asked st)) out.old }
+// The image of an accepted list goes to the front of out; or the answer is 8, the stated length is not the image's, or 7, the image is longer than the output.
+pub fn build_image(list: &ReadyList, stated: u64, out: &mut [u8]) -> Result<usize, Refusal>
+    ensures { outcome result out.new ≡ write_stated stated (image_of list.now.bytes.now (asked list.now.settings)) out.old }
 {
-    let mut counts = LevelCounts {
-        entries: [0; COUNTERS],
-        nodes: [0; COUNTERS],
-        leaves: [0; COUNTERS],
-    };
-    let plan = lay_out(&mut counts, list, st, count);
+    let mut counts = NO_COUNTS;
+    let plan = lay_out(&mut counts, list);
     let end = image_end(plan, &counts.nodes);
     if stated != end as u64 {
         return Err(Refusal::StatedLengthWrong);
@@ -106,6 +99,6 @@ pub fn build_image(
     if out.len() < end {
         return Err(Refusal::OutputTooShort);
     }
-    write_image(out, list, plan, &counts);
+    write_image(out, list.bytes, plan, &counts);
     Ok(end)
 }

@@ -18,24 +18,50 @@ use rank_tables::Span;
 use rank_tables::rank_write::fill_ranks;
 use rank_tables::sample_write::fill_samples;
 
-// Where the body of record i comes from.
-pub fn source_of(i: usize) -> Source
-    requires { i < 12 }
-    ensures { result ≡ source_at i }
-{
-    match i {
-        0 => Source::Keys(Body::Entries(Kind::DL)),
-        1 => Source::Keys(Body::Entries(Kind::DC)),
-        2 => Source::Keys(Body::Entries(Kind::DP)),
-        3 => Source::Keys(Body::Entries(Kind::SL)),
-        4 => Source::Keys(Body::Entries(Kind::SC)),
-        5 => Source::Keys(Body::Entries(Kind::SB)),
-        6 => Source::Keys(Body::Slots),
-        7 => Source::Ranks(0, DENSE_BLOCK_WORDS),
-        8 => Source::Ranks(1, DENSE_BLOCK_WORDS),
-        9 => Source::Ranks(2, DENSE_BLOCK_WORDS),
-        10 => Source::Ranks(4, SPARSE_BLOCK_WORDS),
-        _ => Source::Samples(5),
+impl Source {
+    // Where the body of record i comes from.
+    pub fn of_record(i: usize) -> Source
+        requires { i < 12 }
+        ensures { result ≡ source_at i }
+    {
+        match i {
+            0 => Source::Keys(Body::Entries(Kind::DL)),
+            1 => Source::Keys(Body::Entries(Kind::DC)),
+            2 => Source::Keys(Body::Entries(Kind::DP)),
+            3 => Source::Keys(Body::Entries(Kind::SL)),
+            4 => Source::Keys(Body::Entries(Kind::SC)),
+            5 => Source::Keys(Body::Entries(Kind::SB)),
+            6 => Source::Keys(Body::Slots),
+            7 => Source::Ranks(0, DENSE_BLOCK_WORDS),
+            8 => Source::Ranks(1, DENSE_BLOCK_WORDS),
+            9 => Source::Ranks(2, DENSE_BLOCK_WORDS),
+            10 => Source::Ranks(4, SPARSE_BLOCK_WORDS),
+            _ => Source::Samples(5),
+        }
+    }
+
+    // The counters that say where the levels of a body start, by its source; of a body that no pass fills, any of them.
+    pub fn counters(self, counts: &LevelCounts) -> &Counters
+        ensures { result.now ≡ source_counters counts.now self }
+    {
+        match self {
+            Source::Keys(Body::Entries(Kind::DL | Kind::DC | Kind::DP)) => &counts.nodes,
+            Source::Keys(Body::Entries(Kind::SL | Kind::SC | Kind::SB)) => &counts.entries,
+            _ => &counts.leaves,
+        }
+    }
+}
+
+impl Plan {
+    // The bytes of record i's body in the output.
+    fn body_span(self, i: usize) -> Span
+        requires { LaidOut self i }
+        ensures { result ≡ span_at self i }
+    {
+        Span {
+            at: self.starts[i] + BEFORE_BODY,
+            len: body_size(self.header, i),
+        }
     }
 }
 
@@ -53,17 +79,6 @@ fn level_range(body: Body, dense: usize) -> LevelRange
             lo: dense,
             hi: MAX_LEVELS,
         },
-    }
-}
-
-// The counters that say where the levels of a body start, by its source; of a body that no pass fills, any of them.
-pub fn counters_of(source: Source, counts: &LevelCounts) -> &Counters
-    ensures { result.now ≡ source_counters counts.now source }
-{
-    match source {
-        Source::Keys(Body::Entries(Kind::DL | Kind::DC | Kind::DP)) => &counts.nodes,
-        Source::Keys(Body::Entries(Kind::SL | Kind::SC | Kind::SB)) => &counts.entries,
-        _ => &counts.leaves,
     }
 }
 
@@ -100,34 +115,20 @@ fn fill_from_keys(out: &mut [u8], len: usize, list: &[u8], plan: Plan, cnt: &Cou
     }
 }
 
-// The bytes of record i's body in the output.
-fn body_span(plan: Plan, i: usize) -> Span
-    requires { LaidOut plan i }
-    ensures { result ≡ span_at plan i }
-{
-    Span {
-        at: plan.starts[i] + BEFORE_BODY,
-        len: body_size(plan.header, i),
-    }
-}
-
 // The body of record i goes to its part of out, and all else stays. The bodies of the records before it are finished.
 pub fn fill_body(out: &mut [u8], list: &[u8], plan: Plan, cnt: &Counters, i: usize)
     requires { Writing list.now plan i out.old × (cnt.now ≡ counters_at list.now i) }
     ensures { out.new ≡ overlaid out.old (start_at plan i + 6) (body_at list.now plan i) }
 {
-    let span = body_span(plan, i);
+    let span = plan.body_span(i);
     let start = span.at;
-    let len = span.len;
-    match source_of(i) {
-        Source::Keys(body) => fill_from_keys(&mut out[start..], len, list, plan, cnt, body),
+    match Source::of_record(i) {
+        Source::Keys(body) => { fill_from_keys(&mut out[start..], span.len, list, plan, cnt, body) }
         Source::Ranks(j, words) => {
-            let counted = body_span(plan, j);
-            fill_ranks(out, counted, start, len / 4, words)
+            fill_ranks(out, plan.body_span(j), start, span.len / 4, words)
         }
         Source::Samples(j) => {
-            let counted = body_span(plan, j);
-            fill_samples(out, counted, plan.header.sparse.entries, start)
+            fill_samples(out, plan.body_span(j), plan.header.sparse.entries, start)
         }
     }
 }

@@ -67,6 +67,7 @@ pub fn levels_size(version: usize, nodes: &Counters) -> usize
 }
 
 // The records behind the twelve, of a version, go to out from at, and all else stays.
+#[tactic(auto, using(crate::specs::LevelRecord::levels_length))]
 pub fn write_levels(out: &mut [u8], at: usize, version: usize, nodes: &Counters)
     requires { (sums nodes.now 0 counters ≤ counter_max) × (at + length (level_bytes version nodes.now) ≤ length out.old) }
     ensures { out.new ≡ overlaid out.old at (level_bytes version nodes.now) }

@@ -7,8 +7,8 @@ ghost use Rattle.build_keys.specs.CountPass.{list_counts};
 ghost use Rattle.build_records.specs.RecordsWritten.{record_bytes};
 ghost use Rattle.build_records.specs.Plan.{Planned, plan_bodies, counters_at, body_at, start_at, Writing};
 
-use super::Plan;
-use super::bodies::{counters_of, fill_body, source_of};
+use super::bodies::fill_body;
+use super::{Plan, Source};
 use build_keys::{Counters, LevelCounts};
 use image::header_bytes::begin_record;
 use image::table::{RECORDS, body_size, mark};
@@ -28,6 +28,6 @@ pub fn write_records(out: &mut [u8], list: &[u8], plan: Plan, counts: &LevelCoun
     ensures { out.new ≡ overlaid out.old 22 (write_records rows (plan_bodies list.now plan)) }
 {
     for i in 0..RECORDS {
-        write_record(out, list, plan, counters_of(source_of(i), counts), i);
+        write_record(out, list, plan, Source::of_record(i).counters(counts), i);
     }
 }

@@ -1,4 +1,4 @@
--- What lies behind a branch at a position is numbered within a usize.
+-- The numbers of what lies behind a branch at a position are below half of what a usize holds.
 use Prim.Native.Nat.{ℕ, ◌+◌, ◌-◌, ◌<◌, ◌≤◌}
 use native.Mathlib.Omega.{arith}
 use lib.ListN.{drop}
@@ -12,21 +12,21 @@ use Rattle.nav_nodes.specs.NumberBounds.{leaves_all}
 use Rattle.nav_nodes.specs.Positions.{few_children, dense_totals}
 
 module _ (s : Bytes) (f : Frame) (m p : ℕ) (here : IsPosition s f m p) where
-  -- Of a dense node: its child's number,
-  pub dense_child_room : m < f.dense.nodes → rank (drop f.dc s) p + 1 < 18446744073709551616
+  -- Of a dense node: the continuing branches before its branch,
+  pub dense_child_room : m < f.dense.nodes → rank (drop f.dc s) p < 9223372036854775808
   dense_child_room h = omega (arith, rank_le (drop f.dc s) p, (here.within.dense h).0, here.accepted.dense_size, here.accepted.writable.few_dense)
 
-  -- and its slot's.
-  pub dense_slot_room : m < f.dense.nodes → rank (drop f.dl s) p + rank (drop f.dp s) (m + 1) < 18446744073709551616
+  -- and the labels and exact leaves.
+  pub dense_slot_room : m < f.dense.nodes → rank (drop f.dl s) p + rank (drop f.dp s) (m + 1) < 9223372036854775808
   dense_slot_room h = omega (arith, rank_le (drop f.dl s) p, rank_le (drop f.dp s) (m + 1), (here.within.dense h).0, here.accepted.dense_size, here.accepted.writable.few_dense)
 
-  -- Of a sparse node: its child's number,
-  pub sparse_child_room : f.dense.nodes ≤ m → f.totals.children + rank (drop f.sc s) p + 1 < 18446744073709551616
+  -- Of a sparse node: the continuing branches before its branch,
+  pub sparse_child_room : f.dense.nodes ≤ m → f.totals.children + rank (drop f.sc s) p < 9223372036854775808
   sparse_child_room h =
       omega (arith, (dense_totals s f here.accepted).0, few_children s f here.accepted f.dense.nodes (omega arith), rank_le (drop f.sc s) p, here.within.sparse h, here.accepted.entry_size, here.accepted.writable.few_entries)
 
-  -- and its slot's.
-  pub sparse_slot_room : f.dense.nodes ≤ m → (f.totals.children ≤ f.totals.entries) × (rank (drop f.sc s) p ≤ p) × (f.totals.entries - f.totals.children + p < 18446744073709551616)
+  -- and the leaves.
+  pub sparse_slot_room : f.dense.nodes ≤ m → (f.totals.children ≤ f.totals.entries) × (rank (drop f.sc s) p ≤ p) × (f.totals.entries - f.totals.children + p < 9223372036854775808)
   sparse_slot_room h =
       let w = here.accepted.writable in
       let t = (dense_totals s f here.accepted).1 in

@@ -70,10 +70,8 @@ pub fn write_hex(out: &mut [u8], at: usize, key: &[u8]) -> usize
     ensures { Written out.old at (hex key.now) out.new result }
 {
     let mut next = at;
-    let mut i = 0usize;
-    while i < key.len() {
-        next = write_hex_byte(out, next, key[i]);
-        i = i + 1;
+    for &byte in key {
+        next = write_hex_byte(out, next, byte);
     }
     next
 }

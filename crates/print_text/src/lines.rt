@@ -15,10 +15,8 @@ fn write_bits(out: &mut [u8], at: usize, suffix: usize, width: usize) -> usize
     ensures { Written out.old at (map bit_digit (low_bits width suffix)) out.new result }
 {
     let mut next = at;
-    let mut i = 0usize;
-    while i < width {
+    for i in 0..width {
         next = write_byte(out, next, digit((suffix >> i) % 2));
-        i = i + 1;
     }
     next
 }
@@ -28,10 +26,7 @@ pub fn write_suffix(out: &mut [u8], at: usize, exact: bool, suffix: usize, width
     requires { (width ≤ 32) × (at + length (suffix_text exact (low_bits width suffix)) ≤ length out.old) }
     ensures { Written out.old at (suffix_text exact (low_bits width suffix)) out.new result }
 {
-    if exact {
-        return write_byte(out, at, b'-');
-    }
-    if width == 0 {
+    if exact || width == 0 {
         return write_byte(out, at, b'-');
     }
     write_bits(out, at, suffix, width)
@@ -53,10 +48,8 @@ fn write_cut(out: &mut [u8], at: usize, l: Leaf) -> usize
     requires { Sized l × (at + length (cut_text (leaf_of l)) ≤ length out.old) }
     ensures { Written out.old at (cut_text (leaf_of l)) out.new result }
 {
-    let cut = l.cut;
-    let len = l.len;
     let next = write_kind(out, at, l.exact);
-    write_hex(out, next, &cut[..len])
+    write_hex(out, next, &l.cut[..l.len])
 }
 
 // A leaf's suffix, as it stands in its line.

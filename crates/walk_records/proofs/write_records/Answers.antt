@@ -1,9 +1,9 @@
--- The walk is opened at the place.
-use Prim.Native.Nat.{ℕ}
-use mathlib.Core.Path.{ap, ◌∙◌}
-use Rattle.spec.specs.WalkRecords.{walk_records}
+-- A refusal writes nothing.
+use Rattle.std.proofs.lemmas.Result.{err_from_is_err_and}
+use Rattle.walk_states.specs.StateLaws.{writes_refused}
 use Rattle.walk_records.proofs.write_records.Goals as goal
 
-pub returns : goal.returns
-returns c =
-    c.write_opened.ensures ∙ ap (λ (place : ℕ). walk_records c.args.image.now place c.args.out.now) c.open_from.ensures.place_is
+pub returns-in_err-from : goal.returns-in_err-from
+returns-in_err-from c =
+    let p = err_from_is_err_and c.from_residual.result c.from_residual.ensures.1 in
+    rw (p.1, p.2) (writes_refused c.args.image.now c.args.place c.args.out.now c.in_err-from.field-0.0 (rw c.in_err-from.was at c.open.ensures))

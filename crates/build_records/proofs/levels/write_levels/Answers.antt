@@ -16,27 +16,6 @@ returns-else-version-eq-LEVELED_VERSION c =
     let a = c.args in
     overlaid_nil a.out.now a.at ∙ ap (overlaid a.out.now a.at) (sym (levels_none a.version a.nodes.now c.if-version-eq-LEVELED_VERSION.false))
 
-pub begin_record-requires : goal.begin_record-requires
-begin_record-requires c =
-    let a = c.args in
-    let room = c.requires.1 in
-    let size = levels_length a.version a.nodes.now c.if-version-eq-LEVELED_VERSION.true in
-    omega (arith, room, size)
-
-pub slice_bounds-fill_starts-count : goal.slice_bounds-fill_starts-count
-slice_bounds-fill_starts-count c =
-    let a = c.args in
-    let room = c.requires.1 in
-    let size = levels_length a.version a.nodes.now c.if-version-eq-LEVELED_VERSION.true in
-    omega (arith, room, size, c.begin_record.auto.out)
-
-pub slice_bounds-fill_starts-start : goal.slice_bounds-fill_starts-start
-slice_bounds-fill_starts-start c =
-    let a = c.args in
-    let room = c.requires.1 in
-    let size = levels_length a.version a.nodes.now c.if-version-eq-LEVELED_VERSION.true in
-    omega (arith, room, size, c.begin_record.auto.out)
-
 pub fill_starts-requires : goal.fill_starts-requires
 fill_starts-requires c =
     let a = c.args in

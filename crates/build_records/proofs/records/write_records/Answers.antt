@@ -19,18 +19,17 @@ write_record-requires c =
     let pre = c.requires in
     let a = c.args in
     let l = c.loop-i in
-    let source_of = c.source_of in (
+    let source = c.of_record in (
       written_asks a.list.now a.plan pre.0 a.out.now pre.1 l.i l.out (omega arith) l.invariant.1,
-      c.counters_of.ensures ∙ ap (λ (x : LevelCounts). source_counters x source_of.result) pre.2 ∙ ap (source_counters (list_counts (keys_of a.list.now))) source_of.ensures,
+      c.counters.ensures ∙ ap (λ (x : LevelCounts). source_counters x source.result) pre.2 ∙ ap (source_counters (list_counts (keys_of a.list.now))) source.ensures,
     )
 
 pub loop-i-preserved : goal.loop-i-preserved
 loop-i-preserved c =
     let pre = c.requires in
-    let write-record = c.write_record in
     let a = c.args in
     let l = c.loop-i in
-    (omega arith, written_more a.list.now a.plan pre.0 a.out.now pre.1 l.i l.out _ (omega arith) l.invariant.1 write-record.ensures)
+    (omega arith, written_more a.list.now a.plan pre.0 a.out.now pre.1 l.i l.out _ (omega arith) l.invariant.1 c.write_record.ensures)
 
 pub returns : goal.returns
 returns c =

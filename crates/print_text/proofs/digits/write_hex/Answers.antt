@@ -9,27 +9,27 @@ use Rattle.spec.specs.Print.{hex}
 use Rattle.print_text.specs.Texts.{hex_none, hex_more, length_hex_take}
 use Rattle.print_text.proofs.digits.write_hex.Goals as goal
 
-pub loop-i-init : goal.loop-i-init
-loop-i-init c =
+pub loop-byte-init : goal.loop-byte-init
+loop-byte-init c =
     (omega arith, refl, written_as (written_none c.args.out.now c.args.at (omega arith)) (sym hex_none))
 
 pub write_hex_byte-next-requires : goal.write_hex_byte-next-requires
 write_hex_byte-next-requires c =
     let a = c.args in
-    let l = c.loop-i in
-    omega (arith, length_hex_take a.key.now l.i (omega arith))
+    let l = c.loop-byte in
+    omega (arith, length_hex_take a.key.now l.byte-index (omega arith))
 
-pub loop-i-preserved : goal.loop-i-preserved
-loop-i-preserved c =
+pub loop-byte-preserved : goal.loop-byte-preserved
+loop-byte-preserved c =
     let a = c.args in
-    let l = c.loop-i in (
+    let l = c.loop-byte in (
       omega arith,
       c.write_hex_byte-next.auto.out ∙ l.invariant.1,
-      written_as (written_append (omega (arith, length_hex_take a.key.now l.i (omega arith))) l.invariant.2 c.write_hex_byte-next.ensures) (sym (ap (λ (k : ℕ). hex (take k a.key.now)) (add-one l.i) ∙ hex_more a.key.now l.i (omega arith))),
+      written_as (written_append (omega (arith, length_hex_take a.key.now l.byte-index (omega arith))) l.invariant.2 c.write_hex_byte-next.ensures) (sym (ap (λ (k : ℕ). hex (take k a.key.now)) (add-one l.byte-index) ∙ hex_more a.key.now l.byte-index (omega arith))),
     )
 
 pub returns : goal.returns
 returns c =
     let a = c.args in
-    let l = c.loop-i in
-    written_as l.invariant.2 (ap hex (take_all l.i a.key.now (omega arith)))
+    let l = c.loop-byte in
+    written_as l.invariant.2 (ap hex (take_all l.byte-index a.key.now (omega arith)))

@@ -1,6 +1,7 @@
 -- By cases of an exact leaf.
 use mathlib.Core.Path.{refl, sym, ap, ◌∙◌}
 use Prim.Native.Nat.{ℕ, ◌*◌}
+use native.Mathlib.Omega.{arith}
 use lib.ListN.{get_or}
 use Rattle.spec.specs.Bytes.{Bits}
 use Rattle.spec.specs.Image.{positions}
@@ -22,7 +23,7 @@ returns-then-k c =
     let d = c.leaf_level-d.ensures.0 ∙ ap (leaf_level (pred k.first) k.next) (sym n) in
     let base = c.slot_bit-base in
     slot_done a.cur.now a.out.now _ _ _ (width_of w) base.result.0 (key_slot w (pred k.first) k.next (key a.s.now k.at k.len)) d base.ensures.0
-    (c.write_suffix.ensures ∙ ap (λ (z : Bits). with_bits (positions base.result.0 z) a.out.now) (slot_open w (pred k.first) k.next k.len (key a.s.now k.at k.len) n c.if-k.true))
+    (c.write_suffix.ensures ∙ ap (λ (z : Bits). with_bits (positions base.result.0 z) a.out.now) (slot_open w (pred k.first) k.next k.len (key a.s.now k.at k.len) n (λ e. omega arith)))
 
 pub returns-else-k : goal.returns-else-k
 returns-else-k c =
