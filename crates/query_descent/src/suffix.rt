@@ -20,10 +20,7 @@ fn filled_below(x: usize, n: usize, ones: bool) -> usize
 {
     let unit = 1usize << (8 - n);
     let kept = x / unit * unit;
-    if ones {
-        return kept + (unit - 1);
-    }
-    kept
+    if ones { kept + (unit - 1) } else { kept }
 }
 
 // The bits of a slot from bit i on as a number, the first lowest; what stands behind the slot's bits is not said.
@@ -31,10 +28,8 @@ pub fn slot_bits(image: &AcceptedImage, slot: ValuePos, i: usize) -> u64
     requires { (slot.0 < image.now.frame.leaves) × (i < image.now.frame.width) }
     ensures { (ones : Bool) (j : ℕ) → i + j < image.now.frame.width → result / 2 ^ j % 2 ≡ bit (get_or (slot_of image.now.frame.width (nodes image.now.bytes.now image.now.frame) slot.0) (i + j) ones) }
 {
-    let w = image.frame.width;
-    let sv = image.frame.sv;
-    let k = slot.0 * w + i;
-    read_from(&image.bytes[sv..], k / 8) >> (k % 8)
+    let k = slot.0 * image.frame.width + i;
+    read_from(&image.bytes[image.frame.sv..], k / 8) >> (k % 8)
 }
 
 // Byte i of a slot's real bits, the high bit first, filled up.
@@ -127,8 +122,5 @@ pub fn open_between(
     requires { OpenBetween image.now.bytes.now image.now.frame lo.now hi.now slot.0 depth }
     ensures { result ≡ open_between image.now.bytes.now image.now.frame lo.now hi.now slot.0 depth }
 {
-    if high_below(image, slot, lo, depth) {
-        return false;
-    }
-    !low_above(image, slot, hi, depth)
+    !high_below(image, slot, lo, depth) && !low_above(image, slot, hi, depth)
 }

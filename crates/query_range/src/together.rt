@@ -31,14 +31,11 @@ fn apart(image: &AcceptedImage, lo: &[u8], hi: &[u8], node: NodeNum, depth: usiz
     if next.label < b {
         return true;
     }
-    if left_behind(image, lo, node, depth, lower) {
-        return true;
-    }
     let upper = Branch {
         kind: next.kind,
         at: next.at,
     };
-    reached_behind(image, hi, node, depth, upper)
+    left_behind(image, lo, node, depth, lower) || reached_behind(image, hi, node, depth, upper)
 }
 
 // The range at the node to which all bytes that the bounds share lead. Where the lower bound ends there, the upper decides; where only the upper ends, the lower lies above it and no leaf is in the range; else the bounds part.

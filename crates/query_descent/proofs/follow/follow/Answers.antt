@@ -20,5 +20,5 @@ child-node-requires c =
 pub loop-depth-preserved : goal.loop-depth-preserved
 loop-depth-preserved c =
     let v = c.args.image.now in
-    let here : AtByte v.bytes.now v.frame c.args.key.now c.loop-depth.depth c.loop-depth.node.0 c.find-found.result = record { more = omega (arith, c.loop-depth-test.true, c.requires); found = rw c.from.ensures at c.find-found.ensures } in
+    let here : AtByte v.bytes.now v.frame c.args.key.now c.loop-depth.depth c.loop-depth.node.0 c.find-found.result = record { more = omega (arith, c.loop-depth-test.true); found = rw c.from.ensures at c.find-found.ensures } in
     next c.loop-depth.invariant (record { branch = c.find-found.result; here = here; continues = c.in-Child.is; child_is = c.child-node.ensures })
