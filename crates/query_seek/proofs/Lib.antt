@@ -1,2 +1,1 @@
-pub mod NextLaws
 pub mod SeekLaws

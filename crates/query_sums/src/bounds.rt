@@ -55,8 +55,7 @@ pub fn passed_at(image: &AcceptedImage, key: &[u8], bound: Bound) -> usize
     ensures { (result ≡ passed_there image.now.bytes.now image.now.frame key.now) × (result ≤ 1) }
 {
     match bound.end {
-        BoundEnd::NoLeaf => 0,
-        BoundEnd::Node => 0,
+        BoundEnd::NoLeaf | BoundEnd::Node => 0,
         BoundEnd::Leaf(slot) => usize::from(high_below(image, slot, key, bound.level.depth)),
     }
 }

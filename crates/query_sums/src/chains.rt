@@ -63,8 +63,7 @@ fn sole_entries(image: &AcceptedImage, level: Level, k: usize) -> Option<Chain>
     requires { EqualLevels image.now.bytes.now image.now.frame level.number level.start level.width 0 × EqualLevels image.now.bytes.now image.now.frame level.number level.start level.width k × (0 < k) }
     ensures { IfSome result (ChainOf image.now.bytes.now image.now.frame level.number) }
 {
-    let start = level.start;
-    let width = level.width;
+    let Level { start, width, .. } = level;
     let entries = entries_before(image, NodeNum(start));
     let behind = entries_before(image, NodeNum(start + k * width));
     if behind != entries + k * width {

@@ -24,26 +24,27 @@ pub const AT_ROOT: LevelSum = LevelSum {
     sum: 0,
 };
 
-// The bound of a key that has ended, on a level further down: past the leaves before its node, level by level. Once all nodes lie before the bound, each level has all leaves.
+// The bound of a key that has ended, on a level further down: past the leaves before its node, and the same task one level lower, so that the recursion on the levels left goes at most 64 levels deep.
+// Once all nodes lie before the bound, each level has all leaves.
 pub fn go_down(image: &AcceptedImage, from: LevelSum, depth: usize) -> LevelSum
     requires { DownTo image.now.bytes.now image.now.frame from depth }
     ensures { GoneDown image.now.bytes.now image.now.frame from depth result }
 {
-    let mut level = from;
-    while level.depth < depth {
-        let node = level.node;
-        if node.0 == image.frame.dense.nodes + image.frame.sparse.nodes {
-            let sum = level.sum + (depth - level.depth) * image.frame.leaves;
-            return LevelSum { node, depth, sum };
-        }
-        let before = counts_before(image, node);
-        level = LevelSum {
-            node: NodeNum(before.children + 1),
-            depth: level.depth + 1,
-            sum: level.sum + before.leaves,
-        };
+    if from.depth == depth {
+        return from;
     }
-    level
+    let node = from.node;
+    if node.0 == image.frame.dense.nodes + image.frame.sparse.nodes {
+        let sum = from.sum + (depth - from.depth) * image.frame.leaves;
+        return LevelSum { node, depth, sum };
+    }
+    let before = counts_before(image, node);
+    let next = LevelSum {
+        node: NodeNum(before.children + 1),
+        depth: from.depth + 1,
+        sum: from.sum + before.leaves,
+    };
+    go_down(image, next, depth)
 }
 
 // Whether a node lies on the first level of a chain, or just behind that level.

@@ -1,33 +1,17 @@
 -- On the way down the leaf stays the first behind the branch; the measure is what is left of the 64 levels.
 use Prim.Native.Nat.{◌+◌}
-use mathlib.Core.Path.{refl, sym, ◌∙◌}
+use mathlib.Core.Path.{refl}
 use lib.ListN.{set}
-use native.Mathlib.Omega.{arith}
 use Rattle.nav_branches.proofs.BranchTests.{ends_leaf}
-use Rattle.nav_branches.specs.declared.LeafStop.TheVariants.{Open}
 use Rattle.nav_branches.specs.PathSteps.{node_in}
 use Rattle.nav_nodes.specs.Accepted.{nodes}
-use Rattle.nav_nodes.specs.FoundBranch.{IsPosition}
 use Rattle.nav_nodes.specs.FromCheck.{accepted}
-use Rattle.nav_nodes.specs.NextBranch.{NamedBranch}
 use Rattle.query_descent.specs.FirstLeaf.{leaf_behind}
-use Rattle.query_seek.specs.LeafKeys.{FirstBelow, Reached, exact_reached, first_behind, open_reached, child_below}
+use Rattle.query_seek.specs.LeafKeys.{FirstBelow, exact_reached, first_behind, open_reached, child_below}
 use Rattle.query_seek.proofs.leaf.first_behind.Goals as goal
-use Rattle.query_seek.proofs.leaf.first_behind.Goals.{At-loop-b, After-slot, After-child-m}
+use Rattle.query_seek.proofs.leaf.first_behind.Goals.{After-child-m}
 
--- what the branch of a pass of the loop says
-named : (c : At-loop-b) → NamedBranch c.args.image.now.bytes.now c.args.image.now.frame c.loop-b.m.0 c.loop-b.b.label c.loop-b.b.label c.loop-b.b.at.0
-named c = c.loop-b.invariant.branch.branch_is.there c.loop-b.invariant.branch.there
-
--- where it stands
-position : (c : At-loop-b) → IsPosition c.args.image.now.bytes.now c.args.image.now.frame c.loop-b.m.0 c.loop-b.b.at.0
-position c = record { accepted = accepted c.args.image.now; within = (named c).at_is.within }
-
--- it ends at an open leaf
-ended : (c : After-slot) → Reached c.args.image.now.bytes.now c.args.image.now.frame (leaf_behind (nodes c.args.image.now.bytes.now c.args.image.now.frame) c.args.key.now c.args.node.0 c.args.depth c.args.branch.label) (set c.loop-b.key c.loop-b.d c.loop-b.b.label) (record { depth = c.loop-b.d + 1; stop = Open c.slot.result })
-ended c = open_reached c.loop-b.invariant c.slot.result c.slot.ensures (ends_leaf c.loop-b.b.kind c.in_default.not-Child c.loop-b.invariant.branch.there)
-
--- it continues to a node
+-- the branch continues to a node
 below : (c : After-child-m) → FirstBelow c.args.image.now.bytes.now c.args.image.now.frame (leaf_behind (nodes c.args.image.now.bytes.now c.args.image.now.frame) c.args.key.now c.args.node.0 c.args.depth c.args.branch.label) (set c.loop-b.key c.loop-b.d c.loop-b.b.label) c.child-m.result.0 (c.loop-b.d + 1)
 below c = child_below c.loop-b.invariant c.child-m.result c.child-m.ensures c.in-Child.is
 
@@ -35,50 +19,18 @@ pub loop-b-init : goal.loop-b-init
 loop-b-init c =
     record { accepted = accepted c.args.image.now; branch = c.requires.0; key_size = c.requires.1; leaf_is = refl }
 
-pub overflow_cast-key : goal.overflow_cast-key
-overflow_cast-key c =
-    omega (arith, (named (goal.at.overflow_cast-key c).At-loop-b).label_byte)
-
-pub bounds-key-d : goal.bounds-key-d
-bounds-key-d c =
-    omega (arith, c.loop-b.invariant.branch.deep, c.loop-b.invariant.key_size)
-
-pub overflow_add-d : goal.overflow_add-d
-overflow_add-d c =
-    omega (arith, c.loop-b.invariant.branch.deep)
-
-pub slot-requires : goal.slot-requires
-slot-requires c =
-    position (goal.at.slot-requires c).At-loop-b
-
-pub shape_of-key-in_default : goal.shape_of-key-in_default
-shape_of-key-in_default c =
-    (ended (goal.at.shape_of-key-in_default c).After-slot).key_size ∙ sym c.requires.1
-
 pub returns-in_default : goal.returns-in_default
 returns-in_default c =
-    ended (goal.at.returns-in_default c).After-slot
-
-pub child-m-requires : goal.child-m-requires
-child-m-requires c =
-    position (goal.at.child-m-requires c).At-loop-b
+    open_reached c.loop-b.invariant c.slot.result c.slot.ensures (ends_leaf c.loop-b.b.kind c.in_default.not-Child c.loop-b.invariant.branch.there)
 
 pub first_branch-next-requires : goal.first_branch-next-requires
 first_branch-next-requires c =
     let v = c.args.image.now in
     record { accepted = accepted v; inside = node_in v.bytes.now v.frame (accepted v) _ c.child-m.result.0 (below (goal.at.first_branch-next-requires c).After-child-m).level }
 
-pub shape_of-key-then-next : goal.shape_of-key-then-next
-shape_of-key-then-next c =
-    (below (goal.at.shape_of-key-then-next c).After-child-m).key_size ∙ sym c.requires.1
-
 pub returns-then-next : goal.returns-then-next
 returns-then-next c =
     exact_reached (below (goal.at.returns-then-next c).After-child-m) c.first_branch-next.result c.first_branch-next.ensures c.if-next.true
-
-pub loop-b-smaller : goal.loop-b-smaller
-loop-b-smaller c =
-    omega (arith, c.loop-b.invariant.branch.deep)
 
 pub loop-b-preserved : goal.loop-b-preserved
 loop-b-preserved c =

@@ -1,4 +1,4 @@
-use Rattle.query_seek.specs.LeafKeys.{FirstBehind, no_key, start_behind}
+use Rattle.query_seek.specs.LeafKeys.{FirstBehind, start_behind}
 use Rattle.query_descent.specs.FirstLeaf.{leaf_behind}
 use Rattle.nav_nodes.specs.Accepted.{nodes}
 use Rattle.nav_nodes.specs.FromCheck.{accepted}
@@ -16,11 +16,6 @@ behind c =
     let inside = rw c.in-Some.is at p.inside in
     start_behind p.accepted p.key_size p.begins inside.0 p.short inside.1 (rw c.from-y.ensures at c.next_higher-branch.ensures)
 
-pub bounds-start-label : goal.bounds-start-label
-bounds-start-label c =
-    let inside = rw c.in-Some.is at c.requires.inside in
-    inside.0
-
 pub next_higher-branch-requires : goal.next_higher-branch-requires
 next_higher-branch-requires c =
     let v = c.args.image.now in
@@ -31,11 +26,6 @@ pub first_behind-requires : goal.first_behind-requires
 first_behind-requires c =
     let w = behind (goal.at.first_behind-requires c).After-next_higher-branch in
     (w.branch, w.key_size)
-
-pub returns-in-None : goal.returns-in-None
-returns-in-None c =
-    let v = c.args.image.now in
-    rw c.in-None.is (record { key_is = no_key v.bytes.now v.frame c.args.key.now; key_size = c.requires.key_size })
 
 pub returns-in-Some : goal.returns-in-Some
 returns-in-Some c =

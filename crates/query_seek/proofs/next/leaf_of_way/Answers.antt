@@ -1,6 +1,6 @@
 use Rattle.query_seek.specs.LeafKeys.{FirstBelow, open_key, same_front, start_below}
 use Rattle.query_descent.specs.FirstLeaf.{leaf_below}
-use Rattle.query_descent.specs.Seeking.{higher_within, ended_nowhere, ended_node, ended_leaf}
+use Rattle.query_descent.specs.Seeking.{higher_within, ended_node, ended_leaf}
 use Rattle.nav_nodes.specs.Accepted.{nodes}
 use Rattle.image.specs.declared.ValuePos.{ValuePos}
 use lib.ListN.{length}
@@ -24,15 +24,6 @@ leaf_above-requires c =
       begins = p.begins;
       inside = higher_within v.bytes.now v.frame c.args.start.now c.args.way.bound.level.depth (length c.args.start.now) c.args.way.higher p.ended.sums.depth_in p.ended.higher_in;
     }
-
-pub first_below-requires : goal.first_below-requires
-first_below-requires c =
-    let w = below (goal.at.first_below-requires c).In-Node in
-    (w.level, w.key_size)
-
-pub returns-in-NoLeaf : goal.returns-in-NoLeaf
-returns-in-NoLeaf c =
-    rw (ended_nowhere c.requires.ended c.in-NoLeaf.is) c.leaf_above.ensures
 
 pub returns-in-Node : goal.returns-in-Node
 returns-in-Node c =

@@ -5,22 +5,8 @@ use lib.ListN.{take}
 use mathlib.Core.Path.{ap}
 use Rattle.query_seek.proofs.seek.lowest_key.Goals as goal
 
-pub append_real-requires : goal.append_real-requires
-append_real-requires c =
-    let p = c.requires in
-    (p.slot_in c.in-Open.slot c.in-Open.is, p.key_size, p.depth_in)
-
-pub returns-in-Nowhere : goal.returns-in-Nowhere
-returns-in-Nowhere c =
-    absurd (c.requires.there c.in-Nowhere.is)
-
 pub returns-in-Exact : goal.returns-in-Exact
 returns-in-Exact c =
     let v = c.args.image.now in
     let a = c.args in
     record { low_is = ap (λ (stop : LeafStop). low_of v.frame.hash_width v.frame.width (nodes v.bytes.now v.frame) stop (take a.depth a.key.now)) c.in-Exact.is; upto = c.requires.depth_in; key_size = c.requires.key_size }
-
-pub returns-in-Open : goal.returns-in-Open
-returns-in-Open c =
-    let e = c.append_real.ensures in
-    record { low_is = rw c.in-Open.is e.low_is; upto = e.upto; key_size = e.key_size }

@@ -26,11 +26,6 @@ lowest_key-low-requires c =
     let r = c.next_leaf-next.ensures in
     record { accepted = accepted c.args.image.now; there = c.in_default.not-Nowhere; slot_in = r.leaf.key_is.slot_in; key_size = r.leaf.key_size; depth_in = r.leaf.key_is.depth_in }
 
-pub sum_below-requires : goal.sum_below-requires
-sum_below-requires c =
-    let b = c.next_leaf-next.ensures.bound c.in_default.not-Nowhere in
-    (b.node_in, omega (arith, b.depth_in, c.requires.1), b.small)
-
 pub overflow_sub-number : goal.overflow_sub-number
 overflow_sub-number c =
     (number (goal.at.overflow_sub-number c).After-sum_below).0

@@ -2,6 +2,7 @@ use Rattle.query_sums.specs.Bounds.{slot_inside, passed_nowhere, passed_node, pa
 use Rattle.query_descent.specs.SuffixBytes.{bit_le}
 use Rattle.spec.specs.Bytes.{bit}
 use native.Mathlib.Omega.{arith}
+use mathlib.Core.Logic.{⊎_elim}
 use mathlib.Core.Path.{◌≡◌, sym, ap, ◌∙◌}
 use Rattle.query_sums.proofs.bounds.passed_at.Goals as goal
 
@@ -14,12 +15,9 @@ high_below-requires c =
 pub returns-in-NoLeaf : goal.returns-in-NoLeaf
 returns-in-NoLeaf c =
     let v = c.args.image.now in
-    (sym (passed_nowhere v.bytes.now v.frame c.args.key.now c.args.bound c.requires c.in-NoLeaf.is), omega arith)
-
-pub returns-in-Node : goal.returns-in-Node
-returns-in-Node c =
-    let v = c.args.image.now in
-    (sym (passed_node v.bytes.now v.frame c.args.key.now c.args.bound c.requires c.in-Node.is), omega arith)
+    let none = passed_nowhere v.bytes.now v.frame c.args.key.now c.args.bound c.requires in
+    let node = passed_node v.bytes.now v.frame c.args.key.now c.args.bound c.requires in
+    (⊎_elim (λ e. sym (none e)) (λ e. sym (node e)) c.in-NoLeaf.is, omega arith)
 
 pub returns-in-Leaf : goal.returns-in-Leaf
 returns-in-Leaf c =
