@@ -1,16 +1,15 @@
-// The frame of an image that the check has accepted, read again from its header and its rank tables. It takes a constant number of steps, so that a caller may ask one question at a time without keeping the frame.
+// An image that the check has accepted, with its frame, which is read again from its header and its rank tables. It takes a constant number of steps, so that a caller may ask one question at a time without keeping the frame.
 ghost use Rattle.std.specs.Prelude.{◌≡◌, ◌*◌, drop};
 ghost use Rattle.spec.specs.Check.{verdict};
 ghost use Rattle.bits.specs.Bits.{rank};
 ghost use Rattle.check_frame.specs.FrameLaws.{Totals};
-ghost use Rattle.nav_nodes.specs.Accepted.{Accepted};
 ghost use Rattle.accepted.specs.Uncounted.{Uncounted};
 
 use bits::numbers::read32;
 use bits::ranks::ones_word;
 use check_frame::frame_at;
 use image::header_bytes::read_header;
-use image::{DenseTotals, Frame, ROW_WORDS};
+use image::{AcceptedImage, DenseTotals, Frame, ROW_WORDS};
 
 // The bytes of a rank.
 const RANK_BYTES: usize = 4;
@@ -25,10 +24,8 @@ fn dense_children(image: &[u8], f: Frame) -> usize
         return 0;
     }
     let last = ROW_WORDS * n - 1;
-    let dc = f.dc;
-    let rc = f.rc;
-    let before = read32(&image[rc..], RANK_BYTES * last);
-    before + ones_word(&image[dc..], last)
+    let before = read32(&image[f.rc..], RANK_BYTES * last);
+    before + ones_word(&image[f.dc..], last)
 }
 
 // The totals of the dense nodes of an accepted image; those of the frame are not read. All entries together are a continuing branch for each node but the root and one for each leaf, so that the dense ones need not be counted.
@@ -49,13 +46,15 @@ fn dense_totals(image: &[u8], f: Frame) -> DenseTotals
     }
 }
 
-// The frame of an image that the check has accepted.
-pub fn accepted_frame(image: &[u8]) -> Frame
+// An image that the check has accepted, with its frame.
+pub fn accepted_image<'a>(image: &'a [u8]) -> AcceptedImage<'a>
     requires { verdict image.now ≡ 0 }
-    ensures { Accepted image.now result }
+    ensures { result.bytes.now ≡ image.entry.now }
 {
     let mut frame = frame_at(read_header(image));
-    let totals = dense_totals(image, frame);
-    frame.totals = totals;
-    frame
+    frame.totals = dense_totals(image, frame);
+    AcceptedImage {
+        bytes: image,
+        frame,
+    }
 }

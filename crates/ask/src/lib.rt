@@ -3,43 +3,37 @@
 #![tactic(auto)]
 
 ghost use Rattle.std.specs.Prelude.{◌≡◌};
-ghost use Rattle.spec.specs.Check.{verdict};
 ghost use Rattle.spec.specs.Ask.{ask};
-ghost use Rattle.image.specs.FrameOf.{FrameOf};
 ghost use Rattle.image.specs.Outcomes.{outcome};
 
-use ask_files::questions::{QuestionFile, judge_file};
+use ask_files::questions::judge_file;
 use ask_replies::write_replies;
 use check_image::accept;
-use image::refusals::REPLY_BUFFER_TOO_SHORT;
-use image::{Frame, Framed, Written};
+use image::AcceptedImage;
+use image::refusals::Refusal;
 use lengths::replies_fit;
 
 pub mod lengths; // lengths.rt: whether all replies fit into the buffer
 
 // Replies to a question file over an accepted image: by question 24, 21, 22, 23; then 25, the replies are longer than the buffer.
-fn ask_accepted(image: &[u8], f: Frame, questions: &[u8], replies: &mut [u8]) -> Written
-    requires { FrameOf image.now f × (verdict image.now ≡ 0) }
-    ensures { outcome result replies.new ≡ ask image.now questions.now replies.old }
+fn ask_accepted(
+    image: &AcceptedImage,
+    questions: &[u8],
+    replies: &mut [u8],
+) -> Result<usize, Refusal>
+    ensures { outcome result replies.new ≡ ask image.now.bytes.now questions.now replies.old }
 {
-    match judge_file(questions) {
-        QuestionFile::Refused(r) => Written::Refused(r),
-        QuestionFile::Questions(count) => {
-            if !replies_fit(image, f, questions, count, replies.len()) {
-                return Written::Refused(REPLY_BUFFER_TOO_SHORT);
-            }
-            let n = write_replies(image, f, questions, replies);
-            Written::Bytes(n)
-        }
+    let count = judge_file(questions)?;
+    if !replies_fit(image, questions, count, replies.len()) {
+        return Err(Refusal::ReplyBufferTooShort);
     }
+    Ok(write_replies(image, questions, replies))
 }
 
 // Replies to a question file over an image: the check's numbers 11 to 16, then those of an accepted image.
-pub fn ask(image: &[u8], questions: &[u8], replies: &mut [u8]) -> Written
+pub fn ask(image: &[u8], questions: &[u8], replies: &mut [u8]) -> Result<usize, Refusal>
     ensures { outcome result replies.new ≡ ask image.now questions.now replies.old }
 {
-    match accept(image) {
-        Framed::Refused(r) => Written::Refused(r),
-        Framed::At(f) => ask_accepted(image, f, questions, replies),
-    }
+    let accepted = accept(image)?;
+    ask_accepted(&accepted, questions, replies)
 }

@@ -1,5 +1,5 @@
 -- A question that was matched: its keys as they are lent, and the reply by value that its number makes. The functions that answer a question of a file rest on it.
-use mathlib.Core.Path.{◌≡◌, sym, ap, ap₂, subst, ◌∙◌}
+use mathlib.Core.Path.{◌≡◌, sym, ap, subst, ◌∙◌}
 use mathlib.Core.List.{List, [], ◌∷◌}
 use Prim.Native.Nat.{ℕ, ◌+◌, ◌≤◌}
 use native.Mathlib.Omega.{arith}
@@ -7,31 +7,17 @@ use lib.ListN.{length, take}
 use Rattle.spec.specs.Bytes.{Bytes}
 use Rattle.spec.specs.Leaves.{Leaf, reals}
 use Rattle.spec.specs.Rules.{rule, rule_number, rule_says}
-use Rattle.spec.specs.Questions.{QP, QS, Reply, point, begins_with, range, counted, reply, reply_bytes, replies, questions_of}
+use Rattle.spec.specs.Questions.{QP, QB, QR, QC, Reply, point, begins_with, range, counted, reply, reply_bytes, replies, questions_of}
 use Rattle.theory.proofs.LeafLists.{Realizable, AllWellSized}
 use Rattle.theory.proofs.Rules.{point_rule}
 use Rattle.bits.specs.Bits.{overlaid}
-use Rattle.bits.specs.Bits.{key}
 use Rattle.ask_files.specs.AskedAt.{Followed}
 use Rattle.ask_files.specs.ReplyLaws.{answer, point_reply, begins_reply, range_reply, count_reply, Replied, replied_room, replied_more}
-use Rattle.ask_files.specs.Questions.{question_of, Inside}
+use Rattle.ask_files.specs.Questions.{question_of}
 use Rattle.ask_files.specs.ReplyContracts.{Sized, reply_of}
-use Rattle.ask_files.specs.declared.questions.QuestionAt.{QuestionAt}
-use Rattle.ask_files.specs.declared.questions.QuestionAt.TheVariants.{Point, Seek, Begins, Range, Count}
+use Rattle.ask_files.specs.declared.questions.Question.{Question}
 use Rattle.ask_files.specs.declared.reply_bytes.Answered.{Answered}
 use Rattle.ask_files.proofs.OverlaidLaws.{key_length}
-
--- what is known of a question, after a match
-pub inside_matched : (file : Bytes) {q x : QuestionAt} → q ≡ x → Inside file q → Inside file x
-inside_matched file h i = subst (Inside file) h i
-
--- a question whose reply has no key: neither a point nor a seek
-abbrev pub Keyless : QuestionAt → Type 0
-Keyless (Point a n) = ⊥
-Keyless (Seek a n) = ⊥
-Keyless (Begins a n) = Unit
-Keyless (Range a n b m) = Unit
-Keyless (Count a n b m) = Unit
 
 -- a reply without a key, whatever the buffer holds
 module _ (a : Answered) (buffer : Bytes) (none : a.n ≡ 0) where
@@ -49,57 +35,44 @@ point_answered H ls g o k short a buffer letter number one byte =
     let number_is : a.number ≡ point H ls k = number ∙ sym (point_rule H ls g o k short) in
     (λ i. answer (letter i) (number_is i) (key_is i)) ∙ sym (point_reply H ls k)
 
-module _ (H : ℕ) (ls : List Leaf) (file : Bytes) where
-  -- the reply to a question, after a match
-  pub reply_matched : {q x : QuestionAt} → q ≡ x → reply H ls (question_of file x) ≡ reply H ls (question_of file q)
-  reply_matched h = ap (λ (z : QuestionAt). reply H ls (question_of file z)) (sym h)
-
-  -- the length of its key
-  pub reply_key : (a : Answered) (buffer : Bytes) (q : QuestionAt) → Sized a buffer → reply_of a buffer ≡ reply H ls (question_of file q) → a.n ≡ length (reply H ls (question_of file q)).key
+module _ (H : ℕ) (ls : List Leaf) where
+  -- the length of the key of a reply by value
+  pub reply_key : (a : Answered) (buffer : Bytes) (q : Question) → Sized a buffer → reply_of a buffer ≡ reply H ls (question_of q) → a.n ≡ length (reply H ls (question_of q)).key
   reply_key a buffer q s e = sym (key_length a buffer s) ∙ ap (λ r. length r.key) e
 
-  -- the reply to each kind of question, with its keys as they are lent
-  module _ (a n : ℕ) (k : Bytes) (lent : k ≡ key file a n) where
-    pub point_matched : reply H ls (QP k) ≡ reply H ls (question_of file (Point a n))
-    point_matched = ap (λ (z : Bytes). reply H ls (QP z)) lent
+  -- the replies without a key
+  module _ (k : Bytes) where
+    pub begins_keyless : (x : ℕ) → x ≡ begins_with (reals H ls) k → answer 66 x [] ≡ reply H ls (QB k)
+    begins_keyless x h = ap (λ (m : ℕ). answer 66 m []) h ∙ sym (begins_reply H ls k)
 
-    pub begins_keyless : (x : ℕ) → x ≡ begins_with (reals H ls) k → answer 66 x [] ≡ reply H ls (question_of file (Begins a n))
-    begins_keyless x h = ap (λ (m : ℕ). answer 66 m []) (h ∙ ap (begins_with (reals H ls)) lent) ∙ sym (begins_reply H ls (key file a n))
+    pub range_keyless : (l : Bytes) (x : ℕ) → x ≡ range (reals H ls) k l → answer 82 x [] ≡ reply H ls (QR k l)
+    range_keyless l x h = ap (λ (i : ℕ). answer 82 i []) h ∙ sym (range_reply H ls k l)
 
-    pub seek_matched : reply H ls (QS k) ≡ reply H ls (question_of file (Seek a n))
-    seek_matched = ap (λ (z : Bytes). reply H ls (QS z)) lent
+    pub count_keyless : (l : Bytes) (x : ℕ) → x ≡ counted (reals H ls) k l → answer 67 x [] ≡ reply H ls (QC k l)
+    count_keyless l x h = ap (λ (i : ℕ). answer 67 i []) h ∙ sym (count_reply H ls k l)
 
-    module _ (b m : ℕ) (l : Bytes) (lent-too : l ≡ key file b m) where
-      pub range_keyless : (x : ℕ) → x ≡ range (reals H ls) k l → answer 82 x [] ≡ reply H ls (question_of file (Range a n b m))
-      range_keyless x h = ap (λ (i : ℕ). answer 82 i []) (h ∙ ap₂ (range (reals H ls)) lent lent-too) ∙ sym (range_reply H ls (key file a n) (key file b m))
+    -- the lengths of their keys
+    pub begins_length : 0 ≡ length (reply H ls (QB k)).key
+    begins_length = sym (ap (λ r. length r.key) (begins_reply H ls k))
 
-      pub count_keyless : (x : ℕ) → x ≡ counted (reals H ls) k l → answer 67 x [] ≡ reply H ls (question_of file (Count a n b m))
-      count_keyless x h = ap (λ (i : ℕ). answer 67 i []) (h ∙ ap₂ (counted (reals H ls)) lent lent-too) ∙ sym (count_reply H ls (key file a n) (key file b m))
+    pub range_length : (l : Bytes) → 0 ≡ length (reply H ls (QR k l)).key
+    range_length l = sym (ap (λ r. length r.key) (range_reply H ls k l))
 
-  -- a reply of such a kind has no key
-  keyless : (q : QuestionAt) → Keyless q → length (reply H ls (question_of file q)).key ≡ 0
-  keyless (Point a n) t = absurd t
-  keyless (Seek a n) t = absurd t
-  keyless (Begins a n) t = ap (λ r. length r.key) (begins_reply H ls (key file a n))
-  keyless (Range a n b m) t = ap (λ r. length r.key) (range_reply H ls (key file a n) (key file b m))
-  keyless (Count a n b m) t = ap (λ r. length r.key) (count_reply H ls (key file a n) (key file b m))
+    pub count_length : (l : Bytes) → 0 ≡ length (reply H ls (QC k l)).key
+    count_length l = sym (ap (λ r. length r.key) (count_reply H ls k l))
 
-  -- the same of a question that was matched
-  pub keyless_matched : {q x : QuestionAt} → q ≡ x → Keyless x → 0 ≡ length (reply H ls (question_of file q)).key
-  keyless_matched {q} {x} h t = sym (ap (λ (z : QuestionAt). length (reply H ls (question_of file z)).key) h ∙ keyless x t)
-
-  -- The key of a point's reply is one byte.
-  pub point_length : {q : QuestionAt} {a n : ℕ} → q ≡ Point a n → 1 ≡ length (reply H ls (question_of file q)).key
-  point_length {q} {a} {n} h = sym (ap (λ (z : QuestionAt). length (reply H ls (question_of file z)).key) h ∙ ap (λ r. length r.key) (point_reply H ls (key file a n)))
+    -- The key of a point's reply is one byte.
+    pub point_length : 1 ≡ length (reply H ls (QP k)).key
+    point_length = sym (ap (λ r. length r.key) (point_reply H ls k))
 
 -- ask's second pass with replies by value: room for the next one, and the buffer with it
-module _ (H : ℕ) (ls : List Leaf) (file out : Bytes) (room : length (replies H ls (questions_of file)) ≤ length out) (at to : ℕ) (new : Bytes) (p : Replied H ls file out at to new) (next : ℕ) (q : QuestionAt) (w : Followed file at (question_of file q) next) (a : Answered) (buffer : Bytes) (s : Sized a buffer) (e : reply_of a buffer ≡ reply H ls (question_of file q)) where
+module _ (H : ℕ) (ls : List Leaf) (file out : Bytes) (room : length (replies H ls (questions_of file)) ≤ length out) (at to : ℕ) (new : Bytes) (p : Replied H ls file out at to new) (next : ℕ) (q : Question) (w : Followed file at (question_of q) next) (a : Answered) (buffer : Bytes) (s : Sized a buffer) (e : reply_of a buffer ≡ reply H ls (question_of q)) where
   pub answered_room : to + 8 + a.n ≤ length new
-  answered_room = omega (arith, reply_key H ls file a buffer q s e, replied_room H ls file out room at to new p next (question_of file q) w)
+  answered_room = omega (arith, reply_key H ls a buffer q s e, replied_room H ls file out room at to new p next (question_of q) w)
 
   pub answered_more : (end : ℕ) (written : Bytes) → end ≡ to + 8 + a.n → written ≡ overlaid new to (reply_bytes (reply_of a buffer)) → Replied H ls file out next end written
   answered_more end written f g =
-      let h : to + 8 + length (reply H ls (question_of file q)).key ≡ end = ap (λ (k : ℕ). to + 8 + k) (sym (reply_key H ls file a buffer q s e)) ∙ sym f in
-      let i : overlaid new to (reply_bytes (reply H ls (question_of file q))) ≡ written = ap (λ (r : Reply). overlaid new to (reply_bytes r)) (sym e) ∙ sym g in
+      let h : to + 8 + length (reply H ls (question_of q)).key ≡ end = ap (λ (k : ℕ). to + 8 + k) (sym (reply_key H ls a buffer q s e)) ∙ sym f in
+      let i : overlaid new to (reply_bytes (reply H ls (question_of q))) ≡ written = ap (λ (r : Reply). overlaid new to (reply_bytes r)) (sym e) ∙ sym g in
       subst (λ (z : Bytes). Replied H ls file out next end z) i
-      (subst (λ (k : ℕ). Replied H ls file out next k (overlaid new to (reply_bytes (reply H ls (question_of file q))))) h (replied_more H ls file out room at to new p next (question_of file q) w))
+      (subst (λ (k : ℕ). Replied H ls file out next k (overlaid new to (reply_bytes (reply H ls (question_of q))))) h (replied_more H ls file out room at to new p next (question_of q) w))

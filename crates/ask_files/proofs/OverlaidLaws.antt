@@ -3,12 +3,13 @@ use Prim.Native.Nat.{ℕ, ◌+◌, ◌≤◌}
 use mathlib.Core.Path.{◌≡◌, refl, ap, ◌∙◌}
 use mathlib.Core.List.{[], ◌∷◌, ◌++◌}
 use native.Mathlib.Omega.{arith}
-use lib.ListN.{length, set}
+use lib.ListN.{length, set, drop, length-take}
 use lib.Seq.{length-take-le, sets-eq}
 use Rattle.spec.specs.Bytes.{Bytes, le32}
 use Rattle.spec.specs.Questions.{reply_bytes}
-use Rattle.bits.specs.Bits.{overlaid}
+use Rattle.bits.specs.Bits.{overlaid, part}
 use Rattle.bits.proofs.Overlaying.{length_overlaid, overlaid_behind}
+use Rattle.ask_files.specs.AskedAt.{KeyPart}
 use Rattle.ask_files.specs.ReplyLaws.{answer}
 use Rattle.ask_files.specs.ReplyContracts.{reply_mark, reply_head, reply_of, Sized}
 use Rattle.ask_files.specs.declared.reply_bytes.Answered.{Answered}
@@ -34,3 +35,7 @@ reply_overlaid out headed new at letter number key h e f = overlaid_behind out h
 -- the length of the key of a reply by value
 pub key_length : (a : Answered) (key : Bytes) → Sized a key → length (reply_of a key).key ≡ a.n
 key_length a key s = length-take-le a.n key (omega (arith, s.small, s.buffer))
+
+-- A key of a file has at most 64 bytes.
+pub part_short : {file : Bytes} {a n : ℕ} → KeyPart file a n → length (part file a n) ≤ 64
+part_short {file} {a} {n} k = omega (arith, length-take n (drop a file), k.small)

@@ -91,3 +91,14 @@ module _ (file : Bytes) (at : ℕ) (inside : at < length file) (here : TakenFrom
       go : (z : Bool) → eqb (get_or file (at + 1) 0) 82 ≡ z → at + 3 + n < length file
       go true e = two QR (letter_range (get_or file (at + 1) 0) (eqb-true _ _ e))
       go false e = two QC (count_left p s b (eqb-false _ _ e))
+
+  -- and the upper bound is whole
+  pub upper_fits : (n m : ℕ) → (get_or file (at + 1) 0 ≡ 80 → ⊥) → (get_or file (at + 1) 0 ≡ 83 → ⊥) → (get_or file (at + 1) 0 ≡ 66 → ⊥) → n ≡ get_or file (at + 2) 0 → m ≡ get_or file (at + 3 + n) 0 → at + 3 + n + 1 + m ≤ length file
+  upper_fits n m p s b size above = go (eqb (get_or file (at + 1) 0) 82) refl
+    where
+      two : (c : Bytes → Bytes → Question) → ((t : Bytes) → read_keys (get_or file (at + 1) 0) t ≡ two_keys c t) → at + 3 + n + 1 + m ≤ length file
+      two c letter = (two_asked c n m letter size above).1.fits
+
+      go : (z : Bool) → eqb (get_or file (at + 1) 0) 82 ≡ z → at + 3 + n + 1 + m ≤ length file
+      go true e = two QR (letter_range (get_or file (at + 1) 0) (eqb-true _ _ e))
+      go false e = two QC (count_left p s b (eqb-false _ _ e))

@@ -1,208 +1,158 @@
 // A question file, judged question by question, and its questions by offset.
 ghost use Rattle.std.specs.Prelude.{◌≡◌, ◌<◌, ◌≤◌, length};
 ghost use Rattle.spec.specs.Questions.{parse_questions};
-ghost use Rattle.bits.specs.Bits.{key};
+ghost use Rattle.image.specs.Refusals.{by_number};
 ghost use Rattle.ask_files.specs.FileLaws.{TakenFrom};
-ghost use Rattle.ask_files.specs.AskedAt.{KeyPart};
 ghost use Rattle.ask_files.specs.Questions.{ReadsKey, ReadsUpper, ReadsBounds, Asks, ReadsQuestion, question_file, Located};
 
-use bits::numbers::wide;
-use image::refusals::{BOUNDS_REVERSED, KEY_TOO_LONG, QUESTION_MALFORMED, TOO_MANY_QUESTIONS};
+use bits::parts::part;
+use image::refusals::Refusal;
 use keys::MAX_KEY_BYTES;
-use keys::compare::{Order, compare};
+use keys::compare::compare;
+use std::cmp::Ordering;
 
 // No file has more questions.
 const MAX_QUESTIONS: usize = 1024;
 
-// A key, two bounds or a question, read at an offset: the offset behind it, or the number that turns the file down.
-#[derive(Clone, Copy)]
-pub enum Read {
-    End(usize),
-    Refused(u32),
-}
-
-// How many keys the second letter of a mark asks for.
-#[derive(Clone, Copy)]
-pub enum Keys {
+// How many keys a question has.
+#[derive(Clone, Copy, Debug, PartialEq, Eq)]
+enum KeyCount {
     One,
     Two,
-    Wrong,
 }
 
-// A question file: how many questions it has, or the number that turns it down.
+// A question by its keys, which are parts of the file.
 #[derive(Clone, Copy)]
-pub enum QuestionFile {
-    Questions(usize),
-    Refused(u32),
-}
-
-// A question's kind, and where its keys stand in the file: the offset and the length of each.
-#[derive(Clone, Copy)]
-pub enum QuestionAt {
-    Point(usize, usize),
-    Seek(usize, usize),
-    Begins(usize, usize),
-    Range(usize, usize, usize, usize),
-    Count(usize, usize, usize, usize),
+pub enum Question<'a> {
+    Point(&'a [u8]),
+    Seek(&'a [u8]),
+    Begins(&'a [u8]),
+    Range(&'a [u8], &'a [u8]),
+    Count(&'a [u8], &'a [u8]),
 }
 
 // A question, and the offset of the next one.
 #[derive(Clone, Copy)]
-pub struct Asked {
-    pub question: QuestionAt,
+pub struct Asked<'a> {
+    pub question: Question<'a>,
     pub next: usize,
 }
 
-// The key at `at`, a length byte and the key's bytes: 21, bytes missing; 22, a length over 64.
-fn read_key(s: &[u8], at: usize) -> Read
+// The key at `at`, a length byte and the key's bytes: 21, bytes missing; 22, a length over 64. Gives the offset behind it.
+fn read_key(s: &[u8], at: usize) -> Result<usize, Refusal>
     ensures { ReadsKey s.now at result }
 {
     if s.len() <= at {
-        return Read::Refused(QUESTION_MALFORMED);
+        return Err(Refusal::QuestionMalformed);
     }
-    let n = wide(s[at]);
+    let n = usize::from(s[at]);
     if MAX_KEY_BYTES < n {
-        return Read::Refused(KEY_TOO_LONG);
+        return Err(Refusal::KeyTooLong);
     }
     if s.len() - (at + 1) < n {
-        return Read::Refused(QUESTION_MALFORMED);
+        return Err(Refusal::QuestionMalformed);
     }
-    Read::End(at + 1 + n)
+    Ok(at + 1 + n)
 }
 
 // The upper bound at `middle`, behind the lower bound from `lower` on: the numbers of the key itself; then 23, lower bound above upper.
-fn read_upper(s: &[u8], lower: usize, middle: usize) -> Read
+fn read_upper(s: &[u8], lower: usize, middle: usize) -> Result<usize, Refusal>
     requires { (lower ≤ middle) × (middle ≤ length s.now) }
     ensures { ReadsUpper s.now lower middle result }
 {
-    let found = read_key(s, middle);
-    match found {
-        Read::Refused(r) => Read::Refused(r),
-        Read::End(end) => {
-            let upper = middle + 1;
-            let o = compare(&s[upper..end], &s[lower..middle]);
-            match o {
-                Order::Below => Read::Refused(BOUNDS_REVERSED),
-                Order::Equal => Read::End(end),
-                Order::Above => Read::End(end),
-            }
-        }
+    let end = read_key(s, middle)?;
+    let upper = middle + 1;
+    match compare(&s[upper..end], &s[lower..middle]) {
+        Ordering::Less => Err(Refusal::BoundsReversed),
+        Ordering::Equal | Ordering::Greater => Ok(end),
     }
 }
 
 // The two bounds at `at`, from left to right.
-fn read_bounds(s: &[u8], at: usize) -> Read
+fn read_bounds(s: &[u8], at: usize) -> Result<usize, Refusal>
     ensures { ReadsBounds s.now at result }
 {
-    let found = read_key(s, at);
-    match found {
-        Read::Refused(r) => Read::Refused(r),
-        Read::End(middle) => read_upper(s, at + 1, middle),
-    }
+    let middle = read_key(s, at)?;
+    read_upper(s, at + 1, middle)
 }
 
-// The keys that the second letter of a mark asks for.
-fn keys_asked(letter: u8) -> Keys
+// How many keys the second letter of a mark asks for, if a mark has it.
+fn keys_asked(letter: u8) -> Option<KeyCount>
     ensures { Asks letter result }
 {
-    if letter == b'P' {
-        return Keys::One;
+    match letter {
+        b'P' => Some(KeyCount::One),
+        b'S' => Some(KeyCount::One),
+        b'B' => Some(KeyCount::One),
+        b'R' => Some(KeyCount::Two),
+        b'C' => Some(KeyCount::Two),
+        _ => None,
     }
-    if letter == b'S' {
-        return Keys::One;
-    }
-    if letter == b'B' {
-        return Keys::One;
-    }
-    if letter == b'R' {
-        return Keys::Two;
-    }
-    if letter == b'C' {
-        return Keys::Two;
-    }
-    Keys::Wrong
 }
 
 // The question at `at`: 21, a wrong mark or bytes missing; then the numbers of its keys.
-fn judge_question(s: &[u8], at: usize) -> Read
+fn judge_question(s: &[u8], at: usize) -> Result<usize, Refusal>
     requires { at < length s.now }
     ensures { ReadsQuestion s.now at result }
 {
     if s.len() - at < 2 {
-        return Read::Refused(QUESTION_MALFORMED);
+        return Err(Refusal::QuestionMalformed);
     }
     if s[at] != b'Q' {
-        return Read::Refused(QUESTION_MALFORMED);
+        return Err(Refusal::QuestionMalformed);
     }
-    let keys = keys_asked(s[at + 1]);
-    match keys {
-        Keys::One => read_key(s, at + 2),
-        Keys::Two => read_bounds(s, at + 2),
-        Keys::Wrong => Read::Refused(QUESTION_MALFORMED),
+    match keys_asked(s[at + 1]) {
+        Some(KeyCount::One) => read_key(s, at + 2),
+        Some(KeyCount::Two) => read_bounds(s, at + 2),
+        None => Err(Refusal::QuestionMalformed),
     }
 }
 
 // The file's number of questions, or the first number that applies, question by question: 24, it follows 1,024 others; then the question's own.
-pub fn judge_file(s: &[u8]) -> QuestionFile
-    ensures { result ≡ question_file (parse_questions s.now) }
+pub fn judge_file(s: &[u8]) -> Result<usize, Refusal>
+    ensures { by_number result ≡ question_file (parse_questions s.now) }
 {
     let mut at = 0usize;
     let mut count = 0usize;
     while at < s.len() {
         if count == MAX_QUESTIONS {
-            return QuestionFile::Refused(TOO_MANY_QUESTIONS);
+            return Err(Refusal::TooManyQuestions);
         }
-        let found = judge_question(s, at);
-        match found {
-            Read::Refused(r) => {
-                return QuestionFile::Refused(r);
-            }
-            Read::End(end) => {
-                at = end;
-                count = count + 1;
-            }
-        }
+        at = judge_question(s, at)?;
+        count += 1;
     }
-    QuestionFile::Questions(count)
+    Ok(count)
 }
 
 // The question at `at` of a file whose bytes from there on are taken: read again by its letter and its length bytes.
-pub fn question_at(file: &[u8], at: usize) -> Asked
+pub fn question_at<'a>(file: &'a [u8], at: usize) -> Asked<'a>
     requires { (at < length file.now) × TakenFrom file.now at }
-    ensures { Located file.now at result }
+    ensures { Located file.entry.now at result }
 {
     let letter = file[at + 1];
     let key = at + 3;
-    let n = wide(file[at + 2]);
+    let n = usize::from(file[at + 2]);
     let next = key + n;
+    let lower = part(file, key, n);
     if letter == b'P' {
-        let question = QuestionAt::Point(key, n);
+        let question = Question::Point(lower);
         return Asked { question, next };
     }
     if letter == b'S' {
-        let question = QuestionAt::Seek(key, n);
+        let question = Question::Seek(lower);
         return Asked { question, next };
     }
     if letter == b'B' {
-        let question = QuestionAt::Begins(key, n);
+        let question = Question::Begins(lower);
         return Asked { question, next };
     }
-    let upper = next + 1;
-    let m = wide(file[next]);
-    let next = upper + m;
+    let m = usize::from(file[next]);
+    let upper = part(file, next + 1, m);
+    let next = next + 1 + m;
     if letter == b'R' {
-        let question = QuestionAt::Range(key, n, upper, m);
+        let question = Question::Range(lower, upper);
         return Asked { question, next };
     }
-    let question = QuestionAt::Count(key, n, upper, m);
+    let question = Question::Count(lower, upper);
     Asked { question, next }
-}
-
-// The bytes of a question's key, n of them from `at`.
-pub fn key_at(file: &[u8], at: usize, n: usize) -> &[u8]
-    requires { KeyPart file.now at n }
-    ensures { (result.now ≡ key file.now at n) × (length result.now ≤ 64) }
-{
-    let end = at + n;
-    &file[at..end]
 }

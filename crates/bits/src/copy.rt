@@ -7,9 +7,5 @@ pub fn write_bytes(out: &mut [u8], at: usize, xs: &[u8])
     requires { at + length xs.now ≤ length out.old }
     ensures { out.new ≡ overlaid out.old at xs.now }
 {
-    let mut i = 0usize;
-    while i < xs.len() {
-        out[at + i] = xs[i];
-        i = i + 1;
-    }
+    out[at..at + xs.len()].copy_from_slice(xs);
 }

@@ -10,14 +10,7 @@ pub const MODULUS_32: usize = 4294967296;
 pub fn wide(x: u8) -> usize
     ensures { (result ≡ x) × (result < 256) }
 {
-    x as usize
-}
-
-// A byte as a u64.
-fn wide64(x: u8) -> u64
-    ensures { (result ≡ x) × (result < 256) }
-{
-    x as u64
+    usize::from(x)
 }
 
 // A u32 as a usize.
@@ -31,21 +24,21 @@ pub fn wide32(x: u32) -> usize
 pub fn one_if(b: bool) -> usize
     ensures { (result ≡ bit b) × (result ≤ 1) }
 {
-    if b { 1 } else { 0 }
+    usize::from(b)
 }
 
 // The smaller of two numbers.
 pub fn smaller(a: usize, b: usize) -> usize
     ensures { result ≡ min a b }
 {
-    if a < b { a } else { b }
+    a.min(b)
 }
 
 // The larger of two numbers.
 pub fn larger(a: usize, b: usize) -> usize
     ensures { result ≡ max a b }
 {
-    if a < b { b } else { a }
+    a.max(b)
 }
 
 // How many blocks of w bits hold n bits. The last block may not be full.
@@ -53,14 +46,14 @@ pub fn blocks_for(w: usize, n: usize) -> usize
     requires { (0 < w) × (w ≤ 512) × (n < 2 ^ 63) }
     ensures { result ≡ blocks w n }
 {
-    (n + (w - 1)) / w
+    n.div_ceil(w)
 }
 
 // How many bytes hold so many bits. The last byte may not be full.
 pub fn bytes_for(bits: usize) -> usize
     ensures { result ≡ blocks 8 bits }
 {
-    bits / 8 + (bits % 8 + 7) / 8
+    bits.div_ceil(8)
 }
 
 // The number in the four bytes of s from at.
@@ -68,7 +61,7 @@ pub fn read32(s: &[u8], at: usize) -> usize
     requires { at + 4 ≤ length s.now }
     ensures { (result ≡ from32 (drop at s.now)) × (result < 4294967296) }
 {
-    wide(s[at]) + 256 * wide(s[at + 1]) + 65536 * wide(s[at + 2]) + 16777216 * wide(s[at + 3])
+    u32::from_le_bytes([s[at], s[at + 1], s[at + 2], s[at + 3]]) as usize
 }
 
 // The low four bytes of v go to s from at, and all else stays.
@@ -76,10 +69,7 @@ pub fn write32(s: &mut [u8], at: usize, v: usize)
     requires { at + 4 ≤ length s.old }
     ensures { s.new ≡ overlaid s.old at (le32 v) }
 {
-    s[at] = (v % 256) as u8;
-    s[at + 1] = (v / 256 % 256) as u8;
-    s[at + 2] = (v / 65536 % 256) as u8;
-    s[at + 3] = (v / 16777216 % 256) as u8;
+    s[at..at + 4].copy_from_slice(&((v % MODULUS_32) as u32).to_le_bytes());
 }
 
 // The number in the eight bytes of s from at.
@@ -87,15 +77,16 @@ pub fn read64(s: &[u8], at: usize) -> u64
     requires { at + 8 ≤ length s.now }
     ensures { result ≡ word s.now at }
 {
-    let lo = wide64(s[at])
-        + 256 * wide64(s[at + 1])
-        + 65536 * wide64(s[at + 2])
-        + 16777216 * wide64(s[at + 3]);
-    let hi = wide64(s[at + 4])
-        + 256 * wide64(s[at + 5])
-        + 65536 * wide64(s[at + 6])
-        + 16777216 * wide64(s[at + 7]);
-    lo + 4294967296 * hi
+    u64::from_le_bytes([
+        s[at],
+        s[at + 1],
+        s[at + 2],
+        s[at + 3],
+        s[at + 4],
+        s[at + 5],
+        s[at + 6],
+        s[at + 7],
+    ])
 }
 
 // The number in the bytes of s from at to its end, which are fewer than eight.
@@ -104,10 +95,8 @@ fn read_end(s: &[u8], at: usize) -> u64
     ensures { result ≡ word s.now at }
 {
     let mut w = 0u64;
-    let mut i = s.len();
-    while at < i {
-        i = i - 1;
-        w = w * 256 + wide64(s[i]);
+    for i in (at..s.len()).rev() {
+        w = w * 256 + u64::from(s[i]);
     }
     w
 }

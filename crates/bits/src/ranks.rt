@@ -2,14 +2,14 @@
 ghost use Rattle.std.specs.Prelude.{◌≡◌, ◌+◌, ◌*◌, ◌≤◌, ◌<◌, length};
 ghost use Rattle.bits.specs.Bits.{bit_at, rank, with_bit, with_ones, with_number};
 
-use super::numbers::{read_word, read64, wide};
+use super::numbers::{read_word, read64};
 
 // Bit i of s.
 pub fn bit_at(s: &[u8], i: usize) -> usize
     requires { i < 8 * length s.now }
     ensures { result ≡ bit_at s.now i }
 {
-    (wide(s[i / 8]) >> (i % 8)) % 2
+    (usize::from(s[i / 8]) >> (i % 8)) % 2
 }
 
 // Bit i of out becomes 1, and every other bit stays.
@@ -18,7 +18,7 @@ pub fn set_bit(out: &mut [u8], i: usize)
     ensures { out.new ≡ with_bit out.old i }
 {
     let b = i / 8;
-    out[b] = out[b] | (1u8 << (i % 8));
+    out[b] |= 1u8 << (i % 8);
 }
 
 // The ones of b are set in byte q of out, where out has that byte.
@@ -27,7 +27,7 @@ fn set_ones(out: &mut [u8], q: usize, b: usize)
     ensures { out.new ≡ with_ones out.old q b }
 {
     if q < out.len() {
-        out[q] = out[q] | (b as u8);
+        out[q] |= b as u8;
     }
 }
 
@@ -48,7 +48,7 @@ pub fn ones_word(s: &[u8], q: usize) -> usize
     requires { q * 8 + 8 ≤ length s.now }
     ensures { (rank s.now (64 * q + 64) ≡ rank s.now (64 * q) + result) × (result ≤ 64) }
 {
-    u64::count_ones(read64(s, q * 8)) as usize
+    read64(s, q * 8).count_ones() as usize
 }
 
 // The ones in the first j bits of word q of s.
@@ -56,7 +56,7 @@ pub fn ones_before(s: &[u8], q: usize, j: usize) -> usize
     requires { (q * 8 ≤ length s.now) × (j < 64) }
     ensures { (rank s.now (64 * q + j) ≡ rank s.now (64 * q) + result) × (result ≤ j) }
 {
-    u64::count_ones(read_word(s, q) % (1u64 << j)) as usize
+    (read_word(s, q) % (1u64 << j)).count_ones() as usize
 }
 
 // The ones of s from word `from` on and before bit k.
@@ -65,12 +65,10 @@ pub fn ones_between(s: &[u8], from: usize, k: usize) -> usize
     ensures { rank s.now k ≡ rank s.now (64 * from) + result }
 {
     let mut r = 0usize;
-    let mut q = from;
-    while q < k / 64 {
-        r = r + ones_word(s, q);
-        q = q + 1;
+    for q in from..k / 64 {
+        r += ones_word(s, q);
     }
-    r + ones_before(s, q, k % 64)
+    r + ones_before(s, k / 64, k % 64)
 }
 
 // The ones before bit k of s, counted on from word `from`, before which stand `before` ones.

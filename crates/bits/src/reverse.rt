@@ -2,8 +2,6 @@
 ghost use Rattle.std.specs.Prelude.{◌≡◌, ◌<◌};
 ghost use Rattle.bits.specs.Bits.{reversed};
 
-use super::numbers::wide;
-
 // Five copies of a byte, each one bit higher than ten bits behind the one before.
 const COPIES: usize = 0x0202020202;
 
@@ -14,5 +12,5 @@ const KEPT: usize = 0x010884422010;
 pub fn reversed(b: u8) -> usize
     ensures { (result ≡ reversed b) × (result < 256) }
 {
-    ((wide(b) * COPIES) & KEPT) % 1023
+    ((usize::from(b) * COPIES) & KEPT) % 1023
 }

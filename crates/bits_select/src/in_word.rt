@@ -5,7 +5,6 @@ ghost use Rattle.bits_select.specs.CountLaws.{Counts, CountedFields, paired};
 ghost use Rattle.bits_select.specs.NarrowLaws.{Narrowed};
 
 use super::byte_ones::select_in_pair;
-use bits::numbers::wide;
 
 // Masks of a word, each with every other field from the first on. Every other bit.
 const BITS: u64 = 0x5555555555555555;
@@ -68,7 +67,8 @@ struct Field {
 // The half, of w bits, that holds the one. The counts have the ones of each field of w bits.
 fn half_of(counts: u64, w: usize, field: Field) -> Field
     requires { (w < 64) × (field.at < 64) }
-    ensures { (x m k : ℕ) → Counts w (k + k) counts x → Narrowed x m (w + w) k field.at field.left → Narrowed x m w (k + k) result.at result.left }
+    ensures within { result.at ≤ field.at + w }
+    ensures narrowed { (x m k : ℕ) → Counts w (k + k) counts x → Narrowed x m (w + w) k field.at field.left → Narrowed x m w (k + k) result.at result.left }
 {
     let low = ((counts >> field.at) % (1u64 << w)) as usize;
     if field.left < low {
@@ -93,14 +93,11 @@ fn pair_of(x: u64, m: usize) -> Field
     half_of(n.of_2, 2, in_4)
 }
 
-// A word whose bits are all ones.
-const ALL_ONES: u64 = 0xffffffffffffffff;
-
 // How many ones stand side by side from the lowest bit of a word on.
 fn lowest_ones(x: u64) -> usize
     ensures { ((m : ℕ) → m < result → ones (x % 2 ^ (m + 1)) ≡ m + 1) × (result ≤ 64) }
 {
-    u64::trailing_zeros(ALL_ONES - x) as usize
+    x.trailing_ones() as usize
 }
 
 // The position of the m-th set bit, counted from 0, of a word that has more than m. In a word of S-LOUDS ones often stand side by side: nodes with one entry each.
@@ -113,7 +110,7 @@ pub fn select_in_word(x: u64, m: usize) -> usize
     }
     let field = pair_of(x, m);
     let bits = ((x >> field.at) % 4) as usize;
-    field.at + wide(select_in_pair(bits, field.left))
+    field.at + usize::from(select_in_pair(bits, field.left))
 }
 
 // The same with no table: the pair of bits is halved as well. Its frame is small.

@@ -4,7 +4,7 @@ ghost use Rattle.std.specs.Int.Count.{ones};
 ghost use Rattle.bits.specs.Bits.{rank, select};
 
 use super::in_word::{select_by_halves, select_in_word};
-use bits::numbers::{read_word, smaller};
+use bits::numbers::read_word;
 use bits::ranks::ones_word;
 
 // The position of the lowest set bit of a word that is not zero.
@@ -12,7 +12,7 @@ fn lowest_one(x: u64) -> usize
     requires { 0 < x }
     ensures { (ones (x % 2 ^ result) ≡ 0) × (0 < ones (x % 2 ^ (result + 1))) × (2 ^ result ≤ x) × (result < 64) }
 {
-    u64::trailing_zeros(x) as usize
+    x.trailing_zeros() as usize
 }
 
 // The position of the first set bit from word `from` on among the first n bits, or n where there is none.
@@ -20,13 +20,11 @@ fn next_from(s: &[u8], n: usize, from: usize) -> usize
     requires { (n ≤ 8 * length s.now) × (64 * from ≤ n + 64) }
     ensures { result ≡ select s.now n (rank s.now (64 * from)) }
 {
-    let mut q = from;
-    while q <= n / 64 {
+    for q in from..n / 64 + 1 {
         let x = read_word(s, q);
         if x != 0 {
-            return smaller(64 * q + lowest_one(x), n);
+            return (64 * q + lowest_one(x)).min(n);
         }
-        q = q + 1;
     }
     n
 }
@@ -38,7 +36,7 @@ pub fn next_one(s: &[u8], n: usize, from: usize) -> usize
 {
     let x = read_word(s, from / 64) >> (from % 64);
     if x != 0 {
-        return smaller(from + lowest_one(x), n);
+        return (from + lowest_one(x)).min(n);
     }
     next_from(s, n, from / 64 + 1)
 }
@@ -52,10 +50,8 @@ fn ones_step(s: &[u8], q: usize) -> usize
     ensures { rank s.now (64 * (q + 8)) ≡ rank s.now (64 * q) + result }
 {
     let mut r = 0usize;
-    let mut i = 0usize;
-    while i < STEP_WORDS {
-        r = r + ones_word(s, q + i);
-        i = i + 1;
+    for i in 0..STEP_WORDS {
+        r += ones_word(s, q + i);
     }
     r
 }
@@ -82,8 +78,8 @@ fn pass_steps(s: &[u8], n: usize, from: Ahead) -> Ahead
                 ones: left,
             };
         }
-        left = left - w;
-        q = q + STEP_WORDS;
+        left -= w;
+        q += STEP_WORDS;
     }
     Ahead {
         word: q,
@@ -96,16 +92,14 @@ fn select_words(s: &[u8], n: usize, from: Ahead) -> usize
     requires { (n ≤ 8 * length s.now) × (64 * from.word ≤ n + 64) }
     ensures { (result ≡ select s.now n (rank s.now (64 * from.word) + from.ones)) × (result ≤ n) }
 {
-    let mut q = from.word;
     let mut left = from.ones;
-    while q <= n / 64 {
+    for q in from.word..n / 64 + 1 {
         let x = read_word(s, q);
-        let w = u64::count_ones(x) as usize;
+        let w = x.count_ones() as usize;
         if left < w {
-            return smaller(64 * q + select_in_word(x, left), n);
+            return (64 * q + select_in_word(x, left)).min(n);
         }
-        left = left - w;
-        q = q + 1;
+        left -= w;
     }
     n
 }
@@ -117,9 +111,9 @@ pub fn select_from(s: &[u8], n: usize, from: usize, before: usize, m: usize) -> 
 {
     let q = from / 64;
     let x = read_word(s, q) >> (from % 64);
-    let w = u64::count_ones(x) as usize;
+    let w = x.count_ones() as usize;
     if m - before < w {
-        return smaller(from + select_in_word(x, m - before), n);
+        return (from + select_in_word(x, m - before)).min(n);
     }
     let next = Ahead {
         word: q + 1,
@@ -133,5 +127,5 @@ pub fn select_in(s: &[u8], n: usize, q: usize, m: usize) -> usize
     requires { (n ≤ 8 * length s.now) × (64 * q ≤ n) × (rank s.now (64 * q) + m < rank s.now (64 * q + 64)) }
     ensures { (result ≡ select s.now n (rank s.now (64 * q) + m)) × (result ≤ n) }
 {
-    smaller(64 * q + select_by_halves(read_word(s, q), m), n)
+    (64 * q + select_by_halves(read_word(s, q), m)).min(n)
 }

@@ -10,9 +10,11 @@ use Rattle.spec.specs.Answer.{refuse, success}
 use Rattle.spec.specs.Build.{write_stated}
 use Rattle.theory.proofs.BuildLaws.{stated_wrong, stated_right}
 use Rattle.theory.proofs.OutcomeLaws.{write_fits, write_short}
-use Rattle.image.specs.declared.Written.TheVariants.{Bytes as Written-bytes, Refused}
+use Rattle.std.specs.Prelude.{Ok, Err}
+use Rattle.image.specs.declared.refusals.Refusal.TheVariants.{OutputTooShort, StatedLengthWrong}
 use Rattle.image.specs.Outcomes.{outcome}
-use Rattle.build_keys.specs.CountPass.{LevelCounts, list_counts}
+use Rattle.build_keys.specs.CountPass.{list_counts}
+use Rattle.build_keys.specs.declared.LevelCounts.{LevelCounts}
 use Rattle.build_records.specs.Plan.{Planned, plan_settings, start_at, plan_image, plan_levels, plan_end}
 use Rattle.build_records.specs.declared.Plan.{Plan}
 use Rattle.build.specs.Image.{image_of}
@@ -28,12 +30,12 @@ module _ (list : Bytes) (p : Plan) (w : Planned list p) (c : LevelCounts) (k : c
 
   module _ (end : ℕ) (d : end ≡ start_at p 12 + length (plan_levels p c.nodes)) (stated : ℕ) (out : Bytes) where
     -- 8: the stated length is not the image's
-    pub length_not_stated : (stated ≡ end → ⊥) → outcome (Refused 8) out ≡ write_stated stated (image_of list st) out
+    pub length_not_stated : (stated ≡ end → ⊥) → outcome (Err StatedLengthWrong) out ≡ write_stated stated (image_of list st) out
     unfolding refuse
     length_not_stated h = sym (stated_wrong stated (image_of list st) out (λ s. h (s ∙ sym (image_end end d))))
 
     -- 7: the image is longer than the output
-    pub too_long : stated ≡ end → length out < end → outcome (Refused 7) out ≡ write_stated stated (image_of list st) out
+    pub too_long : stated ≡ end → length out < end → outcome (Err OutputTooShort) out ≡ write_stated stated (image_of list st) out
     unfolding refuse
     too_long s h = sym (stated_right stated (image_of list st) out (s ∙ image_end end d) ∙ write_short 7 (image_of list st) out (omega (arith, image_end end d)))
 
@@ -42,9 +44,9 @@ module _ (list : Bytes) (p : Plan) (w : Planned list p) (c : LevelCounts) (k : c
     image_room h = omega (arith, d, plan_end list p w c k)
 
     -- the image stands at the output's front
-    pub image_built : (q : Bytes) → stated ≡ end → end ≤ length out → q ≡ plan_image list p ++ drop (length (plan_image list p)) out → outcome (Written-bytes end) q ≡ write_stated stated (image_of list st) out
+    pub image_built : (q : Bytes) → stated ≡ end → end ≤ length out → q ≡ plan_image list p ++ drop (length (plan_image list p)) out → outcome (Ok end) q ≡ write_stated stated (image_of list st) out
     unfolding success
     image_built q s h f =
-        ap₂ (λ (n : ℕ) (z : Bytes). outcome (Written-bytes n) z) (d ∙ plan_end list p w c k) f
+        ap₂ (λ (n : ℕ) (z : Bytes). outcome (Ok n) z) (d ∙ plan_end list p w c k) f
         ∙ ap (λ (b : Bytes). success b out) planned_image
         ∙ sym (stated_right stated (image_of list st) out (s ∙ image_end end d) ∙ write_fits 7 (image_of list st) out (omega (arith, image_end end d)))

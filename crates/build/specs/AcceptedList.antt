@@ -1,5 +1,5 @@
 -- What holds of a key list that document 01's definition accepts, record by record and by position: the builder's passes over the list rest on it.
-use Rattle.std.specs.Prelude.{◌≡◌, refl, Bool, true, false, List, [], ◌∷◌, ℕ, zero, suc, ◌+◌, ◌*◌, ◌-◌, ◌≤◌, ◌<◌, length, get_or, drop, ltb, eqb}
+use Rattle.std.specs.Prelude.{◌≡◌, refl, Bool, true, false, List, [], ◌∷◌, ℕ, zero, suc, ◌+◌, ◌*◌, ◌-◌, ◌≤◌, ◌<◌, length, get_or, drop, ltb, eqb, Ok, Err}
 use Rattle.std.proofs.Common.{sym, ap, ◌∙◌, arith, ltb-true, ltb-false, eqb-true, drop_of_length-le}
 use Rattle.std.proofs.lemmas.Bool.{eqb-false}
 use Rattle.spec.specs.Bytes.{Bytes}
@@ -7,7 +7,6 @@ use Rattle.spec.specs.Keys.{below, ParsedKeys, refused, keys, with_key, parse_re
 use Rattle.bits.specs.Bits.{key}
 use Rattle.build_laws.specs.KeyRecords.{Records, Rising, Listed}
 use Rattle.build_list.specs.KeyList.{counted, key_list}
-use Rattle.build_list.specs.declared.KeyList.TheVariants.{Keys, Refused}
 use Rattle.build_list.specs.RecordLaws.{read_many, read_short, read_unmarked, read_none, read_long, read_missing, read_whole}
 
 -- a refusal is no list of keys
@@ -117,13 +116,13 @@ listed s ks e =
     record { records = l.records; rising = l.rising; few = omega (arith, l.few); short = omega (arith, l.short) }
 
 -- an answer with a count of keys comes from so many keys
-pub judged_keys : (p : ParsedKeys) (n : ℕ) → Keys n ≡ key_list p → (ks : List Bytes) × (p ≡ keys ks) × (length ks ≡ n)
+pub judged_keys : (p : ParsedKeys) (n : ℕ) → Ok n ≡ key_list p → (ks : List Bytes) × (p ≡ keys ks) × (length ks ≡ n)
 unfolding key_list counted
 judged_keys (refused r) n e = let z : ◌≡◌ {A = ℕ} 0 1 = cc in absurd (omega arith)
 judged_keys (keys ks) n e = let z : n ≡ 0 + length ks = cc in (ks, refl, omega arith)
 
 -- an answer with a number comes from a list that the number turns down
-pub judged_refused : (p : ParsedKeys) (r : ℕ) → Refused r ≡ key_list p → p ≡ refused r
+pub judged_refused : (p : ParsedKeys) (r : ℕ) → Err r ≡ key_list p → p ≡ refused r
 unfolding key_list counted
 judged_refused (refused q) r e = let z : r ≡ q = cc in ap refused (sym z)
 judged_refused (keys ks) r e = let z : ◌≡◌ {A = ℕ} 0 1 = cc in absurd (omega arith)

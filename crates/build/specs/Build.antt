@@ -1,23 +1,19 @@
 -- What judging a key list and settings says, and the length that the first call of build gives.
-use Rattle.std.specs.Prelude.{◌≡◌, length}
+use Rattle.std.specs.Prelude.{◌≡◌, ℕ, Result, Ok, Err}
 use Rattle.spec.specs.Bytes.{Bytes}
-use Rattle.spec.specs.Keys.{keys_of}
 use Rattle.spec.specs.Image.{Settings}
-use Rattle.spec.specs.Build.{turned_down, to_build, judge, bytes, refused}
-use Rattle.build_records.specs.Plan.{Ready}
-use Rattle.build.specs.Image.{image_of}
-use Rattle.build.specs.declared.Judged.{Judged}
-use Rattle.build.specs.declared.Judged.TheVariants.{Accepted as Judged-accepted, Refused as Judged-refused}
-use Rattle.build.specs.declared.Length.{Length}
-use Rattle.build.specs.declared.Length.TheVariants.{Bytes as Length-bytes, Refused}
-use Rattle.spec.specs.Build as Build
+use Rattle.spec.specs.Build.{turned_down, judge, Length, bytes, refused}
+use Rattle.image.specs.declared.refusals.Refusal.{Refusal}
+use Rattle.image.specs.Refusals.{number_of}
+use Rattle.image.specs.Header.{asked}
+use Rattle.build.specs.declared.ready.ReadyList.{ReadyList}
 
--- what judging says: the number of keys of a list that is ready, whose image is to be built; or the number with which list and settings are turned down
-abbrev pub Judges : Bytes → Settings → Judged → Type 0
-Judges list st (Judged-accepted count) = Ready list st × (count ≡ length (keys_of list)) × (judge list st ≡ to_build (image_of list st))
-Judges list st (Judged-refused r) = judge list st ≡ turned_down r
+-- what judging says: the list with its settings, ready to be built from; or the number with which list and settings are turned down
+abbrev pub Judges : Bytes → Settings → Result ReadyList Refusal → Type 0
+Judges list st (Ok r) = (r.bytes.now ≡ list) × (asked r.settings ≡ st)
+Judges list st (Err r) = judge list st ≡ turned_down (number_of r)
 
 -- the number and the values of each case of a length
-abbrev pub length_of : Length → Build.Length
-length_of (Length-bytes n) = bytes n
-length_of (Refused r) = refused r
+abbrev pub length_of : Result ℕ Refusal → Length
+length_of (Ok n) = bytes n
+length_of (Err r) = refused (number_of r)

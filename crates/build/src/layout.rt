@@ -4,46 +4,48 @@ ghost use Rattle.spec.specs.Keys.{keys_of};
 ghost use Rattle.spec.specs.Build.{write_stated};
 ghost use Rattle.image.specs.Header.{asked};
 ghost use Rattle.image.specs.Outcomes.{outcome};
-ghost use Rattle.build_keys.specs.CountPass.{level_counts, no_counts, list_counts};
-ghost use Rattle.build_records.specs.Plan.{Ready, Planned, plan_settings, start_at, plan_image, plan_levels};
+ghost use Rattle.build_keys.specs.CountPass.{no_counts, list_counts};
+ghost use Rattle.build_records.specs.Plan.{Planned, plan_settings, start_at, plan_image, plan_levels};
 ghost use Rattle.build.specs.Image.{image_of};
 
-use build_keys::{COUNTERS, Counters};
+use super::ready::ReadyList;
+use build_keys::{COUNTERS, Counters, LevelCounts};
 use build_passes::count::count_levels;
 use build_passes::offsets::total;
 use build_records::Plan;
 use build_records::levels::{levels_size, write_levels};
 use build_records::records::write_records;
 use image::header_bytes::write_header;
-use image::refusals::{OUTPUT_TOO_SHORT, STATED_LENGTH_WRONG};
+use image::refusals::Refusal;
 use image::table::{RECORDS, record_starts};
-use image::{Dense, Header, MAX_LEVELS, Settings, Sparse, Written};
+use image::{Dense, Header, MAX_LEVELS, Sparse};
 
-// The plan of an accepted list of so many keys: each level's entries, nodes and leaves are counted from zero in one pass, and give the header's counts and the records' starts.
-fn lay_out(
-    entries: &mut Counters,
-    nodes: &mut Counters,
-    leaves: &mut Counters,
-    list: &[u8],
-    st: Settings,
-    count: usize,
-) -> Plan
-    requires { Ready list.now (asked st) × (count ≡ length (keys_of list.now)) × (level_counts entries.old nodes.old leaves.old ≡ no_counts) }
-    ensures { Planned list.now result × (plan_settings result ≡ asked st) × (level_counts entries.new nodes.new leaves.new ≡ list_counts (keys_of list.now)) }
+// Nothing counted yet.
+const NO_COUNTS: LevelCounts = LevelCounts {
+    entries: [0; COUNTERS],
+    nodes: [0; COUNTERS],
+    leaves: [0; COUNTERS],
+};
+
+// The plan of an accepted list: each level's entries, nodes and leaves are counted from zero in one pass, and give the header's counts and the records' starts.
+fn lay_out(counts: &mut LevelCounts, list: &ReadyList) -> Plan
+    requires { counts.old ≡ no_counts }
+    ensures { Planned list.now.bytes.now result × (plan_settings result ≡ asked list.now.settings) × (counts.new ≡ list_counts (keys_of list.now.bytes.now)) }
 {
-    count_levels(entries, nodes, leaves, list);
+    count_levels(counts, list.bytes);
+    let st = list.settings;
     let h = Header {
         version: st.version,
         real_width: st.real_width,
         hash_width: st.hash_width,
-        leaves: count,
+        leaves: list.count,
         dense: Dense {
             levels: st.dense_levels,
-            nodes: total(nodes, 0, st.dense_levels),
+            nodes: total(&counts.nodes, 0, st.dense_levels),
         },
         sparse: Sparse {
-            nodes: total(nodes, st.dense_levels, MAX_LEVELS),
-            entries: total(entries, st.dense_levels, MAX_LEVELS),
+            nodes: total(&counts.nodes, st.dense_levels, MAX_LEVELS),
+            entries: total(&counts.entries, st.dense_levels, MAX_LEVELS),
         },
     };
     Plan {
@@ -57,57 +59,46 @@ fn image_end(plan: Plan, nodes: &Counters) -> usize
     requires { start_at plan 12 + length (plan_levels plan nodes.now) < 18446744073709551616 }
     ensures { result ≡ start_at plan 12 + length (plan_levels plan nodes.now) }
 {
-    let starts = plan.starts;
-    starts[RECORDS] + levels_size(plan.header.version, nodes)
+    plan.starts[RECORDS] + levels_size(plan.header.version, nodes)
 }
 
-// The length of the image of an accepted list of so many keys: where it ends.
-pub fn measure_image(list: &[u8], st: Settings, count: usize) -> usize
-    requires { Ready list.now (asked st) × (count ≡ length (keys_of list.now)) }
-    ensures { result ≡ length (image_of list.now (asked st)) }
+// The length of the image of an accepted list: where it ends.
+pub fn measure_image(list: &ReadyList) -> usize
+    ensures { result ≡ length (image_of list.now.bytes.now (asked list.now.settings)) }
 {
-    let mut entries = [0u32; COUNTERS];
-    let mut nodes = [0u32; COUNTERS];
-    let mut leaves = [0u32; COUNTERS];
-    let plan = lay_out(&mut entries, &mut nodes, &mut leaves, list, st, count);
-    image_end(plan, &nodes)
+    let mut counts = NO_COUNTS;
+    let plan = lay_out(&mut counts, list);
+    image_end(plan, &counts.nodes)
 }
 
 // The image of a plan goes to the front of out, and all else stays: its header, the twelve records, and those of its version behind them. The counters are the list's.
-fn write_image(
-    out: &mut [u8],
-    list: &[u8],
-    plan: Plan,
-    entries: &Counters,
-    nodes: &Counters,
-    leaves: &Counters,
-)
-    requires { Planned list.now plan × (length (plan_image list.now plan) ≤ length out.old) × (level_counts entries.now nodes.now leaves.now ≡ list_counts (keys_of list.now)) }
+fn write_image(out: &mut [u8], list: &[u8], plan: Plan, counts: &LevelCounts)
+    requires { Planned list.now plan × (length (plan_image list.now plan) ≤ length out.old) × (counts.now ≡ list_counts (keys_of list.now)) }
     ensures { out.new ≡ plan_image list.now plan ++ drop (length (plan_image list.now plan)) out.old }
 {
-    let h = plan.header;
-    let starts = plan.starts;
-    write_header(out, h);
-    write_records(out, list, plan, entries, nodes, leaves);
-    write_levels(out, starts[RECORDS], h.version, nodes);
+    write_header(out, plan.header);
+    write_records(out, list, plan, counts);
+    write_levels(
+        out,
+        plan.starts[RECORDS],
+        plan.header.version,
+        &counts.nodes,
+    );
 }
 
-// The image of an accepted list of so many keys goes to the front of out; or the answer is 8, the stated length is not the image's, or 7, the image is longer than the output.
-pub fn build_image(list: &[u8], st: Settings, count: usize, stated: u64, out: &mut [u8]) -> Written
-    requires { Ready list.now (asked st) × (count ≡ length (keys_of list.now)) }
-    ensures { outcome result out.new ≡ write_stated stated (image_of list.now (asked st)) out.old }
+// The image of an accepted list goes to the front of out; or the answer is 8, the stated length is not the image's, or 7, the image is longer than the output.
+pub fn build_image(list: &ReadyList, stated: u64, out: &mut [u8]) -> Result<usize, Refusal>
+    ensures { outcome result out.new ≡ write_stated stated (image_of list.now.bytes.now (asked list.now.settings)) out.old }
 {
-    let mut entries = [0u32; COUNTERS];
-    let mut nodes = [0u32; COUNTERS];
-    let mut leaves = [0u32; COUNTERS];
-    let plan = lay_out(&mut entries, &mut nodes, &mut leaves, list, st, count);
-    let end = image_end(plan, &nodes);
-    if stated != (end as u64) {
-        return Written::Refused(STATED_LENGTH_WRONG);
+    let mut counts = NO_COUNTS;
+    let plan = lay_out(&mut counts, list);
+    let end = image_end(plan, &counts.nodes);
+    if stated != end as u64 {
+        return Err(Refusal::StatedLengthWrong);
     }
     if out.len() < end {
-        return Written::Refused(OUTPUT_TOO_SHORT);
+        return Err(Refusal::OutputTooShort);
     }
-    write_image(out, list, plan, &entries, &nodes, &leaves);
-    Written::Bytes(end)
+    write_image(out, list.bytes, plan, &counts);
+    Ok(end)
 }

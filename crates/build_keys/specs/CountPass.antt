@@ -11,6 +11,7 @@ use Rattle.build_laws.specs.PassEmissions.{leaf_level}
 use Rattle.build_laws.specs.Counters.{entry_counts, node_counts, leaf_counts}
 use Rattle.build_laws.specs.declared.Key.{Key}
 use Rattle.build_keys.specs.CounterRoom.{no_ones}
+use Rattle.build_keys.specs.declared.LevelCounts.{LevelCounts}
 use Rattle.build_laws.specs.Limits.{counters, counter_max}
 
 -- for each entry of a key of n bytes, whether it starts a node
@@ -35,13 +36,7 @@ CounterRoom inc es c = Room inc no_ones 0 counter_max es c
 
 -- ---- the three counters of each level
 
--- entries, nodes and leaves
-pub record LevelCounts : Type 0 where
-  pub entries : List ℕ
-  pub nodes : List ℕ
-  pub leaves : List ℕ
-
--- such counters
+-- entries, nodes and leaves, as such counters
 abbrev pub level_counts : List ℕ → List ℕ → List ℕ → LevelCounts
 level_counts e n l = record { entries = e; nodes = n; leaves = l }
 

@@ -1,7 +1,7 @@
 -- A key's emissions from a level on, one at a time: what is left to be written or counted, and that there is room for it. Used by the functions that go over a key's levels.
 use Prim.Native.Nat.{ℕ, suc, ◌+◌, ◌-◌, ◌≤◌, ◌<◌, max, min}
-use Rattle.std.specs.Prelude.{◌≡◌, refl, true, false, length, get_or}
-use Rattle.std.proofs.Math.Path.{sym, ap, subst}
+use Rattle.std.specs.Prelude.{◌≡◌, refl, Bool, true, false, length, get_or, leb, ltb}
+use Rattle.std.proofs.Math.Path.{sym, ap, ap₂, subst}
 use Rattle.std.proofs.Common.{◌∙◌, add-one}
 use Rattle.std.proofs.Math.Bool.{cond}
 use mathlib.Core.List.{List, [], ◌∷◌, ◌++◌}
@@ -18,10 +18,11 @@ use Rattle.build_laws.specs.declared.Kind.{Kind}
 use Rattle.build_laws.specs.declared.Kind.TheVariants.{DL, DC, DP, SL, SC, SB}
 use Rattle.build_laws.specs.declared.Key.{Key}
 use Rattle.build_laws.specs.declared.LevelRange.{LevelRange}
-use Rattle.build_laws.specs.KeyEntries.{entry_at, exact_entry}
-use Rattle.build_laws.specs.KeyLaws.{key_length}
+use Rattle.build_laws.specs.KeyEntries.{continues_at, entry_at, exact_entry}
+use Rattle.build_laws.specs.KeyLaws.{key_byte, key_length}
 use Rattle.build_laws.specs.Passes.{key_bytes, ListedKey, listed_entries, key_exact, kind_step, EntriesRoom, write_entry, write_entries}
-use Rattle.build_keys.specs.CountPass.{CounterRoom}
+use Rattle.build_keys.specs.CountPass.{CounterRoom, leaf_level_of}
+use Rattle.build_keys.specs.KeySparseBits.{continues_above}
 
 -- what a key emits from level d to below `end`, and for its exact leaf
 unfoldable key_rest : {A : Type 0} → (ℕ → A) → A → ℕ → ℕ → ℕ → ℕ → ℕ → ℕ → List (Emission A)
@@ -95,6 +96,14 @@ module _ (s : Bytes) (k : Key) (l : LevelRange) (h : k.at + k.len ≤ length s) 
   entries_none d end i e =
       ap (λ (m : ℕ). key_rest (entry_at k.first k.next (key_bytes s k)) exact_entry k.next m l.lo l.hi d end) (key_length s k.at k.len h)
       ∙ rest_none (entry_at k.first k.next (key_bytes s k)) exact_entry k.next k.len l.lo l.hi d end i e
+
+-- a branch by what the code reads: it continues above the level of the leaf
+pub branch_is : {s : Bytes} {k : Key} {l b : LevelRange} (d leaf x : ℕ) → ListedKey s k → BranchLevels k l b → d < b.hi → leaf ≡ leaf_level_of k → x ≡ get_or s (k.at + d) 0
+    → record { start = leb k.first d; exact = false; child = ltb d leaf; label = x } ≡ key_branch s k d
+branch_is {s} {k} {l} {b} d leaf x i v h e f =
+    ap₂ (λ (c : Bool) (y : ℕ). record { start = leb k.first d; exact = false; child = c; label = y })
+    (ap (ltb d) e ∙ sym (continues_above k.first k.next k.len d (omega (arith, v.hi_is))) ∙ ap (λ (n : ℕ). continues_at k.first k.next n d) (sym (key_length s k.at k.len i.within)))
+    (f ∙ key_byte s k.at k.len d (omega (arith, v.within)))
 
 -- ---- entries written
 

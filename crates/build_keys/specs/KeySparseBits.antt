@@ -22,7 +22,7 @@ use Rattle.build_laws.specs.declared.LevelRange.{LevelRange}
 use Rattle.build_laws.specs.declared.Entry.{Entry}
 use Rattle.build_laws.specs.declared.Kind.TheVariants.{SC, SB}
 use Rattle.build_laws.specs.KeyLaws.{level_exact, level_open, pred_sub}
-use Rattle.build_keys.specs.CountPass.{CounterRoom}
+use Rattle.build_keys.specs.CountPass.{CounterRoom, leaf_level_of}
 use Rattle.build_laws.specs.Passes.{with_bits, set_all, set_at_cursor, write_entries, listed_entries, listed_leaves, listed_later, EntriesRoom, BitsRoom}
 use Rattle.build_keys.specs.ByteLevel.{leaves_set, later_set}
 use Rattle.build_laws.specs.Limits.{counter_max}
@@ -114,6 +114,14 @@ not_below d m h = ap not (le-ltb d m h)
 below : (d m : ℕ) → d < m → not (ltb d m) ≡ false
 below d m h = ap not (lt-ltb d m h)
 
+-- the first level on which a key starts a node is behind b, or it is not
+pub behind_level : (a b : ℕ) → ltb b a ≡ not (leb a b)
+behind_level a b = go (leb a b) refl
+  where
+    go : (x : Bool) → leb a b ≡ x → ltb b a ≡ not x
+    go true e = le-ltb b a (leb-true a b e)
+    go false e = lt-ltb b a (leb-false a b e)
+
 -- a branch continues above the level of the leaf
 pub continues_above : (p q n d : ℕ) → d < cut_length (pred p) q n → continues_at p q n d ≡ ltb d (leaf_level (pred p) q n)
 continues_above p q n d h = go (eqb q n) refl (ltb d (leaf_level (pred p) q n)) refl
@@ -138,9 +146,12 @@ continues_above p q n d h = go (eqb q n) refl (ltb d (leaf_level (pred p) q n)) 
         less : (q ≡ n → ⊥) → leaf_level (pred p) q n ≤ d → cut_length (pred p) q n ≤ suc d
         less z i = omega (arith, i, level_open (pred p) q n z, cut_open (pred p) q n z)
 
-module _ (l : LevelRange) (k : Key) (b d : ℕ) (e : b ≡ pred k.first) (f : d ≡ leaf_level b k.next k.len) (h : b < k.len) where
+module _ (l : LevelRange) (k : Key) (b d : ℕ) (e : b ≡ pred k.first) (level : d ≡ leaf_level_of k) (h : b < k.len) where
   level_is : leaf_level (pred k.first) k.next k.len ≡ d
-  level_is = ap (λ (i : ℕ). leaf_level i k.next k.len) (sym e) ∙ sym f
+  level_is = sym level
+
+  f : d ≡ leaf_level b k.next k.len
+  f = level ∙ ap (λ (i : ℕ). leaf_level i k.next k.len) (sym e)
 
   -- no bit up to the level of its leaf, d, and one there
   leaves_are : listed_leaves l k ≡ blank (max b l.lo) (min d l.hi - max b l.lo) ++ cond (among l d) (emission d true ∷ []) []
@@ -233,10 +244,10 @@ next_set e es z = refl
 blank_alone : (a m : ℕ) (o c : List ℕ) → set_all one_step bit_at (blank a m) (byte_state o c) ≡ byte_state o (counts one_step (blank a m) c)
 blank_alone a m o c = ap (λ (es : List (Emission Bool)). set_all one_step bit_at es (byte_state o c)) (sym (append-nil (blank a m))) ∙ blank_set a m [] o c ∙ none_set (byte_state o (counts one_step (blank a m) c))
 
-module _ (l : LevelRange) (k : Key) (b d : ℕ) (e : b ≡ pred k.first) (f : d ≡ leaf_level b k.next k.len) (h : b < k.len) where
+module _ (l : LevelRange) (k : Key) (b d : ℕ) (e : b ≡ pred k.first) (level : d ≡ leaf_level_of k) (h : b < k.len) where
   module _ (x y : ℕ) (from : x ≡ max b l.lo) (to : y ≡ min d l.hi) where
     leaves_split : listed_leaves l k ≡ blank x (y - x) ++ cond (among l d) (emission d true ∷ []) []
-    leaves_split = leaves_are l k b d e f h ∙ ap₂ (λ (i j : ℕ). blank i (j - i) ++ cond (among l d) (emission d true ∷ []) []) (sym from) (sym to)
+    leaves_split = leaves_are l k b d e level h ∙ ap₂ (λ (i j : ℕ). blank i (j - i) ++ cond (among l d) (emission d true ∷ []) []) (sym from) (sym to)
 
     -- room for the cursors up to the leaf's level
     pub leaf_cursors : (size : ℕ) (c : List ℕ) → BitsRoom (listed_leaves l k) size c → CounterRoom one_step (blank x (y - x)) c
@@ -266,14 +277,14 @@ module _ (l : LevelRange) (k : Key) (b d : ℕ) (e : b ≡ pred k.first) (f : d 
   pub later_room : (size : ℕ) (c : List ℕ) → BitsRoom (listed_later l k) size c → among l b ≡ true → BitsRoom (emission b (not (leb k.first b)) ∷ []) size c
   later_room size c r g =
       subst (λ (i : Bool). BitsRoom (cond i (emission b (not (leb k.first b)) ∷ []) []) size c) g
-      (room_append one_step bit_at (8 * size) counter_max (cond (among l b) (emission b (not (leb k.first b)) ∷ []) []) (blank (max (suc b) l.lo) (min (suc d) l.hi - max (suc b) l.lo)) c (rw (later_are l k b d e f h) at r)).0
+      (room_append one_step bit_at (8 * size) counter_max (cond (among l b) (emission b (not (leb k.first b)) ∷ []) []) (blank (max (suc b) l.lo) (min (suc d) l.hi - max (suc b) l.lo)) c (rw (later_are l k b d e level h) at r)).0
 
   module _ (x y : ℕ) (from : x ≡ max (b + 1) l.lo) (to : y ≡ min (d + 1) l.hi) where
     later_split : (i : Bool) → among l b ≡ i → listed_later l k ≡ cond i (emission b (not (leb k.first b)) ∷ []) [] ++ blank x (y - x)
     later_split i g =
         let u : max (suc b) l.lo ≡ x = omega arith in
         let v : min (suc d) l.hi ≡ y = omega arith in
-        later_are l k b d e f h ∙ ap (λ (j : Bool). cond j (emission b (not (leb k.first b)) ∷ []) [] ++ blank (max (suc b) l.lo) (min (suc d) l.hi - max (suc b) l.lo)) g
+        later_are l k b d e level h ∙ ap (λ (j : Bool). cond j (emission b (not (leb k.first b)) ∷ []) [] ++ blank (max (suc b) l.lo) (min (suc d) l.hi - max (suc b) l.lo)) g
         ∙ ap₂ (λ (m n : ℕ). cond i (emission b (not (leb k.first b)) ∷ []) [] ++ blank m (n - m)) u v
 
     -- room for the cursors behind the bit

@@ -4,7 +4,6 @@ pub mod CounterRoom
 pub mod CursorWrites
 pub mod EntryLaws
 pub mod KeySparseBits
-pub mod RowCells
 pub mod SlotLaws
 pub mod SmallCounters
 pub mod SuffixLaws

@@ -12,7 +12,13 @@ use Rattle.build_laws.specs.PassEmissions.{key_slot}
 use Rattle.build_laws.specs.BodyLaws.{slot_at}
 use Rattle.build_laws.specs.Passes.{with_bits, set_at_cursor}
 use Rattle.build_keys.specs.CursorWrites.{with_none}
+use Rattle.build_laws.specs.declared.Key.{Key}
+use Rattle.build_laws.specs.LevelEntries.{pred}
 use Rattle.build_laws.specs.declared.SlotBits.{SlotBits}
+
+-- the suffix of a key of the list that is an open leaf, of these bytes
+abbrev pub key_suffix : SlotBits → Key → Bytes → Bits
+key_suffix w k b = suffix_bits w.hash_width w.real_width (cut_length (pred k.first) k.next k.len) b
 
 no_ones : (n base : ℕ) → positions base (replicate n false) ≡ []
 unfolding positions

@@ -1,39 +1,36 @@
-// The numbers of a key: how long its cut key is, and the level of its leaf.
+// The numbers of a key: the level where it leaves the key before it, how long its cut key is, and the level of its leaf.
 ghost use Rattle.std.specs.Prelude.{◌≡◌, ◌≤◌, ◌<◌};
 ghost use Rattle.build_laws.specs.LevelEntries.{pred};
 ghost use Rattle.build_laws.specs.NeighbourLeaves.{cut_length};
-ghost use Rattle.build_laws.specs.PassEmissions.{leaf_level, KeyNumbers};
+ghost use Rattle.build_laws.specs.PassEmissions.{KeyNumbers};
+ghost use Rattle.build_keys.specs.CountPass.{leaf_level_of};
 
-use bits::numbers::larger;
+use build_laws::Key;
 
-// One less than a number, or 0 for 0.
-pub fn one_less(p: usize) -> usize
-    ensures { result ≡ pred p }
+// The level where a key leaves the key before it.
+pub fn split_level(k: Key) -> usize
+    ensures { result ≡ pred k.first }
 {
-    if p == 0 {
-        return 0;
-    }
-    p - 1
+    k.first.saturating_sub(1)
 }
 
-// The length of the cut key of a key of n bytes that shares p bytes with the key before it and q bytes with the key behind it.
-pub fn cut_length(p: usize, q: usize, n: usize) -> usize
-    requires { KeyNumbers p q n }
-    ensures { (result ≡ cut_length p q n) × (result ≤ n) }
+// The level of a key's leaf: behind its last byte if it is an exact leaf, and else where it leaves both its neighbours.
+pub fn leaf_level(k: Key) -> usize
+    requires { KeyNumbers (pred k.first) k.next k.len }
+    ensures { (result ≡ leaf_level_of k) × (result < 64) }
 {
-    if q == n {
-        return n;
+    if k.next == k.len {
+        k.len
+    } else {
+        split_level(k).max(k.next)
     }
-    larger(p, q) + 1
 }
 
-// The level of such a key's leaf.
-pub fn leaf_level(p: usize, q: usize, n: usize) -> usize
-    requires { KeyNumbers p q n }
-    ensures { (result ≡ leaf_level p q n) × (result < 64) }
+// The length of a key's cut key: the key, if it is an exact leaf, and else one byte behind where it leaves both its neighbours.
+pub fn cut_length(k: Key) -> usize
+    requires { KeyNumbers (pred k.first) k.next k.len }
+    ensures { (result ≡ cut_length (pred k.first) k.next k.len) × (result ≤ k.len) }
 {
-    if q == n {
-        return n;
-    }
-    larger(p, q)
+    let leaf = leaf_level(k);
+    if k.next == k.len { leaf } else { leaf + 1 }
 }

@@ -1,18 +1,14 @@
 // A key's suffix slot: its hash bits and its real bits, at the width of a slot times the cursor of its leaf's level.
-ghost use Rattle.std.specs.Prelude.{◌≡◌, [], ◌∷◌, ◌+◌, ◌*◌, ◌/◌, ◌%◌, ◌≤◌, ◌<◌, length};
+ghost use Rattle.std.specs.Prelude.{◌≡◌, ◌+◌, ◌*◌, ◌/◌, ◌%◌, ◌≤◌, ◌<◌};
 ghost use Rattle.spec.specs.Bytes.{low_first};
-ghost use Rattle.spec.specs.Leaves.{suffix_bits};
 ghost use Rattle.spec.specs.Image.{positions};
 ghost use Rattle.bits.specs.Bits.{with_number};
-ghost use Rattle.build_laws.specs.BytePass.{byte_state, one_step};
-ghost use Rattle.build_laws.specs.BodyLaws.{slot_at};
-ghost use Rattle.build_laws.specs.SlotWidths.{width_of};
-ghost use Rattle.build_laws.specs.Passes.{with_bits, set_at_cursor, key_bytes, ListedKey, listed_slot, SlotsRoom};
+ghost use Rattle.build_laws.specs.Passes.{with_bits, key_bytes, ListedKey, slots_pass};
 ghost use Rattle.build_laws.specs.Limits.{counter_max};
+ghost use Rattle.build_keys.specs.SlotLaws.{key_suffix};
 
-use super::Counters;
-use super::numbers::{cut_length, leaf_level, one_less};
-use bits::numbers::wide32;
+use super::numbers::{cut_length, leaf_level};
+use super::{Counters, KeyWriter};
 use bits::parts::part;
 use bits::ranks::set_number;
 use build_laws::{Key, SlotBits};
@@ -24,17 +20,6 @@ const NUMBER_LIMIT: usize = 65536;
 
 // How many bits a number below that has at most.
 const NUMBER_BITS: usize = 16;
-
-// The suffix of a key that is an open leaf, as a number, the first bit lowest: hash bits of the whole key, and behind them real bits from its cut on.
-fn suffix_number(s: &[u8], k: Key, cut: usize, slot: SlotBits) -> usize
-    requires { (k.at + k.len ≤ length s.now) × (cut ≤ k.len) × (slot.hash_width ≤ 16) × (slot.real_width ≤ 16) }
-    ensures { result ≡ low_first (suffix_bits slot.hash_width slot.real_width cut (key_bytes s.now k)) }
-{
-    let key = part(s, k.at, k.len);
-    let hash = hash_number(key, slot.hash_width);
-    let real = real_number(key, cut, slot.real_width);
-    hash + (real << slot.hash_width)
-}
 
 // The first bit of a suffix slot, by the width of a slot.
 fn slot_bit(width: usize, v: ValuePos) -> BitPos
@@ -56,27 +41,45 @@ fn set_wide_number(out: &mut [u8], i: usize, v: usize)
     set_number(out, i + NUMBER_BITS, v / NUMBER_LIMIT);
 }
 
-// The suffix of a key that is an open leaf goes to the bits of out from `base`, which are zero.
-fn write_suffix(out: &mut [u8], base: BitPos, s: &[u8], k: Key, cut: usize, slot: SlotBits)
-    requires { (k.at + k.len ≤ length s.now) × (cut ≤ k.len) × (slot.hash_width ≤ 16) × (slot.real_width ≤ 16) × (base.0 ≤ 32 * counter_max) }
-    ensures { out.new ≡ with_bits (positions base.0 (suffix_bits slot.hash_width slot.real_width cut (key_bytes s.now k))) out.old }
-{
-    let v = suffix_number(s, k, cut, slot);
-    set_wide_number(out, base.0, v);
+// Writes the slot of a key's leaf, of so many bits, at the cursor of the leaf's level, which moves on by one. An exact leaf's slot is zero.
+#[derive(Clone, Copy)]
+pub struct SlotWriter {
+    pub slot: SlotBits,
+    pub ghost narrow: { (slot.hash_width ≤ 16) × (slot.real_width ≤ 16) },
 }
 
-// The slot of a key's leaf is written at the cursor of the leaf's level, which moves on by one. An exact leaf's slot is zero.
-pub fn write_slot(out: &mut [u8], cur: &mut Counters, s: &[u8], k: Key, slot: SlotBits)
-    requires { ListedKey s.now k × (slot.hash_width ≤ 16) × (slot.real_width ≤ 16) × SlotsRoom slot (listed_slot slot k (key_bytes s.now k) ∷ []) (length out.old) cur.old }
-    ensures { byte_state out.new cur.new ≡ set_at_cursor one_step (slot_at (width_of slot)) (listed_slot slot k (key_bytes s.now k)) (byte_state out.old cur.old) }
-{
-    let b = one_less(k.first);
-    let d = leaf_level(b, k.next, k.len);
-    let cut = cut_length(b, k.next, k.len);
-    let v = cur[d];
-    cur[d] = v + 1;
-    if k.next != k.len {
-        let base = slot_bit(slot.hash_width + slot.real_width, ValuePos(wide32(v)));
-        write_suffix(out, base, s, k, cut, slot);
+impl SlotWriter {
+    // The suffix of a key that is an open leaf, as a number, the first bit lowest: hash bits of the whole key, and behind them real bits from its cut on.
+    fn suffix_number(&self, s: &[u8], k: Key) -> usize
+        requires { ListedKey s.now k }
+        ensures { result ≡ low_first (key_suffix self.now.slot k (key_bytes s.now k)) }
+    {
+        let cut = cut_length(k);
+        let key = part(s, k.at, k.len);
+        let hash = hash_number(key, self.slot.hash_width);
+        let real = real_number(key, cut, self.slot.real_width);
+        hash + (real << self.slot.hash_width)
+    }
+
+    // The suffix of a key that is an open leaf goes to the bits of out from `base`, which are zero.
+    fn write_suffix(&self, out: &mut [u8], base: BitPos, s: &[u8], k: Key)
+        requires { ListedKey s.now k × (base.0 ≤ 32 * counter_max) }
+        ensures { out.new ≡ with_bits (positions base.0 (key_suffix self.now.slot k (key_bytes s.now k))) out.old }
+    {
+        set_wide_number(out, base.0, self.suffix_number(s, k));
+    }
+}
+
+impl KeyWriter for SlotWriter {
+    ghost pass = { λ w. slots_pass w.slot };
+
+    fn write(&self, out: &mut [u8], cur: &mut Counters, s: &[u8], k: Key) {
+        let d = leaf_level(k);
+        let v = ValuePos(cur[d] as usize);
+        cur[d] += 1;
+        if k.next != k.len {
+            let base = slot_bit(self.slot.hash_width + self.slot.real_width, v);
+            self.write_suffix(out, base, s, k);
+        }
     }
 }

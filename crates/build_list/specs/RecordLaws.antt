@@ -1,12 +1,12 @@
 -- The first record of a key list: which number applies to it, or what its key and the rest are; by the bytes, then by position in the list.
-use Rattle.std.specs.Prelude.{◌≡◌, true, false, ◌&&◌, ◌∷◌, ℕ, suc, ◌+◌, ◌-◌, ◌≤◌, ◌<◌, length, get_or, take, drop, eqb}
+use Rattle.std.specs.Prelude.{◌≡◌, true, false, ◌&&◌, ◌∷◌, ℕ, suc, ◌+◌, ◌-◌, ◌≤◌, ◌<◌, length, get_or, take, drop, eqb, Ok, Err}
 use Rattle.std.proofs.Common.{sym, ap, ap₂, ◌∙◌, arith, length-drop, drop-cons, drop-drop, get_or-drop}
 use borrow.Author.Tests.{lt-ltb, le-ltb, eq-eqb, ne_eqb}
 use Rattle.spec.specs.Bytes.{Bytes}
 use Rattle.spec.specs.Keys.{below, refused, with_key, parse_records}
 use Rattle.bits.specs.Bits.{key}
 use Rattle.build_list.specs.KeyList.{RecordRead}
-use Rattle.build_list.specs.declared.KeyRecord.TheVariants.{Key, Refused as Record-refused}
+use Rattle.image.specs.declared.refusals.Refusal.TheVariants.{ListMalformed, KeyLengthWrong, TooManyKeys}
 
 -- by the bytes: b, and t behind it
 module _ (f done : ℕ) (last : Bytes) (b : ℕ) (t : Bytes) where
@@ -61,12 +61,12 @@ module _ (s : Bytes) (at done : ℕ) (in_List : at < length s) where
   byte j = let e : suc at + j ≡ at + suc j = omega arith in get_or-drop (suc at) s j 0 ∙ ap (λ (k : ℕ). get_or s k 0) e
 
   -- 4, a record follows 65,535 others
-  pub read_many : done ≡ 65535 → RecordRead s at done (Record-refused 4)
+  pub read_many : done ≡ 65535 → RecordRead s at done (Err TooManyKeys)
   read_many h f last = front f last ∙ many f done last (get_or s at 0) (drop (suc at) s) h
 
   module _ (room : done ≡ 65535 → ⊥) where
     -- 1, fewer than three bytes
-    pub read_short : length s - at < 3 → RecordRead s at done (Record-refused 1)
+    pub read_short : length s - at < 3 → RecordRead s at done (Err ListMalformed)
     read_short h f last = front f last ∙ short f done last (get_or s at 0) (drop (suc at) s) room (omega (arith, behind))
 
     module _ (three : 3 ≤ length s - at) where
@@ -74,7 +74,7 @@ module _ (s : Bytes) (at done : ℕ) (in_List : at < length s) where
       two = omega (arith, behind)
 
       -- 1, a wrong mark
-      pub read_unmarked : eqb (get_or s at 0) 75 && eqb (get_or s (at + 1) 0) 89 ≡ false → RecordRead s at done (Record-refused 1)
+      pub read_unmarked : eqb (get_or s at 0) 75 && eqb (get_or s (at + 1) 0) 89 ≡ false → RecordRead s at done (Err ListMalformed)
       read_unmarked h f last = front f last ∙ unmarked f done last (get_or s at 0) (drop (suc at) s) room two (rw (byte 0) h)
 
       module _ (first : get_or s at 0 ≡ 75) (second : get_or s (at + 1) 0 ≡ 89) (n : ℕ) (size : n ≡ get_or s (at + 2) 0) where
@@ -85,7 +85,7 @@ module _ (s : Bytes) (at done : ℕ) (in_List : at < length s) where
         sized = byte 1 ∙ sym size
 
         -- 2, length 0
-        pub read_none : n ≡ 0 → RecordRead s at done (Record-refused 2)
+        pub read_none : n ≡ 0 → RecordRead s at done (Err KeyLengthWrong)
         read_none h f last = front f last ∙ none f done last (get_or s at 0) (drop (suc at) s) room two marked (sized ∙ h)
 
         module _ (some : n ≡ 0 → ⊥) where
@@ -93,7 +93,7 @@ module _ (s : Bytes) (at done : ℕ) (in_List : at < length s) where
           some' e = some (sym sized ∙ e)
 
           -- 2, length over 64
-          pub read_long : 64 < n → RecordRead s at done (Record-refused 2)
+          pub read_long : 64 < n → RecordRead s at done (Err KeyLengthWrong)
           read_long h f last = front f last ∙ long f done last (get_or s at 0) (drop (suc at) s) room two marked some' (omega (arith, sized))
 
           module _ (small : n ≤ 64) where
@@ -101,11 +101,11 @@ module _ (s : Bytes) (at done : ℕ) (in_List : at < length s) where
             small' = omega (arith, sized)
 
             -- 1, key bytes missing
-            pub read_missing : length s - (at + 3) < n → RecordRead s at done (Record-refused 1)
+            pub read_missing : length s - (at + 3) < n → RecordRead s at done (Err ListMalformed)
             read_missing h f last = front f last ∙ missing f done last (get_or s at 0) (drop (suc at) s) room two marked some' small' (omega (arith, behind, sized))
 
             -- a whole record
-            pub read_whole : done ≤ 65535 → n ≤ length s - (at + 3) → RecordRead s at done (Key n)
+            pub read_whole : done ≤ 65535 → n ≤ length s - (at + 3) → RecordRead s at done (Ok n)
             read_whole few h = record { within = omega arith; few = omega arith; low = lower; high = higher }
               where
                 whole : get_or (drop (suc at) s) 1 0 + 2 ≤ length (drop (suc at) s)
@@ -125,3 +125,6 @@ module _ (s : Bytes) (at done : ℕ) (in_List : at < length s) where
                 higher f last q =
                     front f last ∙ above f done last (get_or s at 0) (drop (suc at) s) room two marked some' small' whole (rw key_is q)
                     ∙ ap₂ (λ (k r : Bytes). with_key k (parse_records f (suc done) k r)) key_is rest_is
+
+-- what refuses a record, for the proof of its reading
+pub ruleset records_refused = (read_many, read_short, read_unmarked, read_none, read_long, read_missing)

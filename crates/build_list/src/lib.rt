@@ -7,17 +7,3 @@ pub mod read; // read.rt: the key of a record, what it shares with the next, and
 
 // The bytes before a record's key: its mark and the key's length.
 const BEFORE_KEY: usize = 3;
-
-// A record of a key list: a key of so many bytes, or the number that turns the list down.
-#[derive(Clone, Copy)]
-pub enum KeyRecord {
-    Key(usize),
-    Refused(u32),
-}
-
-// A key list: how many keys it has, or the number that turns it down.
-#[derive(Clone, Copy)]
-pub enum KeyList {
-    Keys(usize),
-    Refused(u32),
-}

@@ -5,7 +5,6 @@ ghost use Rattle.build_laws.specs.KeyRecords.{record_end, AcceptedList, WholeRec
 ghost use Rattle.build_list.specs.LongKeys.{all_long};
 
 use super::BEFORE_KEY;
-use bits::numbers::wide;
 use build_laws::Key;
 use keys::compare::shared_fronts;
 
@@ -17,7 +16,7 @@ fn next_shared(s: &[u8], a: usize, n: usize) -> usize
     let end = a + n;
     if end < s.len() {
         let start = end + BEFORE_KEY;
-        return shared_fronts(&s[a..], n, &s[start..], wide(s[end + 2]));
+        return shared_fronts(&s[a..], n, &s[start..], usize::from(s[end + 2]));
     }
     0
 }
@@ -28,13 +27,12 @@ pub fn read_key(s: &[u8], at: usize, first: usize) -> Key
     ensures { result ≡ key_at s.now at first }
 {
     let a = at + BEFORE_KEY;
-    let n = wide(s[at + 2]);
-    let q = next_shared(s, a, n);
+    let n = usize::from(s[at + 2]);
     Key {
         at: a,
         len: n,
-        first: first,
-        next: q,
+        first,
+        next: next_shared(s, a, n),
     }
 }
 
@@ -45,11 +43,11 @@ pub fn all_long(s: &[u8], n: usize) -> bool
 {
     let mut at = 0usize;
     while at < s.len() {
-        let m = wide(s[at + 2]);
+        let m = usize::from(s[at + 2]);
         if m < n {
             return false;
         }
-        at = at + BEFORE_KEY + m;
+        at += BEFORE_KEY + m;
     }
     true
 }

@@ -9,7 +9,8 @@ use Rattle.build_laws.specs.BytePass.{one_step}
 use Rattle.build_laws.specs.KeyRecords.{key_at, AcceptedList, WholeRecords}
 use Rattle.build_laws.specs.Passes.{ListedKey}
 use Rattle.build_keys.specs.CounterRoom.{CountersRoom, room_within}
-use Rattle.build_keys.specs.CountPass.{starts_of, leaf_level_of, raised, LevelCounts, level_counts, no_counts, list_counts, count_key}
+use Rattle.build_keys.specs.CountPass.{starts_of, leaf_level_of, raised, level_counts, no_counts, list_counts, count_key}
+use Rattle.build_keys.specs.declared.LevelCounts.{LevelCounts}
 use Rattle.build_passes.specs.LevelSums.{Balanced, balanced_none, balanced_key, key_start, root_started, starts_few, Summable, balanced_fits}
 use Rattle.build_passes.specs.ListPass.{Counting, counted_key, count_reads, count_done, count_start}
 use Rattle.build_laws.specs.declared.Key.{Key}

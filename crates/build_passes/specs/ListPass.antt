@@ -29,7 +29,8 @@ use Rattle.build_laws.specs.declared.Body.TheVariants.{Entries, Slots}
 use Rattle.build_laws.specs.KeyRecords.{key_size, key_at, shared_behind, AcceptedList, WholeRecords}
 use Rattle.build_laws.specs.Passes.{key_bytes, ListedKey, key_entries, all_entries, kind_step, kind_ones, capacity, write_entry, write_entries, set_all, write_key, write_keys, KeyRoom, KeysRoom, pass_key, pass_keys, KeyRoomOf, PassRoom}
 use Rattle.build_keys.specs.CounterRoom.{no_ones, CountersRoom}
-use Rattle.build_keys.specs.CountPass.{key_starts, starts_of, leaf_level_of, CounterRoom, LevelCounts, no_counts, list_counts, count_key, counts_same}
+use Rattle.build_keys.specs.CountPass.{key_starts, starts_of, leaf_level_of, CounterRoom, no_counts, list_counts, count_key, counts_same}
+use Rattle.build_keys.specs.declared.LevelCounts.{LevelCounts}
 use Rattle.build_laws.specs.KeyLaws.{behind_none, key_length}
 use Rattle.build_keys.specs.EntryLaws.{write_none, entry_cursors}
 use Rattle.build_laws.specs.Limits.{counters, counter_max}

@@ -1,5 +1,5 @@
 // Entries, nodes and leaves of each level: one pass over the list counts where keys start and where their leaves are, and one over the levels sums.
-ghost use Rattle.std.specs.Prelude.{◌≡◌, ◌+◌, ◌≤◌, ◌<◌, length, get_or, replicate};
+ghost use Rattle.std.specs.Prelude.{◌≡◌, ◌+◌, ◌≤◌, ◌<◌, length, get_or};
 ghost use Rattle.spec.specs.Keys.{keys_of};
 ghost use Rattle.build_laws.specs.LevelEntries.{pred};
 ghost use Rattle.build_laws.specs.PassEmissions.{KeyNumbers};
@@ -9,9 +9,8 @@ ghost use Rattle.build_keys.specs.CountPass.{leaf_level_of, raised, level_counts
 ghost use Rattle.build_passes.specs.LevelSums.{Balanced, Summable, Summed};
 ghost use Rattle.build_laws.specs.Limits.{counters, counter_max};
 
-use bits::numbers::{smaller, wide32};
-use build_keys::Counters;
-use build_keys::numbers::{leaf_level, one_less};
+use build_keys::numbers::{leaf_level, split_level};
+use build_keys::{Counters, LevelCounts};
 use build_laws::Key;
 use build_list::read::read_key;
 use image::MAX_LEVELS;
@@ -21,56 +20,52 @@ fn count_one(cnt: &mut Counters, d: usize)
     requires { (d < counters) × (get_or cnt.old d 0 + 1 ≤ counter_max) }
     ensures { cnt.new ≡ raised cnt.old d }
 {
-    cnt[d] = cnt[d] + 1;
+    cnt[d] += 1;
 }
 
-// The level where a key leaves the key before it, and the level of its leaf are counted.
-fn count_key(starts: &mut Counters, leaves: &mut Counters, k: Key)
+// The level where a key leaves the key before it is counted among the entries, and the level of its leaf among the leaves.
+fn count_key(counts: &mut LevelCounts, k: Key)
     requires key_numbers { KeyNumbers (pred k.first) k.next k.len }
-    requires first_bound { (get_or starts.old (pred k.first) 0 + 1 ≤ counter_max) × (get_or leaves.old (leaf_level_of k) 0 + 1 ≤ counter_max) }
-    ensures { (starts.new ≡ raised starts.old (pred k.first)) × (leaves.new ≡ raised leaves.old (leaf_level_of k)) }
+    requires first_bound { (get_or counts.old.entries (pred k.first) 0 + 1 ≤ counter_max) × (get_or counts.old.leaves (leaf_level_of k) 0 + 1 ≤ counter_max) }
+    ensures { counts.new ≡ level_counts (raised counts.old.entries (pred k.first)) counts.old.nodes (raised counts.old.leaves (leaf_level_of k)) }
 {
-    let b = one_less(k.first);
-    let d = leaf_level(b, k.next, k.len);
-    count_one(starts, b);
-    count_one(leaves, d);
+    count_one(&mut counts.entries, split_level(k));
+    count_one(&mut counts.leaves, leaf_level(k));
 }
 
-// Where the keys of a list start and where their leaves are, counted from zero.
-fn count_keys(starts: &mut Counters, leaves: &mut Counters, s: &[u8])
-    requires { AcceptedList s.now × CountersRoom counter_max (keys_of s.now) × (starts.old ≡ replicate counters 0) × (leaves.old ≡ replicate counters 0) }
-    ensures { (leaves.new ≡ (list_counts (keys_of s.now)).leaves) × Balanced starts.new (list_counts (keys_of s.now)) × Summable starts.new leaves.new }
+// Where the keys of a list start, in `entries`, and where their leaves are, counted from zero.
+fn count_keys(counts: &mut LevelCounts, s: &[u8])
+    requires { AcceptedList s.now × CountersRoom counter_max (keys_of s.now) × (counts.old ≡ no_counts) }
+    ensures { (counts.new.leaves ≡ (list_counts (keys_of s.now)).leaves) × Balanced counts.new.entries (list_counts (keys_of s.now)) × Summable counts.new.entries counts.new.leaves × (length counts.new.nodes ≡ counters) }
 {
     let mut at = 0usize;
     let mut first = 0usize;
     while at < s.len() {
         let k = read_key(s, at, first);
-        count_key(starts, leaves, k);
+        count_key(counts, k);
         first = k.next + 1;
         at = k.at + k.len;
     }
 }
 
 // Each level's entries and nodes from where keys start, which `entries` has, and where their leaves are: an entry that is no leaf has a node below it, and an entry is the first of its node or where a key starts.
-fn sum_levels(entries: &mut Counters, nodes: &mut Counters, leaves: &Counters)
-    requires { Summable entries.old leaves.now × (length nodes.old ≡ counters) }
-    ensures { Summed entries.old leaves.now entries.new nodes.new }
+fn sum_levels(counts: &mut LevelCounts)
+    requires { Summable counts.old.entries counts.old.leaves × (length counts.old.nodes ≡ counters) }
+    ensures { Summed counts.old.entries counts.old.leaves counts.new.entries counts.new.nodes × (counts.new.leaves ≡ counts.old.leaves) }
 {
-    nodes[0] = smaller(1, wide32(entries[0])) as u32;
-    let mut d = 0usize;
-    while d < MAX_LEVELS {
-        let below = entries[d] - leaves[d];
-        d = d + 1;
-        nodes[d] = below;
-        entries[d] = below + entries[d];
+    counts.nodes[0] = counts.entries[0].min(1);
+    for d in 0..MAX_LEVELS {
+        let below = counts.entries[d] - counts.leaves[d];
+        counts.nodes[d + 1] = below;
+        counts.entries[d + 1] += below;
     }
 }
 
 // The entries, nodes and leaves of each level, counted from zero.
-pub fn count_levels(entries: &mut Counters, nodes: &mut Counters, leaves: &mut Counters, s: &[u8])
-    requires { AcceptedList s.now × CountersRoom counter_max (keys_of s.now) × (level_counts entries.old nodes.old leaves.old ≡ no_counts) }
-    ensures { level_counts entries.new nodes.new leaves.new ≡ list_counts (keys_of s.now) }
+pub fn count_levels(counts: &mut LevelCounts, s: &[u8])
+    requires { AcceptedList s.now × CountersRoom counter_max (keys_of s.now) × (counts.old ≡ no_counts) }
+    ensures { counts.new ≡ list_counts (keys_of s.now) }
 {
-    count_keys(entries, leaves, s);
-    sum_levels(entries, nodes, leaves);
+    count_keys(counts, s);
+    sum_levels(counts);
 }

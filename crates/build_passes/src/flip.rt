@@ -18,10 +18,8 @@ pub fn flip(out: &mut [u8], n: usize)
     ensures { out.new ≡ flipped (blocks 8 n) n out.old }
 {
     let whole = n / 8;
-    let mut i = 0usize;
-    while i < whole {
-        out[i] = 255 - out[i];
-        i = i + 1;
+    for i in 0..whole {
+        out[i] = !out[i];
     }
     if 0 < n % 8 {
         flip_last(out, whole, n % 8);

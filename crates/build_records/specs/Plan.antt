@@ -17,7 +17,8 @@ use Rattle.build_laws.specs.Limits.{counters, counter_max}
 use Rattle.build_laws.specs.Cursors.{sums}
 use Rattle.build_laws.specs.KeyRecords.{Records}
 use Rattle.build_laws.specs.KeyBits.{key_leaves, key_bodies}
-use Rattle.build_keys.specs.CountPass.{LevelCounts, list_counts}
+use Rattle.build_keys.specs.CountPass.{list_counts}
+use Rattle.build_keys.specs.declared.LevelCounts.{LevelCounts}
 use Rattle.build_records.specs.BodyChoice.{body_of, counters_of}
 use Rattle.build_records.specs.BodyRoom.{counters_few}
 use Rattle.theory.proofs.ImageBytes.{known_few}

@@ -8,12 +8,10 @@ use Rattle.spec.specs.Frame.{rows_of}
 use Rattle.theory.specs.Terms.{From}
 use Rattle.theory.specs.Demands.{CheckRefusal}
 use Rattle.image.specs.Records.{row_at, stands, record_end, records_end}
-use Rattle.image.specs.FrameOf.{FrameOf}
 use Rattle.image.specs.Refusals.{number_of}
 use Rattle.image.specs.declared.refusals.Refusal.{Refusal}
 use Rattle.check_frame.specs.FrameLaws.{end_level}
-use Rattle.check_tables.specs.Tables.{dense_agrees}
-use Rattle.check_frame.specs.declared.RankedFrame.{RankedFrame}
+use Rattle.check_frame.specs.declared.ranked.RankedFrame.{RankedFrame}
 
 -- record number i at an offset: where it ends, or that it does not stand there
 abbrev pub RecordFound : Bytes → ℕ → ℕ → Option ℕ → Type 0
@@ -44,11 +42,7 @@ pub level_found : (s : Bytes) (e : ℕ) → records_end rows s 22 ≡ spec.some 
 level_found s e h v (Some m) q = ap spec.some q.1 ∙ sym (end_level s e h v true q.0)
 level_found s e h v None q = sym (end_level s e h v false q)
 
--- a frame of the image, and whether the rank tables of its dense nodes are right
-abbrev pub IsRankedFrame : Bytes → RankedFrame → Type 0
-IsRankedFrame s r = FrameOf s r.frame × (r.agrees ≡ dense_agrees s r.frame)
-
--- what reading the frame gives: a frame of the image; or a refusal by 11 or 12, the number with which the check refuses it
+-- what reading the frame gives: the image with a frame of it; or a refusal by 11 or 12, the number with which the check refuses it
 abbrev pub ReadAs : Bytes → Result RankedFrame Refusal → Type 0
-ReadAs s (Ok r) = IsRankedFrame s r
+ReadAs s (Ok r) = r.image.bytes.now ≡ s
 ReadAs s (Err r) = From 11 12 (number_of r) × CheckRefusal s (number_of r)

@@ -11,14 +11,19 @@ ghost use Rattle.image.specs.Header.{settings_of, counts_of, ShortFields};
 ghost use Rattle.image.specs.Records.{records_end, lengths_agree};
 ghost use Rattle.check_frame.specs.FrameLaws.{settings_valid, RecordsStand, LaidOut, frame_at, header_starts, uncounted, DenseInside, Totals};
 ghost use Rattle.check_tables.specs.Tables.{dense_agrees};
-ghost use Rattle.check_frame.specs.Found.{RecordFound, TwelveFound, end_found, IsRankedFrame, ReadAs};
+ghost use Rattle.check_frame.specs.Found.{RecordFound, TwelveFound, end_found, ReadAs};
 
 use bits::numbers::{read32, wide};
 use check_tables::judge::ranks_at;
 use image::header_bytes::{MAX_LEAVES, VERSION_AT, read_header, settings_in_range};
 use image::refusals::Refusal;
 use image::table::{BEFORE_BODY, HEADER, MARK_BYTES, RECORDS, body_size, mark, record_starts};
-use image::{DENSE_BLOCK_WORDS, DenseTotals, Frame, Header, LEVELED_VERSION, ROW_BITS, Settings};
+use image::{
+    DENSE_BLOCK_WORDS, DenseTotals, Frame, FramedImage, Header, LEVELED_VERSION, ROW_BITS, Settings,
+};
+use ranked::RankedFrame;
+
+pub mod ranked; // ranked.rt: an image with its frame, as it is read
 
 // Where record number i ends, if it stands at an offset: its mark, its length, and its body within the image.
 fn record_end(image: &[u8], i: usize, at: usize) -> Option<usize>
@@ -123,13 +128,6 @@ fn count_dense(image: &[u8], f: Frame) -> DenseCounts
     }
 }
 
-// A frame, and whether the rank tables of its dense nodes are right, which is judged later.
-#[derive(Clone, Copy)]
-pub struct RankedFrame {
-    pub frame: Frame,
-    pub agrees: bool,
-}
-
 // The bytes between the twelve records and the body of LV, or none where the version has no LV.
 fn level_gap(version: usize) -> usize
     ensures { result ≡ level_gap version }
@@ -177,23 +175,26 @@ pub fn frame_at(h: Header) -> Frame
     }
 }
 
-// The frame of an image whose records stand where its header says, with the totals of its dense nodes.
-fn laid_out(image: &[u8], h: Header) -> RankedFrame
+// An image whose records stand where its header says, with its frame and in it the totals of its dense nodes.
+fn laid_out<'a>(image: &'a [u8], h: Header) -> RankedFrame<'a>
     requires { LaidOut image.now h }
-    ensures { IsRankedFrame image.now result }
+    ensures { result.image.bytes.now ≡ image.now }
 {
     let mut frame = frame_at(h);
     let counts = count_dense(image, frame);
-    let totals = counts.totals;
-    frame.totals = totals;
-    RankedFrame {
+    frame.totals = counts.totals;
+    let framed = FramedImage {
+        bytes: image,
         frame,
+    };
+    RankedFrame {
+        image: framed,
         agrees: counts.agrees,
     }
 }
 
-// The frame of an image, or 11 where a part of it does not stand there, or 12 where the header or a length is wrong.
-pub fn read_frame(image: &[u8]) -> Result<RankedFrame, Refusal>
+// An image with its frame, or 11 where a part of it does not stand there, or 12 where the header or a length is wrong.
+pub fn read_frame<'a>(image: &'a [u8]) -> Result<RankedFrame<'a>, Refusal>
     ensures { ReadAs image.now result }
 {
     if image.len() < HEADER {

@@ -4,10 +4,10 @@
 
 ghost use Rattle.std.specs.Prelude.{◌≡◌};
 ghost use Rattle.spec.specs.Check.{check};
-ghost use Rattle.check_frame.specs.Found.{IsRankedFrame};
 ghost use Rattle.check_image.specs.Answers.{answer, CheckedAs};
 
-use check_frame::{RankedFrame, read_frame};
+use check_frame::ranked::RankedFrame;
+use check_frame::read_frame;
 use check_slots::judge::slots_valid;
 use check_slots::level_table::starts_valid;
 use check_tables::judge::count_sparse;
@@ -17,30 +17,29 @@ use image::AcceptedImage;
 use image::refusals::Refusal;
 
 // The image with its frame, if none of the numbers 13 to 16 applies, or the refusal. The ranks are compared where the ones are counted, and judged in their turn.
-fn judge<'a>(image: &'a [u8], read: RankedFrame) -> Result<AcceptedImage<'a>, Refusal>
-    requires { IsRankedFrame image.now read }
-    ensures { CheckedAs image.now result }
+fn judge<'a>(read: RankedFrame<'a>) -> Result<AcceptedImage<'a>, Refusal>
+    ensures { CheckedAs read.entry.image.bytes.now result }
 {
-    let f = read.frame;
-    if !spare_clear(image, f) {
+    let image = &read.image;
+    if !spare_clear(image) {
         return Err(Refusal::SpareBitSet);
     }
-    let counts = count_sparse(image, f);
-    if !trie_valid(image, f, counts) {
+    let counts = count_sparse(image);
+    if !trie_valid(image, counts) {
         return Err(Refusal::TrieWrong);
     }
     if !(read.agrees && counts.agrees) {
         return Err(Refusal::TableWrong);
     }
-    if !starts_valid(image, f) {
+    if !starts_valid(image) {
         return Err(Refusal::TableWrong);
     }
-    if !slots_valid(image, f) {
+    if !slots_valid(image) {
         return Err(Refusal::SlotWrong);
     }
     Ok(AcceptedImage {
-        bytes: image,
-        frame: f,
+        bytes: image.bytes,
+        frame: image.frame,
     })
 }
 
@@ -48,7 +47,7 @@ fn judge<'a>(image: &'a [u8], read: RankedFrame) -> Result<AcceptedImage<'a>, Re
 pub fn accept<'a>(image: &'a [u8]) -> Result<AcceptedImage<'a>, Refusal>
     ensures { CheckedAs image.now result }
 {
-    judge(image, read_frame(image)?)
+    judge(read_frame(image)?)
 }
 
 // What check says of an image: accepted, or refused with the first of 11 to 16 that applies.

@@ -1,36 +1,30 @@
 // Number 14's tests of the levels: each level ends where the next one starts, one behind the branches that continue before the end of the last.
-ghost use Rattle.std.specs.Prelude.{◌≡◌, cond, ◌≤◌, ◌<◌};
+ghost use Rattle.std.specs.Prelude.{◌≡◌, ◌≤◌, ◌<◌};
 ghost use Rattle.check_tables.specs.Tables.{sparse_agrees};
 ghost use Rattle.check_levels.specs.Levels.{LoudsValid, LevelOf, node_count, levels_valid};
 
 use super::Level;
 use super::step::level_at;
 use super::tables::level_by_tables;
-use image::{BitPos, Frame, MAX_LEVELS, NodeNum};
-
-// The first of two numbers, or the second.
-fn pick(first: bool, x: usize, y: usize) -> usize
-    ensures { result ≡ cond first x y }
-{
-    if first { x } else { y }
-}
+use image::{BitPos, FramedImage, MAX_LEVELS, NodeNum};
 
 // The level that starts at a node, by the tables of the sparse bodies where these are right, else counted on from a level at or before it.
-pub fn next_level(image: &[u8], f: Frame, agrees: bool, from: Level, node: NodeNum) -> Level
-    requires { LoudsValid image.now f × (agrees ≡ sparse_agrees image.now f) × LevelOf image.now f from × (from.node.0 ≤ node.0) × (node.0 < node_count f) }
-    ensures { LevelOf image.now f result × (result.node.0 ≡ node.0) }
+pub fn next_level(image: &FramedImage, agrees: bool, from: Level, node: NodeNum) -> Level
+    requires { LoudsValid image.now.bytes.now image.now.frame × (agrees ≡ sparse_agrees image.now.bytes.now image.now.frame) × LevelOf image.now.bytes.now image.now.frame from × (from.node.0 ≤ node.0) × (node.0 < node_count image.now.frame) }
+    ensures { LevelOf image.now.bytes.now image.now.frame result × (result.node.0 ≡ node.0) }
 {
-    if agrees & (f.dense.nodes <= node.0) {
-        return level_by_tables(image, f, node);
+    if agrees && image.frame.dense.nodes <= node.0 {
+        return level_by_tables(image, node);
     }
-    level_at(image, f, from, node)
+    level_at(image, from, node)
 }
 
 // Whether the ends of the levels rise to the node count in at most 64 levels, and the dense nodes are those on the dense levels.
-pub fn levels_valid(image: &[u8], f: Frame, agrees: bool) -> bool
-    requires { LoudsValid image.now f × (0 < node_count f) × (agrees ≡ sparse_agrees image.now f) }
-    ensures { result ≡ levels_valid image.now f }
+pub fn levels_valid(image: &FramedImage, agrees: bool) -> bool
+    requires { LoudsValid image.now.bytes.now image.now.frame × (0 < node_count image.now.frame) × (agrees ≡ sparse_agrees image.now.bytes.now image.now.frame) }
+    ensures { result ≡ levels_valid image.now.bytes.now image.now.frame }
 {
+    let f = image.frame;
     let nodes = f.dense.nodes + f.sparse.nodes;
     let mut level = Level {
         node: NodeNum(0),
@@ -44,7 +38,7 @@ pub fn levels_valid(image: &[u8], f: Frame, agrees: bool) -> bool
         if depth == MAX_LEVELS {
             return false;
         }
-        level = next_level(image, f, agrees, level, NodeNum(end));
+        level = next_level(image, agrees, level, NodeNum(end));
         let next = level.branches + 1;
         if next <= end {
             return false;
@@ -52,9 +46,12 @@ pub fn levels_valid(image: &[u8], f: Frame, agrees: bool) -> bool
         if nodes < next {
             return false;
         }
-        above = pick(depth == f.dense.levels, end, above);
+        if depth == f.dense.levels {
+            above = end;
+        }
         end = next;
-        depth = depth + 1;
+        depth += 1;
     }
-    pick(depth <= f.dense.levels, end, above) == f.dense.nodes
+    let last = if depth <= f.dense.levels { end } else { above };
+    last == f.dense.nodes
 }

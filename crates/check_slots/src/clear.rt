@@ -79,13 +79,11 @@ pub fn past_clear(
     if width <= skip {
         return true;
     }
-    let mut v = from.0;
-    while v < to.0 {
+    for v in from.0..to.0 {
         let at = v * width;
         if !few_clear(sv, BitPos(at + skip), BitPos(at + width)) {
             return false;
         }
-        v = v + 1;
     }
     true
 }

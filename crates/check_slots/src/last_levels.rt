@@ -10,19 +10,20 @@ use bits::numbers::bytes_for;
 use bits::parts::part;
 use check_levels::Level;
 use check_levels::tables::level_by_tables;
-use image::{BitPos, Frame, NodeNum, ValuePos};
+use image::{BitPos, Frame, FramedImage, NodeNum, ValuePos};
 
 // The level whose slots may have real bits past the 64th byte behind their first eight; all real bits of the slots on the level below it are past that byte.
 const LEVEL_BEFORE_LAST: usize = 62;
 
 // The level below a sparse level that has a node, by the tables, or the node count where there is none: all entries and all branches that continue stand before it.
-fn level_below(image: &[u8], f: Frame, level: Level) -> Level
-    requires { PassedTo15 image.now f × (0 < f.leaves) × Behind f level (level.branches + 1) × (f.dense.nodes ≤ level.node.0) }
-    ensures { LevelOf image.now f result × (result.node.0 ≡ level.branches + 1) }
+fn level_below(image: &FramedImage, level: Level) -> Level
+    requires { PassedTo15 image.now.bytes.now image.now.frame × (0 < image.now.frame.leaves) × Behind image.now.frame level (level.branches + 1) × (image.now.frame.dense.nodes ≤ level.node.0) }
+    ensures { LevelOf image.now.bytes.now image.now.frame result × (result.node.0 ≡ level.branches + 1) }
 {
+    let f = image.frame;
     let node = NodeNum(level.branches + 1);
     if node.0 < f.dense.nodes + f.sparse.nodes {
-        return level_by_tables(image, f, node);
+        return level_by_tables(image, node);
     }
     Level {
         node,
@@ -32,10 +33,11 @@ fn level_below(image: &[u8], f: Frame, level: Level) -> Level
 }
 
 // A sparse level by its number, found from the first sparse one on.
-fn find_level(image: &[u8], f: Frame, number: usize) -> Level
-    requires { PassedTo15 image.now f × (0 < f.leaves) × (f.dense.levels ≤ number) × (number < 64) }
-    ensures { LevelAt image.now f number result }
+fn find_level(image: &FramedImage, number: usize) -> Level
+    requires { PassedTo15 image.now.bytes.now image.now.frame × (0 < image.now.frame.leaves) × (image.now.frame.dense.levels ≤ number) × (number < 64) }
+    ensures { LevelAt image.now.bytes.now image.now.frame number result }
 {
+    let f = image.frame;
     let nodes = f.dense.nodes + f.sparse.nodes;
     let mut level = Level {
         node: NodeNum(f.dense.nodes),
@@ -47,7 +49,7 @@ fn find_level(image: &[u8], f: Frame, number: usize) -> Level
         if nodes <= level.node.0 {
             return level;
         }
-        level = level_below(image, f, level);
+        level = level_below(image, level);
         depth = depth + 1;
     }
     level
@@ -62,18 +64,19 @@ fn first_slot(f: Frame, level: Level) -> ValuePos
 }
 
 // Whether no real bit is set past a key's 64th byte: the slots on level 62 are clear behind their hash bits and eight real bits, and those on level 63 behind their hash bits.
-pub fn last_levels_clear(image: &[u8], f: Frame) -> bool
-    requires { PassedTo15 image.now f × (0 < f.leaves) }
-    ensures { result ≡ last_levels_clear image.now f }
+pub fn last_levels_clear(image: &FramedImage) -> bool
+    requires { PassedTo15 image.now.bytes.now image.now.frame × (0 < image.now.frame.leaves) }
+    ensures { result ≡ last_levels_clear image.now.bytes.now image.now.frame }
 {
-    let level = find_level(image, f, LEVEL_BEFORE_LAST);
+    let f = image.frame;
+    let level = find_level(image, LEVEL_BEFORE_LAST);
     if f.dense.nodes + f.sparse.nodes <= level.node.0 {
         return true;
     }
-    let below = level_below(image, f, level);
+    let below = level_below(image, level);
     let from = first_slot(f, level);
     let to = first_slot(f, below);
-    let sv = part(image, f.sv, bytes_for(f.leaves * f.width));
+    let sv = part(image.bytes, f.sv, bytes_for(f.leaves * f.width));
     past_clear(sv, f.leaves, f.width, f.hash_width + 8, from, to)
         & past_clear(sv, f.leaves, f.width, f.hash_width, to, ValuePos(f.leaves))
 }

@@ -13,7 +13,7 @@ use bits::numbers::bytes_for;
 use bits::parts::part;
 use bits::ranks::ones_before;
 use check_levels::tables::children_before;
-use image::{BitPos, EXTRA_LABEL, Frame, ValuePos};
+use image::{BitPos, EXTRA_LABEL, FramedImage, ValuePos};
 
 // By what the slot of a sparse entry is found and read: the counts of leaves and of sparse entries, the width of a slot, and the slot of the first sparse leaf.
 #[derive(Clone, Copy)]
@@ -74,45 +74,43 @@ fn starts_clear(
 }
 
 // Whether the entries of a word by its number pass, of which those that may be exact leaves are given.
-fn word_clear(image: &[u8], f: Frame, number: usize, starts: u64) -> bool
-    requires { PassedTo15 image.now f × (0 < f.leaves) × (64 * number < f.sparse.entries) × Candidates (sl_body image.now f) (sb_body image.now f) number starts }
-    ensures { RangeJudged (sparse_test image.now f) (64 * number) (64 * number + 64) f.sparse.entries result }
+fn word_clear(image: &FramedImage, number: usize, starts: u64) -> bool
+    requires { PassedTo15 image.now.bytes.now image.now.frame × (0 < image.now.frame.leaves) × (64 * number < image.now.frame.sparse.entries) × Candidates (sl_body image.now.bytes.now image.now.frame) (sb_body image.now.bytes.now image.now.frame) number starts }
+    ensures { RangeJudged (sparse_test image.now.bytes.now image.now.frame) (64 * number) (64 * number + 64) image.now.frame.sparse.entries result }
 {
+    let f = image.frame;
     let entries = f.sparse.entries;
-    let sl = part(image, f.sl, entries);
-    let sc = part(image, f.sc, bytes_for(entries));
-    let sv = part(image, f.sv, bytes_for(f.leaves * f.width));
+    let sl = part(image.bytes, f.sl, entries);
+    let sc = part(image.bytes, f.sc, bytes_for(entries));
+    let sv = part(image.bytes, f.sv, bytes_for(f.leaves * f.width));
     let z = SparseSlots {
         leaves: f.leaves,
         width: f.width,
         entries,
         first: ValuePos(f.totals.entries - f.totals.children),
     };
-    let children = children_before(image, f, BitPos(64 * number));
+    let children = children_before(image, BitPos(64 * number));
     starts_clear(sl, sc, sv, z, EntryWord { number, children }, starts)
 }
 
 // Whether the slots of the exact leaves among the sparse nodes are clear. Only words where some may be are looked at entry by entry.
-pub fn sparse_clear(image: &[u8], f: Frame) -> bool
-    requires { PassedTo15 image.now f × (0 < f.leaves) }
-    ensures { result ≡ sparse_clear image.now f }
+pub fn sparse_clear(image: &FramedImage) -> bool
+    requires { PassedTo15 image.now.bytes.now image.now.frame × (0 < image.now.frame.leaves) }
+    ensures { result ≡ sparse_clear image.now.bytes.now image.now.frame }
 {
+    let f = image.frame;
     let entries = f.sparse.entries;
-    let sl = part(image, f.sl, entries);
-    let sb = part(image, f.sb, bytes_for(entries));
+    let sl = part(image.bytes, f.sl, entries);
+    let sb = part(image.bytes, f.sb, bytes_for(entries));
     if entries == 0 {
         return true;
     }
     let last = (entries - 1) / 64;
-    let mut number = 0usize;
-    while number < last {
+    for number in 0..last {
         let starts = candidates(sl, sb, number);
-        if starts != 0 {
-            if !word_clear(image, f, number, starts) {
-                return false;
-            }
+        if starts != 0 && !word_clear(image, number, starts) {
+            return false;
         }
-        number = number + 1;
     }
-    word_clear(image, f, last, last_several(sb, last))
+    word_clear(image, last, last_several(sb, last))
 }

@@ -2,13 +2,12 @@
 ghost use Rattle.std.specs.Prelude.{◌≡◌, ◌*◌};
 ghost use Rattle.spec.specs.Bytes.{blocks};
 ghost use Rattle.bits.specs.Bits.{rank, part};
-ghost use Rattle.image.specs.FrameOf.{FrameOf};
 ghost use Rattle.check_tables.specs.Tables.{RanksInside, SamplesInside, SparseCounted, holds_ranks, holds_samples};
 
 use super::SparseCounts;
 use bits::numbers::{blocks_for, bytes_for};
 use bits::parts::part;
-use image::{Frame, SAMPLE_RATE, SPARSE_BLOCK_WORDS};
+use image::{FramedImage, SAMPLE_RATE, SPARSE_BLOCK_WORDS};
 use rank_tables::rank_compare::count_ranks;
 use rank_tables::sample_compare::count_samples;
 use rank_tables::words::Counted;
@@ -35,17 +34,17 @@ fn samples_at(image: &[u8], at: usize, n: usize, table: usize, m: usize) -> Coun
 }
 
 // The ones of SB and SC, and whether RS holds the ranks of SC, and TS the samples of SB.
-pub fn count_sparse(image: &[u8], f: Frame) -> SparseCounts
-    requires { FrameOf image.now f }
-    ensures { SparseCounted image.now f result }
+pub fn count_sparse(image: &FramedImage) -> SparseCounts
+    ensures { SparseCounted image.now.bytes.now image.now.frame result }
 {
+    let f = image.frame;
     let entries = f.sparse.entries;
     let samples = 4 * blocks_for(SAMPLE_RATE, f.sparse.nodes);
-    let children = ranks_at(image, f.sc, entries, f.rs, SPARSE_BLOCK_WORDS);
-    let starts = samples_at(image, f.sb, entries, f.ts, samples);
+    let children = ranks_at(image.bytes, f.sc, entries, f.rs, SPARSE_BLOCK_WORDS);
+    let starts = samples_at(image.bytes, f.sb, entries, f.ts, samples);
     SparseCounts {
         starts: starts.ones,
         children: children.ones,
-        agrees: children.agrees & starts.agrees,
+        agrees: children.agrees && starts.agrees,
     }
 }

@@ -4,10 +4,10 @@ ghost use Rattle.spec.specs.Bytes.{blocks};
 ghost use Rattle.spec.specs.Frame.{parts};
 ghost use Rattle.spec.specs.Check.{no_spare, spare_clear};
 ghost use Rattle.bits.specs.Bits.{part};
-ghost use Rattle.image.specs.FrameOf.{FrameOf, frame_named};
+ghost use Rattle.image.specs.FrameOf.{frame_named};
 
 use bits::numbers::wide;
-use image::Frame;
+use image::FramedImage;
 
 // Whether no bit is set behind the first n of the body at an offset: only its last byte has such bits.
 fn no_spare(image: &[u8], at: usize, n: usize) -> bool
@@ -21,12 +21,12 @@ fn no_spare(image: &[u8], at: usize, n: usize) -> bool
 }
 
 // Whether number 13 does not apply: no spare bit is set in DP, SC, SB and SV.
-pub fn spare_clear(image: &[u8], f: Frame) -> bool
-    requires { FrameOf image.now f }
-    ensures { result ≡ spare_clear (parts image.now (frame_named image.now f)) (frame_named image.now f) }
+pub fn spare_clear(image: &FramedImage) -> bool
+    ensures { result ≡ spare_clear (parts image.now.bytes.now (frame_named image.now.bytes.now image.now.frame)) (frame_named image.now.bytes.now image.now.frame) }
 {
-    no_spare(image, f.dp, f.dense.nodes)
-        & no_spare(image, f.sc, f.sparse.entries)
-        & no_spare(image, f.sb, f.sparse.entries)
-        & no_spare(image, f.sv, f.leaves * f.width)
+    let f = image.frame;
+    no_spare(image.bytes, f.dp, f.dense.nodes)
+        & no_spare(image.bytes, f.sc, f.sparse.entries)
+        & no_spare(image.bytes, f.sb, f.sparse.entries)
+        & no_spare(image.bytes, f.sv, f.leaves * f.width)
 }

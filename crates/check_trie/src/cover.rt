@@ -10,14 +10,12 @@ pub fn covered(xs: &[u8], ys: &[u8], w: usize) -> bool
     requires { (length xs.now ≡ 8 * w) × (8 * w ≤ length ys.now) }
     ensures { result ≡ covered (unpack xs.now) (unpack ys.now) }
 {
-    let mut q = 0usize;
-    while q < w {
+    for q in 0..w {
         let x = read64(xs, q * 8);
         let y = read64(ys, q * 8);
         if x & y != x {
             return false;
         }
-        q = q + 1;
     }
     true
 }

@@ -46,15 +46,13 @@ pub fn dense_valid(dl: &[u8], dc: &[u8], dp: &[u8], n: usize) -> bool
     requires { DenseSized dl.now dc.now dp.now n }
     ensures { result ≡ covered (bits dc.now (256 * n)) (bits dl.now (256 * n)) && dense_nodes_valid true (bits dl.now (256 * n)) (bits dc.now (256 * n)) (bits dp.now n) }
 {
-    let mut i = 0usize;
-    while i < n {
+    for i in 0..n {
         let labels = part(dl, ROW_BYTES * i, ROW_BYTES);
         let children = part(dc, ROW_BYTES * i, ROW_BYTES);
         let exact = bit_at(dp, i) == 1;
         if !node_valid(labels, children, i == 0, exact) {
             return false;
         }
-        i = i + 1;
     }
     true
 }

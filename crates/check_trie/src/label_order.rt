@@ -42,12 +42,10 @@ fn flags_within(flags: &[u8], y: u64) -> bool
 {
     let mut found = 0u64;
     let mut rest = y;
-    let mut k = 0usize;
-    while k < 8 {
+    for k in 0..8 {
         let starts = (rest % 256) * BYTE_UNITS;
-        found = found | (read64(flags, 8 * k) & !starts);
-        rest = rest / 256;
-        k = k + 1;
+        found |= read64(flags, 8 * k) & !starts;
+        rest /= 256;
     }
     found & DIAGONAL == 0
 }

@@ -44,14 +44,12 @@ fn range_valid(sl: &[u8], sc: &[u8], sb: &[u8], from: BitPos, to: BitPos) -> boo
     requires { (from.0 ≤ to.0) × EntryRoom sl.now sc.now sb.now to.0 }
     ensures { result ≡ range_valid sl.now sc.now sb.now from.0 (to.0 - from.0) }
 {
-    let mut j = from.0;
-    while j < to.0 {
+    for j in from.0..to.0 {
         let start = bit_at(sb, j) == 1;
         let begins = bit_at(sb, j + 1) == 1;
         if !entry_valid(sl, sc, BitPos(j), false, start, begins) {
             return false;
         }
-        j = j + 1;
     }
     true
 }
@@ -88,12 +86,10 @@ fn words_valid(sl: &[u8], sc: &[u8], sb: &[u8], from: usize, to: usize) -> bool
     requires { (from ≤ to) × EntryRoom sl.now sc.now sb.now (64 * to) }
     ensures { result ≡ range_valid sl.now sc.now sb.now (64 * from) (64 * (to - from)) }
 {
-    let mut q = from;
-    while q < to {
+    for q in from..to {
         if !word_valid(sl, sc, sb, q) {
             return false;
         }
-        q = q + 1;
     }
     true
 }

@@ -1,5 +1,5 @@
 -- The refusals of the code by their numbers: document 01, "Turning a file down", and the orders that have landed.
-use Rattle.std.specs.Prelude.{ℕ, ◌≤◌}
+use Rattle.std.specs.Prelude.{ℕ, ◌≤◌, Result, Ok, Err}
 use Rattle.std.proofs.Common.{arith}
 use Rattle.image.specs.declared.refusals.Refusal.{Refusal}
 use Rattle.image.specs.declared.refusals.Refusal.TheVariants.{ListMalformed, KeyLengthWrong, KeysUnordered, TooManyKeys, SettingOutOfRange, OutputTooShort, StatedLengthWrong, FrameWrong, HeaderWrong, SpareBitSet, TrieWrong, TableWrong, SlotWrong, PlaceOutOfRange, QuestionMalformed, KeyTooLong, BoundsReversed, TooManyQuestions, ReplyBufferTooShort}
@@ -25,6 +25,11 @@ number_of KeyTooLong = 22
 number_of BoundsReversed = 23
 number_of TooManyQuestions = 24
 number_of ReplyBufferTooShort = 25
+
+-- an answer, in which a refusal is given by its number
+abbrev pub by_number : {A : Type 0} → Result A Refusal → Result A ℕ
+by_number (Ok x) = Ok x
+by_number (Err r) = Err (number_of r)
 
 -- No refusal has number 0, which stands for success.
 pub number_positive : (r : Refusal) → 1 ≤ number_of r

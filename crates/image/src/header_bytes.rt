@@ -8,7 +8,7 @@ ghost use Rattle.image.specs.Header.{asked, settings_of, counts_of, ShortFields,
 
 use super::table::MARK_BYTES;
 use super::{Dense, Header, LEVELED_VERSION, Settings, Sparse};
-use bits::numbers::{read32, wide, write32};
+use bits::numbers::{read32, write32};
 
 // The first version of the format; the other one is LEVELED_VERSION.
 const FIRST_VERSION: usize = 1;
@@ -50,13 +50,14 @@ const SPARSE_ENTRIES_AT: usize = 14;
 const SPARSE_NODES_AT: usize = 18;
 
 // Whether settings are in range: version 1 or 2, and no more dense levels, real bits and hash bits than there may be.
+#[tactic(auto, unfolding(spec::specs::Build::in_range, spec::specs::Image::known_version))]
 pub fn settings_in_range(settings: Settings) -> bool
     ensures { result ≡ in_range (asked settings) }
 {
-    ((settings.version == FIRST_VERSION) | (settings.version == LEVELED_VERSION))
-        & (settings.dense_levels <= MAX_DENSE_LEVELS)
-        & (settings.real_width <= MAX_REAL_BITS)
-        & (settings.hash_width <= MAX_HASH_BITS)
+    (settings.version == FIRST_VERSION || settings.version == LEVELED_VERSION)
+        && settings.dense_levels <= MAX_DENSE_LEVELS
+        && settings.real_width <= MAX_REAL_BITS
+        && settings.hash_width <= MAX_HASH_BITS
 }
 
 // The mark's two bytes go to out from at, and all else stays.
@@ -64,8 +65,7 @@ fn write_mark(out: &mut [u8], at: usize, mark: &[u8; MARK_BYTES])
     requires { at + 2 ≤ length out.old }
     ensures { out.new ≡ overlaid out.old at (mark_bytes mark.now) }
 {
-    out[at] = mark[0];
-    out[at + 1] = mark[1];
+    out[at..at + MARK_BYTES].copy_from_slice(mark);
 }
 
 // A record begins at `at`: its mark and the length of its body, which goes behind them.
@@ -82,11 +82,7 @@ fn write_settings(out: &mut [u8], version: u8, dense: u8, n: u8, h: u8)
     requires { 6 ≤ length out.old }
     ensures { out.new ≡ overlaid out.old 0 (first_bytes version dense n h) }
 {
-    write_mark(out, 0, b"HD");
-    out[VERSION_AT] = version;
-    out[DENSE_LEVELS_AT] = dense;
-    out[REAL_WIDTH_AT] = n;
-    out[HASH_WIDTH_AT] = h;
+    out[..LEAVES_AT].copy_from_slice(&[b'H', b'D', version, dense, n, h]);
 }
 
 // The header.
@@ -113,12 +109,12 @@ pub fn read_header(image: &[u8]) -> Header
     ensures { ReadsHeader image.now result }
 {
     Header {
-        version: wide(image[VERSION_AT]),
-        real_width: wide(image[REAL_WIDTH_AT]),
-        hash_width: wide(image[HASH_WIDTH_AT]),
+        version: usize::from(image[VERSION_AT]),
+        real_width: usize::from(image[REAL_WIDTH_AT]),
+        hash_width: usize::from(image[HASH_WIDTH_AT]),
         leaves: read32(image, LEAVES_AT),
         dense: Dense {
-            levels: wide(image[DENSE_LEVELS_AT]),
+            levels: usize::from(image[DENSE_LEVELS_AT]),
             nodes: read32(image, DENSE_NODES_AT),
         },
         sparse: Sparse {
@@ -133,9 +129,5 @@ pub fn clear(out: &mut [u8], m: usize)
     requires { m ≤ length out.old }
     ensures { out.new ≡ replicate m 0 ++ drop m out.old }
 {
-    let mut i = 0usize;
-    while i < m {
-        out[i] = 0;
-        i = i + 1;
-    }
+    out[..m].fill(0);
 }

@@ -130,6 +130,15 @@ pub struct Frame {
     pub lv: usize,
 }
 
+// An image with its frame: what the tests of the numbers 13 to 16 read.
+#[derive(Clone, Copy)]
+pub struct FramedImage<'a> {
+    pub bytes: &'a [u8],
+    pub frame: Frame,
+    ghost in_range: { (i : ℕ) → slice_index bytes.now i < 256 },
+    ghost framed: { FrameOf bytes.now frame },
+}
+
 // An image that the check has accepted, with its frame: what the questions and the walk read.
 #[derive(Clone, Copy)]
 pub struct AcceptedImage<'a> {

@@ -10,10 +10,7 @@ use fnv::hash;
 pub fn byte_or_zero(key: &[u8], i: usize) -> u8
     ensures { result ≡ get_or key.now i 0 }
 {
-    if i < key.len() {
-        return key[i];
-    }
-    0
+    key.get(i).copied().unwrap_or(0)
 }
 
 // The n bits of a key behind its cut as a number, zeros where the key has ended. The high bit of each byte comes first.

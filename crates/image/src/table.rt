@@ -23,6 +23,7 @@ pub const MARK_BYTES: usize = 2;
 pub const BEFORE_BODY: usize = 6;
 
 // The mark of record i, from 0; behind the twelve, that of LV.
+#[tactic(auto, unfolding(crate::specs::Records::row_at, spec::specs::Image::rows, spec::specs::Image::level_row))]
 pub fn mark(i: usize) -> [u8; MARK_BYTES]
     requires { i < 13 }
     ensures { result ≡ row_mark i }
@@ -53,20 +54,18 @@ fn table_size(w: usize, n: usize) -> usize
 }
 
 // The length of the body of record i of the twelve, from 0, by the header.
+#[tactic(auto, using(crate::specs::Header::slots_short), unfolding(crate::specs::Records::row_at, spec::specs::Image::rows))]
 pub fn body_size(h: Header, i: usize) -> usize
     requires { ShortFields h × (i < 12) }
     ensures { (result ≡ (row_at i).size (settings_of h) (counts_of h)) × (result < 2 ^ 40) }
 {
     match i {
-        0 => ROW_BYTES * h.dense.nodes,
-        1 => ROW_BYTES * h.dense.nodes,
+        0 | 1 => ROW_BYTES * h.dense.nodes,
         2 => bytes_for(h.dense.nodes),
         3 => h.sparse.entries,
-        4 => bytes_for(h.sparse.entries),
-        5 => bytes_for(h.sparse.entries),
+        4 | 5 => bytes_for(h.sparse.entries),
         6 => bytes_for(h.leaves * (h.hash_width + h.real_width)),
-        7 => table_size(DENSE_BLOCK_BITS, ROW_BITS * h.dense.nodes),
-        8 => table_size(DENSE_BLOCK_BITS, ROW_BITS * h.dense.nodes),
+        7 | 8 => table_size(DENSE_BLOCK_BITS, ROW_BITS * h.dense.nodes),
         9 => table_size(DENSE_BLOCK_BITS, h.dense.nodes),
         10 => table_size(SPARSE_BLOCK_BITS, h.sparse.entries),
         _ => table_size(SAMPLE_RATE, h.sparse.nodes),
@@ -80,11 +79,9 @@ pub fn record_starts(h: Header) -> [usize; STARTS]
 {
     let mut at = HEADER;
     let mut out = [0usize; STARTS];
-    let mut i = 0usize;
-    while i < RECORDS {
+    for i in 0..RECORDS {
         out[i] = at;
-        at = at + BEFORE_BODY + body_size(h, i);
-        i = i + 1;
+        at += BEFORE_BODY + body_size(h, i);
     }
     out[RECORDS] = at;
     out

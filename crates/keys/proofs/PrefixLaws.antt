@@ -180,17 +180,6 @@ module _ (p q : Bytes) (f : Small p) (g : Small q) (i k x y : ℕ) (e : take i p
       shared_differ p q (i + k) (omega arith) (omega arith) (word_shared (omega arith) (omega arith) (omega arith)) (omega arith) (omega arith)
       (byte_differs p q f g i k l agrees (λ z. h (ap (λ (n : ℕ). n % 2 ^ (8 + 8 * k)) ex ∙ z ∙ ap (λ (n : ℕ). n % 2 ^ (8 + 8 * k)) (sym ey))))
 
--- The shorter key has n bytes; all before the word that ends with its last byte are shared.
-pub last_word : (p q : Bytes) → Small p → Small q → (n : ℕ) → 8 ≤ n → n ≡ min (length p) (length q) → take (n - 8) p ≡ take (n - 8) q → (k : ℕ) {x y : ℕ} → x ≡ word p (n - 8) → y ≡ word q (n - 8)
-    → k ≤ 8 → x % 2 ^ (8 * k) ≡ y % 2 ^ (8 * k) → (k < 8 → x % 2 ^ (8 + 8 * k) ≡ y % 2 ^ (8 + 8 * k) → ⊥) → shared p q ≡ n - 8 + k
-last_word p q f g n a m e k {x} {y} ex ey l d h = go (ltb k 8) refl
-  where
-    go : (b : Bool) → ltb k 8 ≡ b → shared p q ≡ n - 8 + k
-    go true r = let s = ltb-true k 8 r in word_differs p q f g (n - 8) k x y e ex ey d (omega arith) (omega arith) s (h s)
-    go false r =
-        let s = ltb-false k 8 r in
-        shared_end p q (n - 8 + k) (omega arith) (omega arith) (word_shared p q f g (n - 8) k x y e ex ey d l (omega arith) (omega arith)) (omega arith)
-
 -- ---- the words of a window
 
 -- fewer of bytes that are the same are the same
@@ -224,13 +213,13 @@ word_equal p q f g i k {x} {y} a b ex ey l d h = go (ltb k 8) refl
               (word_shared u v (small_drop i p f) (small_drop i q g) 0 k x y refl ex ey d l (omega (arith, length-drop i p)) (omega (arith, length-drop i q))),
         )
 
--- where all eight bytes from i on are shared, what is shared from there on goes on behind them
+-- behind bytes that are shared, what is shared goes on
+pub shared_from : (i : ℕ) (p q : Bytes) → i ≤ shared p q → shared p q ≡ i + shared (drop i p) (drop i q)
+shared_from i p q h = let s = shared_same p q in shared_add i p q (omega (arith, s.1, h)) (omega (arith, s.2, h)) (take_fewer i (shared p q) p q h s.0)
+
+-- the same from i on, where all eight bytes from there on are shared
 pub shared_on : (p q : Bytes) (i : ℕ) → 8 ≤ shared (drop i p) (drop i q) → shared (drop i p) (drop i q) ≡ 8 + shared (drop (i + 8) p) (drop (i + 8) q)
-shared_on p q i h =
-    let u : Bytes = drop i p in
-    let v : Bytes = drop i q in
-    let s = shared_same u v in
-    shared_add 8 u v (omega (arith, s.1, h)) (omega (arith, s.2, h)) (take_fewer 8 (shared u v) u v h s.0) ∙ ap₂ (λ (r t : Bytes). 8 + shared r t) (drop-drop 8 i p) (drop-drop 8 i q)
+shared_on p q i h = shared_from 8 (drop i p) (drop i q) h ∙ ap₂ (λ (r t : Bytes). 8 + shared r t) (drop-drop 8 i p) (drop-drop 8 i q)
 
 -- what the fronts of two byte strings share
 pub fronts_shared : (n m : ℕ) (p q : Bytes) → shared (take n p) (take m q) ≡ min (shared p q) (min n m)

@@ -3,7 +3,7 @@ ghost use Rattle.std.specs.Prelude.{◌≡◌, min, ◌+◌, ◌*◌, ◌-◌, �
 ghost use Rattle.spec.specs.Bytes.{shared};
 ghost use Rattle.keys.specs.Order.{order};
 
-use bits::numbers::{read64, smaller};
+use bits::numbers::read64;
 use std::cmp::Ordering;
 
 // The bytes that are compared by words without a loop.
@@ -13,16 +13,24 @@ const WINDOW: usize = 40;
 fn equal_bytes(x: u64, y: u64) -> usize
     ensures { (result ≤ 8) × (x % 2 ^ (8 * result) ≡ y % 2 ^ (8 * result)) × (result < 8 → x % 2 ^ (8 + 8 * result) ≡ y % 2 ^ (8 + 8 * result) → ⊥) }
 {
-    (u64::trailing_zeros(x ^ y) / 8) as usize
+    ((x ^ y).trailing_zeros() / 8) as usize
+}
+
+// How many bytes, up to eight, two byte strings have in common from offset i on.
+fn equal_word(p: &[u8], q: &[u8], i: usize) -> usize
+    requires { (i + 8 ≤ length p.now) × (i + 8 ≤ length q.now) }
+    ensures { result ≡ min (shared (drop i p.now) (drop i q.now)) 8 }
+{
+    equal_bytes(read64(p, i), read64(q, i))
 }
 
 // The length of the longest prefix that two keys share, of which the shorter has n bytes, by the word that ends with its last byte. All bytes before that word are known to be shared.
 fn shared_end(p: &[u8], q: &[u8], n: usize) -> usize
-    requires { (8 ≤ n) × (n ≡ min (length p.now) (length q.now)) × (take (n - 8) p.now ≡ take (n - 8) q.now) }
+    requires { (8 ≤ n) × (n ≡ min (length p.now) (length q.now)) × (n - 8 ≤ shared p.now q.now) }
     ensures { result ≡ shared p.now q.now }
 {
     let i = n - 8;
-    i + equal_bytes(read64(p, i), read64(q, i))
+    i + equal_word(p, q, i)
 }
 
 // The length of the longest prefix that two keys share, of which the shorter has n bytes, by words up to the first that differs. The last word may begin among bytes that are known to be shared.
@@ -32,8 +40,8 @@ fn shared_words(p: &[u8], q: &[u8], n: usize) -> usize
 {
     let mut i = 0usize;
     while 8 <= n - i {
-        let k = equal_bytes(read64(p, i), read64(q, i));
-        i = i + k;
+        let k = equal_word(p, q, i);
+        i += k;
         if k < 8 {
             return i;
         }
@@ -46,33 +54,23 @@ fn shared_bytes(p: &[u8], q: &[u8], n: usize) -> usize
     requires { n ≡ min (length p.now) (length q.now) }
     ensures { result ≡ shared p.now q.now }
 {
-    let mut i = 0usize;
-    while i < n {
+    for i in 0..n {
         if p[i] != q[i] {
             return i;
         }
-        i = i + 1;
     }
-    i
+    n
 }
 
 // The length of the longest prefix that two keys share: by words where both have one, else by bytes.
 pub fn shared(p: &[u8], q: &[u8]) -> usize
     ensures { result ≡ shared p.now q.now }
 {
-    let n = smaller(p.len(), q.len());
+    let n = p.len().min(q.len());
     if n < 8 {
         return shared_bytes(p, q, n);
     }
     shared_words(p, q, n)
-}
-
-// How many bytes, up to eight, two byte strings have in common from offset i on.
-fn equal_word(p: &[u8], q: &[u8], i: usize) -> usize
-    requires { (i + 8 ≤ length p.now) × (i + 8 ≤ length q.now) }
-    ensures { result ≡ min (shared (drop i p.now) (drop i q.now)) 8 }
-{
-    equal_bytes(read64(p, i), read64(q, i))
 }
 
 // How many bytes a word and the words behind it have in common with others: `rest`, those behind it, count where all eight of the word are equal. No branch is taken, as none could be foretold.
@@ -102,7 +100,7 @@ fn shared_behind_word(p: &[u8], n: usize, q: &[u8], m: usize) -> usize
     ensures { result ≡ shared (take n p.now) (take m q.now) }
 {
     if WINDOW <= q.len() {
-        let i = smaller(equal_window(p, q), smaller(n, m));
+        let i = equal_window(p, q).min(n.min(m));
         if i < WINDOW {
             return i;
         }
@@ -120,23 +118,23 @@ pub fn shared_fronts(p: &[u8], n: usize, q: &[u8], m: usize) -> usize
     }
     let first = equal_word(p, q, 0);
     if first < 8 {
-        return smaller(first, smaller(n, m));
+        return first.min(n.min(m));
     }
     shared_behind_word(p, n, q, m)
 }
 
-// The order by unsigned bytes of two keys, the first n bytes of p and the first m bytes of q, a proper prefix first: the byte behind the i bytes that they share decides.
-fn order_behind(p: &[u8], n: usize, q: &[u8], m: usize, i: usize) -> Ordering
-    requires { (n ≤ length p.now) × (m ≤ length q.now) × (i ≡ shared (take n p.now) (take m q.now)) }
-    ensures { result ≡ order (take n p.now) (take m q.now) }
+// The order by unsigned bytes of two keys, a proper prefix first: the byte behind the i bytes that they share decides.
+fn order_behind(p: &[u8], q: &[u8], i: usize) -> Ordering
+    requires { i ≡ shared p.now q.now }
+    ensures { result ≡ order p.now q.now }
 {
-    if m <= i {
-        if n <= i {
+    if q.len() <= i {
+        if p.len() <= i {
             return Ordering::Equal;
         }
         return Ordering::Greater;
     }
-    if n <= i {
+    if p.len() <= i {
         return Ordering::Less;
     }
     if p[i] < q[i] {
@@ -151,13 +149,12 @@ pub fn compare_fronts(p: &[u8], n: usize, q: &[u8], m: usize) -> Ordering
     ensures { result ≡ order (take n p.now) (take m q.now) }
 {
     let i = shared_fronts(p, n, q, m);
-    order_behind(p, n, q, m, i)
+    order_behind(&p[..n], &q[..m], i)
 }
 
 // The order of two keys.
 pub fn compare(p: &[u8], q: &[u8]) -> Ordering
     ensures { result ≡ order p.now q.now }
 {
-    let i = shared(p, q);
-    order_behind(p, p.len(), q, q.len(), i)
+    order_behind(p, q, shared(p, q))
 }

@@ -8,8 +8,8 @@ use Rattle.nav_branches.specs.declared.Path.{Path}
 use Rattle.nav_nodes.specs.Accepted.{Accepted, nodes}
 use Rattle.nav_branches.specs.Paths.{node_on, onward, standing, OnLevels}
 use Rattle.nav_branches.specs.PathSteps.{HasBranch, Ends}
-use Rattle.nav_branches.specs.declared.path_higher.Higher.{Higher}
-use Rattle.nav_branches.specs.declared.path_leaf.PathEnd.{PathEnd}
+use Rattle.nav_branches.specs.declared.paths.Higher.{Higher}
+use Rattle.nav_branches.specs.declared.paths.PathEnd.{PathEnd}
 
 -- A path that has its root only, with room for 64 nodes and labels.
 pub record RootOnly (p : Path) : Type 0 where

@@ -5,7 +5,6 @@ ghost use Rattle.nav_nodes.specs.NextBranch.{IsNextBranch, EntryRead, EntryBranc
 ghost use Rattle.nav_nodes.specs.FoundBranch.{IsNode, IsSparse, FoundBranch};
 ghost use Rattle.nav_nodes.specs.Positions.{branches, branch_index};
 
-use bits::numbers::wide;
 use bits::ranks::bit_at;
 use bits_select::select::next_one;
 use image::{AcceptedImage, BitPos, NodeNum, ROW_BITS};
@@ -21,7 +20,7 @@ fn search(labels: &[u8], from: usize, to: usize, y: usize) -> usize
     let mut hi = to;
     while lo < hi {
         let mid = lo + (hi - lo) / 2;
-        if wide(labels[mid]) < y {
+        if usize::from(labels[mid]) < y {
             lo = mid + 1;
         } else {
             hi = mid;
@@ -35,9 +34,10 @@ pub fn kind_there(continues: usize) -> BranchKind
     ensures { result ≡ kind_there (eqb continues 1) }
 {
     if continues == 1 {
-        return BranchKind::Child;
+        BranchKind::Child
+    } else {
+        BranchKind::Leaf
     }
-    BranchKind::Leaf
 }
 
 // The branch of a sparse node at an entry.
@@ -45,12 +45,9 @@ pub fn branch_at(image: &AcceptedImage, at: BitPos) -> NextBranch
     requires { at.0 < image.now.frame.sparse.entries }
     ensures { EntryRead image.now.bytes.now image.now.frame at.0 result }
 {
-    let i = image.frame.sl + at.0;
-    let label = wide(image.bytes[i]);
-    let continues = bit_at(&image.bytes[image.frame.sc..], at.0);
     NextBranch {
-        kind: kind_there(continues),
-        label,
+        kind: kind_there(bit_at(&image.bytes[image.frame.sc..], at.0)),
+        label: usize::from(image.bytes[image.frame.sl + at.0]),
         at,
     }
 }
@@ -74,11 +71,7 @@ pub fn entry_branch(image: &AcceptedImage, at: BitPos, end: BitPos) -> NextBranc
 pub fn is_there(kind: BranchKind) -> bool
     ensures { result ≡ is_there kind }
 {
-    match kind {
-        BranchKind::Absent => false,
-        BranchKind::Leaf => true,
-        BranchKind::Child => true,
-    }
+    !matches!(kind, BranchKind::Absent)
 }
 
 // What a dense node has at the label y.
@@ -88,20 +81,16 @@ fn find_dense(image: &AcceptedImage, m: NodeNum, y: usize) -> Found
 {
     let first = ROW_BITS * m.0;
     let at = first + y;
-    let end = first + ROW_BITS;
     let label = bit_at(&image.bytes[image.frame.dl..], at);
     let continues = bit_at(&image.bytes[image.frame.dc..], at);
-    if label == 0 {
-        return Found {
-            kind: BranchKind::Absent,
-            at: BitPos(at),
-            end: BitPos(end),
-        };
-    }
     Found {
-        kind: kind_there(continues),
+        kind: if label == 0 {
+            BranchKind::Absent
+        } else {
+            kind_there(continues)
+        },
         at: BitPos(at),
-        end: BitPos(end),
+        end: BitPos(first + ROW_BITS),
     }
 }
 
@@ -111,29 +100,16 @@ fn find_sparse(image: &AcceptedImage, m: NodeNum, y: usize) -> Found
     ensures { FoundBranch image.now.bytes.now image.now.frame m.0 y result }
 {
     let e = entries_of(image, m);
-    let first = e.first;
-    let end = e.end;
-    let p = search(&image.bytes[image.frame.sl..], first.0, end.0, y);
-    if p >= end.0 {
-        return Found {
-            kind: BranchKind::Absent,
-            at: BitPos(p),
-            end,
-        };
-    }
-    let i = image.frame.sl + p;
-    if wide(image.bytes[i]) != y {
-        return Found {
-            kind: BranchKind::Absent,
-            at: BitPos(p),
-            end,
-        };
-    }
-    let continues = bit_at(&image.bytes[image.frame.sc..], p);
+    let p = search(&image.bytes[image.frame.sl..], e.first.0, e.end.0, y);
+    let kind = if p < e.end.0 && usize::from(image.bytes[image.frame.sl + p]) == y {
+        kind_there(bit_at(&image.bytes[image.frame.sc..], p))
+    } else {
+        BranchKind::Absent
+    };
     Found {
-        kind: kind_there(continues),
+        kind,
         at: BitPos(p),
-        end,
+        end: e.end,
     }
 }
 
@@ -178,10 +154,8 @@ fn next_sparse(image: &AcceptedImage, m: NodeNum, y: usize) -> NextBranch
     ensures { IsNextBranch image.now.bytes.now image.now.frame m.0 y result.kind result.label result.at.0 }
 {
     let e = entries_of(image, m);
-    let first = e.first;
-    let end = e.end;
-    let p = search(&image.bytes[image.frame.sl..], first.0, end.0, y);
-    entry_branch(image, BitPos(p), end)
+    let p = search(&image.bytes[image.frame.sl..], e.first.0, e.end.0, y);
+    entry_branch(image, BitPos(p), e.end)
 }
 
 // The first branch of a node whose label is not below y.
@@ -201,15 +175,7 @@ pub fn has_higher(image: &AcceptedImage, m: NodeNum, y: usize, b: Found) -> bool
     ensures { result ≡ is_there (first_kind (drop (branch_index image.now.bytes.now image.now.frame m.0 (y + 1)) (branches image.now.bytes.now image.now.frame m.0))) }
 {
     if m.0 < image.frame.dense.nodes {
-        let n = next_dense(image, m, y + 1);
-        let higher = n.kind;
-        return is_there(higher);
+        return is_there(next_dense(image, m, y + 1).kind);
     }
-    let kind = b.kind;
-    let at = b.at;
-    let end = b.end;
-    if is_there(kind) {
-        return at.0 + 1 < end.0;
-    }
-    at.0 < end.0
+    b.at.0 + usize::from(is_there(b.kind)) < b.end.0
 }

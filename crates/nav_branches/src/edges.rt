@@ -5,7 +5,6 @@ ghost use Rattle.nav_nodes.specs.NextBranch.{IsNextBranch};
 ghost use Rattle.nav_branches.specs.EdgeContracts.{IsLastBranch};
 
 use super::branches::{entry_branch, find, has_higher, is_there, kind_there, next_branch};
-use bits::numbers::{one_if, wide};
 use bits::ranks::bit_at;
 use image::{AcceptedImage, BitPos, NodeNum};
 use nav_nodes::nodes::entries_of;
@@ -19,11 +18,8 @@ pub fn next_higher(image: &AcceptedImage, m: NodeNum, y: usize, b: Found) -> Nex
     if m.0 < image.frame.dense.nodes {
         return next_branch(image, m, y + 1);
     }
-    let kind = b.kind;
-    let at = b.at;
-    let end = b.end;
-    let p = at.0 + one_if(is_there(kind));
-    entry_branch(image, BitPos(p), end)
+    let p = b.at.0 + usize::from(is_there(b.kind));
+    entry_branch(image, BitPos(p), b.end)
 }
 
 // Whether a node has a label above y, and, if it has none, the branch at y.
@@ -40,30 +36,25 @@ fn last_sparse(image: &AcceptedImage, m: NodeNum, y: usize) -> LastBranch
     ensures { IsLastBranch image.now.bytes.now image.now.frame m.0 y result }
 {
     let e = entries_of(image, m);
-    let first = e.first;
-    let end = e.end;
-    let kind = BranchKind::Absent;
-    if first.0 >= end.0 {
+    if e.first.0 >= e.end.0 {
         return LastBranch {
             higher: false,
-            kind,
-            at: end,
+            kind: BranchKind::Absent,
+            at: e.end,
         };
     }
-    let p = end.0 - 1;
-    let i = image.frame.sl + p;
-    let last = wide(image.bytes[i]);
+    let p = e.end.0 - 1;
+    let last = usize::from(image.bytes[image.frame.sl + p]);
     if last != y {
         return LastBranch {
             higher: y < last,
-            kind,
-            at: end,
+            kind: BranchKind::Absent,
+            at: e.end,
         };
     }
-    let continues = bit_at(&image.bytes[image.frame.sc..], p);
     LastBranch {
         higher: false,
-        kind: kind_there(continues),
+        kind: kind_there(bit_at(&image.bytes[image.frame.sc..], p)),
         at: BitPos(p),
     }
 }
@@ -75,12 +66,10 @@ pub fn last_branch(image: &AcceptedImage, m: NodeNum, y: usize) -> LastBranch
 {
     if m.0 < image.frame.dense.nodes {
         let b = find(image, m, y);
-        let kind = b.kind;
-        let at = b.at;
         return LastBranch {
             higher: has_higher(image, m, y, b),
-            kind,
-            at,
+            kind: b.kind,
+            at: b.at,
         };
     }
     last_sparse(image, m, y)

@@ -12,9 +12,10 @@ fn first_sparse(image: &AcceptedImage, m: NodeNum) -> FirstBranch
     ensures { IsFirstBranch image.now.bytes.now image.now.frame m.0 result }
 {
     let e = entries_of(image, m);
-    let exact = e.exact;
-    let branch = entry_branch(image, e.first, e.end);
-    FirstBranch { exact, branch }
+    FirstBranch {
+        exact: e.exact,
+        branch: entry_branch(image, e.first, e.end),
+    }
 }
 
 // The first branch of a node.
@@ -23,9 +24,10 @@ pub fn first_branch(image: &AcceptedImage, m: NodeNum) -> FirstBranch
     ensures { IsFirstBranch image.now.bytes.now image.now.frame m.0 result }
 {
     if m.0 < image.frame.dense.nodes {
-        let branch = next_branch(image, m, 0);
-        let exact = is_exact(image, m);
-        return FirstBranch { exact, branch };
+        return FirstBranch {
+            exact: is_exact(image, m),
+            branch: next_branch(image, m, 0),
+        };
     }
     first_sparse(image, m)
 }

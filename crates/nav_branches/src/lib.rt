@@ -7,9 +7,7 @@ use image::{MAX_LEVELS, NodeNum, ValuePos};
 pub mod branches; // branches.rt: branches by their label, and those of a sparse node by their entry
 pub mod first; // first.rt: the first branch of a node
 pub mod edges; // edges.rt: the branch behind one that is known, and the last, with no search of labels
-pub mod paths; // paths.rt: the path that has its root only
-pub mod path_higher; // path_higher.rt: the next higher branch of a path
-pub mod path_leaf; // path_leaf.rt: a path that ends at a leaf
+pub mod paths; // paths.rt: the path that has its root only, the next higher branch of a path, and a path that ends at a leaf
 
 // The leaf where a way from the root ends: none, the exact leaf that the last node is, or the open leaf with a slot.
 #[derive(Clone, Copy)]

@@ -1,1 +1,2 @@
+pub mod BehindLaws
 pub mod NextBranchLaws

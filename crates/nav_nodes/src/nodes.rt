@@ -6,9 +6,7 @@ ghost use Rattle.nav_nodes.specs.Descent.{children_before};
 ghost use Rattle.nav_nodes.specs.Accepted.{nodes};
 ghost use Rattle.nav_nodes.specs.FoundBranch.{node_count, IsNode, IsSparse, IsCountsBefore, EntriesAt};
 
-use super::ranks::{
-    child_rank, entry_rank, exact_rank, label_rank, next_start, node_start, select_at,
-};
+use super::ranks::{child_rank, entry_rank, exact_rank, label_rank, next_start, node_start};
 use bits::ranks::bit_at;
 use image::{AcceptedImage, BitPos, EXTRA_LABEL, NodeNum, ROW_BITS};
 
@@ -29,7 +27,7 @@ fn dense_before(image: &AcceptedImage, m: NodeNum) -> CountsBefore
     let children = child_rank(image, at);
     let exacts = exact_rank(image, m);
     CountsBefore {
-        children: children,
+        children,
         leaves: labels - children + exacts,
     }
 }
@@ -39,19 +37,11 @@ fn sparse_before(image: &AcceptedImage, m: NodeNum) -> CountsBefore
     requires { (image.now.frame.dense.nodes ≤ m.0) × (m.0 ≤ node_count image.now.frame) }
     ensures { IsCountsBefore image.now.bytes.now image.now.frame m.0 result.children result.leaves }
 {
-    let first = m.0 - image.frame.dense.nodes;
-    let start = select_at(
-        image.bytes,
-        image.frame.sb,
-        image.frame.ts,
-        image.frame.sparse.entries,
-        image.frame.sparse.nodes,
-        first,
-    );
-    let children = entry_rank(image, BitPos(start));
+    let start = node_start(image, m);
+    let children = entry_rank(image, start);
     CountsBefore {
         children: image.frame.totals.children + children,
-        leaves: image.frame.totals.entries - image.frame.totals.children + (start - children),
+        leaves: image.frame.totals.entries - image.frame.totals.children + (start.0 - children),
     }
 }
 
@@ -95,27 +85,11 @@ pub fn entries_of(image: &AcceptedImage, m: NodeNum) -> Entries
 {
     let start = node_start(image, m);
     let end = next_start(image, start);
-    let a = start.0;
-    let e = end.0;
-    let i = image.frame.sl + a;
-    if e < a + 2 {
-        return Entries {
-            exact: false,
-            first: BitPos(a),
-            end: BitPos(e),
-        };
-    }
-    if image.bytes[i] != EXTRA_LABEL {
-        return Entries {
-            exact: false,
-            first: BitPos(a),
-            end: BitPos(e),
-        };
-    }
+    let exact = start.0 + 2 <= end.0 && image.bytes[image.frame.sl + start.0] == EXTRA_LABEL;
     Entries {
-        exact: true,
-        first: BitPos(a + 1),
-        end: BitPos(e),
+        exact,
+        first: BitPos(start.0 + usize::from(exact)),
+        end,
     }
 }
 
@@ -127,6 +101,5 @@ pub fn is_exact(image: &AcceptedImage, m: NodeNum) -> bool
     if m.0 < image.frame.dense.nodes {
         return bit_at(&image.bytes[image.frame.dp..], m.0) == 1;
     }
-    let e = entries_of(image, m);
-    e.exact
+    entries_of(image, m).exact
 }

@@ -4,15 +4,15 @@ ghost use Rattle.bits.specs.Bits.{rank, select};
 ghost use Rattle.rank_tables.specs.Reading.{RankTable, SampleTable};
 
 use bits_select::select::next_one;
-use image::{AcceptedImage, BitPos, NodeNum, ROW_BITS};
-use rank_tables::read::{rank_64, rank_512, select_64};
+use image::{AcceptedImage, BitPos, DENSE_BLOCK_WORDS, NodeNum, ROW_BITS, SPARSE_BLOCK_WORDS};
+use rank_tables::read::{rank_by_table, select_64};
 
 // The ones before bit k of the n bits of the body at an offset, by the table of those before each block of 64 at another.
 fn rank_at(image: &[u8], body: usize, table: usize, n: usize, k: usize) -> usize
     requires { (body ≤ length image.now) × (table ≤ length image.now) × RankTable 64 n (drop body image.now) (drop table image.now) × (k ≤ n) }
     ensures { result ≡ rank (drop body image.now) k }
 {
-    rank_64(&image[body..], &image[table..], n, k)
+    rank_by_table::<DENSE_BLOCK_WORDS>(&image[body..], &image[table..], n, k)
 }
 
 // The labels before a bit of DL.
@@ -62,7 +62,7 @@ pub fn entry_rank(image: &AcceptedImage, at: BitPos) -> usize
     requires { at.0 ≤ image.now.frame.sparse.entries }
     ensures { result ≡ rank (drop image.now.frame.sc image.now.bytes.now) at.0 }
 {
-    rank_512(
+    rank_by_table::<SPARSE_BLOCK_WORDS>(
         &image.bytes[image.frame.sc..],
         &image.bytes[image.frame.rs..],
         image.frame.sparse.entries,
@@ -70,30 +70,14 @@ pub fn entry_rank(image: &AcceptedImage, at: BitPos) -> usize
     )
 }
 
-// The position of one number m, from 0, of the n bits of the body at an offset, by the samples at another, or n where there is no such one. It takes plain numbers and has two callers, so that the compiler keeps it apart from them and copies no frame for it.
-pub fn select_at(
-    image: &[u8],
-    body: usize,
-    samples: usize,
-    n: usize,
-    total: usize,
-    m: usize,
-) -> usize
-    requires { (body ≤ length image.now) × (samples ≤ length image.now) × SampleTable n total (drop body image.now) (drop samples image.now) }
-    ensures { (result ≡ select (drop body image.now) n m) × (result ≤ n) }
-{
-    select_64(&image[body..], &image[samples..], n, total, m)
-}
-
 // Where sparse node m starts, or the end of the entries where there is no such one.
 pub fn node_start(image: &AcceptedImage, m: NodeNum) -> BitPos
     requires { image.now.frame.dense.nodes ≤ m.0 }
     ensures { (result.0 ≡ select (drop image.now.frame.sb image.now.bytes.now) image.now.frame.sparse.entries (m.0 - image.now.frame.dense.nodes)) × (result.0 ≤ image.now.frame.sparse.entries) }
 {
-    BitPos(select_at(
-        image.bytes,
-        image.frame.sb,
-        image.frame.ts,
+    BitPos(select_64(
+        &image.bytes[image.frame.sb..],
+        &image.bytes[image.frame.ts..],
         image.frame.sparse.entries,
         image.frame.sparse.nodes,
         m.0 - image.frame.dense.nodes,

@@ -47,7 +47,7 @@ pub fn count(image: &AcceptedImage, lo: &[u8], hi: &[u8]) -> usize
             };
             count_apart(image, lo, hi, fork)
         }
-        KeyEnd::Leaf(node, at, depth) => {
+        KeyEnd::Leaf { node, at, depth } => {
             let leaf = slot(image, node, at);
             usize::from(open_between(image, lo, hi, leaf, depth))
         }

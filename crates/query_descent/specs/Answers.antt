@@ -1,5 +1,5 @@
 -- What an accepted image's nodes say of its leaf list, by where a key leads: the laws that join the questions' code to their definitions.
-use Rattle.std.specs.Prelude.{ℕ, suc, ◌+◌, ◌-◌, ◌<◌, ◌≤◌, ◌≡◌, Bool, true, false, [], ◌∷◌, length, get_or, drop}
+use Rattle.std.specs.Prelude.{ℕ, ◌+◌, ◌-◌, ◌<◌, ◌≤◌, ◌≡◌, Bool, true, false, [], length, get_or, drop}
 use Rattle.std.proofs.Math.Path.{ap}
 use Rattle.std.proofs.Common.{◌∙◌, arith}
 use Rattle.spec.specs.Bytes.{Bytes, Bits, count, bit}
@@ -17,12 +17,12 @@ use Rattle.query_descent.specs.Ordered.{passed, reached, counted_is}
 use Rattle.query_descent.specs.LevelSums.{slots_below, slots_nothing, below_sums}
 use Rattle.query_descent.specs.Root.{leads_to_leaf, led_is, passed_is, reached_is}
 use Rattle.query_descent.specs.Steps.{stop_of}
+use Rattle.nav_nodes.specs.FromCheck.{all_bytes}
 use Rattle.nav_nodes.specs.Accepted.{Accepted, nodes, real_leaves, real_realizable, real_sized}
 
 -- bytes by position are bytes
 pub all_small : (k : Bytes) → ((i : ℕ) → get_or k i 0 < 256) → IsBytes k
-all_small [] h = tt
-all_small (x ∷ k) h = (h 0, all_small k (λ i. h (suc i)))
+all_small = all_bytes
 
 -- a key of at most 64 bytes
 pub bound : (k : Bytes) → ((i : ℕ) → get_or k i 0 < 256) → length k ≤ 64 → Bound k

@@ -1,7 +1,8 @@
 -- A seek's way along its start: the last higher label that was passed, the node that the next byte starts from, and where the way ends.
-use Rattle.std.specs.Prelude.{ℕ, suc, ◌+◌, ◌-◌, ◌<◌, ◌≤◌, ◌≡◌, refl, Bool, true, false, cond, List, [], ◌∷◌, ◌++◌, length, get_or, take, drop, eqb}
+use Rattle.std.specs.Prelude.{ℕ, suc, ◌+◌, ◌-◌, ◌<◌, ◌≤◌, ◌≡◌, refl, Bool, true, false, cond, List, [], ◌∷◌, ◌++◌, length, get_or, take, drop, eqb, Option, Some, None}
 use Rattle.std.proofs.Common.{sym, ap, ◌∙◌, arith, add-one, drop_of_length-le, take-suc}
-use Rattle.std.proofs.Math.Option.{Option, none, some}
+use Rattle.std.proofs.Math.Option.{none, some}
+use Rattle.std.proofs.Math.Option as spec
 use Rattle.spec.specs.Bytes.{Bytes, bit}
 use Rattle.spec.specs.Leaves.{Leaf}
 use Rattle.spec.specs.Nodes.{Branch, to_node, to_leaf, Node, read_leaves}
@@ -18,8 +19,7 @@ use Rattle.nav_nodes.specs.NumberBounds.{slot_range}
 use Rattle.nav_nodes.specs.NextLabel.{first_kind, kind_with, is_there, there_not}
 use Rattle.nav_nodes.specs.Positions.{branches, branch_index}
 use Rattle.nav_nodes.specs.Slots.{slot_number, slot_of}
-use Rattle.query_descent.specs.declared.LastHigher.{LastHigher}
-use Rattle.query_descent.specs.declared.LastHigher.TheVariants.{None, At}
+use Rattle.query_descent.specs.declared.HigherLabel.{HigherLabel}
 use Rattle.query_descent.specs.declared.BoundEnd.{BoundEnd}
 use Rattle.query_descent.specs.declared.BoundEnd.TheVariants as End
 use Rattle.query_descent.specs.Bounds.{slot_passed}
@@ -34,9 +34,9 @@ use Rattle.query_descent.specs.Summed.{Leading, Summed, leading_root, leading_on
 -- ---- definitions
 
 -- the first leaf behind the last higher label: none, or behind the labels of a node above the start's byte at its depth
-abbrev pub higher_leaf : List Node → Bytes → LastHigher → Option Leaf
+abbrev pub higher_leaf : List Node → Bytes → Option HigherLabel → spec.Option Leaf
 higher_leaf ns start None = none
-higher_leaf ns start (At m d b) = leaf_behind ns start m.0 d (get_or start d 0 + 1)
+higher_leaf ns start (Some h) = leaf_behind ns start h.node.0 h.depth (get_or start h.depth 0 + 1)
 
 -- Node m, at depth d of the way, has a label above the start's byte there, and this at the byte itself.
 pub record HasHigher (s : Bytes) (f : Frame) (start : Bytes) (m d : ℕ) (b : Found) : Type 0 where
@@ -45,12 +45,12 @@ pub record HasHigher (s : Bytes) (f : Frame) (start : Bytes) (m d : ℕ) (b : Fo
   pub found : FoundBranch s f m (get_or start d 0) b
 
 -- the node of the last higher label is one of the n that were passed
-abbrev pub HigherIn : Bytes → Frame → Bytes → ℕ → LastHigher → Type 0
+abbrev pub HigherIn : Bytes → Frame → Bytes → ℕ → Option HigherLabel → Type 0
 HigherIn s f start n None = Unit
-HigherIn s f start n (At m d b) = (d < n) × HasHigher s f start m.0 d b
+HigherIn s f start n (Some h) = (h.depth < n) × HasHigher s f start h.node.0 h.depth h.found
 
 -- the leaf that is sought, m the last node of the way and d its depth: where the way ends at no leaf, the one behind the last higher label; the first at or below the node; the open leaf
-abbrev pub end_leaf : ℕ → List Node → Bytes → BoundEnd → LastHigher → ℕ → ℕ → Option Leaf
+abbrev pub end_leaf : ℕ → List Node → Bytes → BoundEnd → Option HigherLabel → ℕ → ℕ → spec.Option Leaf
 end_leaf w ns start End.NoLeaf higher m d = higher_leaf ns start higher
 end_leaf w ns start End.Node higher m d = leaf_below ns start m d
 end_leaf w ns start (End.Leaf v) higher m d = some (record { cut = take d start; exact = false; suffix = slot_of w ns v.0 })
@@ -67,7 +67,7 @@ leaf_end true v = End.NoLeaf
 leaf_end false v = End.Leaf v
 
 -- The first bytes of the start, `depth` of them, lead to a node.
-pub record Following (s : Bytes) (f : Frame) (start : Bytes) (higher : LastHigher) (node depth sum : ℕ) : Type 0 where
+pub record Following (s : Bytes) (f : Frame) (start : Bytes) (higher : Option HigherLabel) (node depth sum : ℕ) : Type 0 where
   -- with the sum of the slot numbers on the levels above it
   pub leads : Leading s f start node depth sum
   -- it stands on its level
@@ -78,14 +78,14 @@ pub record Following (s : Bytes) (f : Frame) (start : Bytes) (higher : LastHighe
   pub leaf_is : next_leaf f.hash_width (read_leaves s) start ≡ next_from (slot_passed f.hash_width (length start)) (nodes s f) (64 - depth) node (take depth start) (drop depth start) (higher_leaf (nodes s f) start higher)
 
 -- With node m at depth d passed, the last higher label is this one.
-pub record HigherPassed (s : Bytes) (f : Frame) (start : Bytes) (m d : ℕ) (before after : LastHigher) : Type 0 where
+pub record HigherPassed (s : Bytes) (f : Frame) (start : Bytes) (m d : ℕ) (before after : Option HigherLabel) : Type 0 where
   -- the leaf behind it is that behind a higher label of the node, or else the one before
   pub leaf_is : higher_at (nodes s f) (64 - (d + 1)) m (take d start) (get_or start d 0) (higher_leaf (nodes s f) start before) ≡ higher_leaf (nodes s f) start after
   -- its node stands no deeper
   pub higher_in : HigherIn s f start (d + 1) after
 
 -- Where following the start has ended.
-pub record KeyFollowed (s : Bytes) (f : Frame) (start : Bytes) (end : BoundEnd) (higher : LastHigher) (node depth sum : ℕ) : Type 0 where
+pub record KeyFollowed (s : Bytes) (f : Frame) (start : Bytes) (end : BoundEnd) (higher : Option HigherLabel) (node depth sum : ℕ) : Type 0 where
   -- there the leaf that is sought stands
   pub leaf_is : next_leaf f.hash_width (read_leaves s) start ≡ end_leaf f.width (nodes s f) start end higher node depth
   pub end_in : EndIn (nodes s f) f.leaves end node depth
@@ -107,17 +107,17 @@ first_child y (to_leaf x s ∷ fs) h = absurd (go (eqb x y) h)
 first_child y (to_node x ∷ fs) h = refl
 
 -- with more nodes passed, its node is still one of them
-pub higher_within : (s : Bytes) (f : Frame) (start : Bytes) (d n : ℕ) (higher : LastHigher) → d ≤ n → HigherIn s f start d higher → HigherIn s f start n higher
+pub higher_within : (s : Bytes) (f : Frame) (start : Bytes) (d n : ℕ) (higher : Option HigherLabel) → d ≤ n → HigherIn s f start d higher → HigherIn s f start n higher
 higher_within s f start d n None l h = tt
-higher_within s f start d n (At m e b) l h = (omega (arith, h.0), h.1)
+higher_within s f start d n (Some x) l h = (omega (arith, h.0), h.1)
 
-module _ (s : Bytes) (f : Frame) (start : Bytes) (m : NodeNum) (d : ℕ) (before : LastHigher) (short : d < 64) (on : OnLevel (nodes s f) (64 - d) m.0) (inside : HigherIn s f start d before) where
+module _ (s : Bytes) (f : Frame) (start : Bytes) (m : NodeNum) (d : ℕ) (before : Option HigherLabel) (short : d < 64) (on : OnLevel (nodes s f) (64 - d) m.0) (inside : HigherIn s f start d before) where
   -- The node passed has no label above the start's byte.
   pub higher_same : is_there (first_kind (drop (branch_index s f m.0 (get_or start d 0 + 1)) (branches s f m.0))) ≡ false → HigherPassed s f start m.0 d before before
   higher_same h = record { leaf_is = higher_kept (nodes s f) (64 - (d + 1)) m.0 (take d start) (get_or start d 0) (higher_leaf (nodes s f) start before) h; higher_in = higher_within s f start d (d + 1) before (omega arith) inside }
 
   -- It has one.
-  pub higher_new : {b : Found} → FoundBranch s f m.0 (get_or start d 0) b → is_there (first_kind (drop (branch_index s f m.0 (get_or start d 0 + 1)) (branches s f m.0))) ≡ true → HigherPassed s f start m.0 d before (At m d b)
+  pub higher_new : {b : Found} → FoundBranch s f m.0 (get_or start d 0) b → is_there (first_kind (drop (branch_index s f m.0 (get_or start d 0 + 1)) (branches s f m.0))) ≡ true → HigherPassed s f start m.0 d before (Some (record { node = m; depth = d; found = b }))
   higher_new found h =
       let z : 64 - d ≡ suc (64 - (d + 1)) = omega arith in
       let e : 64 - (d + 1) ≡ 63 - d = omega arith in
@@ -135,7 +135,7 @@ module _ (s : Bytes) (f : Frame) (a : Accepted s f) (start : Bytes) where
   following_root h = record { leads = leading_root s f a start h; level = root_level s f a h; higher_in = tt; leaf_is = next_root s f a h start }
 
   -- The start has ended at a node.
-  pub followed_end : {higher : LastHigher} {m d sum : ℕ} → Following s f start higher m d sum → length start ≤ d → KeyFollowed s f start End.Node higher m d sum
+  pub followed_end : {higher : Option HigherLabel} {m d sum : ℕ} → Following s f start higher m d sum → length start ≤ d → KeyFollowed s f start End.Node higher m d sum
   followed_end {higher} {m} {d} {sum} o h = record {
     leaf_is =
         o.leaf_is ∙ ap (λ (k : Bytes). next_from (slot_passed f.hash_width (length start)) (nodes s f) (64 - d) m (take d start) k (higher_leaf (nodes s f) start higher)) (drop_of_length-le start {i = d} h)
@@ -146,7 +146,7 @@ module _ (s : Bytes) (f : Frame) (a : Accepted s f) (start : Bytes) where
   }
 
 -- The next byte of the start is passed: the step from node m at depth d to what stands behind its branch.
-pub record BytePassed (s : Bytes) (f : Frame) (start : Bytes) (higher : LastHigher) (m d sum : ℕ) (b : Found) (child : NodeNum) (slot : ValuePos) (after : LastHigher) : Type 0 where
+pub record BytePassed (s : Bytes) (f : Frame) (start : Bytes) (higher : Option HigherLabel) (m d sum : ℕ) (b : Found) (child : NodeNum) (slot : ValuePos) (after : Option HigherLabel) : Type 0 where
   pub from : Following s f start higher m d sum
   pub more : d < length start
   pub short : length start ≤ 64
@@ -157,7 +157,7 @@ pub record BytePassed (s : Bytes) (f : Frame) (start : Bytes) (higher : LastHigh
   -- with the node passed, this is the last higher label
   pub passed : HigherPassed s f start m d higher after
 
-module _ {s : Bytes} {f : Frame} {start : Bytes} {higher : LastHigher} {m d sum : ℕ} {b : Found} {child : NodeNum} {slot : ValuePos} {after : LastHigher} (a : Accepted s f) (p : BytePassed s f start higher m d sum b child slot after) where
+module _ {s : Bytes} {f : Frame} {start : Bytes} {higher : Option HigherLabel} {m d sum : ℕ} {b : Found} {child : NodeNum} {slot : ValuePos} {after : Option HigherLabel} (a : Accepted s f) (p : BytePassed s f start higher m d sum b child slot after) where
   child_is : child.0 ≡ child_number (nodes s f) m (branch_index s f m (get_or start d 0))
   child_is = p.behind.child_is ∙ p.found.at_is.child_is
 
@@ -233,7 +233,7 @@ module _ {s : Bytes} {f : Frame} {start : Bytes} {higher : LastHigher} {m d sum 
 
 -- ---- where the way has ended
 
-module _ {s : Bytes} {f : Frame} {start : Bytes} {end : BoundEnd} {higher : LastHigher} {m d sum : ℕ} (k : KeyFollowed s f start end higher m d sum) where
+module _ {s : Bytes} {f : Frame} {start : Bytes} {end : BoundEnd} {higher : Option HigherLabel} {m d sum : ℕ} (k : KeyFollowed s f start end higher m d sum) where
   -- at no leaf
   pub ended_nowhere : end ≡ End.NoLeaf → next_leaf f.hash_width (read_leaves s) start ≡ higher_leaf (nodes s f) start higher
   ended_nowhere e = k.leaf_is ∙ ap (λ (x : BoundEnd). end_leaf f.width (nodes s f) start x higher m d) e

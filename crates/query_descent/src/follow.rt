@@ -24,7 +24,11 @@ pub fn follow(image: &AcceptedImage, key: &[u8], n: usize) -> KeyEnd
                 return KeyEnd::NoBranch;
             }
             BranchKind::Leaf => {
-                return KeyEnd::Leaf(node, found.at, depth + 1);
+                return KeyEnd::Leaf {
+                    node,
+                    at: found.at,
+                    depth: depth + 1,
+                };
             }
             BranchKind::Child => {
                 node = child(image, node, found.at);

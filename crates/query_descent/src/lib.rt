@@ -14,14 +14,19 @@ pub enum KeyEnd {
     NoNodes,
     NoBranch,
     Node(NodeNum),
-    Leaf(NodeNum, BitPos, usize),
+    Leaf {
+        node: NodeNum,
+        at: BitPos,
+        depth: usize,
+    },
 }
 
-// The deepest node on the way along a key that has a label above the key's byte there, its depth, and what it has at that byte; or none.
+// A node on the way along a key that has a label above the key's byte there: the node, its depth, and what it has at that byte. A seek keeps the deepest one that it has passed, if there is any.
 #[derive(Clone, Copy)]
-pub enum LastHigher {
-    None,
-    At(NodeNum, usize, Found),
+pub struct HigherLabel {
+    pub node: NodeNum,
+    pub depth: usize,
+    pub found: Found,
 }
 
 // Where the bound of a key ends: at no leaf; at a node, with no byte left; or at the open leaf with a slot. A count takes the leaf to which the key's bytes lead, whether the key has passed it or not; for a seek an open leaf that the start has passed is no leaf any more.

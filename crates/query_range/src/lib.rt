@@ -3,5 +3,5 @@
 #![tactic(auto)]
 
 pub mod sides; // sides.rt: each bound alone, from a node or a branch
-pub mod together; // together.rt: the way along both bounds
+pub mod together; // together.rt: both bounds where they part
 pub mod range; // range.rt: the range question

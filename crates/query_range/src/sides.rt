@@ -1,9 +1,8 @@
 // One bound of a range alone: whether a leaf at or below a node, or behind a branch, does not end below the lower bound, or does not start above the upper.
-ghost use Rattle.std.specs.Prelude.{◌≡◌, ◌||◌, ◌+◌, ltb};
+ghost use Rattle.std.specs.Prelude.{◌≡◌, ◌+◌};
 ghost use Rattle.query_range.specs.RangeWays.{KeyAt, KeyBranch, group_below, group_behind, left_of, reached_of};
 
-use bits::numbers::wide;
-use image::{BitPos, Frame, NodeNum};
+use image::{AcceptedImage, BitPos, NodeNum};
 use nav_branches::edges::last_branch;
 use nav_branches::first::first_branch;
 use nav_nodes::BranchKind;
@@ -19,28 +18,25 @@ pub struct Branch {
 }
 
 // Whether a leaf at or below a node, to which the first `depth` bytes of the lower bound lead, does not end below the bound. A label above the bound's byte decides at once.
-fn left_below(image: &[u8], f: Frame, lo: &[u8], node: NodeNum, depth: usize) -> bool
-    requires { KeyAt image.now f lo.now node.0 depth }
-    ensures { result ≡ left_of f lo.now depth (group_below image.now f node.0 depth) }
+fn left_below(image: &AcceptedImage, lo: &[u8], node: NodeNum, depth: usize) -> bool
+    requires { KeyAt image.now.bytes.now image.now.frame lo.now node.0 depth }
+    ensures { result ≡ left_of image.now.frame lo.now depth (group_below image.now.bytes.now image.now.frame node.0 depth) }
 {
     let mut m = node;
-    let mut d = depth;
-    while d < lo.len() {
-        let last = last_branch(image, f, m, wide(lo[d]));
+    for d in depth..lo.len() {
+        let last = last_branch(image, m, usize::from(lo[d]));
         if last.higher {
             return true;
         }
-        d = d + 1;
-        let kind = last.kind;
-        match kind {
+        match last.kind {
             BranchKind::Absent => {
                 return false;
             }
             BranchKind::Leaf => {
-                return !high_below(image, f, slot(image, f, m, last.at), lo, d);
+                return !high_below(image, slot(image, m, last.at), lo, d + 1);
             }
             BranchKind::Child => {
-                m = child(image, f, m, last.at);
+                m = child(image, m, last.at);
             }
         }
     }
@@ -49,87 +45,67 @@ fn left_below(image: &[u8], f: Frame, lo: &[u8], node: NodeNum, depth: usize) ->
 
 // Whether a leaf behind a node's branch with the lower bound's byte does not end below the bound.
 pub fn left_behind(
-    image: &[u8],
-    f: Frame,
+    image: &AcceptedImage,
     lo: &[u8],
     node: NodeNum,
     depth: usize,
     branch: Branch,
 ) -> bool
-    requires { KeyBranch image.now f lo.now node.0 depth branch.kind branch.at.0 }
-    ensures { result ≡ left_of f lo.now (depth + 1) (group_behind image.now f lo.now node.0 depth) }
+    requires { KeyBranch image.now.bytes.now image.now.frame lo.now node.0 depth branch.kind branch.at.0 }
+    ensures { result ≡ left_of image.now.frame lo.now (depth + 1) (group_behind image.now.bytes.now image.now.frame lo.now node.0 depth) }
 {
-    let kind = branch.kind;
-    match kind {
+    match branch.kind {
         BranchKind::Absent => false,
-        BranchKind::Leaf => !high_below(image, f, slot(image, f, node, branch.at), lo, depth + 1),
-        BranchKind::Child => left_below(image, f, lo, child(image, f, node, branch.at), depth + 1),
+        BranchKind::Leaf => !high_below(image, slot(image, node, branch.at), lo, depth + 1),
+        BranchKind::Child => left_below(image, lo, child(image, node, branch.at), depth + 1),
     }
 }
 
-// Whether what a node has first is reached by a bound whatever follows: an exact leaf, or leaves behind a label below the bound's byte y.
-fn reached_first(exact: bool, label: usize, y: usize) -> bool
-    ensures { result ≡ (exact || ltb label y) }
-{
-    exact | (label < y)
-}
-
 // Whether a leaf at or below a node, to which the first `depth` bytes of the upper bound lead, does not start above the bound. An exact leaf or a label below the bound's byte decides at once.
-pub fn reached_below(image: &[u8], f: Frame, hi: &[u8], node: NodeNum, depth: usize) -> bool
-    requires { KeyAt image.now f hi.now node.0 depth }
-    ensures { result ≡ reached_of f hi.now depth (group_below image.now f node.0 depth) }
+pub fn reached_below(image: &AcceptedImage, hi: &[u8], node: NodeNum, depth: usize) -> bool
+    requires { KeyAt image.now.bytes.now image.now.frame hi.now node.0 depth }
+    ensures { result ≡ reached_of image.now.frame hi.now depth (group_below image.now.bytes.now image.now.frame node.0 depth) }
 {
     let mut m = node;
-    let mut d = depth;
-    while d < hi.len() {
-        let y = wide(hi[d]);
-        let first = first_branch(image, f, m);
+    for d in depth..hi.len() {
+        let y = usize::from(hi[d]);
+        let first = first_branch(image, m);
         let branch = first.branch;
-        if reached_first(first.exact, branch.label, y) {
+        if first.exact || branch.label < y {
             return true;
         }
-        d = d + 1;
         if y < branch.label {
             return false;
         }
-        let kind = branch.kind;
-        match kind {
+        match branch.kind {
             BranchKind::Absent => {
                 return false;
             }
             BranchKind::Leaf => {
-                return !low_above(image, f, slot(image, f, m, branch.at), hi, d);
+                return !low_above(image, slot(image, m, branch.at), hi, d + 1);
             }
             BranchKind::Child => {
-                m = child(image, f, m, branch.at);
+                m = child(image, m, branch.at);
             }
         }
     }
-    is_exact(image, f, m)
+    is_exact(image, m)
 }
 
 // Whether a leaf behind a node's branch with the upper bound's byte does not start above the bound.
 pub fn reached_behind(
-    image: &[u8],
-    f: Frame,
+    image: &AcceptedImage,
     hi: &[u8],
     node: NodeNum,
     depth: usize,
     branch: Branch,
 ) -> bool
-    requires { KeyBranch image.now f hi.now node.0 depth branch.kind branch.at.0 }
-    ensures { result ≡ reached_of f hi.now (depth + 1) (group_behind image.now f hi.now node.0 depth) }
+    requires { KeyBranch image.now.bytes.now image.now.frame hi.now node.0 depth branch.kind branch.at.0 }
+    ensures { result ≡ reached_of image.now.frame hi.now (depth + 1) (group_behind image.now.bytes.now image.now.frame hi.now node.0 depth) }
 {
-    let kind = branch.kind;
-    match kind {
+    match branch.kind {
         BranchKind::Absent => false,
-        BranchKind::Leaf => !low_above(image, f, slot(image, f, node, branch.at), hi, depth + 1),
-        BranchKind::Child => reached_below(
-            image,
-            f,
-            hi,
-            child(image, f, node, branch.at),
-            depth + 1,
-        ),
+        BranchKind::Leaf => !low_above(image, slot(image, node, branch.at), hi, depth + 1),
+        BranchKind::Child => reached_below(image, hi, child(image, node, branch.at), depth + 1),
     }
 }

@@ -1,12 +1,11 @@
 -- What the functions that find the first leaf that a start has not passed ask and give.
-use Rattle.std.specs.Prelude.{◌≤◌, ◌≡◌, Bool, true, false, length}
+use Rattle.std.specs.Prelude.{◌≤◌, ◌≡◌, length, Option}
 use Rattle.spec.specs.Bytes.{Bytes}
 use Rattle.spec.specs.Nodes.{read_leaves}
 use Rattle.image.specs.declared.Frame.{Frame}
-use Rattle.nav_branches.specs.declared.LeafStop.{LeafStop}
-use Rattle.nav_branches.specs.declared.LeafStop.TheVariants.{Nowhere, Exact, Open}
+use Rattle.nav_branches.specs.declared.LeafStop.TheVariants.{Nowhere}
 use Rattle.nav_nodes.specs.Accepted.{Accepted}
-use Rattle.query_descent.specs.declared.LastHigher.{LastHigher}
+use Rattle.query_descent.specs.declared.HigherLabel.{HigherLabel}
 use Rattle.query_seek.specs.LeafKeys.{BeginsWith, Reached}
 use Rattle.query_descent.specs.Ordered.{next_leaf}
 use Rattle.query_descent.specs.Seeking.{HigherIn, KeyFollowed}
@@ -14,14 +13,8 @@ use Rattle.query_descent.specs.Summed.{Summed}
 use Rattle.query_seek.specs.declared.way.Way.{Way}
 use Rattle.query_seek.specs.declared.next.NextLeaf.{NextLeaf}
 
--- whether there is a leaf at a stop
-abbrev pub leaf_there : LeafStop → Bool
-leaf_there Nowhere = false
-leaf_there Exact = true
-leaf_there (Open v) = true
-
 -- This is the last higher label that a start has passed, and a key of 64 bytes begins with the start.
-pub record PassedHigher (s : Bytes) (f : Frame) (start : Bytes) (higher : LastHigher) (key : Bytes) : Type 0 where
+pub record PassedHigher (s : Bytes) (f : Frame) (start : Bytes) (higher : Option HigherLabel) (key : Bytes) : Type 0 where
   pub accepted : Accepted s f
   pub short : length start ≤ 64
   pub key_size : length key ≡ 64

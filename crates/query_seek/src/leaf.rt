@@ -27,17 +27,15 @@ pub fn first_behind(
     let mut b = branch;
     let mut d = depth;
     loop {
-        let at = b.at;
-        let kind = b.kind;
         key[d] = b.label as u8;
-        d = d + 1;
-        let BranchKind::Child = kind else {
+        d += 1;
+        let BranchKind::Child = b.kind else {
             return LeafEnd {
                 depth: d,
-                stop: LeafStop::Open(slot(image, m, at)),
+                stop: LeafStop::Open(slot(image, m, b.at)),
             };
         };
-        m = child(image, m, at);
+        m = child(image, m, b.at);
         let next = first_branch(image, m);
         if next.exact {
             return LeafEnd {
@@ -61,6 +59,5 @@ pub fn first_below(image: &AcceptedImage, node: NodeNum, key: &mut [u8], depth: 
             stop: LeafStop::Exact,
         };
     }
-    let branch = first.branch;
-    first_behind(image, node, branch, key, depth)
+    first_behind(image, node, first.branch, key, depth)
 }

@@ -6,10 +6,3 @@ pub mod way; // way.rt: a seek's way along its start
 pub mod leaf; // leaf.rt: down to the first leaf
 pub mod next; // next.rt: the first leaf that a start has not passed
 pub mod seek; // seek.rt: the seek question
-
-// The leaf that a seek finds: none, or the one with this number in key order.
-#[derive(Clone, Copy)]
-pub enum SoughtLeaf {
-    None,
-    At(usize),
-}

@@ -5,16 +5,15 @@ ghost use Rattle.nav_nodes.specs.Accepted.{nodes};
 ghost use Rattle.query_seek.specs.LeafKeys.{Reached};
 ghost use Rattle.query_descent.specs.Ordered.{next_leaf};
 ghost use Rattle.query_descent.specs.Seeking.{higher_leaf};
-ghost use Rattle.query_seek.specs.SeekContracts.{leaf_there, PassedHigher, WayFollowed, IsNextLeaf};
+ghost use Rattle.query_seek.specs.SeekContracts.{PassedHigher, WayFollowed, IsNextLeaf};
 
 use super::leaf::{first_behind, first_below};
 use super::way::{Way, follow_key};
 use bits::copy::write_bytes;
-use bits::numbers::wide;
 use image::AcceptedImage;
 use nav_branches::edges::next_higher;
 use nav_branches::{LeafEnd, LeafStop};
-use query_descent::{BoundEnd, LastHigher};
+use query_descent::{BoundEnd, HigherLabel};
 use query_sums::levels::{AT_ROOT, LevelSum};
 
 // The first leaf that a start has not passed, and the start's bound on the level below its last branch, from which the leaves that it has passed can be counted.
@@ -24,17 +23,6 @@ pub struct NextLeaf {
     pub level: LevelSum,
 }
 
-// Whether there is a leaf at a stop.
-pub fn is_leaf(stop: LeafStop) -> bool
-    ensures { result ≡ leaf_there stop }
-{
-    match stop {
-        LeafStop::Nowhere => false,
-        LeafStop::Exact => true,
-        LeafStop::Open(_) => true,
-    }
-}
-
 // No leaf.
 const NO_LEAF: LeafEnd = LeafEnd {
     depth: 0,
@@ -42,15 +30,21 @@ const NO_LEAF: LeafEnd = LeafEnd {
 };
 
 // The first leaf behind the last higher label that was passed. The key begins with the start.
-fn leaf_above(image: &AcceptedImage, start: &[u8], higher: LastHigher, key: &mut [u8]) -> LeafEnd
+fn leaf_above(
+    image: &AcceptedImage,
+    start: &[u8],
+    higher: Option<HigherLabel>,
+    key: &mut [u8],
+) -> LeafEnd
     requires { PassedHigher image.now.bytes.now image.now.frame start.now higher key.old }
     ensures { Reached image.now.bytes.now image.now.frame (higher_leaf (nodes image.now.bytes.now image.now.frame) start.now higher) key.new result }
 {
     match higher {
-        LastHigher::None => NO_LEAF,
-        LastHigher::At(node, depth, found) => {
-            let branch = next_higher(image, node, wide(start[depth]), found);
-            first_behind(image, node, branch, key, depth)
+        None => NO_LEAF,
+        Some(label) => {
+            let y = usize::from(start[label.depth]);
+            let branch = next_higher(image, label.node, y, label.found);
+            first_behind(image, label.node, branch, key, label.depth)
         }
     }
 }
@@ -60,14 +54,9 @@ fn leaf_of_way(image: &AcceptedImage, start: &[u8], way: Way, key: &mut [u8]) ->
     requires { WayFollowed image.now.bytes.now image.now.frame start.now way key.old }
     ensures { Reached image.now.bytes.now image.now.frame (next_leaf image.now.frame.hash_width (read_leaves image.now.bytes.now) start.now) key.new result }
 {
-    let bound = way.bound;
-    let level = bound.level;
-    let end = bound.end;
-    match end {
-        BoundEnd::NoLeaf => {
-            let higher = way.higher;
-            leaf_above(image, start, higher, key)
-        }
+    let level = way.bound.level;
+    match way.bound.end {
+        BoundEnd::NoLeaf => leaf_above(image, start, way.higher, key),
         BoundEnd::Node => first_below(image, level.node, key, level.depth),
         BoundEnd::Leaf(slot) => LeafEnd {
             depth: level.depth,
@@ -89,8 +78,8 @@ pub fn next_leaf(image: &AcceptedImage, start: &[u8], key: &mut [u8]) -> NextLea
     }
     write_bytes(key, 0, start);
     let way = follow_key(image, start);
-    let end = leaf_of_way(image, start, way, key);
-    let bound = way.bound;
-    let level = bound.level;
-    NextLeaf { end, level }
+    NextLeaf {
+        end: leaf_of_way(image, start, way, key),
+        level: way.bound.level,
+    }
 }

@@ -5,8 +5,7 @@ ghost use Rattle.query_seek.specs.LeafKeys.{LeafAt, LowestKey};
 ghost use Rattle.query_seek.specs.Sought.{IsSought};
 ghost use Rattle.query_descent.specs.Summed.{empty_key_sum};
 
-use super::SoughtLeaf;
-use super::next::{is_leaf, next_leaf};
+use super::next::next_leaf;
 use bits::copy::write_bytes;
 use image::{AcceptedImage, ValuePos};
 use keys::compare::compare;
@@ -20,18 +19,15 @@ fn append_real(image: &AcceptedImage, slot: ValuePos, key: &mut [u8], depth: usi
     requires { (slot.0 < image.now.frame.leaves) × (length key.old ≡ 64) × (depth ≤ 64) }
     ensures { LowestKey image.now.bytes.now image.now.frame (LeafStop.Open slot) (take depth key.old) key.new result }
 {
-    let n = image.frame.real_width;
     let mut end = depth;
-    let mut i = depth;
-    while i < 64 {
-        if 8 * (i - depth) >= n {
+    for i in depth..64 {
+        if 8 * (i - depth) >= image.frame.real_width {
             return end;
         }
         let x = real_byte(image, slot, i - depth, false);
         key[i] = x as u8;
-        i = i + 1;
         if x != 0 {
-            end = i;
+            end = i + 1;
         }
     }
     end
@@ -63,32 +59,25 @@ fn greater_key(start: &[u8], key: &mut [u8], n: usize) -> usize
     }
 }
 
-// What a seek finds: the leaf, if there is one, and how many bytes of a buffer are its key.
+// What a seek finds: the leaf's number in key order, and how many bytes of a buffer are its key.
 #[derive(Clone, Copy)]
 pub struct Sought {
-    pub leaf: SoughtLeaf,
-    pub n: usize,
+    pub number: usize,
+    pub len: usize,
 }
 
-// The first leaf whose highest possible key is not below the start: its number, and in the first n bytes of `key` the greater of the start and its lowest key. `base` is the sum of slot numbers for the empty key.
-pub fn seek(image: &AcceptedImage, base: usize, start: &[u8], key: &mut [u8]) -> Sought
+// The first leaf whose highest possible key is not below the start, if there is one: its number, and at the front of `key` the greater of the start and its lowest key. `base` is the sum of slot numbers for the empty key.
+pub fn seek(image: &AcceptedImage, base: usize, start: &[u8], key: &mut [u8]) -> Option<Sought>
     requires { (base ≡ empty_key_sum image.now.bytes.now image.now.frame) × (length start.now ≤ 64) × (length key.old ≡ 64) }
-    ensures { IsSought image.now.bytes.now image.now.frame start.now result.leaf key.new result.n × (length key.new ≡ 64) }
+    ensures { IsSought image.now.bytes.now image.now.frame start.now result key.new × (length key.new ≡ 64) }
 {
     let next = next_leaf(image, start, key);
     let end = next.end;
-    let stop = end.stop;
-    if !is_leaf(stop) {
-        return Sought {
-            leaf: SoughtLeaf::None,
-            n: 0,
-        };
+    if let LeafStop::Nowhere = end.stop {
+        return None;
     }
-    let low = lowest_key(image, stop, key, end.depth);
-    let n = greater_key(start, key, low);
+    let low = lowest_key(image, end.stop, key, end.depth);
+    let len = greater_key(start, key, low);
     let number = sum_below(image, next.level) - base;
-    Sought {
-        leaf: SoughtLeaf::At(number),
-        n,
-    }
+    Some(Sought { number, len })
 }

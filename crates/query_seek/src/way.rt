@@ -4,13 +4,12 @@ ghost use Rattle.nav_nodes.specs.FoundBranch.{node_count};
 ghost use Rattle.query_descent.specs.Seeking.{KeyFollowed};
 ghost use Rattle.query_seek.specs.WayContracts.{LeafBranch, EndsThere};
 
-use bits::numbers::wide;
 use image::{AcceptedImage, ValuePos};
 use nav_branches::branches::{find, has_higher};
 use nav_nodes::BranchKind;
 use nav_nodes::behind::child_and_slot;
 use query_descent::suffix::high_below;
-use query_descent::{BoundEnd, LastHigher};
+use query_descent::{BoundEnd, HigherLabel};
 use query_sums::bounds::Bound;
 use query_sums::levels::{AT_ROOT, LevelSum};
 
@@ -18,7 +17,7 @@ use query_sums::levels::{AT_ROOT, LevelSum};
 #[derive(Clone, Copy)]
 pub struct Way {
     pub bound: Bound,
-    pub higher: LastHigher,
+    pub higher: Option<HigherLabel>,
 }
 
 // The bound of a start at the branch of an open leaf with this slot: it ends at the leaf, or at no leaf where the start has passed it, which then counts in the sum.
@@ -27,15 +26,18 @@ fn end_at_leaf(image: &AcceptedImage, start: &[u8], slot: ValuePos, level: Level
     ensures { EndsThere image.now.bytes.now image.now.frame start.now slot level result }
 {
     if high_below(image, slot, start, level.depth) {
-        let node = level.node;
-        let depth = level.depth;
-        let sum = level.sum + 1;
-        let end = BoundEnd::NoLeaf;
-        let level = LevelSum { node, depth, sum };
-        return Bound { level, end };
+        return Bound {
+            level: LevelSum {
+                sum: level.sum + 1,
+                ..level
+            },
+            end: BoundEnd::NoLeaf,
+        };
     }
-    let end = BoundEnd::Leaf(slot);
-    Bound { level, end }
+    Bound {
+        level,
+        end: BoundEnd::Leaf(slot),
+    }
 }
 
 // Along the start from the root, one label search a level.
@@ -44,30 +46,31 @@ pub fn follow_key(image: &AcceptedImage, start: &[u8]) -> Way
     ensures { KeyFollowed image.now.bytes.now image.now.frame start.now result.bound.end result.higher result.bound.level.node.0 result.bound.level.depth result.bound.level.sum }
 {
     let mut level = AT_ROOT;
-    let mut higher = LastHigher::None;
+    let mut higher = None;
     while level.depth < start.len() {
-        let d = level.depth;
-        let m = level.node;
-        let y = wide(start[d]);
-        let found = find(image, m, y);
-        if has_higher(image, m, y, found) {
-            higher = LastHigher::At(m, d, found);
+        let y = usize::from(start[level.depth]);
+        let found = find(image, level.node, y);
+        if has_higher(image, level.node, y, found) {
+            higher = Some(HigherLabel {
+                node: level.node,
+                depth: level.depth,
+                found,
+            });
         }
-        let next = child_and_slot(image, m, found.at);
-        let slot = next.slot;
-        let node = next.child;
-        let depth = d + 1;
-        let sum = level.sum + slot.0;
-        level = LevelSum { node, depth, sum };
-        let kind = found.kind;
-        match kind {
+        let behind = child_and_slot(image, level.node, found.at);
+        level = LevelSum {
+            node: behind.child,
+            depth: level.depth + 1,
+            sum: level.sum + behind.slot.0,
+        };
+        match found.kind {
             BranchKind::Absent => {
                 let end = BoundEnd::NoLeaf;
                 let bound = Bound { level, end };
                 return Way { bound, higher };
             }
             BranchKind::Leaf => {
-                let bound = end_at_leaf(image, start, slot, level);
+                let bound = end_at_leaf(image, start, behind.slot, level);
                 return Way { bound, higher };
             }
             BranchKind::Child => {}

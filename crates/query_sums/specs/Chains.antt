@@ -21,20 +21,16 @@ pub record Flat (s : Bytes) (f : Frame) (r : Chain) : Type 0 where
   pub leaves_are : (m : ℕ) → r.start ≤ m → m ≤ chain_end r → leaves_before (nodes s f) m ≡ r.leaves
   pub next_is : (m : ℕ) → r.start ≤ m → m ≤ chain_end r → children_before (nodes s f) m + 1 ≡ m + r.width
 
--- a chain from level t on, or none
+-- a chain from level t on
 pub record ChainOf (s : Bytes) (f : Frame) (t : ℕ) (r : Chain) : Type 0 where
   pub deep : t + r.levels ≤ 64
-  pub flat : 0 < r.levels → Flat s f r
+  pub flat : Flat s f r
 
 -- Level t and k levels behind it have w nodes each, the first of them from node n on.
 pub record EqualLevels (s : Bytes) (f : Frame) (t n w k : ℕ) : Type 0 where
   pub inside : t + k < level_count s f
   pub last : level_at s f (t + k) ≡ n + k * w
   pub behind : level_at s f (suc (t + k)) ≡ n + k * w + w
-
--- k levels behind one have as many nodes as it, from a node on
-abbrev pub LevelsFrom : Bytes → Frame → ℕ → ℕ → ℕ → Type 0
-LevelsFrom s f n w k = (t : ℕ) × EqualLevels s f t n w 0 × EqualLevels s f t n w k
 
 -- such levels end within the nodes
 pub levels_within : (s : Bytes) (f : Frame) → Accepted s f → (t n w k : ℕ) → EqualLevels s f t n w k → n + k * w + w ≤ node_count f
@@ -54,10 +50,6 @@ levels_one s f t n w h e g =
     let x : t + 0 ≡ t = omega arith in
     let y : suc (t + 0) ≡ suc t = omega arith in
     record { inside = omega arith; last = ap (level_at s f) x ∙ omega arith; behind = ap (level_at s f) y ∙ omega arith }
-
--- no levels, no chain
-pub no_chain : (s : Bytes) (f : Frame) (t : ℕ) (r : Chain) → t ≤ 64 → r.levels ≡ 0 → ChainOf s f t r
-no_chain s f t r h e = record { deep = omega arith; flat = λ l. absurd (omega arith) }
 
 -- the level itself
 pub equal_first : (s : Bytes) (f : Frame) (t n w : ℕ) → EqualLevels s f t n w 0 → level_at s f t ≡ n
@@ -82,7 +74,7 @@ chain_found s f a t n w k r o q sole rs rw' rl rv =
     let v = chain_leaves s f a t k n w q.inside first second q.last q.behind sole in
     record {
       deep = omega (arith, levels_few s f a, q.inside);
-      flat = λ l. record {
+      flat = record {
         inside = omega (arith, level_inside s f a (t + k) q.inside, q.last, e);
         leaves_are = λ m low high. omega (arith, v, chain_flat s f a t k n w q.inside first second q.last q.behind sole m (omega arith) (omega (arith, e)));
         next_is = λ m low high. omega (arith, chain_next s f a t k n w q.inside first second q.last q.behind sole m (omega arith) (omega (arith, e)));

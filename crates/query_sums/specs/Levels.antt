@@ -1,6 +1,6 @@
 -- What a bound asks and gives that goes down level by level once its key has ended.
-use Rattle.std.specs.Prelude.{ℕ, ◌+◌, ◌-◌, ◌*◌, ◌<◌, ◌≤◌, ◌≡◌, refl, Bool, true, false, ◌&&◌, [], leb, ltb}
-use Rattle.std.proofs.Common.{sym, ap, ◌∙◌, mul-le-mul_left, mul-le-mul_right, add-mul, arith, leb-true, ltb-true}
+use Rattle.std.specs.Prelude.{ℕ, ◌+◌, ◌-◌, ◌*◌, ◌<◌, ◌≤◌, ◌≡◌, refl, []}
+use Rattle.std.proofs.Common.{sym, ap, ◌∙◌, mul-le-mul_left, mul-le-mul_right, add-mul, arith}
 use Rattle.spec.specs.Bytes.{Bytes}
 use Rattle.image.specs.declared.Frame.{Frame}
 use Rattle.nav_nodes.specs.Accepted.{Accepted, nodes}
@@ -9,7 +9,7 @@ use Rattle.nav_nodes.specs.Descent.{children_before}
 use Rattle.nav_nodes.specs.FoundBranch.{node_count}
 use Rattle.query_descent.specs.LevelSums.{slots_below, slots_past, slots_ended}
 use Rattle.query_descent.specs.Summed.{rest_full, rest_node, rest_leaves}
-use Rattle.query_sums.specs.Chains.{ChainOf, Flat, chain_end, chain_sum}
+use Rattle.query_sums.specs.Chains.{ChainOf, chain_end, chain_sum}
 use Rattle.query_sums.specs.LevelTable.{nodes_few}
 use Rattle.query_descent.specs.Followed.{node_length}
 use Rattle.query_sums.specs.declared.Chain.{Chain}
@@ -104,19 +104,9 @@ lowered_next s f from to h g = record {
 
 -- ---- chains
 
--- whether a node lies on the first level of a chain, or just behind that level
-abbrev pub OnChain : Chain → ℕ → Bool → Type 0
-OnChain r n true = (0 < r.levels) × (r.start ≤ n) × (n ≤ r.start + r.width)
-OnChain r n false = Unit
-
--- it does if it is not before the chain and not past the level
-pub on_chain_by : (r : Chain) (n : ℕ) → r.start ≤ n → OnChain r n (ltb 0 r.levels && leb (n - r.start) r.width)
-on_chain_by r n h = go (ltb 0 r.levels) (leb (n - r.start) r.width) refl refl
-  where
-    go : (a b : Bool) → ltb 0 r.levels ≡ a → leb (n - r.start) r.width ≡ b → OnChain r n (a && b)
-    go true true e g = (ltb-true 0 r.levels e, h, omega (arith, leb-true (n - r.start) r.width g))
-    go true false e g = tt
-    go false b e g = tt
+-- a node lies on the first level of a chain, or just behind that level
+abbrev pub OnChain : Chain → ℕ → Type 0
+OnChain r n = (r.start ≤ n) × (n ≤ r.start + r.width)
 
 -- the bound behind a chain
 abbrev pub passed : LevelSum → Chain → LevelSum
@@ -128,19 +118,16 @@ pub record Passable (from : LevelSum) (r : Chain) : Type 0 where
   pub depth : from.depth + r.levels ≤ 64
   pub sum : from.sum + r.levels * r.leaves < 1099511627776
 
-module _ (s : Bytes) (f : Frame) (from : LevelSum) (p : DownTo s f from 64) (r : Chain) (q : ChainOf s f from.depth r) (on : OnChain r from.node.0 true) where
-  flat : Flat s f r
-  flat = q.flat on.0
-
+module _ (s : Bytes) (f : Frame) (from : LevelSum) (p : DownTo s f from 64) (r : Chain) (q : ChainOf s f from.depth r) (on : OnChain r from.node.0) where
   few : r.leaves ≤ 65535
-  few = omega (arith, flat.leaves_are r.start (omega arith) (omega arith), rest_leaves s f p.accepted r.start)
+  few = omega (arith, q.flat.leaves_are r.start (omega arith) (omega arith), rest_leaves s f p.accepted r.start)
 
   -- behind the chain the bound's node is one of the nodes, or behind the last
   node_end : from.node.0 + r.levels * r.width ≤ node_count f
-  node_end = omega (arith, on.2, flat.next_is (chain_end r) (omega arith) (omega arith), rest_node s f p.accepted (chain_end r) some_node)
+  node_end = omega (arith, on.1, q.flat.next_is (chain_end r) (omega arith) (omega arith), rest_node s f p.accepted (chain_end r) some_node)
     where
       some_node : 0 < node_count f
-      some_node = omega (arith, flat.inside, flat.next_is r.start (omega arith) (omega arith), mul-le-mul_right {m = 1} {n = r.levels} r.width on.0)
+      some_node = omega (arith, q.flat.inside, q.flat.next_is r.start (omega arith) (omega arith), mul-le-mul_right {m = 1} {n = r.levels} r.width r.not_empty)
 
   leaves_few : r.levels * r.leaves ≤ r.levels * 65535
   leaves_few = mul-le-mul_left r.levels few
@@ -155,12 +142,12 @@ module _ (s : Bytes) (f : Frame) (from : LevelSum) (p : DownTo s f from 64) (r :
   -- a bound on a chain passes it
   pub chain_passed : Lowered s f from (passed from r)
   chain_passed = record {
-    deeper = omega (arith, on.0);
+    deeper = omega (arith, r.not_empty);
     depth_in = q.deep;
     gone = record {
       node_in = node_end;
       depth_is = refl;
-      sums = omega (arith, chain_sum s f r flat from.node.0 on.1 on.2 r.levels (64 - from.depth) (omega arith) (omega (arith, q.deep)), ap (λ (l : ℕ). slots_below (nodes s f) l (from.node.0 + r.levels * r.width) []) levels);
+      sums = omega (arith, chain_sum s f r q.flat from.node.0 on.0 on.1 r.levels (64 - from.depth) (omega arith) (omega (arith, q.deep)), ap (λ (l : ℕ). slots_below (nodes s f) l (from.node.0 + r.levels * r.width) []) levels);
       small = omega (arith, leaves_few, ap (λ (n : ℕ). n * 65535) depth);
     };
   }

@@ -4,7 +4,6 @@ ghost use Rattle.query_descent.specs.Summed.{Leading, passed_there, reached_ther
 ghost use Rattle.query_sums.specs.Bounds.{LeadsOn, BoundEnded, KeyEnded};
 
 use super::levels::LevelSum;
-use bits::numbers::{one_if, wide};
 use image::AcceptedImage;
 use nav_branches::branches::find;
 use nav_nodes::BranchKind;
@@ -27,23 +26,20 @@ pub fn bound_from(image: &AcceptedImage, key: &[u8], from: LevelSum) -> Bound
 {
     let mut level = from;
     while level.depth < key.len() {
-        let d = level.depth;
-        let m = level.node;
-        let found = find(image, m, wide(key[d]));
-        let next = child_and_slot(image, m, found.at);
-        let slot = next.slot;
-        let node = next.child;
-        let depth = d + 1;
-        let sum = level.sum + slot.0;
-        level = LevelSum { node, depth, sum };
-        let kind = found.kind;
-        match kind {
+        let found = find(image, level.node, usize::from(key[level.depth]));
+        let behind = child_and_slot(image, level.node, found.at);
+        level = LevelSum {
+            node: behind.child,
+            depth: level.depth + 1,
+            sum: level.sum + behind.slot.0,
+        };
+        match found.kind {
             BranchKind::Absent => {
                 let end = BoundEnd::NoLeaf;
                 return Bound { level, end };
             }
             BranchKind::Leaf => {
-                let end = BoundEnd::Leaf(slot);
+                let end = BoundEnd::Leaf(behind.slot);
                 return Bound { level, end };
             }
             BranchKind::Child => {}
@@ -58,12 +54,10 @@ pub fn passed_at(image: &AcceptedImage, key: &[u8], bound: Bound) -> usize
     requires { KeyEnded image.now.bytes.now image.now.frame key.now bound }
     ensures { (result ≡ passed_there image.now.bytes.now image.now.frame key.now) × (result ≤ 1) }
 {
-    let level = bound.level;
-    let end = bound.end;
-    match end {
+    match bound.end {
         BoundEnd::NoLeaf => 0,
         BoundEnd::Node => 0,
-        BoundEnd::Leaf(slot) => one_if(high_below(image, slot, key, level.depth)),
+        BoundEnd::Leaf(slot) => usize::from(high_below(image, slot, key, bound.level.depth)),
     }
 }
 
@@ -72,11 +66,9 @@ pub fn reached_at(image: &AcceptedImage, key: &[u8], bound: Bound) -> usize
     requires { KeyEnded image.now.bytes.now image.now.frame key.now bound }
     ensures { (result ≡ reached_there image.now.bytes.now image.now.frame key.now) × (result ≤ 1) }
 {
-    let level = bound.level;
-    let end = bound.end;
-    match end {
+    match bound.end {
         BoundEnd::NoLeaf => 0,
-        BoundEnd::Node => one_if(is_exact(image, level.node)),
-        BoundEnd::Leaf(slot) => one_if(!low_above(image, slot, key, level.depth)),
+        BoundEnd::Node => usize::from(is_exact(image, bound.level.node)),
+        BoundEnd::Leaf(slot) => usize::from(!low_above(image, slot, key, bound.level.depth)),
     }
 }

@@ -1,12 +1,11 @@
 // The sum of a bound's slot numbers on the levels below where its key has led, level by level.
-ghost use Rattle.std.specs.Prelude.{◌≡◌, ◌*◌, ◌+◌, ◌≤◌, ◌<◌};
+ghost use Rattle.std.specs.Prelude.{◌≡◌, ◌*◌, ◌+◌, ◌≤◌, ◌<◌, ◌↔◌, IsTrue};
 ghost use Rattle.nav_nodes.specs.FoundBranch.{node_count};
 ghost use Rattle.query_descent.specs.Summed.{empty_key_sum};
 ghost use Rattle.query_sums.specs.Levels.{DownTo, GoneDown, Lowered, SummedBelow, SumsApart, OnChain, Passable, passed};
 
 use super::Chain;
 use super::chains::{chain_at, level_count, level_start};
-use bits::numbers::larger;
 use image::{AcceptedImage, LEVELED_VERSION, MAX_LEVELS, NodeNum};
 use nav_nodes::nodes::{counts_before, entries_before};
 
@@ -25,37 +24,33 @@ pub const AT_ROOT: LevelSum = LevelSum {
     sum: 0,
 };
 
-// The bound of a key that has ended, on a level further down: past the leaves before its node, and the same task one level lower, so that the recursion on the levels left goes at most 64 levels deep.
-// Once all nodes lie before the bound, each level has all leaves.
+// The bound of a key that has ended, on a level further down: past the leaves before its node, level by level. Once all nodes lie before the bound, each level has all leaves.
 pub fn go_down(image: &AcceptedImage, from: LevelSum, depth: usize) -> LevelSum
     requires { DownTo image.now.bytes.now image.now.frame from depth }
     ensures { GoneDown image.now.bytes.now image.now.frame from depth result }
 {
-    if from.depth == depth {
-        return from;
+    let mut level = from;
+    while level.depth < depth {
+        let node = level.node;
+        if node.0 == image.frame.dense.nodes + image.frame.sparse.nodes {
+            let sum = level.sum + (depth - level.depth) * image.frame.leaves;
+            return LevelSum { node, depth, sum };
+        }
+        let before = counts_before(image, node);
+        level = LevelSum {
+            node: NodeNum(before.children + 1),
+            depth: level.depth + 1,
+            sum: level.sum + before.leaves,
+        };
     }
-    let node = from.node;
-    if node.0 == image.frame.dense.nodes + image.frame.sparse.nodes {
-        let sum = from.sum + (depth - from.depth) * image.frame.leaves;
-        return LevelSum { node, depth, sum };
-    }
-    let before = counts_before(image, node);
-    let next = LevelSum {
-        node: NodeNum(before.children + 1),
-        depth: from.depth + 1,
-        sum: from.sum + before.leaves,
-    };
-    go_down(image, next, depth)
+    level
 }
 
 // Whether a node lies on the first level of a chain, or just behind that level.
 fn on_chain(chain: Chain, node: NodeNum) -> bool
-    ensures { OnChain chain node.0 result }
+    ensures { IsTrue result ↔ OnChain chain node.0 }
 {
-    if node.0 < chain.start {
-        return false;
-    }
-    (0 < chain.levels) & (node.0 - chain.start <= chain.width)
+    chain.start <= node.0 && node.0 - chain.start <= chain.width
 }
 
 // A bound behind all levels of a chain, on whose first level it stands.
@@ -75,12 +70,10 @@ fn past_chain(image: &AcceptedImage, from: LevelSum) -> LevelSum
     requires { DownTo image.now.bytes.now image.now.frame from 64 }
     ensures { DownTo image.now.bytes.now image.now.frame result 64 × (from.depth ≤ result.depth) × GoneDown image.now.bytes.now image.now.frame from result.depth result }
 {
-    let chain = chain_at(image, from.depth);
-    let node = from.node;
-    if on_chain(chain, node) {
-        return pass_chain(from, chain);
+    match chain_at(image, from.depth) {
+        Some(chain) if on_chain(chain, from.node) => pass_chain(from, chain),
+        _ => from,
     }
-    from
 }
 
 // The sum over all levels for a bound whose key has ended.
@@ -88,9 +81,7 @@ pub fn sum_below(image: &AcceptedImage, from: LevelSum) -> usize
     requires { (from.node.0 ≤ node_count image.now.frame) × (from.depth ≤ 64) × (from.sum ≤ from.depth * 65535 + 1) }
     ensures { SummedBelow image.now.bytes.now image.now.frame from result }
 {
-    let level = past_chain(image, from);
-    let last = go_down(image, level, MAX_LEVELS);
-    last.sum
+    go_down(image, past_chain(image, from), MAX_LEVELS).sum
 }
 
 // The sum for the empty key by LV, from the last level up: of the entries before a level's first node, those continue that stand before the first node of the level below.
@@ -101,11 +92,9 @@ fn empty_key_sum_by_table(image: &AcceptedImage) -> usize
     let levels = level_count(image);
     let mut sum = (MAX_LEVELS - levels) * image.frame.leaves;
     let mut next = image.frame.dense.nodes + image.frame.sparse.nodes;
-    let mut t = levels;
-    while 0 < t {
-        t = t - 1;
+    for t in (0..levels).rev() {
         let start = level_start(image, t);
-        sum = sum + entries_before(image, NodeNum(start)) + 1 - next;
+        sum += entries_before(image, NodeNum(start)) + 1 - next;
         next = start;
     }
     sum
@@ -136,16 +125,15 @@ fn step_both(image: &AcceptedImage, a: LevelSum, b: LevelSum) -> TwoBounds
     requires { DownTo image.now.bytes.now image.now.frame a 64 × DownTo image.now.bytes.now image.now.frame b 64 × (a.depth ≡ b.depth) × (a.depth < 64) }
     ensures { Lowered image.now.bytes.now image.now.frame a result.lower × Lowered image.now.bytes.now image.now.frame b result.upper × (result.lower.depth ≡ result.upper.depth) }
 {
-    if a.depth % LEVELS_A_LOOK == 0 {
-        let chain = chain_at(image, a.depth);
-        let below = a.node;
-        let above = b.node;
-        if on_chain(chain, below) & on_chain(chain, above) {
-            return TwoBounds {
-                lower: pass_chain(a, chain),
-                upper: pass_chain(b, chain),
-            };
-        }
+    if a.depth % LEVELS_A_LOOK == 0
+        && let Some(chain) = chain_at(image, a.depth)
+        && on_chain(chain, a.node)
+        && on_chain(chain, b.node)
+    {
+        return TwoBounds {
+            lower: pass_chain(a, chain),
+            upper: pass_chain(b, chain),
+        };
     }
     let depth = a.depth + 1;
     TwoBounds {
@@ -166,16 +154,10 @@ pub fn sums_apart(image: &AcceptedImage, a: LevelSum, b: LevelSum) -> BoundSums
     requires { DownTo image.now.bytes.now image.now.frame a 64 × DownTo image.now.bytes.now image.now.frame b 64 }
     ensures { SumsApart image.now.bytes.now image.now.frame a b result }
 {
-    let depth = larger(a.depth, b.depth);
+    let depth = a.depth.max(b.depth);
     let mut lower = go_down(image, a, depth);
     let mut upper = go_down(image, b, depth);
-    while lower.depth < MAX_LEVELS {
-        if lower.node.0 == upper.node.0 {
-            return BoundSums {
-                lower: lower.sum,
-                upper: upper.sum,
-            };
-        }
+    while lower.depth < MAX_LEVELS && lower.node.0 != upper.node.0 {
         let next = step_both(image, lower, upper);
         lower = next.lower;
         upper = next.upper;

@@ -4,7 +4,11 @@ use mathlib.Core.Path.{◌≡◌, refl, ap, ◌∙◌}
 use native.Mathlib.Omega.{arith}
 use Rattle.spec.specs.Answer.{refusal_weight}
 use Rattle.spec.specs.Build.{length_bytes, length_code}
-use Rattle.build.specs.declared.Length.{Length}
+use Rattle.std.specs.Prelude.{Result, Ok, Err}
+use Rattle.spec.specs.Answer.{answer_code}
+use Rattle.image.specs.declared.refusals.Refusal.{Refusal}
+use Rattle.image.specs.Refusals.{number_of}
+use Rattle.image.specs.Outcomes.{answer_of}
 use Rattle.build.specs.Build.{length_of}
 use Rattle.range_filter.specs.Filter.{CodedLength}
 use Rattle.spec.specs.Build as Build
@@ -14,9 +18,14 @@ few_length_bytes : (l : Build.Length) → ((n : ℕ) → l ≡ Build.bytes n →
 few_length_bytes (Build.bytes n) h = h n refl
 few_length_bytes (Build.refused r) h = omega arith
 
+-- A length and an answer of the same bytes or refusal are the same number.
+same_code : (w : Result ℕ Refusal) → answer_code (answer_of w) ≡ length_code (length_of w)
+same_code (Ok n) = refl
+same_code (Err r) = refl
+
 -- The number of a length whose bytes are few decodes.
-pub coded_length : (w : Length) (l : Build.Length) (r : ℕ) → length_of w ≡ l → r ≡ length_code (length_of w) → ((n : ℕ) → l ≡ Build.bytes n → n < refusal_weight) → CodedLength r l
+pub coded_length : (w : Result ℕ Refusal) (l : Build.Length) (r : ℕ) → length_of w ≡ l → r ≡ answer_code (answer_of w) → ((n : ℕ) → l ≡ Build.bytes n → n < refusal_weight) → CodedLength r l
 coded_length w l r e f h =
-    let c : r ≡ length_code l = f ∙ ap length_code e in
+    let c : r ≡ length_code l = f ∙ same_code w ∙ ap length_code e in
     let few = few_length_bytes l h in
     record { code = c; refusal = omega arith; bytes = omega arith }

@@ -4,37 +4,26 @@
 
 ghost use Rattle.std.specs.Prelude.{◌≡◌};
 ghost use Rattle.spec.specs.Ask.{ask};
-ghost use Rattle.spec.specs.Build.{settings_from, length_code, image_length, build};
+ghost use Rattle.spec.specs.Build.{settings_from, image_length, build};
 ghost use Rattle.spec.specs.Check.{check};
 ghost use Rattle.spec.specs.Fnv.{hash};
 ghost use Rattle.spec.specs.WalkRecords.{walk_records};
-ghost use Rattle.build.specs.Build.{length_of};
 ghost use Rattle.image.specs.Codes.{Coded};
 ghost use Rattle.range_filter.specs.Filter.{CodedLength, number_of};
 
 use ask::ask;
-use build::{Length, build, image_length};
-use check_image::{Checked, check};
+use build::{build, image_length};
+use check_image::check;
 use fnv::hash;
-use image::codes::{REFUSAL_WEIGHT, code, settings_of};
+use image::codes::{code, settings_of};
 use walk_records::write_records;
-
-// A length as one number: the number of a refusal, 0 for a length, times 2^32, plus the bytes, 0 for a refusal.
-fn code_length(length: Length) -> u64
-    ensures { result ≡ length_code (length_of length) }
-{
-    match length {
-        Length::Bytes(bytes) => bytes as u64,
-        Length::Refused(number) => (number as u64) * REFUSAL_WEIGHT,
-    }
-}
 
 // Gives the exact length of the image of a key list with the settings of a number, and writes nothing. The answer is one number: its quotient by 2^32 is the number of a refusal, 0 for a length, and its rest the bytes, 0 for a refusal.
 #[unsafe(no_mangle)]
 pub extern "C" fn range_filter_image_length(list: &[u8], settings: u64) -> u64
     ensures { CodedLength result (image_length list.now (settings_from settings)) }
 {
-    code_length(image_length(list, settings_of(settings)))
+    code(image_length(list, settings_of(settings)))
 }
 
 // Builds the image of a key list with the settings of a number, whose length is stated, into the output. The answer is one number: its quotient by 2^32 is the number of a refusal, 0 for success, and its rest the bytes written, 0 for a refusal.
@@ -58,10 +47,9 @@ pub extern "C" fn range_filter_hash(key: &[u8]) -> u64
 pub extern "C" fn range_filter_check(image: &[u8]) -> u32
     ensures { result ≡ number_of (check image.now) }
 {
-    let checked = check(image);
-    match checked {
-        Checked::Accepted => 0,
-        Checked::Refused(number) => number,
+    match check(image) {
+        Ok(()) => 0,
+        Err(refusal) => refusal.number(),
     }
 }
 

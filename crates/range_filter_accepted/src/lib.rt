@@ -7,24 +7,13 @@ ghost use Rattle.std.specs.Prelude.{◌≡◌};
 ghost use Rattle.spec.specs.Check.{verdict};
 ghost use Rattle.spec.specs.Questions.{QP, QS, QB, QR, QC};
 ghost use Rattle.spec.specs.WalkRecords.{walk_records};
-ghost use Rattle.spec.specs.OneQuestion.{ask_one, reply_number, reply_rule, key_written, numbered_code};
-ghost use Rattle.accepted.specs.Numbers.{numbered_of};
+ghost use Rattle.spec.specs.OneQuestion.{ask_one, reply_number, reply_rule, key_written};
 ghost use Rattle.image.specs.Codes.{Coded};
 ghost use Rattle.range_filter_accepted.specs.CodedNumber.{CodedNumber};
 
 use accepted::records::write_accepted;
-use accepted::{FOUND_BYTES, Number};
-use image::codes::{REFUSAL_WEIGHT, code};
-
-// A number of a reply as one number: the number of a refusal, 0 for a number of a reply, times 2^32, plus the number of a reply, 0 for a refusal.
-fn code_number(answer: Number) -> u64
-    ensures { result ≡ numbered_code (numbered_of answer) }
-{
-    match answer {
-        Number::Of(number) => number as u64,
-        Number::Refused(number) => (number as u64) * REFUSAL_WEIGHT,
-    }
-}
+use accepted::FOUND_BYTES;
+use image::codes::code;
 
 // The number in the reply to a point over an accepted image: 1 or 0.
 #[unsafe(no_mangle)]
@@ -32,7 +21,7 @@ pub extern "C" fn range_filter_accepted_point(image: &[u8], key: &[u8]) -> u64
     requires { verdict image.now ≡ 0 }
     ensures { CodedNumber result (reply_number (ask_one image.now (QP key.now))) }
 {
-    code_number(accepted::point(image, key))
+    code(accepted::point(image, key))
 }
 
 // The rule behind the reply to a point over an accepted image: 1 to 6.
@@ -41,7 +30,7 @@ pub extern "C" fn range_filter_accepted_rule(image: &[u8], key: &[u8]) -> u64
     requires { verdict image.now ≡ 0 }
     ensures { CodedNumber result (reply_rule (ask_one image.now (QP key.now))) }
 {
-    code_number(accepted::rule(image, key))
+    code(accepted::rule(image, key))
 }
 
 // The number in the reply to a range over an accepted image: 1 or 0.
@@ -50,7 +39,7 @@ pub extern "C" fn range_filter_accepted_range(image: &[u8], lower: &[u8], upper:
     requires { verdict image.now ≡ 0 }
     ensures { CodedNumber result (reply_number (ask_one image.now (QR lower.now upper.now))) }
 {
-    code_number(accepted::range(image, lower, upper))
+    code(accepted::range(image, lower, upper))
 }
 
 // The number in the reply to a begins-with question over an accepted image: 1 or 0.
@@ -59,7 +48,7 @@ pub extern "C" fn range_filter_accepted_begins_with(image: &[u8], stem: &[u8]) -
     requires { verdict image.now ≡ 0 }
     ensures { CodedNumber result (reply_number (ask_one image.now (QB stem.now))) }
 {
-    code_number(accepted::begins_with(image, stem))
+    code(accepted::begins_with(image, stem))
 }
 
 // The number in the reply to a count over an accepted image.
@@ -68,7 +57,7 @@ pub extern "C" fn range_filter_accepted_count(image: &[u8], lower: &[u8], upper:
     requires { verdict image.now ≡ 0 }
     ensures { CodedNumber result (reply_number (ask_one image.now (QC lower.now upper.now))) }
 {
-    code_number(accepted::count(image, lower, upper))
+    code(accepted::count(image, lower, upper))
 }
 
 // The number in the reply to a seek over an accepted image: the leaf's place, or FFFFFFFF for none. A byte with the length of the reply's key goes to the front of `found`, and the key behind it.
@@ -81,7 +70,7 @@ pub extern "C" fn range_filter_accepted_seek(
     requires { verdict image.now ≡ 0 }
     ensures { CodedNumber result (reply_number (ask_one image.now (QS start.now))) × (found.new ≡ key_written (ask_one image.now (QS start.now)) found.old) }
 {
-    code_number(accepted::seek(image, start, found))
+    code(accepted::seek(image, start, found))
 }
 
 // Walks an accepted image as `range_filter_walk` does, and writes what it writes.

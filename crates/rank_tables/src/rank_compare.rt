@@ -13,20 +13,17 @@ pub fn count_ranks(body: &[u8], n: usize, table: &[u8], words: usize) -> Counted
     requires { Ranked body.now n table.now words }
     ensures { (result.ones ≡ rank body.now n) × (result.agrees ≡ equal table.now (rank_table (64 * words) body.now (blocks (64 * words) n))) }
 {
-    let mut q = 0usize; // the next word
-    let mut ones = 0usize; // the ones before it
+    let mut ones = 0usize; // the ones before the word
     let mut b = 0usize; // the next entry
     let mut start = 0usize; // its block's first word
     let mut agrees = true; // whether the entries before it are right
-    while 64 * q < n {
-        let word = q;
+    for q in 0..n.div_ceil(64) {
         let before = ones;
-        q = word + 1;
-        ones = before + ones_among(body, word, n);
-        if word == start {
-            agrees = agrees & (read32(table, 4 * b) == before % MODULUS_32);
-            b = b + 1;
-            start = start + words;
+        ones += ones_among(body, q, n);
+        if q == start {
+            agrees &= read32(table, 4 * b) == before % MODULUS_32;
+            b += 1;
+            start += words;
         }
     }
     Counted { ones, agrees }

@@ -18,11 +18,9 @@ pub fn fill_ranks(out: &mut [u8], body: Span, table: usize, n: usize, words: usi
     let end = from + body.len;
     let mut q = 0usize; // the first word that is not counted yet
     let mut r = 0usize; // the ones before it
-    let mut b = 0usize; // the next entry
-    while b < n {
+    for b in 0..n {
         r = rank_from(&out[from..end], q, r, 64 * (words * b));
         q = words * b;
         write32(&mut out[table..], 4 * b, r);
-        b = b + 1;
     }
 }

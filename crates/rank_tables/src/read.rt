@@ -1,37 +1,24 @@
 // A rank or a select by a finished table: the entry before it is read, and the ones are counted on from there. Used by the navigation and by the check of number 14.
-ghost use Rattle.std.specs.Prelude.{◌≡◌, ◌≤◌};
+ghost use Rattle.std.specs.Prelude.{◌≡◌, ◌*◌, ◌≤◌, ◌<◌};
 ghost use Rattle.bits.specs.Bits.{rank, select};
 ghost use Rattle.rank_tables.specs.Reading.{RankTable, SampleTable};
 
 use bits::numbers::read32;
 use bits::ranks::rank_from;
 use bits_select::select::select_from;
-use image::{DENSE_BLOCK_BITS, SAMPLE_RATE, SPARSE_BLOCK_BITS, SPARSE_BLOCK_WORDS};
+use image::SAMPLE_RATE;
 
-// The ones before bit k of the first n bits, by a table of those before each block of 64.
-pub fn rank_64(bits: &[u8], table: &[u8], n: usize, k: usize) -> usize
-    requires { RankTable 64 n bits.now table.now × (k ≤ n) }
+// The ones before bit k of the first n bits, by a table of those before each block of so many words.
+pub fn rank_by_table<const WORDS: usize>(bits: &[u8], table: &[u8], n: usize, k: usize) -> usize
+    requires { RankTable (64 * WORDS) n bits.now table.now × (0 < WORDS) × (WORDS ≤ 8) × (k ≤ n) }
     ensures { result ≡ rank bits.now k }
 {
     if k == 0 {
         return 0;
     }
-    let b = (k - 1) / DENSE_BLOCK_BITS;
+    let b = (k - 1) / (64 * WORDS);
     let before = read32(table, 4 * b);
-    rank_from(bits, b, before, k)
-}
-
-// The ones before bit k of the first n bits, by a table of those before each block of 512.
-pub fn rank_512(bits: &[u8], table: &[u8], n: usize, k: usize) -> usize
-    requires { RankTable 512 n bits.now table.now × (k ≤ n) }
-    ensures { result ≡ rank bits.now k }
-{
-    if k == 0 {
-        return 0;
-    }
-    let b = (k - 1) / SPARSE_BLOCK_BITS;
-    let before = read32(table, 4 * b);
-    rank_from(bits, SPARSE_BLOCK_WORDS * b, before, k)
+    rank_from(bits, WORDS * b, before, k)
 }
 
 // The position of one number m, from 0, of the first n bits, by every 64th one's position, or n where there is no such one.

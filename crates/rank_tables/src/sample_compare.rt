@@ -43,18 +43,15 @@ pub fn count_samples(s: &[u8], n: usize, table: &[u8]) -> Counted
     requires { (n ≤ 8 * length s.now) × (n < 4294967296) }
     ensures { (result.ones ≡ rank s.now n) × (result.agrees ≡ equal table.now (sample_table s.now n (blocks 64 (rank s.now n)))) }
 {
-    let mut q = 0usize; // the next word
-    let mut ones = 0usize; // the ones before it
+    let mut ones = 0usize; // the ones before the word
     let mut t = 0usize; // the next entry
     let mut agrees = true; // whether the entries before it are right
-    while 64 * q < n {
-        let word = q;
+    for q in 0..n.div_ceil(64) {
         let before = ones;
-        q = word + 1;
-        ones = before + ones_among(s, word, n);
+        ones += ones_among(s, q, n);
         if SAMPLE_RATE * t < ones {
-            agrees = agrees & sample_valid(s, n, word, before, table, t);
-            t = t + 1;
+            agrees &= sample_valid(s, n, q, before, table, t);
+            t += 1;
         }
     }
     let sized = 4 * t == table.len();

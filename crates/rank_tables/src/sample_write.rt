@@ -6,7 +6,7 @@ ghost use Rattle.rank_tables.specs.TableEntries.{sample_table};
 ghost use Rattle.rank_tables.specs.Tables.{spanned, SamplesRoom};
 
 use super::Span;
-use bits::numbers::{smaller, write32};
+use bits::numbers::write32;
 use bits::ranks::rank_from;
 use bits_select::select::select_in;
 use image::SAMPLE_RATE;
@@ -19,18 +19,15 @@ pub fn fill_samples(out: &mut [u8], body: Span, bits: usize, table: usize)
 {
     let from = body.at;
     let end = from + body.len;
-    let mut at = 0usize; // the first bit that is not counted yet
-    let mut r = 0usize; // the ones before it
+    let mut ones = 0usize; // the ones before the word
     let mut t = 0usize; // the next entry
-    while at < bits {
-        let start = at;
-        let before = r;
-        at = smaller(start + 64, bits);
-        r = rank_from(&out[from..end], start / 64, before, at);
-        if SAMPLE_RATE * t < r {
-            let p = select_in(&out[from..end], bits, start / 64, SAMPLE_RATE * t - before);
+    for q in 0..bits.div_ceil(64) {
+        let before = ones;
+        ones = rank_from(&out[from..end], q, before, bits.min(64 * q + 64));
+        if SAMPLE_RATE * t < ones {
+            let p = select_in(&out[from..end], bits, q, SAMPLE_RATE * t - before);
             write32(&mut out[table..], 4 * t, p);
-            t = t + 1;
+            t += 1;
         }
     }
 }

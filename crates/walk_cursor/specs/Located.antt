@@ -10,7 +10,7 @@ use Rattle.nav_nodes.specs.FoundBranch.{node_count}
 use Rattle.nav_branches.specs.Below.{OnLevel}
 use Rattle.nav_branches.specs.Paths.{standing}
 use Rattle.nav_branches.specs.PathSteps.{BranchFrom, Ends}
-use Rattle.nav_branches.specs.declared.path_leaf.PathEnd.{PathEnd}
+use Rattle.nav_branches.specs.declared.paths.PathEnd.{PathEnd}
 use Rattle.walk_cursor.specs.Counted.{leaves_from}
 use Rattle.walk_cursor.specs.declared.branch.Range.{Range}
 

@@ -19,7 +19,7 @@ use Rattle.nav_nodes.specs.Accepted.{Accepted, nodes}
 use Rattle.nav_branches.specs.Below.{drop_next}
 use Rattle.nav_branches.specs.Paths.{node_on, onward, standing, standing_none, standing_exact, standing_open}
 use Rattle.nav_branches.specs.PathSteps.{ends_none}
-use Rattle.nav_branches.specs.declared.path_higher.Higher.{Higher}
+use Rattle.nav_branches.specs.declared.paths.Higher.{Higher}
 use Rattle.nav_branches.specs.PathContracts.{Searchable, NextHigher}
 use Rattle.walk_cursor.specs.SuffixNumber.{number_zero}
 use Rattle.walk_cursor.specs.declared.Cursor.{Cursor}

@@ -5,7 +5,7 @@ ghost use Rattle.walk_cursor.specs.Located.{Leads};
 use super::branch::take_branch;
 use image::AcceptedImage;
 use nav_branches::LeafStop;
-use nav_branches::path_leaf::PathEnd;
+use nav_branches::paths::PathEnd;
 use nav_branches::paths::root_path;
 use nav_nodes::BranchKind;
 use nav_nodes::behind::{child, slot};

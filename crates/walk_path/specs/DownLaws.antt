@@ -16,7 +16,7 @@ use Rattle.nav_branches.specs.Below.{OnLevel, level_branch}
 use Rattle.nav_branches.specs.Paths.{node_on}
 use Rattle.nav_branches.specs.PathSteps.{node_in}
 use Rattle.nav_nodes.specs.FoundBranch.{node_count, IsPosition}
-use Rattle.nav_branches.specs.declared.path_higher.Higher.{Higher}
+use Rattle.nav_branches.specs.declared.paths.Higher.{Higher}
 use Rattle.walk_path.specs.PathLaws.{Descends, descends_first, leaf_reached, next_deep, next_on, exact_reached, descends_next}
 use Rattle.walk_path.specs.declared.entries.Entry.{Entry}
 use Rattle.walk_path.specs.declared.moves.Entered.{Entered}

@@ -15,7 +15,7 @@ use Rattle.nav_nodes.specs.Positions.{branches, branch_index, child_at}
 use Rattle.nav_nodes.specs.FoundBranch.{node_count, IsFirstBranch}
 use Rattle.nav_branches.specs.Paths.{onward}
 use Rattle.nav_branches.specs.PathSteps.{HasBranch}
-use Rattle.nav_branches.specs.declared.path_higher.Higher.{Higher}
+use Rattle.nav_branches.specs.declared.paths.Higher.{Higher}
 use Rattle.nav_branches.specs.PathContracts.{Searchable, NextHigher, Reaches}
 use Rattle.walk_path.specs.declared.entries.Entry.{Entry}
 use Rattle.walk_path.specs.declared.moves.Entered.{Entered}

@@ -7,7 +7,7 @@ ghost use Rattle.walk_path.specs.Levels.{CanClimb, Climbs, CanDescend, Descended
 use super::entries::{Entry, child_at, first_at, next_at, slot_at, start_at};
 use image::{AcceptedImage, BitPos, Frame, NodeNum};
 use nav_branches::branches::is_there;
-use nav_branches::path_higher::Higher;
+use nav_branches::paths::Higher;
 use nav_branches::{LeafEnd, LeafStop};
 use nav_nodes::{BranchKind, FirstBranch, NextBranch};
 

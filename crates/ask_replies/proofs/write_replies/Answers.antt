@@ -14,7 +14,7 @@ use Rattle.ask_replies.proofs.write_replies.Goals as goal
 pub loop-at-init : goal.loop-at-init
 loop-at-init c =
     let a = c.args in
-    (omega arith, replied_start a.f.hash_width (read_leaves a.image.now) a.file.now a.out.now _ c.requires.1, search rules)
+    (omega arith, replied_start a.image.now.frame.hash_width (read_leaves a.image.now.bytes.now) a.file.now a.out.now _ c.requires.0, search rules)
 
 pub question_at-asked-requires : goal.question_at-asked-requires
 question_at-asked-requires c =
@@ -22,7 +22,7 @@ question_at-asked-requires c =
 
 pub reply_to-a-requires : goal.reply_to-a-requires
 reply_to-a-requires c =
-    (c.requires.0, c.empty_key_sum-base.ensures, c.question_at-asked.ensures.inside, c.loop-at.invariant.2)
+    (c.empty_key_sum-base.ensures, c.question_at-asked.ensures.short, c.loop-at.invariant.2)
 
 pub write_answered-to-requires : goal.write_answered-to-requires
 write_answered-to-requires c =
@@ -31,7 +31,7 @@ write_answered-to-requires c =
     let l = c.loop-at in
     let q = c.question_at-asked in
     let r = c.reply_to-a in
-    (r.ensures.0, answered_room a.f.hash_width (read_leaves a.image.now) a.file.now a.out.now p.2 l.at l.to l.out l.invariant.1 q.result.next q.result.question q.ensures.followed r.result _ r.ensures.0 r.ensures.1)
+    (r.ensures.0, answered_room a.image.now.frame.hash_width (read_leaves a.image.now.bytes.now) a.file.now a.out.now p.1 l.at l.to l.out l.invariant.1 q.result.next q.result.question q.ensures.followed r.result _ r.ensures.0 r.ensures.1)
 
 pub loop-at-smaller : goal.loop-at-smaller
 loop-at-smaller c =
@@ -46,21 +46,21 @@ loop-at-preserved c =
     let q = c.question_at-asked in
     let r = c.reply_to-a in
     let w = c.write_answered-to.ensures in
-    (q.ensures.followed.inside, answered_more a.f.hash_width (read_leaves a.image.now) a.file.now a.out.now p.2 l.at l.to l.out l.invariant.1 q.result.next q.result.question q.ensures.followed r.result _ r.ensures.0 r.ensures.1 _ _ w.0 w.1, r.ensures.0.buffer)
+    (q.ensures.followed.inside, answered_more a.image.now.frame.hash_width (read_leaves a.image.now.bytes.now) a.file.now a.out.now p.1 l.at l.to l.out l.invariant.1 q.result.next q.result.question q.ensures.followed r.result _ r.ensures.0 r.ensures.1 _ _ w.0 w.1, r.ensures.0.buffer)
 
 pub shape_of-out : goal.shape_of-out
 shape_of-out c =
     let a = c.args in
     let l = c.loop-at in
-    replied_length a.f.hash_width (read_leaves a.image.now) a.file.now a.out.now c.requires.2 l.at l.to l.out l.invariant.1
+    replied_length a.image.now.frame.hash_width (read_leaves a.image.now.bytes.now) a.file.now a.out.now c.requires.1 l.at l.to l.out l.invariant.1
 
 pub returns : goal.returns
 returns c =
     let a = c.args in
     let l = c.loop-at in
-    let e = replied_size a.f.hash_width (read_leaves a.image.now) a.file.now a.out.now l.at l.to l.out l.invariant.1 c.loop-at-test.false in
+    let e = replied_size a.image.now.frame.hash_width (read_leaves a.image.now.bytes.now) a.file.now a.out.now l.at l.to l.out l.invariant.1 c.loop-at-test.false in
     record {
       sized = e;
-      bytes = replied_end a.f.hash_width (read_leaves a.image.now) a.file.now a.out.now l.at l.to l.out l.invariant.1 c.loop-at-test.false
-          ∙ ap (λ (n : ℕ). file_replies a.f.hash_width a.image.now a.file.now ++ drop n a.out.now) (sym e);
+      bytes = replied_end a.image.now.frame.hash_width (read_leaves a.image.now.bytes.now) a.file.now a.out.now l.at l.to l.out l.invariant.1 c.loop-at-test.false
+          ∙ ap (λ (n : ℕ). file_replies a.image.now.frame.hash_width a.image.now.bytes.now a.file.now ++ drop n a.out.now) (sym e);
     }

@@ -7,7 +7,7 @@ use Rattle.ask_files.specs.ReplyLaws.{Replied}
 use Rattle.ask_replies.proofs.write_replies.Given as goal
 
 abbrev pub invariant-loop-at : goal.invariant-loop-at
-invariant-loop-at l = (l.at ≤ length l.file) × Replied l.f.hash_width (read_leaves l.image) l.file l.initial.out l.at l.to l.out × (length l.key ≡ 64)
+invariant-loop-at l = (l.at ≤ length l.file) × Replied l.image.frame.hash_width (read_leaves l.image.bytes.now) l.file l.initial.out l.at l.to l.out × (length l.key ≡ 64)
 
 abbrev pub decreases-loop-at : goal.decreases-loop-at
 decreases-loop-at l = length l.file - l.at

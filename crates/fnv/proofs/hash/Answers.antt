@@ -5,20 +5,21 @@ use Rattle.spec.specs.Fnv.{hash_from, hash}
 use Rattle.fnv.specs.HashLaws.{hash_next, hash_end}
 use Rattle.fnv.proofs.hash.Goals as goal
 
-pub loop-i-init : goal.loop-i-init
+pub loop-byte-init : goal.loop-byte-init
 unfolding hash
-loop-i-init c =
-    (omega arith, ap (λ (x : ℕ). hash_from x c.args.key.now) c.start-fnv.ensures)
+loop-byte-init c =
+    ap (λ (x : ℕ). hash_from x c.args.key.now) c.start-fnv.ensures
 
-pub loop-i-preserved : goal.loop-i-preserved
-loop-i-preserved c =
+pub loop-byte-preserved : goal.loop-byte-preserved
+loop-byte-preserved c =
     let key : Bytes = c.args.key.now in
-    let l = c.loop-i in
-    (omega arith, ap (λ (x : ℕ). hash_from x (drop (l.i + 1) key)) c.step-fnv.ensures ∙ sym (hash_next l.fnv.state key l.i (omega arith)) ∙ l.invariant.1)
+    let l = c.loop-byte in
+    let i = l.byte-index in
+    ap (λ (x : ℕ). hash_from x (drop (i + 1) key)) c.step-fnv.ensures ∙ sym (hash_next l.fnv.state key i (omega arith)) ∙ l.invariant
 
 pub returns : goal.returns
 returns c =
     let key : Bytes = c.args.key.now in
-    let l = c.loop-i in
-    let e : l.i ≡ length key = omega arith in
-    sym (hash_end l.fnv.state key) ∙ ap (λ (i : ℕ). hash_from l.fnv.state (drop i key)) (sym e) ∙ l.invariant.1
+    let l = c.loop-byte in
+    let e : l.byte-index ≡ length key = omega arith in
+    sym (hash_end l.fnv.state key) ∙ ap (λ (i : ℕ). hash_from l.fnv.state (drop i key)) (sym e) ∙ l.invariant

@@ -8,7 +8,7 @@ use Rattle.ask.proofs.lengths.replies_length.Goals as goal
 pub loop-at-init : goal.loop-at-init
 loop-at-init c =
     let a = c.args in
-    (omega arith, measured_start a.f.hash_width (read_leaves a.image.now) a.file.now _ c.requires.1)
+    (omega arith, measured_start a.image.now.frame.hash_width (read_leaves a.image.now.bytes.now) a.file.now _ c.requires)
 
 pub question_at-asked-requires : goal.question_at-asked-requires
 question_at-asked-requires c =
@@ -20,7 +20,7 @@ overflow_add-total c =
 
 pub key_length-requires : goal.key_length-requires
 key_length-requires c =
-    (c.requires.0, c.empty_key_sum-base.ensures, c.question_at-asked.ensures.inside)
+    (c.empty_key_sum-base.ensures, c.question_at-asked.ensures.short)
 
 pub overflow_add-total-in-loop-at : goal.overflow_add-total-in-loop-at
 overflow_add-total-in-loop-at c =
@@ -38,10 +38,10 @@ loop-at-preserved c =
     let q = c.question_at-asked in
     let w = q.ensures.followed in
     let k = c.key_length in
-    (w.inside, measured_more a.f.hash_width (read_leaves a.image.now) a.file.now l.at l.total q.result.next k.result (question_of a.file.now q.result.question) l.invariant.1 w k.ensures.0 k.ensures.1)
+    (w.inside, measured_more a.image.now.frame.hash_width (read_leaves a.image.now.bytes.now) a.file.now l.at l.total q.result.next k.result (question_of q.result.question) l.invariant.1 w k.ensures.0 k.ensures.1)
 
 pub returns : goal.returns
 returns c =
     let a = c.args in
     let l = c.loop-at in
-    measured_end a.f.hash_width (read_leaves a.image.now) a.file.now l.at l.total l.invariant.1 c.loop-at-test.false
+    measured_end a.image.now.frame.hash_width (read_leaves a.image.now.bytes.now) a.file.now l.at l.total l.invariant.1 c.loop-at-test.false

@@ -6,7 +6,7 @@ use Rattle.ask_files.specs.ReplyLaws.{Measured}
 use Rattle.ask.proofs.lengths.replies_length.Given as goal
 
 abbrev pub invariant-loop-at : goal.invariant-loop-at
-invariant-loop-at l = (l.at ≤ length l.file) × Measured l.f.hash_width (read_leaves l.image) l.file l.at l.total
+invariant-loop-at l = (l.at ≤ length l.file) × Measured l.image.frame.hash_width (read_leaves l.image.bytes.now) l.file l.at l.total
 
 abbrev pub decreases-loop-at : goal.decreases-loop-at
 decreases-loop-at l = length l.file - l.at

@@ -12,15 +12,14 @@ returns-then-s-at c =
 pub returns-then-n-gt-MAX_KEY_BYTES : goal.returns-then-n-gt-MAX_KEY_BYTES
 returns-then-n-gt-MAX_KEY_BYTES c =
     let a = c.args in
-    key_long a.s.now a.at c.if-s-at.false (omega (arith, c.wide-n.ensures.0))
+    key_long a.s.now a.at c.if-s-at.false (omega arith)
 
 pub returns-then-s-at-2 : goal.returns-then-s-at-2
 returns-then-s-at-2 c =
     let a = c.args in
-    key_missing a.s.now a.at c.if-s-at.false (omega (arith, c.wide-n.ensures.0)) (omega (arith, c.wide-n.ensures.0))
+    key_missing a.s.now a.at c.if-s-at.false (omega arith) (omega arith)
 
 pub returns : goal.returns
 returns c =
     let a = c.args in
-    let size = c.wide-n.ensures.0 in
-    key_end a.s.now a.at c.wide-n.result (record { inside = c.if-s-at.false; small = omega arith; fits = omega arith }) size
+    key_end a.s.now a.at c.from-n.result (record { inside = c.if-s-at.false; small = omega arith; fits = omega arith }) (omega arith)

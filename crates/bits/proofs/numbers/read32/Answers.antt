@@ -12,4 +12,4 @@ unfolding from32
 returns c =
     let a = c.args in
     let g : (k : ℕ) → get_or (drop a.at a.s.now) k 0 ≡ get_or a.s.now (a.at + k) 0 = λ k. get_or-drop a.at a.s.now k 0 in
-    (omega (arith, rw add-zero at (g 0), g 1, g 2, g 3), omega arith)
+    (omega (arith, c.from_le_bytes.ensures, rw add-zero at (g 0), g 1, g 2, g 3), omega arith)

@@ -29,7 +29,7 @@ loop-i-preserved c =
     let a = c.args in
     let i = c.loop-i.i in
     let e : i - 1 + 1 ≡ i = omega arith in
-    (omega arith, omega arith, omega (arith, value_front a.s.now (i - 1) (omega arith), ap (λ (k : ℕ). value (drop k a.s.now)) e, c.wide64.ensures.0))
+    (omega arith, omega arith, omega (arith, value_front a.s.now (i - 1) (omega arith), ap (λ (k : ℕ). value (drop k a.s.now)) e))
 
 pub returns : goal.returns
 returns c =

@@ -1,6 +1,6 @@
 -- The loop: so many ones stand from word `from` on and before word q.
 use mathlib.Core.Path.{◌≡◌, ap}
-use Prim.Native.Nat.{◌+◌, ◌*◌, ◌%◌}
+use Prim.Native.Nat.{◌+◌, ◌*◌, ◌/◌, ◌%◌}
 use native.Mathlib.Omega.{arith}
 use Rattle.bits.proofs.RankLaws.{rank_le}
 use Rattle.bits.specs.Bits.{rank}
@@ -22,12 +22,12 @@ loop-q-preserved c =
 pub overflow_add-result : goal.overflow_add-result
 overflow_add-result c =
     let a = c.args in
-    let q = c.loop-q.q in
-    omega (arith, rank_le a.s.now (64 * q + a.k % 64))
+    let e : 64 * c.loop-q.q ≡ 64 * (a.k / 64) = omega arith in
+    omega (arith, ap (rank a.s.now) e, rank_le a.s.now (64 * (a.k / 64) + a.k % 64))
 
 pub returns : goal.returns
 returns c =
     let a = c.args in
-    let q = c.loop-q.q in
-    let e : 64 * q + a.k % 64 ≡ a.k = omega arith in
-    omega (arith, ap (rank a.s.now) e)
+    let e : 64 * c.loop-q.q ≡ 64 * (a.k / 64) = omega arith in
+    let f : 64 * (a.k / 64) + a.k % 64 ≡ a.k = omega arith in
+    omega (arith, ap (rank a.s.now) e, ap (rank a.s.now) f)

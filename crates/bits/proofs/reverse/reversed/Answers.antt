@@ -8,5 +8,5 @@ use Rattle.bits.proofs.reverse.reversed.Goals as goal
 pub returns : goal.returns
 returns c =
     let b = c.args.b in
-    let e : mirror c.wide.result ≡ reversed b = ap mirror c.wide.ensures.0 ∙ mirror_reversed b (omega (arith, c.wide.ensures)) in
+    let e : mirror c.from.result ≡ reversed b = ap mirror c.from.ensures ∙ mirror_reversed b (omega (arith, c.from.ensures)) in
     (e, omega (arith, e, reversed_small b))

@@ -11,9 +11,15 @@ nonzero_rem-low c =
 pub returns-then-field-low : goal.returns-then-field-low
 returns-then-field-low c =
     let a = c.args in
-    λ x m k n p. narrowed_low x m a.w k a.field.at a.field.left a.counts n p (rw (one_shl 64 a.w (omega arith)) at c.if-field-low.true)
+    record {
+      within = omega arith;
+      narrowed = λ x m k n p. narrowed_low x m a.w k a.field.at a.field.left a.counts n p (rw (one_shl 64 a.w (omega arith)) at c.if-field-low.true);
+    }
 
 pub returns : goal.returns
 returns c =
     let a = c.args in
-    λ x m k n p. rw (one_shl 64 a.w (omega arith)) (narrowed_high x m a.w k a.field.at a.field.left a.counts n p (rw (one_shl 64 a.w (omega arith)) at c.if-field-low.false))
+    record {
+      within = omega arith;
+      narrowed = λ x m k n p. rw (one_shl 64 a.w (omega arith)) (narrowed_high x m a.w k a.field.at a.field.left a.counts n p (rw (one_shl 64 a.w (omega arith)) at c.if-field-low.false));
+    }

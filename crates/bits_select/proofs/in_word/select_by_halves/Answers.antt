@@ -11,4 +11,4 @@ half_of-bit-requires c =
 pub returns : goal.returns
 returns c =
     let a = c.args in
-    narrowed_bit a.x a.m _ _ (c.half_of-bit.ensures a.x a.m 32 (counts_digits 64 a.x) c.pair_of.ensures)
+    narrowed_bit a.x a.m _ _ (c.half_of-bit.ensures.narrowed a.x a.m 32 (counts_digits 64 a.x) c.pair_of.ensures)

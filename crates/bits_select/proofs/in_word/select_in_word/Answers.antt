@@ -22,5 +22,5 @@ pub returns : goal.returns
 returns c =
     let a = c.args in
     let f = c.pair_of-field in
-    let e : c.wide.result ≡ select_in_byte (a.x / 2 ^ f.result.at % 4) f.result.left = omega (arith, c.select_in_pair.ensures) in
+    let e : c.from.result ≡ select_in_byte (a.x / 2 ^ f.result.at % 4) f.result.left = omega (arith, c.from.ensures, c.select_in_pair.ensures) in
     rw e (narrowed_select a.x a.m f.result.at f.result.left f.ensures)

@@ -14,7 +14,7 @@ returns-then-x-ne0 c =
     let l = c.lowest_one in
     let small : Small a.s.now = λ i. (c.shared_slice_known-1.given i).fits in
     let word = c.read_word-x in
-    c.smaller.ensures
+    c.min.ensures
     ∙ select_word a.s.now small c.loop-q.q 0 (64 * c.loop-q.q) word.result (omega arith) (omega (arith, word.ensures)) a.n (rank a.s.now (64 * a.from)) l.result (omega arith) (omega arith) (omega arith)
 
 pub loop-q-preserved : goal.loop-q-preserved

@@ -21,7 +21,7 @@ returns-then-x-ne0 c =
     let j = a.from % 64 in
     let small : Small a.s.now = λ i. (c.shared_slice_known-1.given i).fits in
     let r = word_room j word.result l.result (omega arith) (omega arith) l.ensures.2 in
-    (c.smaller.ensures ∙ select_word a.s.now small (a.from / 64) j a.from (word.result / 2 ^ j) (omega arith) (ap (λ (n : ℕ). n / 2 ^ j) word.ensures) a.n (rank a.s.now a.from) l.result r (omega arith) (omega arith), omega arith, omega arith)
+    (c.min.ensures ∙ select_word a.s.now small (a.from / 64) j a.from (word.result / 2 ^ j) (omega arith) (ap (λ (n : ℕ). n / 2 ^ j) word.ensures) a.n (rank a.s.now a.from) l.result r (omega arith) (omega arith), omega arith, omega arith)
 
 pub returns : goal.returns
 returns c =

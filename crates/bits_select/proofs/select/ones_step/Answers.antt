@@ -9,14 +9,14 @@ pub loop-i-init : goal.loop-i-init
 loop-i-init c =
     let a = c.args in
     let e : 64 * (a.q + 0) ≡ 64 * a.q = omega arith in
-    (omega arith, omega arith, omega (arith, ap (rank a.s.now) e))
+    (omega arith, omega (arith, ap (rank a.s.now) e))
 
 pub loop-i-preserved : goal.loop-i-preserved
 loop-i-preserved c =
     let a = c.args in
     let l = c.loop-i in
     let e : 64 * (a.q + l.i) + 64 ≡ 64 * (a.q + (l.i + 1)) = omega arith in
-    (omega arith, omega arith, omega (arith, ap (rank a.s.now) e))
+    (omega arith, omega (arith, ap (rank a.s.now) e))
 
 pub returns : goal.returns
 returns c =

@@ -32,7 +32,7 @@ returns-then-m-before c =
     let x = word.result / 2 ^ j in
     let small : Small a.s.now = λ i. (c.shared_slice_known-1.given i).fits in
     let room = word_room j word.result t.result (omega arith) (omega arith) (one_reached x t.result (omega arith)) in
-    (c.smaller.ensures ∙ select_word a.s.now small (a.from / 64) j a.from x (omega arith) (ap (λ (n : ℕ). n / 2 ^ j) word.ensures) a.n a.m t.result room (omega arith) (omega arith), omega arith)
+    (c.min.ensures ∙ select_word a.s.now small (a.from / 64) j a.from x (omega arith) (ap (λ (n : ℕ). n / 2 ^ j) word.ensures) a.n a.m t.result room (omega arith) (omega arith), omega arith)
 
 pub returns : goal.returns
 returns c =

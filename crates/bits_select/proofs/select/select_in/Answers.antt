@@ -20,4 +20,4 @@ returns c =
     let t = c.select_by_halves in
     let word = c.read_word in
     let small : Small a.s.now = λ i. (c.shared_slice_known-1.given i).fits in
-    (c.smaller.ensures ∙ select_word a.s.now small a.q 0 (64 * a.q) word.result (omega arith) (omega (arith, word.ensures)) a.n (rank a.s.now (64 * a.q) + a.m) t.result (omega arith) (omega arith) (omega arith), omega arith)
+    (c.min.ensures ∙ select_word a.s.now small a.q 0 (64 * a.q) word.result (omega arith) (omega (arith, word.ensures)) a.n (rank a.s.now (64 * a.q) + a.m) t.result (omega arith) (omega arith) (omega arith), omega arith)

@@ -20,7 +20,7 @@ returns-then-left-w c =
     let t = c.select_in_word in
     let word = c.read_word-x in
     let small : Small a.s.now = λ i. (c.shared_slice_known-1.given i).fits in
-    (c.smaller.ensures ∙ select_word a.s.now small q 0 (64 * q) word.result (omega arith) (omega (arith, word.ensures)) a.n (rank a.s.now (64 * a.from.word) + a.from.ones) t.result (omega arith) (omega arith) (omega arith), omega arith)
+    (c.min.ensures ∙ select_word a.s.now small q 0 (64 * q) word.result (omega arith) (omega (arith, word.ensures)) a.n (rank a.s.now (64 * a.from.word) + a.from.ones) t.result (omega arith) (omega arith) (omega arith), omega arith)
 
 pub loop-q-preserved : goal.loop-q-preserved
 loop-q-preserved c =

@@ -1,10 +1,7 @@
 use mathlib.Core.Path.{◌≡◌}
-use Prim.Native.Nat.{◌+◌, ◌*◌, ◌-◌, ◌/◌, ◌≤◌}
+use Prim.Native.Nat.{◌+◌, ◌*◌, ◌/◌, ◌≤◌}
 use Rattle.bits.specs.Bits.{rank}
 use Rattle.bits_select.proofs.select.select_words.Given as goal
 
 abbrev pub invariant-loop-q : goal.invariant-loop-q
-invariant-loop-q l = (l.q ≤ l.n / 64 + 1) × (rank l.s (64 * l.q) + l.left ≡ rank l.s (64 * l.initial.q) + l.initial.left)
-
-abbrev pub decreases-loop-q : goal.decreases-loop-q
-decreases-loop-q l = l.n / 64 + 1 - l.q
+invariant-loop-q l = (l.q ≤ l.n / 64 + 1) × (rank l.s (64 * l.q) + l.left ≡ rank l.s (64 * l.fn.from.word) + l.fn.from.ones)

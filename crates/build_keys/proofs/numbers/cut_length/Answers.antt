@@ -1,17 +1,21 @@
--- The cut key's length, by cases of an exact leaf.
-use Rattle.build_laws.specs.NeighbourLeaves.{cut_exact, cut_open, cut_le}
-use mathlib.Core.Path.{sym}
+-- By cases of an exact leaf.
 use native.Mathlib.Omega.{arith}
+use Rattle.build_laws.specs.LevelEntries.{pred}
+use Rattle.build_laws.specs.NeighbourLeaves.{cut_exact, cut_open}
+use Rattle.build_laws.specs.KeyLaws.{level_exact, level_open}
 use Rattle.build_keys.proofs.numbers.cut_length.Goals as goal
 
-pub returns-then-q-n : goal.returns-then-q-n
-returns-then-q-n c =
-    let a = c.args in
-    (sym (cut_exact a.p a.q a.n c.if-q-n.true), omega arith)
+pub returns-then-k : goal.returns-then-k
+returns-then-k c =
+    let k = c.args.k in
+    let p = pred k.first in
+    let e = c.if-k.true in
+    (omega (arith, c.leaf_level-leaf.ensures.0, level_exact p k.next k.len e, cut_exact p k.next k.len e), omega (arith, c.leaf_level-leaf.ensures.0, level_exact p k.next k.len e))
 
-pub returns : goal.returns
-returns c =
+pub returns-else-k : goal.returns-else-k
+returns-else-k c =
+    let k = c.args.k in
+    let p = pred k.first in
+    let e = c.if-k.false in
     let pre = c.requires in
-    let a = c.args in
-    let e = cut_open a.p a.q a.n c.if-q-n.false in
-    (omega (arith, e, c.larger.ensures), omega (arith, e, c.larger.ensures, cut_le a.p a.q a.n pre.before pre.behind))
+    (omega (arith, c.leaf_level-leaf.ensures.0, level_open p k.next k.len e, cut_open p k.next k.len e), omega (arith, c.leaf_level-leaf.ensures.0, level_open p k.next k.len e, pre.before, pre.behind, e))

@@ -15,45 +15,39 @@ next d to cur final h t = rw (blank_more d to h) at t
 
 pub loop-d-init : goal.loop-d-init
 loop-d-init c =
-    (omega arith, record { final_is = refl; room = c.requires })
+    record { final_is = refl; room = c.requires }
 
 pub offset_bounds-cur-d : goal.offset_bounds-cur-d
 offset_bounds-cur-d c =
     let l = c.loop-d in
-    let t = next l.d c.args.to l.cur _ c.loop-d-test.true l.invariant.1 in
+    let t = next l.d c.args.to l.cur _ c.loop-d-test.true l.invariant in
     omega (arith, t.room.0)
 
 pub bounds-cur-d : goal.bounds-cur-d
 bounds-cur-d c =
     let l = c.loop-d in
-    let t = next l.d c.args.to l.cur _ c.loop-d-test.true l.invariant.1 in
+    let t = next l.d c.args.to l.cur _ c.loop-d-test.true l.invariant in
     omega (arith, t.room.0)
 
 pub overflow_add-cur : goal.overflow_add-cur
 overflow_add-cur c =
     let l = c.loop-d in
-    let t = next l.d c.args.to l.cur _ c.loop-d-test.true l.invariant.1 in
+    let t = next l.d c.args.to l.cur _ c.loop-d-test.true l.invariant in
     omega (arith, t.room.1)
-
-pub offset_bounds-cur-d-in-loop-d : goal.offset_bounds-cur-d-in-loop-d
-offset_bounds-cur-d-in-loop-d c =
-    let l = c.loop-d in
-    let t = next l.d c.args.to l.cur _ c.loop-d-test.true l.invariant.1 in
-    omega (arith, t.room.0)
 
 pub bounds-cur-d-in-loop-d : goal.bounds-cur-d-in-loop-d
 bounds-cur-d-in-loop-d c =
     let l = c.loop-d in
-    let t = next l.d c.args.to l.cur _ c.loop-d-test.true l.invariant.1 in
+    let t = next l.d c.args.to l.cur _ c.loop-d-test.true l.invariant in
     omega (arith, t.room.0)
 
 pub loop-d-preserved : goal.loop-d-preserved
 loop-d-preserved c =
     let l = c.loop-d in
-    let t = next l.d c.args.to l.cur _ c.loop-d-test.true l.invariant.1 in
-    (omega arith, count_next one_step l.d false (blank (l.d + 1) (c.args.to - (l.d + 1))) l.cur _ _ refl t)
+    let t = next l.d c.args.to l.cur _ c.loop-d-test.true l.invariant in
+    count_next one_step l.d false (blank (l.d + 1) (c.args.to - (l.d + 1))) l.cur _ _ refl t
 
 pub returns : goal.returns
 returns c =
     let l = c.loop-d in
-    count_done one_step l.cur _ (rw (blank_none l.d c.args.to c.loop-d-test.false) at l.invariant.1)
+    count_done one_step l.cur _ (rw (blank_none l.d c.args.to c.loop-d-test.false) at l.invariant)

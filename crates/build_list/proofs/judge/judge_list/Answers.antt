@@ -1,8 +1,9 @@
-use mathlib.Core.Path.{◌≡◌, sym, ap, ◌∙◌, subst}
+-- Each record gives the number of the list, or leaves it to the records behind.
+use mathlib.Core.Path.{◌≡◌, sym, ap, ◌∙◌}
 use Prim.Native.Nat.{ℕ, ◌+◌, ◌-◌}
+use Rattle.std.proofs.lemmas.Result.{err_from_is_err_and}
 use Rattle.bits.specs.Bits.{key}
-use Rattle.build_list.specs.KeyList.{RecordJudged, counted}
-use Rattle.build_list.specs.declared.KeyRecord.TheVariants.{Key, Refused as Record-refused}
+use Rattle.build_list.specs.KeyList.{counted}
 use Rattle.build_list.specs.ListLaws.{judge_start, judge_end, judge_number, judge_more}
 use native.Mathlib.Omega.{arith}
 use lib.ListN.{length, drop}
@@ -13,41 +14,19 @@ pub loop-at-init : goal.loop-at-init
 loop-at-init c =
     (omega arith, omega arith, omega arith, omega arith, judge_start c.args.s.now)
 
-pub returns-in-Refused : goal.returns-in-Refused
-returns-in-Refused c =
-    let judge-record = c.judge_record-found in
-    let found = c.in-Refused in
+pub returns-in_err-m : goal.returns-in_err-m
+returns-in_err-m c =
     let a = c.args in
     let l = c.loop-at in
-    let r : RecordJudged a.s.now l.at l.count (key a.s.now l.last l.m) (Record-refused found.r) = subst (RecordJudged a.s.now l.at l.count (key a.s.now l.last l.m)) found.is judge-record.ensures in
-    sym (l.invariant.4 ∙ judge_number a.s.now l.at l.count (key a.s.now l.last l.m) (length a.s.now - l.count) found.r (omega arith) r)
-
-pub overflow_add-at-in-Key : goal.overflow_add-at-in-Key
-overflow_add-at-in-Key c =
-    let judge-record = c.judge_record-found in
-    let found2 = c.in-Key in
-    let a = c.args in
-    let l = c.loop-at in
-    let r : RecordJudged a.s.now l.at l.count (key a.s.now l.last l.m) (Key found2.n) = subst (RecordJudged a.s.now l.at l.count (key a.s.now l.last l.m)) found2.is judge-record.ensures in
-    omega (arith, r.within)
-
-pub loop-at-smaller : goal.loop-at-smaller
-loop-at-smaller c =
-    let judge-record = c.judge_record-found in
-    let found2 = c.in-Key in
-    let a = c.args in
-    let l = c.loop-at in
-    let r : RecordJudged a.s.now l.at l.count (key a.s.now l.last l.m) (Key found2.n) = subst (RecordJudged a.s.now l.at l.count (key a.s.now l.last l.m)) found2.is judge-record.ensures in
-    omega (arith, r.within)
+    let e = err_from_is_err_and c.from_residual.result c.from_residual.ensures.1 in
+    rw (e.1, e.2) (sym (l.invariant.4 ∙ judge_number a.s.now l.at l.count (key a.s.now l.last l.m) (length a.s.now - l.count) c.in_err-m.field-0.0 (omega arith) c.in_err-m.ensures))
 
 pub loop-at-preserved : goal.loop-at-preserved
 loop-at-preserved c =
-    let judge-record = c.judge_record-found in
-    let found2 = c.in-Key in
     let a = c.args in
     let l = c.loop-at in
-    let r : RecordJudged a.s.now l.at l.count (key a.s.now l.last l.m) (Key found2.n) = subst (RecordJudged a.s.now l.at l.count (key a.s.now l.last l.m)) found2.is judge-record.ensures in
-    let n = found2.n in
+    let n = c.in_ok-m.m in
+    let r = c.in_ok-m.ensures in
     let e : length a.s.now - l.count - 1 ≡ length a.s.now - (l.count + 1) = omega arith in (
       omega arith,
       omega (arith, r.within),

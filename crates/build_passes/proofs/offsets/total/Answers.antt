@@ -1,29 +1,32 @@
 -- The sum so far is that of the levels passed.
-use Rattle.build_laws.specs.Cursors.{sums, sums_none}
-use Rattle.build_passes.specs.CounterSums.{sums_le}
-use mathlib.Core.Path.{◌≡◌, sym, ap, ◌∙◌}
-use Prim.Native.Nat.{◌+◌}
+use Rattle.build_laws.specs.Cursors.{sums}
+use Rattle.build_passes.specs.CounterSums.{sums_before, sums_in, sums_le}
+use mathlib.Core.Path.{◌≡◌, ap, ◌∙◌}
+use Prim.Native.Nat.{◌+◌, min}
 use native.Mathlib.Omega.{arith}
 use Rattle.build_laws.specs.Limits.{counters}
 use Rattle.build_passes.proofs.offsets.total.Goals as goal
 
 pub loop-d-init : goal.loop-d-init
 loop-d-init c =
-    (omega arith, sym (sums_none c.args.cnt.now c.args.lo))
+    sums_before c.args.cnt.now c.args.lo (min c.args.lo c.args.hi) (omega arith)
 
 pub overflow_add-sum : goal.overflow_add-sum
 overflow_add-sum c =
-    let loop = c.loop-d in
+    let l = c.loop-d in
     let a = c.args in
-    omega (arith, c.count_from-sum.ensures, loop.invariant.1, sums_le a.cnt.now a.lo (loop.d + 1) counters (omega arith))
+    let here : min l.d a.hi ≡ l.d = omega arith in
+    omega (arith, l.invariant, ap (sums a.cnt.now a.lo) here, sums_in a.cnt.now a.lo l.d (omega arith), sums_le a.cnt.now a.lo (l.d + 1) counters (omega arith))
 
 pub loop-d-preserved : goal.loop-d-preserved
 loop-d-preserved c =
-    (omega arith, omega (arith, c.count_from-sum.ensures, c.loop-d.invariant.1))
+    let l = c.loop-d in
+    let a = c.args in
+    let here : min l.d a.hi ≡ l.d = omega arith in
+    let next : min (l.d + 1) a.hi ≡ l.d + 1 = omega arith in
+    omega (arith, l.invariant, ap (sums a.cnt.now a.lo) here, ap (sums a.cnt.now a.lo) next, sums_in a.cnt.now a.lo l.d (omega arith))
 
 pub returns : goal.returns
 returns c =
-    let args = c.args in
-    let loop = c.loop-d in
-    let e : loop.d ≡ args.hi = omega arith in
-    c.wide32.ensures ∙ loop.invariant.1 ∙ ap (sums args.cnt.now args.lo) e
+    let all : min c.loop-d.d c.args.hi ≡ c.args.hi = omega arith in
+    c.loop-d.invariant ∙ ap (sums c.args.cnt.now c.args.lo) all

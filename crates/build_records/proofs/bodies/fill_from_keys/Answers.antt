@@ -1,12 +1,11 @@
 -- The bytes are cleared, the cursors go to the levels' starts, and the pass leaves the body, or its bits flipped, which are flipped again.
 use Prim.Native.Nat.{ℕ}
-use mathlib.Core.Path.{◌≡◌, refl, sym, ap, ◌∙◌}
+use mathlib.Core.Path.{◌≡◌, sym, ap, ◌∙◌}
 use mathlib.Core.List.{◌++◌}
 use lib.ListN.{length, drop}
 use Rattle.spec.specs.Bytes.{Bytes}
 use Rattle.theory.proofs.Lists.{bytes_drop}
 use Rattle.build_laws.specs.PackedBody.{small_of}
-use Rattle.build_records.specs.Plan.{list_body}
 use Rattle.build_records.specs.BodyWritten.{ready_list, empty_body, sums_small, pass_room, pass_leaves, flip_room, body_again, body_whole}
 use native.Mathlib.Omega.{arith}
 use borrow.Author.Rules.{rules}
@@ -16,18 +15,12 @@ use Rattle.build_records.proofs.bodies.fill_from_keys.Goals as goal
 empty_len : (body out : Bytes) (len : ℕ) → len ≡ length body → len ≡ 0 → out ≡ body ++ drop len out
 empty_len body out len e z = empty_body body out (sym e ∙ z) ∙ ap (λ (n : ℕ). body ++ drop n out) (sym z)
 
-pub returns-then-len-eq0 : goal.returns-then-len-eq0
-returns-then-len-eq0 c =
-    let a = c.args in
-    let pre = c.requires in
-    empty_len (list_body a.list.now a.plan a.body) a.out.now a.len pre.size c.if-len-eq0.true
-
 pub set_offsets-requires : goal.set_offsets-requires
 set_offsets-requires c =
     let pre = c.requires in
     let level_range = c.level_range-levels in
     let a = c.args in
-    (refl, sums_small a.list.now a.plan pre.planned a.body a.cnt.now pre.counted level_range.result level_range.ensures)
+    sums_small a.list.now a.plan pre.planned a.body a.cnt.now pre.counted level_range.result level_range.ensures
 
 pub write_keys-requires : goal.write_keys-requires
 write_keys-requires c =
@@ -37,7 +30,7 @@ write_keys-requires c =
     let cleared = c.clear in
     let starts = c.set_offsets in
     record {
-      accepted_list = (ready_list a.list.now a.plan pre.planned, starts.ensures.1, pre.planned.ready.built.hash_range, pre.planned.ready.built.real_range);
+      accepted_list = (ready_list a.list.now a.plan pre.planned, pre.planned.ready.built.hash_range, pre.planned.ready.built.real_range);
       pass_room = pass_room a.list.now a.plan pre.planned a.body a.cnt.now pre.counted level_range.result level_range.ensures starts.new.cur starts.ensures.1 starts.ensures.0
           (length cleared.new.out) (omega (arith, pre.size, pre.room, cleared.auto.out));
     }

@@ -1,6 +1,6 @@
 -- The first nodes of the levels passed stand at the front, and the sum is that of their nodes.
 use Prim.Native.Nat.{ℕ, ◌+◌}
-use mathlib.Core.Path.{◌≡◌, refl, sym, ap, ◌∙◌}
+use mathlib.Core.Path.{refl, sym, ap, ◌∙◌}
 use lib.ListN.{length, get_or}
 use Rattle.bits.specs.Bits.{overlaid}
 use Rattle.bits.proofs.Overlaying.{overlaid_nil, overlaid_behind}
@@ -48,17 +48,6 @@ loop-d-preserved c =
       omega (arith, c.start_size-at.ensures, l.invariant.2, more),
       omega (arith, start.auto.out, l.invariant.3),
       overlaid_behind a.out.now l.out _ (starts_below nodes l.d) (start_bytes w (sums nodes 0 l.d)) 0 l.at (omega (arith, l.invariant.2)) (omega (arith, c.requires.1, l.invariant.2, more, room, start_length w (sums nodes 0 l.d))) l.invariant.4
-          (start.ensures ∙ ap (λ (n : ℕ). overlaid l.out l.at (start_bytes w n)) (c.wide32.ensures ∙ l.invariant.1))
+          (start.ensures ∙ ap (λ (n : ℕ). overlaid l.out l.at (start_bytes w n)) (l.invariant.1))
           ∙ ap (overlaid a.out.now 0) (sym (starts_more nodes l.d)),
     )
-
-pub shape_of-out : goal.shape_of-out
-shape_of-out c =
-    c.loop-d.invariant.3
-
-pub returns : goal.returns
-returns c =
-    let a = c.args in
-    let l = c.loop-d in
-    let e : l.d ≡ 64 = omega arith in
-    l.invariant.4 ∙ ap (λ (d : ℕ). overlaid a.out.now 0 (starts_below a.nodes.now d)) e

@@ -7,6 +7,6 @@ pub returns-then-count-eq0 : goal.returns-then-count-eq0
 returns-then-count-eq0 c =
     sym (size_none c.args.count c.if-count-eq0.true)
 
-pub returns : goal.returns
-returns c =
+pub returns-else-count-eq0 : goal.returns-else-count-eq0
+returns-else-count-eq0 c =
     sym (size_some c.args.count c.if-count-eq0.false)

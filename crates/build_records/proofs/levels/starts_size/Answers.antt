@@ -1,8 +1,7 @@
 -- The bytes so far are those of the levels passed.
-use Prim.Native.Nat.{ℕ}
-use mathlib.Core.Path.{◌≡◌, sym, ap, ◌∙◌}
+use mathlib.Core.Path.{sym, ap}
 use lib.ListN.{length, get_or}
-use Rattle.build_records.specs.LevelRecord.{starts_below, starts_none, starts_longer, size_few}
+use Rattle.build_records.specs.LevelRecord.{starts_none, starts_longer, size_few}
 use native.Mathlib.Omega.{arith}
 use Rattle.build_records.proofs.levels.starts_size.Goals as goal
 
@@ -21,10 +20,3 @@ loop-d-preserved c =
     let l = c.loop-d in
     let r = c.start_size-len.ensures in
     (omega arith, omega (arith, r, l.invariant.1, starts_longer nodes l.d), omega (arith, r, l.invariant.2, size_few (get_or nodes l.d 0)))
-
-pub returns : goal.returns
-returns c =
-    let nodes = c.args.nodes.now in
-    let l = c.loop-d in
-    let e : l.d ≡ 64 = omega arith in
-    (l.invariant.1 ∙ ap (λ (d : ℕ). length (starts_below nodes d)) e, omega (arith, l.invariant.2))

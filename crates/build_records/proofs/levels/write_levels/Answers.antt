@@ -11,50 +11,29 @@ use Rattle.build_records.specs.RecordsWritten.{record_done}
 use native.Mathlib.Omega.{arith}
 use Rattle.build_records.proofs.levels.write_levels.Goals as goal
 
-pub returns-then-version-ne-LEVELED_VERSION : goal.returns-then-version-ne-LEVELED_VERSION
-returns-then-version-ne-LEVELED_VERSION c =
+pub returns-else-version-eq-LEVELED_VERSION : goal.returns-else-version-eq-LEVELED_VERSION
+returns-else-version-eq-LEVELED_VERSION c =
     let a = c.args in
-    overlaid_nil a.out.now a.at ∙ ap (overlaid a.out.now a.at) (sym (levels_none a.version a.nodes.now c.if-version-ne-LEVELED_VERSION.true))
-
-pub begin_record-requires : goal.begin_record-requires
-begin_record-requires c =
-    let a = c.args in
-    let room = c.requires.1 in
-    let size = levels_length a.version a.nodes.now c.if-version-ne-LEVELED_VERSION.false in
-    omega (arith, room, size)
-
-pub slice_bounds-fill_starts-count : goal.slice_bounds-fill_starts-count
-slice_bounds-fill_starts-count c =
-    let a = c.args in
-    let room = c.requires.1 in
-    let size = levels_length a.version a.nodes.now c.if-version-ne-LEVELED_VERSION.false in
-    omega (arith, room, size, c.begin_record.auto.out)
-
-pub slice_bounds-fill_starts-start : goal.slice_bounds-fill_starts-start
-slice_bounds-fill_starts-start c =
-    let a = c.args in
-    let room = c.requires.1 in
-    let size = levels_length a.version a.nodes.now c.if-version-ne-LEVELED_VERSION.false in
-    omega (arith, room, size, c.begin_record.auto.out)
+    overlaid_nil a.out.now a.at ∙ ap (overlaid a.out.now a.at) (sym (levels_none a.version a.nodes.now c.if-version-eq-LEVELED_VERSION.false))
 
 pub fill_starts-requires : goal.fill_starts-requires
 fill_starts-requires c =
     let a = c.args in
     let room = c.requires.1 in
-    let size = levels_length a.version a.nodes.now c.if-version-ne-LEVELED_VERSION.false in
+    let size = levels_length a.version a.nodes.now c.if-version-eq-LEVELED_VERSION.true in
     let o = c.begin_record.new.out in
     (c.requires.0, omega (arith, room, size, c.begin_record.auto.out, length-take-le (length o - (a.at + 6)) (drop (a.at + 6) o) (omega (arith, length-drop (a.at + 6) o)), length-drop (a.at + 6) o))
 
-pub returns : goal.returns
-returns c =
+pub returns-then-version-eq-LEVELED_VERSION : goal.returns-then-version-eq-LEVELED_VERSION
+returns-then-version-eq-LEVELED_VERSION c =
     let a = c.args in
     let room = c.requires.1 in
-    let size = levels_length a.version a.nodes.now c.if-version-ne-LEVELED_VERSION.false in
+    let size = levels_length a.version a.nodes.now c.if-version-eq-LEVELED_VERSION.true in
     let begin = c.begin_record in
     let o = begin.new.out in
     let body = starts_below a.nodes.now 64 in
     let z : a.at + 6 + 0 ≡ a.at + 6 = omega arith in
     let filled = c.fill_starts.ensures in
-    record_done a.out.now o _ 12 a.at _ body _ c.mark-m.ensures c.starts_size.ensures.0 (omega (arith, room, size)) begin.ensures
+    record_done a.out.now o _ 12 a.at _ body _ c.mark.ensures c.starts_size.ensures.0 (omega (arith, room, size)) begin.ensures
     (ap (put_mid (a.at + 6) (length o - (a.at + 6)) o) filled ∙ lent_overlaid o body (a.at + 6) 0 (omega (arith, room, size, begin.auto.out)) ∙ ap (λ (k : ℕ). overlaid o k body) z)
-    ∙ ap (overlaid a.out.now a.at) (sym (levels_some a.version a.nodes.now c.if-version-ne-LEVELED_VERSION.false))
+    ∙ ap (overlaid a.out.now a.at) (sym (levels_some a.version a.nodes.now c.if-version-eq-LEVELED_VERSION.true))

@@ -2,7 +2,8 @@
 use Prim.Native.Nat.{ℕ}
 use mathlib.Core.Path.{◌≡◌, subst, ap, ◌∙◌}
 use Rattle.spec.specs.Keys.{keys_of}
-use Rattle.build_keys.specs.CountPass.{LevelCounts, list_counts}
+use Rattle.build_keys.specs.CountPass.{list_counts}
+use Rattle.build_keys.specs.declared.LevelCounts.{LevelCounts}
 use Rattle.build_records.specs.Plan.{source_counters, Written, written_none, written_asks, written_more, written_all}
 use native.Mathlib.Omega.{arith}
 use Rattle.build_records.proofs.records.write_records.Goals as goal
@@ -13,32 +14,22 @@ loop-i-init c =
     let a = c.args in
     (omega arith, written_none a.list.now a.plan pre.0 a.out.now pre.1)
 
-pub source_of-requires : goal.source_of-requires
-source_of-requires c =
-    c.loop-i-test.true
-
 pub write_record-requires : goal.write_record-requires
 write_record-requires c =
     let pre = c.requires in
     let a = c.args in
     let l = c.loop-i in
-    let source_of = c.source_of in (
-      written_asks a.list.now a.plan pre.0 a.out.now pre.1 l.i l.out c.loop-i-test.true l.invariant.1,
-      c.counters_of-cnt.ensures ∙ ap (λ (x : LevelCounts). source_counters x source_of.result) pre.2 ∙ ap (source_counters (list_counts (keys_of a.list.now))) source_of.ensures,
+    let source = c.of_record in (
+      written_asks a.list.now a.plan pre.0 a.out.now pre.1 l.i l.out (omega arith) l.invariant.1,
+      c.counters.ensures ∙ ap (λ (x : LevelCounts). source_counters x source.result) pre.2 ∙ ap (source_counters (list_counts (keys_of a.list.now))) source.ensures,
     )
 
 pub loop-i-preserved : goal.loop-i-preserved
 loop-i-preserved c =
     let pre = c.requires in
-    let loop-test = c.loop-i-test in
-    let write-record = c.write_record in
     let a = c.args in
     let l = c.loop-i in
-    (omega arith, written_more a.list.now a.plan pre.0 a.out.now pre.1 l.i l.out _ loop-test.true l.invariant.1 write-record.ensures)
-
-pub shape_of-out : goal.shape_of-out
-shape_of-out c =
-    c.loop-i.invariant.1.size
+    (omega arith, written_more a.list.now a.plan pre.0 a.out.now pre.1 l.i l.out _ (omega arith) l.invariant.1 c.write_record.ensures)
 
 pub returns : goal.returns
 returns c =

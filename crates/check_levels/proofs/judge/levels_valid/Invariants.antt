@@ -11,7 +11,7 @@ abbrev Passed : Bytes → Frame → ℕ → ℕ → ℕ → Type 0
 Passed s f = EndsTo (branches_before s f) (node_count f) f.dense.levels f.dense.nodes
 
 abbrev pub invariant-loop-end : goal.invariant-loop-end
-invariant-loop-end l = Passed l.image l.f l.depth l.end l.above × LevelOf l.image l.f l.level × (l.level.node.0 ≤ l.end)
+invariant-loop-end l = Passed l.image.bytes.now l.image.frame l.depth l.end l.above × LevelOf l.image.bytes.now l.image.frame l.level × (l.level.node.0 ≤ l.end)
 
 abbrev pub decreases-loop-end : goal.decreases-loop-end
 decreases-loop-end l = l.nodes - l.end

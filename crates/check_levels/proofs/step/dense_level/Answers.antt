@@ -33,8 +33,8 @@ pub returns-then-node-f : goal.returns-then-node-f
 returns-then-node-f c =
     let a = c.args in
     let p = c.requires in
-    let s : Bytes = a.image.now in
-    (dense_level s a.f p.0 _ p.3 refl (dense_children s a.f p.0.frame ∙ ap (λ (n : ℕ). rank (dc_body s a.f) (256 * n)) (sym c.if-node-f.true)), refl)
+    let s : Bytes = a.image.now.bytes.now in
+    (dense_level s a.image.now.frame p.0 _ p.3 refl (dense_children s a.image.now.frame p.0.frame ∙ ap (λ (n : ℕ). rank (dc_body s a.image.now.frame) (256 * n)) (sym c.if-node-f.true)), refl)
 
 pub overflow_mul-f : goal.overflow_mul-f
 overflow_mul-f c =
@@ -43,7 +43,7 @@ overflow_mul-f c =
 pub part-dc-requires : goal.part-dc-requires
 part-dc-requires c =
     let a = c.args in
-    (within a.image.now a.f c.requires.0.frame).dc
+    (within a.image.now.bytes.now a.image.now.frame c.requires.0.frame).dc
 
 pub overflow_mul-from : goal.overflow_mul-from
 overflow_mul-from c =
@@ -57,11 +57,11 @@ pub rank_on-branches-requires : goal.rank_on-branches-requires
 rank_on-branches-requires c =
     let a = c.args in
     let p = c.requires in
-    let s : Bytes = a.image.now in
+    let s : Bytes = a.image.now.bytes.now in
     rw c.part-dc.ensures (
-      room p.3 (bodies_sized s a.f p.0.frame).dc,
+      room p.3 (bodies_sized s a.image.now.frame p.0.frame).dc,
       scaled p.2.from,
-      level_dense s a.f p.0 a.from p.1 (not_behind p.2.from p.3),
+      level_dense s a.image.now.frame p.0 a.from p.1 (not_behind p.2.from p.3),
     )
 
 pub returns : goal.returns
@@ -69,4 +69,4 @@ returns c =
     let a = c.args in
     let p = c.requires in
     let r = rw c.part-dc.ensures at c.rank_on-branches.ensures in
-    (dense_level a.image.now a.f p.0 _ p.3 refl r, refl)
+    (dense_level a.image.now.bytes.now a.image.now.frame p.0 _ p.3 refl r, refl)

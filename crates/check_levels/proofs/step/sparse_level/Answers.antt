@@ -27,26 +27,26 @@ sum_fits a b h l m g = record { fits = omega arith }
 pub part-sc-requires : goal.part-sc-requires
 part-sc-requires c =
     let a = c.args in
-    rw c.bytes_for.ensures (within a.image.now a.f c.requires.0.frame).sc
+    rw c.bytes_for.ensures (within a.image.now.bytes.now a.image.now.frame c.requires.0.frame).sc
 
 pub part-sb-requires : goal.part-sb-requires
 part-sb-requires c =
     let a = c.args in
-    rw c.bytes_for-2.ensures (within a.image.now a.f c.requires.0.frame).sb
+    rw c.bytes_for-2.ensures (within a.image.now.bytes.now a.image.now.frame c.requires.0.frame).sb
 
 pub select_from-entry-requires : goal.select_from-entry-requires
 select_from-entry-requires c =
     let part2 = c.part-sb in
-    let excess = c.excess-starts in
+    let excess = c.saturating_sub-starts in
     let a = c.args in
     let p = c.requires in
-    let s : Bytes = a.image.now in
-    let sb : part2.result.now ≡ sb_body s a.f = lent_part s a.f.sb part2.ensures c.bytes_for-2.ensures in
+    let s : Bytes = a.image.now.bytes.now in
+    let sb : part2.result.now ≡ sb_body s a.image.now.frame = lent_part s a.image.now.frame.sb part2.ensures c.bytes_for-2.ensures in
     rw sb (
-      bits_room a.f.sparse.entries (sb_body s a.f) (bodies_sized s a.f p.0.frame).sb,
-      entry_within s a.f p.0 a.from p.1,
-      excess.ensures ∙ level_nodes s a.f p.0 a.from p.1,
-      rw excess.ensures (less a.f.dense.nodes p.2.from),
+      bits_room a.image.now.frame.sparse.entries (sb_body s a.image.now.frame) (bodies_sized s a.image.now.frame p.0.frame).sb,
+      entry_within s a.image.now.frame p.0 a.from p.1,
+      excess.ensures ∙ level_nodes s a.image.now.frame p.0 a.from p.1,
+      rw excess.ensures (less a.image.now.frame.dense.nodes p.2.from),
     )
 
 pub rank_on-requires : goal.rank_on-requires
@@ -55,14 +55,14 @@ rank_on-requires c =
     let part2 = c.part-sb in
     let a = c.args in
     let p = c.requires in
-    let s : Bytes = a.image.now in
-    let sc : part.result.now ≡ sc_body s a.f = lent_part s a.f.sc part.ensures c.bytes_for.ensures in
-    let sb : part2.result.now ≡ sb_body s a.f = lent_part s a.f.sb part2.ensures c.bytes_for-2.ensures in
+    let s : Bytes = a.image.now.bytes.now in
+    let sc : part.result.now ≡ sc_body s a.image.now.frame = lent_part s a.image.now.frame.sc part.ensures c.bytes_for.ensures in
+    let sb : part2.result.now ≡ sb_body s a.image.now.frame = lent_part s a.image.now.frame.sb part2.ensures c.bytes_for-2.ensures in
     let e = rw sb at c.select_from-entry.ensures in
     rw sc (
-      room e.1 (bits_room a.f.sparse.entries (sc_body s a.f) (bodies_sized s a.f p.0.frame).sc),
-      rw e.0 (entry_up s a.f p.0 a.from p.1 a.node.0 p.2.from),
-      c.excess-children.ensures ∙ level_children s a.f p.0 a.from p.1,
+      room e.1 (bits_room a.image.now.frame.sparse.entries (sc_body s a.image.now.frame) (bodies_sized s a.image.now.frame p.0.frame).sc),
+      rw e.0 (entry_up s a.image.now.frame p.0 a.from p.1 a.node.0 p.2.from),
+      c.saturating_sub-children.ensures ∙ level_children s a.image.now.frame p.0 a.from p.1,
     )
 
 pub overflow_add-branches : goal.overflow_add-branches
@@ -71,10 +71,10 @@ overflow_add-branches c =
     let select-from = c.select_from-entry in
     let a = c.args in
     let p = c.requires in
-    let s : Bytes = a.image.now in
-    let sc : part.result.now ≡ sc_body s a.f = lent_part s a.f.sc part.ensures c.bytes_for.ensures in
+    let s : Bytes = a.image.now.bytes.now in
+    let sc : part.result.now ≡ sc_body s a.image.now.frame = lent_part s a.image.now.frame.sc part.ensures c.bytes_for.ensures in
     let r = rw sc at c.rank_on.ensures in
-    sum_fits (dense_children s a.f p.0.frame) (rank_le (dc_body s a.f) (256 * a.f.dense.nodes)) p.0.frame.dense (rw r (rank_le (sc_body s a.f) select-from.result)) select-from.ensures.1 p.0.frame.entries
+    sum_fits (dense_children s a.image.now.frame p.0.frame) (rank_le (dc_body s a.image.now.frame) (256 * a.image.now.frame.dense.nodes)) p.0.frame.dense (rw r (rank_le (sc_body s a.image.now.frame) select-from.result)) select-from.ensures.1 p.0.frame.entries
 
 pub returns : goal.returns
 returns c =
@@ -82,12 +82,12 @@ returns c =
     let part2 = c.part-sb in
     let a = c.args in
     let p = c.requires in
-    let s : Bytes = a.image.now in
-    let sc : part.result.now ≡ sc_body s a.f = lent_part s a.f.sc part.ensures c.bytes_for.ensures in
-    let sb : part2.result.now ≡ sb_body s a.f = lent_part s a.f.sb part2.ensures c.bytes_for-2.ensures in
+    let s : Bytes = a.image.now.bytes.now in
+    let sc : part.result.now ≡ sc_body s a.image.now.frame = lent_part s a.image.now.frame.sc part.ensures c.bytes_for.ensures in
+    let sb : part2.result.now ≡ sb_body s a.image.now.frame = lent_part s a.image.now.frame.sb part2.ensures c.bytes_for-2.ensures in
     let e = rw sb at c.select_from-entry.ensures in
     let r = rw sc at c.rank_on.ensures in
-    (sparse_level s a.f p.0 _ (below p.3) p.2.to e.0 (ap (λ (k : ℕ). a.f.totals.children + k) r), refl)
+    (sparse_level s a.image.now.frame p.0 _ (below p.3) p.2.to e.0 (ap (λ (k : ℕ). a.image.now.frame.totals.children + k) r), refl)
   where
     below : {x y : ℕ} → x < y → x ≤ y
     below h = omega arith

@@ -15,7 +15,7 @@ few e h = record { fits = omega arith }
 
 pub part-sc-requires : goal.part-sc-requires
 part-sc-requires c =
-    rw c.bytes_for.ensures (within c.args.image.now c.args.f c.requires.0.louds.frame).sc
+    rw c.bytes_for.ensures (within c.args.image.now.bytes.now c.args.image.now.frame c.requires.0.louds.frame).sc
 
 pub overflow_mul-blocks_for : goal.overflow_mul-blocks_for
 overflow_mul-blocks_for c =
@@ -23,15 +23,15 @@ overflow_mul-blocks_for c =
 
 pub part-ranks-requires : goal.part-ranks-requires
 part-ranks-requires c =
-    rw c.blocks_for.ensures (within c.args.image.now c.args.f c.requires.0.louds.frame).rs
+    rw c.blocks_for.ensures (within c.args.image.now.bytes.now c.args.image.now.frame c.requires.0.louds.frame).rs
 
-pub rank_512-requires : goal.rank_512-requires
-rank_512-requires c =
+pub rank_by_table-requires : goal.rank_by_table-requires
+rank_by_table-requires c =
     let a = c.args in
-    let s : Bytes = a.image.now in
-    let small : Small s = λ i. (c.shared_slice_known-1.given i).fits in
-    rw (c.part-sc.ensures, c.bytes_for.ensures, c.part-ranks.ensures, c.blocks_for.ensures) (entries_ranked s a.f c.requires.0 small, omega arith)
+    let s : Bytes = a.image.now.bytes.now in
+    let small : Small s = c.args.image.now.in_range in
+    rw (c.part-sc.ensures, c.bytes_for.ensures, c.part-ranks.ensures, c.blocks_for.ensures) (entries_ranked s a.image.now.frame c.requires.0 small, omega arith, omega arith, omega arith)
 
 pub returns : goal.returns
 returns c =
-    rw (c.part-sc.ensures, c.bytes_for.ensures) at c.rank_512.ensures
+    rw (c.part-sc.ensures, c.bytes_for.ensures) at c.rank_by_table.ensures

@@ -7,18 +7,18 @@ use Rattle.check_levels.proofs.tables.first_entry.Goals as goal
 
 pub part-sb-requires : goal.part-sb-requires
 part-sb-requires c =
-    rw c.bytes_for.ensures (within c.args.image.now c.args.f c.requires.louds.frame).sb
+    rw c.bytes_for.ensures (within c.args.image.now.bytes.now c.args.image.now.frame c.requires.louds.frame).sb
 
 pub part-samples-requires : goal.part-samples-requires
 part-samples-requires c =
-    rw c.blocks_for.ensures (within c.args.image.now c.args.f c.requires.louds.frame).ts
+    rw c.blocks_for.ensures (within c.args.image.now.bytes.now c.args.image.now.frame c.requires.louds.frame).ts
 
 pub select_64-requires : goal.select_64-requires
 select_64-requires c =
     let a = c.args in
-    let s : Bytes = a.image.now in
-    let small : Small s = λ i. (c.shared_slice_known-1.given i).fits in
-    rw (c.part-sb.ensures, c.bytes_for.ensures, c.part-samples.ensures, c.blocks_for.ensures) (starts_sampled s a.f c.requires small)
+    let s : Bytes = a.image.now.bytes.now in
+    let small : Small s = c.args.image.now.in_range in
+    rw (c.part-sb.ensures, c.bytes_for.ensures, c.part-samples.ensures, c.blocks_for.ensures) (starts_sampled s a.image.now.frame c.requires small)
 
 pub returns : goal.returns
 returns c =

@@ -24,21 +24,21 @@ below h = omega arith
 pub children_before-requires : goal.children_before-requires
 children_before-requires c =
     let a = c.args in
-    let s = a.image.now in
-    let m = a.node.0 - a.f.dense.nodes in
+    let s = a.image.now.bytes.now in
+    let m = a.node.0 - a.image.now.frame.dense.nodes in
     let v = c.requires.0.louds in
-    (c.requires.0, rw c.first_entry-entry.ensures (select_found (sb_body s a.f) a.f.sparse.entries m (before_end v.count c.requires.1 c.requires.2)).0)
+    (c.requires.0, rw c.first_entry-entry.ensures (select_found (sb_body s a.image.now.frame) a.image.now.frame.sparse.entries m (before_end v.count c.requires.1 c.requires.2)).0)
 
 pub overflow_add-branches : goal.overflow_add-branches
 overflow_add-branches c =
     let a = c.args in
-    let s = a.image.now in
+    let s = a.image.now.bytes.now in
     let v = c.requires.0.louds in
-    let m = a.node.0 - a.f.dense.nodes in
-    let e : c.first_entry-entry.result.0 < a.f.sparse.entries = rw c.first_entry-entry.ensures (select_found (sb_body s a.f) a.f.sparse.entries m (before_end v.count c.requires.1 c.requires.2)).0 in
-    sum_fits (dense_children s a.f v.frame) (rank_le (dc_body s a.f) (256 * a.f.dense.nodes)) v.frame.dense (rw c.children_before.ensures (rank_le (sc_body s a.f) c.first_entry-entry.result.0)) e v.frame.entries
+    let m = a.node.0 - a.image.now.frame.dense.nodes in
+    let e : c.first_entry-entry.result.0 < a.image.now.frame.sparse.entries = rw c.first_entry-entry.ensures (select_found (sb_body s a.image.now.frame) a.image.now.frame.sparse.entries m (before_end v.count c.requires.1 c.requires.2)).0 in
+    sum_fits (dense_children s a.image.now.frame v.frame) (rank_le (dc_body s a.image.now.frame) (256 * a.image.now.frame.dense.nodes)) v.frame.dense (rw c.children_before.ensures (rank_le (sc_body s a.image.now.frame) c.first_entry-entry.result.0)) e v.frame.entries
 
 pub returns : goal.returns
 returns c =
     let a = c.args in
-    (sparse_level a.image.now a.f c.requires.0.louds _ c.requires.1 (below c.requires.2) c.first_entry-entry.ensures (ap (λ (k : ℕ). a.f.totals.children + k) c.children_before.ensures), refl)
+    (sparse_level a.image.now.bytes.now a.image.now.frame c.requires.0.louds _ c.requires.1 (below c.requires.2) c.first_entry-entry.ensures (ap (λ (k : ℕ). a.image.now.frame.totals.children + k) c.children_before.ensures), refl)

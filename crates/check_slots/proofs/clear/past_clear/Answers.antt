@@ -108,21 +108,6 @@ returns-then-not-few_clear c =
     sym (l.invariant.1 ∙ from_fail (test a.sv.now a.leaves a.width a.skip) l.v a.to.0 t
     (sym (slot_behind a.sv.now a.leaves a.width l.v (inside t p.2) p.0.few_leaves p.0.narrow a.skip l.invariant.0) ∙ sym c.few_clear.ensures ∙ c.if-not-few_clear.true))
 
-pub overflow_add-v : goal.overflow_add-v
-overflow_add-v c =
-    let p = c.requires in
-    next_fits c.loop-v-test.true p.2 p.0.few_leaves
-  where
-    next_fits : {v to n : ℕ} → v < to → to ≤ n → n ≤ 65535 → Fits w64 (v + 1)
-    next_fits h l m = record { fits = omega arith }
-
-pub loop-v-smaller : goal.loop-v-smaller
-loop-v-smaller c =
-    closer c.loop-v-test.true
-  where
-    closer : {v to : ℕ} → v < to → to - (v + 1) < to - v
-    closer h = omega arith
-
 pub loop-v-preserved : goal.loop-v-preserved
 loop-v-preserved c =
     let a = c.args in

@@ -13,7 +13,4 @@ abbrev test : Bytes → ℕ → ℕ → ℕ → ℕ → Bool
 test sv leaves width skip = slot_clear skip width (bits sv (leaves * width))
 
 abbrev pub invariant-loop-v : goal.invariant-loop-v
-invariant-loop-v l = (l.skip < l.width) × (all_from (test l.sv l.leaves l.width l.skip) l.initial.v (l.to.0 - l.initial.v) ≡ all_from (test l.sv l.leaves l.width l.skip) l.v (l.to.0 - l.v))
-
-abbrev pub decreases-loop-v : goal.decreases-loop-v
-decreases-loop-v l = l.to.0 - l.v
+invariant-loop-v l = (l.skip < l.width) × (all_from (test l.sv l.leaves l.width l.skip) l.fn.from.0 (l.fn.to.0 - l.fn.from.0) ≡ all_from (test l.sv l.leaves l.width l.skip) l.v (l.fn.to.0 - l.v))

@@ -35,14 +35,14 @@ next_exact-node-requires c =
 pub loop-node-init : goal.loop-node-init
 loop-node-init c =
     let a = c.args in
-    let s : Bytes = a.image.now in
+    let s : Bytes = a.image.now.bytes.now in
     let e = c.next_exact-node.ensures in
-    let z : a.f.dense.nodes - 0 ≡ a.f.dense.nodes = omega arith in (
+    let z : a.image.now.frame.dense.nodes - 0 ≡ a.image.now.frame.dense.nodes = omega arith in (
       e.high,
-      sym (e.none ∙ rank_zero (dp_body s a.f)),
+      sym (e.none ∙ rank_zero (dp_body s a.image.now.frame)),
       e.set,
-      ap (all_from (dense_exact (clear_at s a.f 0) (dl_body s a.f) (dc_body s a.f) (dp_body s a.f)) 0) (sym z)
-          ∙ skip_clear (clear_at s a.f 0) (dl_body s a.f) (dc_body s a.f) (dp_body s a.f) 0 c.next_exact-node.result.0 a.f.dense.nodes e.low e.high e.none,
+      ap (all_from (dense_exact (clear_at s a.image.now.frame 0) (dl_body s a.image.now.frame) (dc_body s a.image.now.frame) (dp_body s a.image.now.frame)) 0) (sym z)
+          ∙ skip_clear (clear_at s a.image.now.frame 0) (dl_body s a.image.now.frame) (dc_body s a.image.now.frame) (dp_body s a.image.now.frame) 0 c.next_exact-node.result.0 a.image.now.frame.dense.nodes e.low e.high e.none,
     )
 
 pub exact_clear-requires : goal.exact_clear-requires
@@ -53,24 +53,24 @@ exact_clear-requires c =
 pub returns-then-not-exact_clear : goal.returns-then-not-exact_clear
 returns-then-not-exact_clear c =
     let a = c.args in
-    let s : Bytes = a.image.now in
+    let s : Bytes = a.image.now.bytes.now in
     let l = c.loop-node in
     let t = c.loop-node-test.true in
-    sym (l.invariant.3 ∙ exact_fails (clear_at s a.f 0) (dl_body s a.f) (dc_body s a.f) (dp_body s a.f) a.f.dense.nodes l.node.0 t (l.invariant.2 t) (sym c.exact_clear.ensures ∙ c.if-not-exact_clear.true))
+    sym (l.invariant.3 ∙ exact_fails (clear_at s a.image.now.frame 0) (dl_body s a.image.now.frame) (dc_body s a.image.now.frame) (dp_body s a.image.now.frame) a.image.now.frame.dense.nodes l.node.0 t (l.invariant.2 t) (sym c.exact_clear.ensures ∙ c.if-not-exact_clear.true))
 
 pub overflow_add-exacts : goal.overflow_add-exacts
 overflow_add-exacts c =
     let a = c.args in
     let p = c.requires in
     let l = c.loop-node in
-    fit (exact_few (dp_body a.image.now a.f) a.f.dense.nodes l.node.0 l.exacts c.loop-node-test.true p.0.frame.dense l.invariant.1).1
+    fit (exact_few (dp_body a.image.now.bytes.now a.image.now.frame) a.image.now.frame.dense.nodes l.node.0 l.exacts c.loop-node-test.true p.0.frame.dense l.invariant.1).1
 
 pub overflow_add-node : goal.overflow_add-node
 overflow_add-node c =
     let a = c.args in
     let p = c.requires in
     let l = c.loop-node in
-    fit (exact_few (dp_body a.image.now a.f) a.f.dense.nodes l.node.0 l.exacts c.loop-node-test.true p.0.frame.dense l.invariant.1).0
+    fit (exact_few (dp_body a.image.now.bytes.now a.image.now.frame) a.image.now.frame.dense.nodes l.node.0 l.exacts c.loop-node-test.true p.0.frame.dense l.invariant.1).0
 
 pub next_exact-node-requires-in-loop-node : goal.next_exact-node-requires-in-loop-node
 next_exact-node-requires-in-loop-node c =
@@ -83,19 +83,19 @@ loop-node-smaller c =
 pub loop-node-preserved : goal.loop-node-preserved
 loop-node-preserved c =
     let a = c.args in
-    let s : Bytes = a.image.now in
+    let s : Bytes = a.image.now.bytes.now in
     let l = c.loop-node in
     let t = c.loop-node-test.true in
     let e = c.next_exact-node-in-loop-node.ensures in (
       e.high,
-      exact_count (clear_at s a.f 0) (dl_body s a.f) (dc_body s a.f) (dp_body s a.f) a.f.dense.nodes l.node.0 t (l.invariant.2 t) c.next_exact-node-in-loop-node.result.0 l.exacts l.invariant.1 e.none,
+      exact_count (clear_at s a.image.now.frame 0) (dl_body s a.image.now.frame) (dc_body s a.image.now.frame) (dp_body s a.image.now.frame) a.image.now.frame.dense.nodes l.node.0 t (l.invariant.2 t) c.next_exact-node-in-loop-node.result.0 l.exacts l.invariant.1 e.none,
       e.set,
-      l.invariant.3 ∙ exact_passes (clear_at s a.f 0) (dl_body s a.f) (dc_body s a.f) (dp_body s a.f) a.f.dense.nodes l.node.0 t (l.invariant.2 t) c.next_exact-node-in-loop-node.result.0 e.low e.high e.none (sym c.exact_clear.ensures ∙ c.if-not-exact_clear.false),
+      l.invariant.3 ∙ exact_passes (clear_at s a.image.now.frame 0) (dl_body s a.image.now.frame) (dc_body s a.image.now.frame) (dp_body s a.image.now.frame) a.image.now.frame.dense.nodes l.node.0 t (l.invariant.2 t) c.next_exact-node-in-loop-node.result.0 e.low e.high e.none (sym c.exact_clear.ensures ∙ c.if-not-exact_clear.false),
     )
 
 pub returns : goal.returns
 returns c =
     let a = c.args in
-    let s : Bytes = a.image.now in
+    let s : Bytes = a.image.now.bytes.now in
     let l = c.loop-node in
-    sym (l.invariant.3 ∙ from_end (dense_exact (clear_at s a.f 0) (dl_body s a.f) (dc_body s a.f) (dp_body s a.f)) l.node.0 a.f.dense.nodes c.loop-node-test.false)
+    sym (l.invariant.3 ∙ from_end (dense_exact (clear_at s a.image.now.frame 0) (dl_body s a.image.now.frame) (dc_body s a.image.now.frame) (dp_body s a.image.now.frame)) l.node.0 a.image.now.frame.dense.nodes c.loop-node-test.false)

@@ -16,7 +16,7 @@ abbrev left : Bytes → Frame → ℕ → Bool
 left s f i = all_from (dense_exact (clear_at s f 0) (dl_body s f) (dc_body s f) (dp_body s f)) i (f.dense.nodes - i)
 
 abbrev pub invariant-loop-node : goal.invariant-loop-node
-invariant-loop-node l = (l.node.0 ≤ l.f.dense.nodes) × (l.exacts ≡ rank (dp_body l.image l.f) l.node.0) × (l.node.0 < l.f.dense.nodes → bit_at (dp_body l.image l.f) l.node.0 ≡ 1) × (dense_clear l.image l.f ≡ left l.image l.f l.node.0)
+invariant-loop-node l = (l.node.0 ≤ l.image.frame.dense.nodes) × (l.exacts ≡ rank (dp_body l.image.bytes.now l.image.frame) l.node.0) × (l.node.0 < l.image.frame.dense.nodes → bit_at (dp_body l.image.bytes.now l.image.frame) l.node.0 ≡ 1) × (dense_clear l.image.bytes.now l.image.frame ≡ left l.image.bytes.now l.image.frame l.node.0)
 
 abbrev pub decreases-loop-node : goal.decreases-loop-node
-decreases-loop-node l = l.f.dense.nodes - l.node.0
+decreases-loop-node l = l.image.frame.dense.nodes - l.node.0

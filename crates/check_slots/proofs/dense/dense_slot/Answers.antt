@@ -27,13 +27,13 @@ pub overflow_add-f : goal.overflow_add-f
 overflow_add-f c =
     let p = c.requires in
     let a = c.args in
-    before_end (entries_within a.image.now a.f p.0 a.node.0 p.2.within).0 c.well_formed.0.0
+    before_end (entries_within a.image.now.bytes.now a.image.now.frame p.0 a.node.0 p.2.within).0 (omega arith)
 
 pub read32-labels-requires : goal.read32-labels-requires
 read32-labels-requires c =
     let p = c.requires in
     let a = c.args in
-    (entries_within a.image.now a.f p.0 a.node.0 p.2.within).0
+    (entries_within a.image.now.bytes.now a.image.now.frame p.0 a.node.0 p.2.within).0
 
 pub overflow_mul-node-2 : goal.overflow_mul-node-2
 overflow_mul-node-2 c =
@@ -44,22 +44,22 @@ pub overflow_add-f-2 : goal.overflow_add-f-2
 overflow_add-f-2 c =
     let p = c.requires in
     let a = c.args in
-    before_end (entries_within a.image.now a.f p.0 a.node.0 p.2.within).1 c.well_formed.0.0
+    before_end (entries_within a.image.now.bytes.now a.image.now.frame p.0 a.node.0 p.2.within).1 (omega arith)
 
 pub read32-children-requires : goal.read32-children-requires
 read32-children-requires c =
     let p = c.requires in
     let a = c.args in
-    (entries_within a.image.now a.f p.0 a.node.0 p.2.within).1
+    (entries_within a.image.now.bytes.now a.image.now.frame p.0 a.node.0 p.2.within).1
 
 pub overflow_add-result-2 : goal.overflow_add-result-2
 overflow_add-result-2 c =
     let a = c.args in
     let p = c.requires in
-    all_fits c.read32-labels.ensures.1 p.2.exacts_before (rank_le (dp_body a.image.now a.f) a.node.0) p.2.within p.0.frame.dense
+    all_fits c.read32-labels.ensures.1 p.2.exacts_before (rank_le (dp_body a.image.now.bytes.now a.image.now.frame) a.node.0) p.2.within p.0.frame.dense
 
 pub returns : goal.returns
 returns c =
     let a = c.args in
     let p = c.requires in
-    slot_read a.image.now a.f p.0 p.1 a.node.0 _ _ _ p.2.within c.read32-labels.ensures.0 c.read32-children.ensures.0 p.2.exacts_before
+    slot_read a.image.now.bytes.now a.image.now.frame p.0 p.1 a.node.0 _ _ _ p.2.within c.read32-labels.ensures.0 c.read32-children.ensures.0 p.2.exacts_before

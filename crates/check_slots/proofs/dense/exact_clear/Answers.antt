@@ -17,23 +17,23 @@ bits_fit h = record { fits = omega arith }
 pub overflow_mul-f : goal.overflow_mul-f
 overflow_mul-f c =
     let a = c.args in
-    bits_fit (within a.image.now a.f c.requires.0.frame).slots
+    bits_fit (within a.image.now.bytes.now a.image.now.frame c.requires.0.frame).slots
 
 pub part-sv-requires : goal.part-sv-requires
 part-sv-requires c =
     let a = c.args in
-    rw c.bytes_for.ensures (within a.image.now a.f c.requires.0.frame).sv
+    rw c.bytes_for.ensures (within a.image.now.bytes.now a.image.now.frame c.requires.0.frame).sv
 
 pub slot_clear-requires : goal.slot_clear-requires
 slot_clear-requires c =
     let a = c.args in
-    let s : Bytes = a.image.now in
-    let sv : c.part-sv.result.now ≡ sv_body s a.f = lent_part s a.f.sv c.part-sv.ensures c.bytes_for.ensures in
-    rw sv (slots_sized s a.f c.requires.0.frame)
+    let s : Bytes = a.image.now.bytes.now in
+    let sv : c.part-sv.result.now ≡ sv_body s a.image.now.frame = lent_part s a.image.now.frame.sv c.part-sv.ensures c.bytes_for.ensures in
+    rw sv (slots_sized s a.image.now.frame c.requires.0.frame)
 
 pub returns : goal.returns
 returns c =
     let a = c.args in
-    let s : Bytes = a.image.now in
-    let sv : c.part-sv.result.now ≡ sv_body s a.f = lent_part s a.f.sv c.part-sv.ensures c.bytes_for.ensures in
-    (rw sv at c.slot_clear.ensures) ∙ ap (clear_at s a.f 0) c.dense_slot-slot.ensures
+    let s : Bytes = a.image.now.bytes.now in
+    let sv : c.part-sv.result.now ≡ sv_body s a.image.now.frame = lent_part s a.image.now.frame.sv c.part-sv.ensures c.bytes_for.ensures in
+    (rw sv at c.slot_clear.ensures) ∙ ap (clear_at s a.image.now.frame 0) c.dense_slot-slot.ensures

@@ -34,7 +34,7 @@ pub loop-depth-init : goal.loop-depth-init
 loop-depth-init c =
     let a = c.args in
     let p = c.requires in
-    (omega arith, p.2, first_level a.image.now a.f p.0 p.1 _ refl refl refl)
+    (omega arith, p.2, first_level a.image.now.bytes.now a.image.now.frame p.0 p.1 _ refl refl refl)
 
 pub returns-then-nodes-level : goal.returns-then-nodes-level
 returns-then-nodes-level c =
@@ -43,7 +43,7 @@ returns-then-nodes-level c =
     let l = c.loop-depth in
     let i = l.invariant.2 in
     let e : l.depth + (a.number - l.depth) ≡ a.number = rejoin l.invariant.1 in
-    record { level = i.level; start = i.start ∙ sym (no_level a.image.now a.f p.0 p.1 (a.number - l.depth) l.depth (rw i.start at c.if-nodes-level.true)) ∙ ap (level_start a.image.now a.f) e }
+    record { level = i.level; start = i.start ∙ sym (no_level a.image.now.bytes.now a.image.now.frame p.0 p.1 (a.number - l.depth) l.depth (rw i.start at c.if-nodes-level.true)) ∙ ap (level_start a.image.now.bytes.now a.image.now.frame) e }
 
 pub level_below-level-requires : goal.level_below-level-requires
 level_below-level-requires c =
@@ -53,8 +53,8 @@ level_below-level-requires c =
     let t = inside c.loop-depth-test.true p.3 in (
       p.0,
       p.1,
-      next_behind a.image.now a.f p.0 p.1 l.depth t l.level l.invariant.2 c.if-nodes-level.false,
-      level_first a.image.now a.f p.0 p.1 l.depth l.invariant.0 (weaken t) l.level l.invariant.2,
+      next_behind a.image.now.bytes.now a.image.now.frame p.0 p.1 l.depth t l.level l.invariant.2 c.if-nodes-level.false,
+      level_first a.image.now.bytes.now a.image.now.frame p.0 p.1 l.depth l.invariant.0 (weaken t) l.level l.invariant.2,
     )
 
 pub overflow_add-depth : goal.overflow_add-depth
@@ -79,7 +79,7 @@ loop-depth-preserved c =
     let t = c.loop-depth-test.true in
     let r = c.level_below-level in
     let e : suc l.depth ≡ l.depth + 1 = omega arith in
-    (more l.invariant.0, next t, rw e at (level_below a.image.now a.f p.0 p.1 l.depth (inside t p.3) l.level l.invariant.2 c.if-nodes-level.false r.result r.ensures.0 r.ensures.1))
+    (more l.invariant.0, next t, rw e at (level_below a.image.now.bytes.now a.image.now.frame p.0 p.1 l.depth (inside t p.3) l.level l.invariant.2 c.if-nodes-level.false r.result r.ensures.0 r.ensures.1))
 
 pub returns : goal.returns
 returns c =

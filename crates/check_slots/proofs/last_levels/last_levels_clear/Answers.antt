@@ -58,7 +58,7 @@ pub returns-then-f-level : goal.returns-then-f-level
 returns-then-f-level c =
     let a = c.args in
     let p = c.requires in
-    sym (last_levels_none a.image.now a.f p.0 p.1 (rw c.find_level-level.ensures.start at c.if-f-level.true))
+    sym (last_levels_none a.image.now.bytes.now a.image.now.frame p.0 p.1 (rw c.find_level-level.ensures.start at c.if-f-level.true))
 
 pub level_below-below-requires : goal.level_below-below-requires
 level_below-below-requires c =
@@ -68,8 +68,8 @@ level_below-below-requires c =
     let low = (shallow p.0.frame.dense_range).0 in (
       p.0,
       p.1,
-      next_behind a.image.now a.f p.0 p.1 62 (omega arith) r.result r.ensures c.if-f-level.false,
-      level_first a.image.now a.f p.0 p.1 62 low (omega arith) r.result r.ensures,
+      next_behind a.image.now.bytes.now a.image.now.frame p.0 p.1 62 (omega arith) r.result r.ensures c.if-f-level.false,
+      level_first a.image.now.bytes.now a.image.now.frame p.0 p.1 62 low (omega arith) r.result r.ensures,
     )
 
 pub first_slot-from-requires : goal.first_slot-from-requires
@@ -78,7 +78,7 @@ first_slot-from-requires c =
     let p = c.requires in
     let r = c.find_level-level in
     let n = c.level_below-below in
-    (rooms a.image.now a.f p.0 p.1 r.result r.ensures c.if-f-level.false n.result n.ensures.0 n.ensures.1).0
+    (rooms a.image.now.bytes.now a.image.now.frame p.0 p.1 r.result r.ensures c.if-f-level.false n.result n.ensures.0 n.ensures.1).0
 
 pub first_slot-to-requires : goal.first_slot-to-requires
 first_slot-to-requires c =
@@ -86,17 +86,17 @@ first_slot-to-requires c =
     let p = c.requires in
     let r = c.find_level-level in
     let n = c.level_below-below in
-    (rooms a.image.now a.f p.0 p.1 r.result r.ensures c.if-f-level.false n.result n.ensures.0 n.ensures.1).1
+    (rooms a.image.now.bytes.now a.image.now.frame p.0 p.1 r.result r.ensures c.if-f-level.false n.result n.ensures.0 n.ensures.1).1
 
 pub overflow_mul-f : goal.overflow_mul-f
 overflow_mul-f c =
     let a = c.args in
-    bits_fit (within a.image.now a.f c.requires.0.frame).slots
+    bits_fit (within a.image.now.bytes.now a.image.now.frame c.requires.0.frame).slots
 
 pub part-sv-requires : goal.part-sv-requires
 part-sv-requires c =
     let a = c.args in
-    rw c.bytes_for.ensures (within a.image.now a.f c.requires.0.frame).sv
+    rw c.bytes_for.ensures (within a.image.now.bytes.now a.image.now.frame c.requires.0.frame).sv
 
 pub overflow_add-f-2 : goal.overflow_add-f-2
 overflow_add-f-2 c =
@@ -104,35 +104,35 @@ overflow_add-f-2 c =
 
 pub past_clear-requires : goal.past_clear-requires
 past_clear-requires c =
-    let lent : c.part-sv.result.now ≡ sv_body c.args.image.now c.args.f = lent_part c.args.image.now c.args.f.sv c.part-sv.ensures c.bytes_for.ensures in
-    let slots : (c.first_slot-from.result.0 ≡ level_slot c.args.image.now c.args.f 62) × (c.first_slot-to.result.0 ≡ level_slot c.args.image.now c.args.f 63) = let p = c.requires in
+    let lent : c.part-sv.result.now ≡ sv_body c.args.image.now.bytes.now c.args.image.now.frame = lent_part c.args.image.now.bytes.now c.args.image.now.frame.sv c.part-sv.ensures c.bytes_for.ensures in
+    let slots : (c.first_slot-from.result.0 ≡ level_slot c.args.image.now.bytes.now c.args.image.now.frame 62) × (c.first_slot-to.result.0 ≡ level_slot c.args.image.now.bytes.now c.args.image.now.frame 63) = let p = c.requires in
     let r = c.find_level-level in
     let n = c.level_below-below in
-    let t = starts c.args.image.now c.args.f p.0 p.1 r.result r.ensures c.if-f-level.false n.result n.ensures.0 n.ensures.1 in
+    let t = starts c.args.image.now.bytes.now c.args.image.now.frame p.0 p.1 r.result r.ensures c.if-f-level.false n.result n.ensures.0 n.ensures.1 in
     (c.first_slot-from.ensures ∙ t.0, c.first_slot-to.ensures ∙ t.1) in
     let p = c.requires in
-    (rw lent (slots_sized c.args.image.now c.args.f p.0.frame), same_order slots.0 slots.1 (slots_up c.args.image.now c.args.f p.0 p.1), same_order slots.1 refl (slots_within c.args.image.now c.args.f p.0 p.1))
+    (rw lent (slots_sized c.args.image.now.bytes.now c.args.image.now.frame p.0.frame), same_order slots.0 slots.1 (slots_up c.args.image.now.bytes.now c.args.image.now.frame p.0 p.1), same_order slots.1 refl (slots_within c.args.image.now.bytes.now c.args.image.now.frame p.0 p.1))
 
 pub past_clear-requires-2 : goal.past_clear-requires-2
 past_clear-requires-2 c =
-    let lent : c.part-sv.result.now ≡ sv_body c.args.image.now c.args.f = lent_part c.args.image.now c.args.f.sv c.part-sv.ensures c.bytes_for.ensures in
-    let slots : (c.first_slot-from.result.0 ≡ level_slot c.args.image.now c.args.f 62) × (c.first_slot-to.result.0 ≡ level_slot c.args.image.now c.args.f 63) = let p = c.requires in
+    let lent : c.part-sv.result.now ≡ sv_body c.args.image.now.bytes.now c.args.image.now.frame = lent_part c.args.image.now.bytes.now c.args.image.now.frame.sv c.part-sv.ensures c.bytes_for.ensures in
+    let slots : (c.first_slot-from.result.0 ≡ level_slot c.args.image.now.bytes.now c.args.image.now.frame 62) × (c.first_slot-to.result.0 ≡ level_slot c.args.image.now.bytes.now c.args.image.now.frame 63) = let p = c.requires in
     let r = c.find_level-level in
     let n = c.level_below-below in
-    let t = starts c.args.image.now c.args.f p.0 p.1 r.result r.ensures c.if-f-level.false n.result n.ensures.0 n.ensures.1 in
+    let t = starts c.args.image.now.bytes.now c.args.image.now.frame p.0 p.1 r.result r.ensures c.if-f-level.false n.result n.ensures.0 n.ensures.1 in
     (c.first_slot-from.ensures ∙ t.0, c.first_slot-to.ensures ∙ t.1) in
     let p = c.requires in
-    (rw lent (slots_sized c.args.image.now c.args.f p.0.frame), same_order slots.1 refl (slots_within c.args.image.now c.args.f p.0 p.1), omega arith)
+    (rw lent (slots_sized c.args.image.now.bytes.now c.args.image.now.frame p.0.frame), same_order slots.1 refl (slots_within c.args.image.now.bytes.now c.args.image.now.frame p.0 p.1), omega arith)
 
 pub returns : goal.returns
 returns c =
-    let lent : c.part-sv.result.now ≡ sv_body c.args.image.now c.args.f = lent_part c.args.image.now c.args.f.sv c.part-sv.ensures c.bytes_for.ensures in
-    let slots : (c.first_slot-from.result.0 ≡ level_slot c.args.image.now c.args.f 62) × (c.first_slot-to.result.0 ≡ level_slot c.args.image.now c.args.f 63) = let p = c.requires in
+    let lent : c.part-sv.result.now ≡ sv_body c.args.image.now.bytes.now c.args.image.now.frame = lent_part c.args.image.now.bytes.now c.args.image.now.frame.sv c.part-sv.ensures c.bytes_for.ensures in
+    let slots : (c.first_slot-from.result.0 ≡ level_slot c.args.image.now.bytes.now c.args.image.now.frame 62) × (c.first_slot-to.result.0 ≡ level_slot c.args.image.now.bytes.now c.args.image.now.frame 63) = let p = c.requires in
     let r = c.find_level-level in
     let n = c.level_below-below in
-    let t = starts c.args.image.now c.args.f p.0 p.1 r.result r.ensures c.if-f-level.false n.result n.ensures.0 n.ensures.1 in
+    let t = starts c.args.image.now.bytes.now c.args.image.now.frame p.0 p.1 r.result r.ensures c.if-f-level.false n.result n.ensures.0 n.ensures.1 in
     (c.first_slot-from.ensures ∙ t.0, c.first_slot-to.ensures ∙ t.1) in
-    let s = c.args.image.now in
-    let f = c.args.f in
+    let s = c.args.image.now.bytes.now in
+    let f = c.args.image.now.frame in
     ap₂ ◌&&◌ (rw lent at c.past_clear.ensures) (rw lent at c.past_clear-2.ensures)
     ∙ ap₂ (λ (v w : ℕ). all_from (clear_at s f (f.hash_width + 8)) v (w - v) && all_from (clear_at s f f.hash_width) w (f.leaves - w)) slots.0 slots.1

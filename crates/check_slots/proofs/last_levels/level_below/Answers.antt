@@ -31,9 +31,9 @@ overflow_add-f c =
 
 pub level_by_tables-requires : goal.level_by_tables-requires
 level_by_tables-requires c =
-    (indexed c.args.image.now c.args.f c.requires.0, still_sparse c.requires.3 c.requires.2.from, c.if-node-f.true)
+    (indexed c.args.image.now.bytes.now c.args.image.now.frame c.requires.0, still_sparse c.requires.3 c.requires.2.from, c.if-node-f.true)
 
 pub returns : goal.returns
 returns c =
     let e = at_end c.requires.2.to c.if-node-f.false in
-    (level_end c.args.image.now c.args.f c.requires.0 c.requires.1 _ e refl e, refl)
+    (level_end c.args.image.now.bytes.now c.args.image.now.frame c.requires.0 c.requires.1 _ e refl e, refl)

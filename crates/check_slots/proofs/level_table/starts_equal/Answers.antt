@@ -15,7 +15,7 @@ overflow_add-nodes c =
 
 pub loop-start-init : goal.loop-start-init
 loop-start-init c =
-    left_first c.args.image.now c.args.f c.requires.0 c.requires.1 _ refl refl refl
+    left_first c.args.image.now.bytes.now c.args.image.now.frame c.requires.0 c.requires.1 _ refl refl refl
 
 pub overflow_sub-image : goal.overflow_sub-image
 overflow_sub-image c =
@@ -23,7 +23,7 @@ overflow_sub-image c =
 
 pub returns-then-image-at-lt-LEVEL_START_BYTES : goal.returns-then-image-at-lt-LEVEL_START_BYTES
 returns-then-image-at-lt-LEVEL_START_BYTES c =
-    sym (left_short c.args.image.now c.args.f c.requires.0 c.requires.1 c.loop-start.level c.loop-start.start c.loop-start.at c.loop-start.invariant c.loop-start-test.true c.if-image-at-lt-LEVEL_START_BYTES.true)
+    sym (left_short c.args.image.now.bytes.now c.args.image.now.frame c.requires.0 c.requires.1 c.loop-start.level c.loop-start.start c.loop-start.at c.loop-start.invariant c.loop-start-test.true c.if-image-at-lt-LEVEL_START_BYTES.true)
 
 pub read32-requires : goal.read32-requires
 read32-requires c =
@@ -31,44 +31,44 @@ read32-requires c =
 
 pub returns-then-read32-start : goal.returns-then-read32-start
 returns-then-read32-start c =
-    sym (left_other c.args.image.now c.args.f c.requires.0 c.requires.1 c.loop-start.level c.loop-start.start c.loop-start.at c.loop-start.invariant c.loop-start-test.true (λ e. c.if-read32-start.true (c.read32.ensures.0 ∙ e)))
+    sym (left_other c.args.image.now.bytes.now c.args.image.now.frame c.requires.0 c.requires.1 c.loop-start.level c.loop-start.start c.loop-start.at c.loop-start.invariant c.loop-start-test.true (λ e. c.if-read32-start.true (c.read32.ensures.0 ∙ e)))
 
 pub next_level-level-requires : goal.next_level-level-requires
 next_level-level-requires c =
-    let s = c.args.image.now in
-    let f = c.args.f in
+    let s = c.args.image.now.bytes.now in
+    let f = c.args.image.now.frame in
     let j = c.requires.0 in
     ((bits_pass s f j).louds, sym (and_both (dense_agrees s f) (sparse_agrees s f) (sym (tables_are s f j.frame) ∙ j.ranks)).1, c.loop-start.invariant.known, c.loop-start.invariant.before, c.loop-start-test.true)
 
 pub overflow_add-start : goal.overflow_add-start
 overflow_add-start c =
-    let found : LevelsLeft c.args.image.now c.args.f c.next_level-level.result (c.next_level-level.result.branches + 1) (c.loop-start.at + 4) = let s = c.args.image.now in
-    let small : Small s = λ i. (c.shared_slice_known-1.given i).fits in
-    left_next s c.args.f c.requires.0 c.requires.1 c.loop-start.level c.loop-start.start c.loop-start.at c.loop-start.invariant c.loop-start-test.true small c.if-image-at-lt-LEVEL_START_BYTES.false (sym c.read32.ensures.0 ∙ c.if-read32-start.false) c.next_level-level.result c.next_level-level.ensures.0 c.next_level-level.ensures.1 in
+    let found : LevelsLeft c.args.image.now.bytes.now c.args.image.now.frame c.next_level-level.result (c.next_level-level.result.branches + 1) (c.loop-start.at + 4) = let s = c.args.image.now.bytes.now in
+    let small : Small s = c.args.image.now.in_range in
+    left_next s c.args.image.now.frame c.requires.0 c.requires.1 c.loop-start.level c.loop-start.start c.loop-start.at c.loop-start.invariant c.loop-start-test.true small c.if-image-at-lt-LEVEL_START_BYTES.false (sym c.read32.ensures.0 ∙ c.if-read32-start.false) c.next_level-level.result c.next_level-level.ensures.0 c.next_level-level.ensures.1 in
     let o = c.requires.0.frame in
     omega (arith, found.start_in, o.dense, o.sparse)
 
 pub overflow_add-at : goal.overflow_add-at
 overflow_add-at c =
-    let found : LevelsLeft c.args.image.now c.args.f c.next_level-level.result (c.next_level-level.result.branches + 1) (c.loop-start.at + 4) = let s = c.args.image.now in
-    let small : Small s = λ i. (c.shared_slice_known-1.given i).fits in
-    left_next s c.args.f c.requires.0 c.requires.1 c.loop-start.level c.loop-start.start c.loop-start.at c.loop-start.invariant c.loop-start-test.true small c.if-image-at-lt-LEVEL_START_BYTES.false (sym c.read32.ensures.0 ∙ c.if-read32-start.false) c.next_level-level.result c.next_level-level.ensures.0 c.next_level-level.ensures.1 in
+    let found : LevelsLeft c.args.image.now.bytes.now c.args.image.now.frame c.next_level-level.result (c.next_level-level.result.branches + 1) (c.loop-start.at + 4) = let s = c.args.image.now.bytes.now in
+    let small : Small s = c.args.image.now.in_range in
+    left_next s c.args.image.now.frame c.requires.0 c.requires.1 c.loop-start.level c.loop-start.start c.loop-start.at c.loop-start.invariant c.loop-start-test.true small c.if-image-at-lt-LEVEL_START_BYTES.false (sym c.read32.ensures.0 ∙ c.if-read32-start.false) c.next_level-level.result c.next_level-level.ensures.0 c.next_level-level.ensures.1 in
     omega (arith, found.room)
 
 pub loop-start-smaller : goal.loop-start-smaller
 loop-start-smaller c =
-    let found : LevelsLeft c.args.image.now c.args.f c.next_level-level.result (c.next_level-level.result.branches + 1) (c.loop-start.at + 4) = let s = c.args.image.now in
-    let small : Small s = λ i. (c.shared_slice_known-1.given i).fits in
-    left_next s c.args.f c.requires.0 c.requires.1 c.loop-start.level c.loop-start.start c.loop-start.at c.loop-start.invariant c.loop-start-test.true small c.if-image-at-lt-LEVEL_START_BYTES.false (sym c.read32.ensures.0 ∙ c.if-read32-start.false) c.next_level-level.result c.next_level-level.ensures.0 c.next_level-level.ensures.1 in
+    let found : LevelsLeft c.args.image.now.bytes.now c.args.image.now.frame c.next_level-level.result (c.next_level-level.result.branches + 1) (c.loop-start.at + 4) = let s = c.args.image.now.bytes.now in
+    let small : Small s = c.args.image.now.in_range in
+    left_next s c.args.image.now.frame c.requires.0 c.requires.1 c.loop-start.level c.loop-start.start c.loop-start.at c.loop-start.invariant c.loop-start-test.true small c.if-image-at-lt-LEVEL_START_BYTES.false (sym c.read32.ensures.0 ∙ c.if-read32-start.false) c.next_level-level.result c.next_level-level.ensures.0 c.next_level-level.ensures.1 in
     omega (arith, found.room)
 
 pub loop-start-preserved : goal.loop-start-preserved
 loop-start-preserved c =
-    let found : LevelsLeft c.args.image.now c.args.f c.next_level-level.result (c.next_level-level.result.branches + 1) (c.loop-start.at + 4) = let s = c.args.image.now in
-    let small : Small s = λ i. (c.shared_slice_known-1.given i).fits in
-    left_next s c.args.f c.requires.0 c.requires.1 c.loop-start.level c.loop-start.start c.loop-start.at c.loop-start.invariant c.loop-start-test.true small c.if-image-at-lt-LEVEL_START_BYTES.false (sym c.read32.ensures.0 ∙ c.if-read32-start.false) c.next_level-level.result c.next_level-level.ensures.0 c.next_level-level.ensures.1 in
+    let found : LevelsLeft c.args.image.now.bytes.now c.args.image.now.frame c.next_level-level.result (c.next_level-level.result.branches + 1) (c.loop-start.at + 4) = let s = c.args.image.now.bytes.now in
+    let small : Small s = c.args.image.now.in_range in
+    left_next s c.args.image.now.frame c.requires.0 c.requires.1 c.loop-start.level c.loop-start.start c.loop-start.at c.loop-start.invariant c.loop-start-test.true small c.if-image-at-lt-LEVEL_START_BYTES.false (sym c.read32.ensures.0 ∙ c.if-read32-start.false) c.next_level-level.result c.next_level-level.ensures.0 c.next_level-level.ensures.1 in
     found
 
 pub returns : goal.returns
 returns c =
-    sym (left_done c.args.image.now c.args.f c.requires.0 c.requires.1 c.loop-start.level c.loop-start.start c.loop-start.at c.loop-start.invariant c.loop-start-test.false)
+    sym (left_done c.args.image.now.bytes.now c.args.image.now.frame c.requires.0 c.requires.1 c.loop-start.level c.loop-start.start c.loop-start.at c.loop-start.invariant c.loop-start-test.false)

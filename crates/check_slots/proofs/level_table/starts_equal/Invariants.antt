@@ -5,7 +5,7 @@ use Rattle.check_slots.specs.LevelsLeft.{LevelsLeft}
 use Rattle.check_slots.proofs.level_table.starts_equal.Given as goal
 
 abbrev pub invariant-loop-start : goal.invariant-loop-start
-invariant-loop-start l = LevelsLeft l.image l.f l.level l.start l.at
+invariant-loop-start l = LevelsLeft l.image.bytes.now l.image.frame l.level l.start l.at
 
 abbrev pub decreases-loop-start : goal.decreases-loop-start
-decreases-loop-start l = length l.image - l.at
+decreases-loop-start l = length l.image.bytes.now - l.at

@@ -13,7 +13,4 @@ abbrev left : Bytes → Frame → ℕ → Bool
 left s f i = all_from (sparse_test s f) i (f.sparse.entries - i)
 
 abbrev pub invariant-loop-number : goal.invariant-loop-number
-invariant-loop-number l = (sparse_clear l.image l.f ≡ left l.image l.f (64 * l.number)) × (l.number ≤ l.last)
-
-abbrev pub decreases-loop-number : goal.decreases-loop-number
-decreases-loop-number l = l.last - l.number
+invariant-loop-number l = (sparse_clear l.image.bytes.now l.image.frame ≡ left l.image.bytes.now l.image.frame (64 * l.number)) × (l.number ≤ l.last)

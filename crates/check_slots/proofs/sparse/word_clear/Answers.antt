@@ -18,52 +18,52 @@ bits_fit h = record { fits = omega arith }
 
 pub part-sl-requires : goal.part-sl-requires
 part-sl-requires c =
-    (within c.args.image.now c.args.f c.requires.0.frame).sl
+    (within c.args.image.now.bytes.now c.args.image.now.frame c.requires.0.frame).sl
 
 pub part-sc-requires : goal.part-sc-requires
 part-sc-requires c =
     let a = c.args in
-    rw c.bytes_for.ensures (within a.image.now a.f c.requires.0.frame).sc
+    rw c.bytes_for.ensures (within a.image.now.bytes.now a.image.now.frame c.requires.0.frame).sc
 
 pub overflow_mul-f : goal.overflow_mul-f
 overflow_mul-f c =
     let a = c.args in
-    bits_fit (within a.image.now a.f c.requires.0.frame).slots
+    bits_fit (within a.image.now.bytes.now a.image.now.frame c.requires.0.frame).slots
 
 pub part-sv-requires : goal.part-sv-requires
 part-sv-requires c =
     let a = c.args in
-    rw c.bytes_for-2.ensures (within a.image.now a.f c.requires.0.frame).sv
+    rw c.bytes_for-2.ensures (within a.image.now.bytes.now a.image.now.frame c.requires.0.frame).sv
 
 pub overflow_sub-z : goal.overflow_sub-z
 overflow_sub-z c =
     let a = c.args in
     let p = c.requires in
-    dense_room a.image.now a.f p.0 p.1
+    dense_room a.image.now.bytes.now a.image.now.frame p.0 p.1
 
 pub children_before-children-requires : goal.children_before-children-requires
 children_before-children-requires c =
     let a = c.args in
     let p = c.requires in
-    (indexed a.image.now a.f p.0, p.2)
+    (indexed a.image.now.bytes.now a.image.now.frame p.0, p.2)
 
 pub starts_clear-requires : goal.starts_clear-requires
 starts_clear-requires c =
     let part2 = c.part-sc in
     let part3 = c.part-sv in
     let a = c.args in
-    let s : Bytes = a.image.now in
-    let sc : part2.result.now ≡ sc_body s a.f = lent_part s a.f.sc part2.ensures c.bytes_for.ensures in
-    let sv : part3.result.now ≡ sv_body s a.f = lent_part s a.f.sv part3.ensures c.bytes_for-2.ensures in
+    let s : Bytes = a.image.now.bytes.now in
+    let sc : part2.result.now ≡ sc_body s a.image.now.frame = lent_part s a.image.now.frame.sc part2.ensures c.bytes_for.ensures in
+    let sv : part3.result.now ≡ sv_body s a.image.now.frame = lent_part s a.image.now.frame.sv part3.ensures c.bytes_for-2.ensures in
     let p = c.requires in
-    let z = bodies_sized s a.f p.0.frame in
+    let z = bodies_sized s a.image.now.frame p.0.frame in
     rw (c.part-sl.ensures, sc, sv) (
       record {
         labels = z.sl;
-        children = bits_room a.f.sparse.entries (sc_body s a.f) z.sc;
-        slots = slots_sized s a.f p.0.frame;
+        children = bits_room a.image.now.frame.sparse.entries (sc_body s a.image.now.frame) z.sc;
+        slots = slots_sized s a.image.now.frame p.0.frame;
         few_entries = p.0.frame.entries;
-        few_dense = dense_few s a.f p.0 p.1;
+        few_dense = dense_few s a.image.now.frame p.0 p.1;
       },
       record { some = p.2; children = c.children_before-children.ensures },
     )
@@ -73,8 +73,8 @@ returns c =
     let part2 = c.part-sc in
     let part3 = c.part-sv in
     let a = c.args in
-    let s : Bytes = a.image.now in
-    let sc : part2.result.now ≡ sc_body s a.f = lent_part s a.f.sc part2.ensures c.bytes_for.ensures in
-    let sv : part3.result.now ≡ sv_body s a.f = lent_part s a.f.sv part3.ensures c.bytes_for-2.ensures in
+    let s : Bytes = a.image.now.bytes.now in
+    let sc : part2.result.now ≡ sc_body s a.image.now.frame = lent_part s a.image.now.frame.sc part2.ensures c.bytes_for.ensures in
+    let sv : part3.result.now ≡ sv_body s a.image.now.frame = lent_part s a.image.now.frame.sv part3.ensures c.bytes_for-2.ensures in
     let p = c.requires in
-    (rw (c.part-sl.ensures, sc, sv) at c.starts_clear.ensures) (sb_body s a.f) p.3
+    (rw (c.part-sl.ensures, sc, sv) at c.starts_clear.ensures) (sb_body s a.image.now.frame) p.3

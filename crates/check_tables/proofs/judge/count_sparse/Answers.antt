@@ -1,7 +1,5 @@
 -- The bodies and their tables lie within the image, so what is counted and compared is what document 01 asks.
 use Prim.Native.Nat.{ℕ, ◌<◌}
-use mathlib.Core.Path.{ap₂}
-use mathlib.Core.Bool.{◌&&◌}
 use native.Mathlib.Omega.{arith}
 use Rattle.image.specs.FrameOf.{within}
 use Rattle.check_tables.proofs.judge.count_sparse.Goals as goal
@@ -12,19 +10,13 @@ few h = omega arith
 pub ranks_at-children-requires : goal.ranks_at-children-requires
 ranks_at-children-requires c =
     let a = c.args in
-    let h = c.requires in
-    let w = within a.image.now a.f h in
+    let h = a.image.now.framed in
+    let w = within a.image.now.bytes.now a.image.now.frame h in
     record { some = omega arith; few = omega arith; short = few h.entries; body = w.sc; ranks = w.rs }
 
 pub samples_at-starts-requires : goal.samples_at-starts-requires
 samples_at-starts-requires c =
     let a = c.args in
-    let h = c.requires in
-    let w = within a.image.now a.f h in
+    let h = a.image.now.framed in
+    let w = within a.image.now.bytes.now a.image.now.frame h in
     record { short = h.entries; body = w.sb; samples = rw c.blocks_for-samples.ensures w.ts }
-
-pub returns : goal.returns
-returns c =
-    let samples = rw c.blocks_for-samples.ensures at c.samples_at-starts.ensures in
-    let ranks = c.ranks_at-children.ensures in
-    record { starts = samples.0; children = ranks.0; agrees = ap₂ ◌&&◌ ranks.1 samples.1 }

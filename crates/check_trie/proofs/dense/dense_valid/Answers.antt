@@ -1,6 +1,6 @@
 -- The loop: the nodes before i are judged.
 use mathlib.Core.Path.{◌≡◌, sym, ◌∙◌}
-use Prim.Native.Nat.{ℕ, ◌+◌, ◌*◌, ◌-◌, ◌≤◌, ◌<◌}
+use Prim.Native.Nat.{ℕ, ◌+◌, ◌*◌, ◌≤◌, ◌<◌}
 use native.Mathlib.Omega.{arith}
 use Rattle.bits.proofs.SliceParts.{length_part}
 use Rattle.check_levels.specs.Ranges.{from_fail, from_step, from_end}
@@ -56,13 +56,6 @@ returns-then-not-node_valid c =
     let l = c.loop-i in
     let e = row_judged a.dl.now a.dc.now a.dp.now l.i c.part-labels.ensures c.part-children.ensures c.bit_at-exact.ensures c.node_valid.ensures in
     sym (l.invariant.1 ∙ from_fail (dense_node_valid a.dl.now a.dc.now a.dp.now) l.i a.n c.loop-i-test.true (e ∙ c.if-not-node_valid.true))
-
-pub loop-i-smaller : goal.loop-i-smaller
-loop-i-smaller c =
-    closer c.loop-i-test.true
-  where
-    closer : {i n : ℕ} → i < n → n - (i + 1) < n - i
-    closer h = omega arith
 
 pub loop-i-preserved : goal.loop-i-preserved
 loop-i-preserved c =

@@ -11,6 +11,3 @@ use Rattle.check_trie.proofs.dense.dense_valid.Given as goal
 
 abbrev pub invariant-loop-i : goal.invariant-loop-i
 invariant-loop-i l = (l.i ≤ l.n) × (covered (bits l.dc (256 * l.n)) (bits l.dl (256 * l.n)) && dense_nodes_valid true (bits l.dl (256 * l.n)) (bits l.dc (256 * l.n)) (bits l.dp l.n) ≡ all_from (dense_node_valid l.dl l.dc l.dp) l.i (l.n - l.i))
-
-abbrev pub decreases-loop-i : goal.decreases-loop-i
-decreases-loop-i l = l.n - l.i

@@ -1,11 +1,8 @@
 -- The loop: each label passed that is flagged has its digit, or a bit is found.
 use mathlib.Core.Path.{◌≡◌}
-use Prim.Native.Nat.{◌-◌, ◌*◌, ◌/◌, ◌^◌, ◌≤◌}
+use Prim.Native.Nat.{◌*◌, ◌/◌, ◌^◌, ◌≤◌}
 use Rattle.check_trie.specs.FlagLaws.{Found}
 use Rattle.check_trie.proofs.label_order.flags_within.Given as goal
 
 abbrev pub invariant-loop-k : goal.invariant-loop-k
 invariant-loop-k l = (l.k ≤ 8) × (l.rest ≡ l.y / 2 ^ (8 * l.k)) × Found l.flags l.y l.found (8 * l.k)
-
-abbrev pub decreases-loop-k : goal.decreases-loop-k
-decreases-loop-k l = 8 - l.k

@@ -1,6 +1,6 @@
 -- The loop: the entries before j are judged.
 use mathlib.Core.Path.{refl, sym, ◌∙◌}
-use Prim.Native.Nat.{ℕ, ◌+◌, ◌-◌, ◌≤◌, ◌<◌}
+use Prim.Native.Nat.{ℕ, ◌+◌, ◌≤◌, ◌<◌}
 use native.Mathlib.Omega.{arith}
 use Rattle.check_levels.specs.Ranges.{from_fail, from_step, from_end}
 use Rattle.check_trie.specs.WordEntries.{later_entry_valid, entry_judged}
@@ -33,13 +33,6 @@ returns-then-not-entry_valid c =
     let l = c.loop-j in
     let e = entry_judged a.sl.now a.sc.now a.sb.now l.j c.bit_at-start.ensures c.bit_at-begins.ensures c.entry_valid.ensures in
     sym (l.invariant.1 ∙ from_fail (later_entry_valid a.sl.now a.sc.now a.sb.now) l.j a.to.0 c.loop-j-test.true (e ∙ c.if-not-entry_valid.true))
-
-pub loop-j-smaller : goal.loop-j-smaller
-loop-j-smaller c =
-    closer c.loop-j-test.true
-  where
-    closer : {j to : ℕ} → j < to → to - (j + 1) < to - j
-    closer h = omega arith
 
 pub loop-j-preserved : goal.loop-j-preserved
 loop-j-preserved c =

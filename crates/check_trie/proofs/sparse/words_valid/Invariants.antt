@@ -6,6 +6,3 @@ use Rattle.check_trie.proofs.sparse.words_valid.Given as goal
 
 abbrev pub invariant-loop-q : goal.invariant-loop-q
 invariant-loop-q l = (l.from ≤ l.q) × (l.q ≤ l.to) × (range_valid l.sl l.sc l.sb (64 * l.from) (64 * (l.to - l.from)) ≡ range_valid l.sl l.sc l.sb (64 * l.q) (64 * (l.to - l.q)))
-
-abbrev pub decreases-loop-q : goal.decreases-loop-q
-decreases-loop-q l = l.to - l.q

@@ -20,31 +20,31 @@ overflow_add-f c =
 
 pub returns-then-f-eq0 : goal.returns-then-f-eq0
 returns-then-f-eq0 c =
-    sym (counts_none c.args.image.now c.args.f c.requires.0.frame c.if-f-eq0.true)
+    sym (counts_none c.args.image.now.bytes.now c.args.image.now.frame c.requires.0.frame c.if-f-eq0.true)
 
 pub overflow_add-children : goal.overflow_add-children
 overflow_add-children c =
     let a = c.args in
-    children_fit a.f.totals.children (counts_few a.image.now a.f c.requires.0.frame).children c.requires.1.children
+    children_fit a.image.now.frame.totals.children (counts_few a.image.now.bytes.now a.image.now.frame c.requires.0.frame).children c.requires.1.children
 
 pub sums_valid-requires : goal.sums_valid-requires
 sums_valid-requires c =
     let a = c.args in
-    rw c.requires.1.children (counts_few a.image.now a.f c.requires.0.frame)
+    rw c.requires.1.children (counts_few a.image.now.bytes.now a.image.now.frame c.requires.0.frame)
 
 pub returns-then-not-sums_valid : goal.returns-then-not-sums_valid
 returns-then-not-sums_valid c =
     let a = c.args in
-    let e = ap (λ (k : ℕ). sums_test a.f (a.f.totals.children + k)) c.requires.1.children in
-    sym (sums_fail a.image.now a.f c.requires.0.frame (some_nodes (node_count a.f) c.if-f-eq0.false) (sym (c.sums_valid.ensures ∙ e) ∙ c.if-not-sums_valid.true))
+    let e = ap (λ (k : ℕ). sums_test a.image.now.frame (a.image.now.frame.totals.children + k)) c.requires.1.children in
+    sym (sums_fail a.image.now.bytes.now a.image.now.frame c.requires.0.frame (some_nodes (node_count a.image.now.frame) c.if-f-eq0.false) (sym (c.sums_valid.ensures ∙ e) ∙ c.if-not-sums_valid.true))
 
 pub levels_valid-requires : goal.levels_valid-requires
 levels_valid-requires c =
-    (c.requires.0, some_nodes (node_count c.args.f) c.if-f-eq0.false, c.requires.1.agrees)
+    (c.requires.0, some_nodes (node_count c.args.image.now.frame) c.if-f-eq0.false, c.requires.1.agrees)
 
 pub returns : goal.returns
 returns c =
     let a = c.args in
-    let e = ap (λ (k : ℕ). sums_test a.f (a.f.totals.children + k)) c.requires.1.children in
+    let e = ap (λ (k : ℕ). sums_test a.image.now.frame (a.image.now.frame.totals.children + k)) c.requires.1.children in
     c.levels_valid.ensures
-    ∙ sym (sums_pass a.image.now a.f c.requires.0.frame (some_nodes (node_count a.f) c.if-f-eq0.false) (sym (c.sums_valid.ensures ∙ e) ∙ c.if-not-sums_valid.false))
+    ∙ sym (sums_pass a.image.now.bytes.now a.image.now.frame c.requires.0.frame (some_nodes (node_count a.image.now.frame) c.if-f-eq0.false) (sym (c.sums_valid.ensures ∙ e) ∙ c.if-not-sums_valid.false))

@@ -15,38 +15,38 @@ few h = record { fits = omega arith }
 
 pub overflow_mul-nodes : goal.overflow_mul-nodes
 overflow_mul-nodes c =
-    few c.requires.dense
+    few c.args.image.now.framed.dense
 
 pub part-dl-requires : goal.part-dl-requires
 part-dl-requires c =
-    (within c.args.image.now c.args.f c.requires).dl
+    (within c.args.image.now.bytes.now c.args.image.now.frame c.args.image.now.framed).dl
 
 pub overflow_mul-nodes-2 : goal.overflow_mul-nodes-2
 overflow_mul-nodes-2 c =
-    few c.requires.dense
+    few c.args.image.now.framed.dense
 
 pub part-dc-requires : goal.part-dc-requires
 part-dc-requires c =
     let a = c.args in
-    (within a.image.now a.f c.requires).dc
+    (within a.image.now.bytes.now a.image.now.frame c.args.image.now.framed).dc
 
 pub part-dp-requires : goal.part-dp-requires
 part-dp-requires c =
     let a = c.args in
-    rw c.bytes_for.ensures (within a.image.now a.f c.requires).dp
+    rw c.bytes_for.ensures (within a.image.now.bytes.now a.image.now.frame c.args.image.now.framed).dp
 
 pub dense_valid-requires : goal.dense_valid-requires
 dense_valid-requires c =
     let a = c.args in
-    let s : Bytes = a.image.now in
-    let z = bodies_sized a.image.now a.f c.requires in
-    let dp : c.part-dp.result.now ≡ dp_body s a.f = lent_part s a.f.dp c.part-dp.ensures c.bytes_for.ensures in
-    rw (c.part-dc.ensures, c.part-dl.ensures, dp) (record { labels = z.dl; children = z.dc; exacts = bits_room a.f.dense.nodes (dp_body s a.f) z.dp })
+    let s : Bytes = a.image.now.bytes.now in
+    let z = bodies_sized a.image.now.bytes.now a.image.now.frame c.args.image.now.framed in
+    let dp : c.part-dp.result.now ≡ dp_body s a.image.now.frame = lent_part s a.image.now.frame.dp c.part-dp.ensures c.bytes_for.ensures in
+    rw (c.part-dc.ensures, c.part-dl.ensures, dp) (record { labels = z.dl; children = z.dc; exacts = bits_room a.image.now.frame.dense.nodes (dp_body s a.image.now.frame) z.dp })
 
 pub returns : goal.returns
 returns c =
     let part3 = c.part-dp in
     let a = c.args in
-    let s : Bytes = a.image.now in
-    let dp : part3.result.now ≡ dp_body s a.f = lent_part s a.f.dp part3.ensures c.bytes_for.ensures in
+    let s : Bytes = a.image.now.bytes.now in
+    let dp : part3.result.now ≡ dp_body s a.image.now.frame = lent_part s a.image.now.frame.dp part3.ensures c.bytes_for.ensures in
     rw (c.part-dc.ensures, c.part-dl.ensures, dp) at c.dense_valid.ensures

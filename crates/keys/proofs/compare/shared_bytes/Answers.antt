@@ -6,22 +6,22 @@ use Rattle.keys.proofs.compare.shared_bytes.Goals as goal
 
 pub loop-i-init : goal.loop-i-init
 loop-i-init c =
-    (omega arith, refl)
+    refl
 
 pub returns-then-p-i : goal.returns-then-p-i
 returns-then-p-i c =
     let a = c.args in
     let l = c.loop-i in
-    sym (shared_differ a.p.now a.q.now l.i (omega arith) (omega arith) l.invariant.1 (omega arith) (omega arith) c.if-p-i.true)
+    sym (shared_differ a.p.now a.q.now l.i (omega arith) (omega arith) l.invariant (omega arith) (omega arith) c.if-p-i.true)
 
 pub loop-i-preserved : goal.loop-i-preserved
 loop-i-preserved c =
     let a = c.args in
     let l = c.loop-i in
-    (omega arith, same_next a.p.now a.q.now l.i (omega arith) (omega arith) l.invariant.1 (omega arith) (omega arith) c.if-p-i.false)
+    same_next a.p.now a.q.now l.i (omega arith) (omega arith) l.invariant (omega arith) (omega arith) c.if-p-i.false
 
 pub returns : goal.returns
 returns c =
     let a = c.args in
     let l = c.loop-i in
-    sym (shared_end a.p.now a.q.now l.i (omega arith) (omega arith) l.invariant.1 (omega arith))
+    omega (arith, shared_end a.p.now a.q.now l.i (omega arith) (omega arith) l.invariant (omega arith))

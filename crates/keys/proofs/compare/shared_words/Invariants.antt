@@ -1,10 +1,9 @@
-use mathlib.Core.Path.{◌≡◌}
 use Prim.Native.Nat.{◌-◌, ◌≤◌}
-use lib.ListN.{take}
+use Rattle.spec.specs.Bytes.{shared}
 use Rattle.keys.proofs.compare.shared_words.Given as goal
 
 abbrev pub invariant-loop-i : goal.invariant-loop-i
-invariant-loop-i l = (l.i ≤ l.n) × (take l.i l.p ≡ take l.i l.q)
+invariant-loop-i l = (l.i ≤ l.n) × (l.i ≤ shared l.p l.q)
 
 abbrev pub decreases-loop-i : goal.decreases-loop-i
 decreases-loop-i l = l.n - l.i

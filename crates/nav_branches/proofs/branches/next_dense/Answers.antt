@@ -1,19 +1,12 @@
 use Rattle.nav_nodes.specs.FromCheck.{accepted}
 use Rattle.nav_nodes.proofs.NextBranchLaws.{dense_none, dense_some}
 use Rattle.image.specs.Records.{tail_part}
-use Rattle.nav_nodes.specs.Tables.{labels_ranked, children_ranked}
 use Rattle.bits.specs.Bits.{bit_at}
 use mathlib.Core.List.{List}
 use Prim.Native.Nat.{ℕ}
 use native.Mathlib.Omega.{arith}
 use mathlib.Core.Path.{ap, ◌∙◌}
 use Rattle.nav_branches.proofs.branches.next_dense.Goals as goal
-
-pub next_one-p-requires : goal.next_one-p-requires
-next_one-p-requires c =
-    let v = c.args.image.now in
-    let t = (labels_ranked v.bytes.now v.frame (accepted v)).0 in
-    rw (tail_part v.bytes.now v.frame.dl) (omega arith, omega arith)
 
 pub returns-then-p-end : goal.returns-then-p-end
 returns-then-p-end c =
@@ -22,11 +15,6 @@ returns-then-p-end c =
     let p = c.requires in
     let e = rw (tail_part v.bytes.now v.frame.dl) at c.next_one-p.ensures.0 in
     dense_none v.bytes.now v.frame (accepted v) a.m.0 a.y c.next_one-p.result p.0 p.1 e (omega arith)
-
-pub bit_at-continues-requires : goal.bit_at-continues-requires
-bit_at-continues-requires c =
-    let v = c.args.image.now in
-    rw (tail_part v.bytes.now v.frame.dc) (omega (arith, (children_ranked v.bytes.now v.frame (accepted v)).0))
 
 pub returns : goal.returns
 returns c =

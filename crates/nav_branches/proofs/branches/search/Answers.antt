@@ -7,16 +7,16 @@ pub loop-lo-init : goal.loop-lo-init
 loop-lo-init c =
     (omega arith, omega arith, omega arith, λ h. absurd (omega arith), λ h. absurd (omega arith))
 
-pub loop-lo-preserved-then-wide-y : goal.loop-lo-preserved-then-wide-y
-loop-lo-preserved-then-wide-y c =
+pub loop-lo-preserved-then-from-y : goal.loop-lo-preserved-then-from-y
+loop-lo-preserved-then-from-y c =
     let l = c.loop-lo in
     let e : l.lo + (l.hi - l.lo) / 2 + 1 - 1 ≡ l.lo + (l.hi - l.lo) / 2 = omega arith in
-    (omega arith, omega arith, omega arith, λ h. rw e (omega (arith, c.wide.ensures.0)), l.invariant.4)
+    (omega arith, omega arith, omega arith, λ h. rw e (omega (arith, c.from.ensures)), l.invariant.4)
 
 pub loop-lo-preserved : goal.loop-lo-preserved
 loop-lo-preserved c =
     let l = c.loop-lo in
-    (omega arith, omega arith, omega arith, l.invariant.3, λ h. omega (arith, c.wide.ensures.0))
+    (omega arith, omega arith, omega arith, l.invariant.3, λ h. omega (arith, c.from.ensures))
 
 pub returns : goal.returns
 returns c =

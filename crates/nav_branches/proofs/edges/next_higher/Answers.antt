@@ -4,11 +4,6 @@ use mathlib.Core.Path.{ap, ◌∙◌}
 use native.Mathlib.Omega.{arith}
 use Rattle.nav_branches.proofs.edges.next_higher.Goals as goal
 
-pub overflow_add-p : goal.overflow_add-p
-overflow_add-p c =
-    let p = c.requires in
-    omega (arith, p.2.at_is.within.sparse (omega arith), p.0.accepted.entry_size, p.0.accepted.writable.few_entries)
-
 pub entry_branch-requires : goal.entry_branch-requires
 entry_branch-requires c =
     let v = c.args.image.now in
@@ -17,4 +12,4 @@ entry_branch-requires c =
 pub returns : goal.returns
 returns c =
     let v = c.args.image.now in
-    higher_there v.bytes.now v.frame c.args.m.0 (record { accepted = c.requires.0.accepted; behind_dense = omega arith; inside = c.requires.0.inside }) c.args.y c.args.b c.requires.2 _ (omega (arith, c.one_if.ensures.0 ∙ ap bit c.is_there.ensures)) c.entry_branch.result c.entry_branch.ensures
+    higher_there v.bytes.now v.frame c.args.m.0 (record { accepted = c.requires.0.accepted; behind_dense = omega arith; inside = c.requires.0.inside }) c.args.y c.args.b c.requires.2 _ (omega (arith, c.from.ensures ∙ ap bit c.is_there.ensures)) c.entry_branch.result c.entry_branch.ensures

@@ -14,5 +14,5 @@ returns c =
     let z = none_below_zero (branches v.bytes.now v.frame a.m.0) in
     record {
       exact_is = r.exact_is;
-      branch_is = sparse_next v.bytes.now v.frame p.accepted a.m.0 0 e.result.first.0 e.result.first.0 p.behind_dense p.inside r.first_is (omega arith) e.result.end.0 r.end_is r.end_inside c.entry_branch-branch.result c.entry_branch-branch.ensures;
+      branch_is = sparse_next v.bytes.now v.frame p.accepted a.m.0 0 e.result.first.0 e.result.first.0 p.behind_dense p.inside r.first_is (omega arith) e.result.end.0 r.end_is r.end_inside c.entry_branch.result c.entry_branch.ensures;
     }

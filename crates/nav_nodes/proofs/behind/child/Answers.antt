@@ -1,19 +1,13 @@
-use Rattle.nav_nodes.specs.Positions.{child_at, few_children, dense_kids, dense_totals}
-use lib.ListN.{drop}
-use Rattle.bits.proofs.RankLaws.{rank_le}
+use Rattle.nav_nodes.specs.Positions.{child_at, dense_kids, dense_totals}
 use borrow.Author.Tests.{lt-ltb, le-ltb}
 use native.Mathlib.Omega.{arith}
+use Rattle.nav_nodes.proofs.BehindLaws.{dense_child_room, sparse_child_room}
 use Rattle.nav_nodes.proofs.behind.child.Goals as goal
-
-pub child_rank-requires : goal.child_rank-requires
-child_rank-requires c =
-    (c.requires.within.dense (omega arith)).0
 
 pub overflow_add-result : goal.overflow_add-result
 overflow_add-result c =
     let a = c.args in
-    let v = a.image.now in
-    omega (arith, c.child_rank.ensures, rank_le (drop v.frame.dc v.bytes.now) a.at.0, (c.requires.within.dense (omega arith)).0, c.requires.accepted.dense_size, c.requires.accepted.writable.few_dense)
+    omega (arith, c.child_rank.ensures, dense_child_room a.image.now.bytes.now a.image.now.frame a.m.0 a.at.0 c.requires (omega arith))
 
 pub returns-then-m-image : goal.returns-then-m-image
 unfolding child_at
@@ -22,23 +16,15 @@ returns-then-m-image c =
     let v = a.image.now in
     rw (lt-ltb a.m.0 v.frame.dense.nodes (omega arith)) (omega (arith, c.child_rank.ensures))
 
-pub entry_rank-requires : goal.entry_rank-requires
-entry_rank-requires c =
-    c.requires.within.sparse (omega arith)
-
 pub overflow_add-result-2 : goal.overflow_add-result-2
 overflow_add-result-2 c =
     let a = c.args in
-    let v = a.image.now in
-    let p = c.requires in
-    omega (arith, (dense_totals v.bytes.now v.frame p.accepted).0, few_children v.bytes.now v.frame p.accepted v.frame.dense.nodes (omega arith), c.entry_rank.ensures, rank_le (drop v.frame.sc v.bytes.now) a.at.0, p.within.sparse (omega arith), p.accepted.entry_size, p.accepted.writable.few_entries)
+    omega (arith, c.entry_rank.ensures, sparse_child_room a.image.now.bytes.now a.image.now.frame a.m.0 a.at.0 c.requires (omega arith))
 
 pub overflow_add-result-3 : goal.overflow_add-result-3
 overflow_add-result-3 c =
     let a = c.args in
-    let v = a.image.now in
-    let p = c.requires in
-    omega (arith, (dense_totals v.bytes.now v.frame p.accepted).0, few_children v.bytes.now v.frame p.accepted v.frame.dense.nodes (omega arith), c.entry_rank.ensures, rank_le (drop v.frame.sc v.bytes.now) a.at.0, p.within.sparse (omega arith), p.accepted.entry_size, p.accepted.writable.few_entries)
+    omega (arith, c.entry_rank.ensures, sparse_child_room a.image.now.bytes.now a.image.now.frame a.m.0 a.at.0 c.requires (omega arith))
 
 pub returns : goal.returns
 unfolding child_at

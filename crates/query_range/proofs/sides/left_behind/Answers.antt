@@ -6,7 +6,7 @@ use Rattle.query_range.proofs.sides.left_behind.Goals as goal
 
 pub high_below-requires : goal.high_below-requires
 high_below-requires c =
-    (c.requires.from.accepted, open_in c.requires c.slot.result.0 c.slot.ensures c.in-Leaf.is, omega (arith, c.requires.more), c.requires.from.short)
+    (open_in c.requires c.slot.result.0 c.slot.ensures c.in-Leaf.is, omega (arith, c.requires.more), c.requires.from.short)
 
 pub left_below-requires : goal.left_below-requires
 left_below-requires c =

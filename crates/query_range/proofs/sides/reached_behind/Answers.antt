@@ -5,7 +5,7 @@ use Rattle.query_range.proofs.sides.reached_behind.Goals as goal
 
 pub low_above-requires : goal.low_above-requires
 low_above-requires c =
-    (c.requires.from.accepted, open_in c.requires c.slot.result.0 c.slot.ensures c.in-Leaf.is, omega (arith, c.requires.more), c.requires.from.short)
+    (open_in c.requires c.slot.result.0 c.slot.ensures c.in-Leaf.is, omega (arith, c.requires.more), c.requires.from.short)
 
 pub reached_below-requires : goal.reached_below-requires
 reached_below-requires c =

@@ -13,22 +13,18 @@ returns-then-depth-lo c =
 
 pub returns-then-depth-hi : goal.returns-then-depth-hi
 returns-then-depth-hi c =
-    let more : c.args.depth < length c.args.lo.now = omega (arith, c.if-depth-lo.false, c.requires.0.lower.depth_in) in
     let p = c.requires.0 in
-    sym (met_ended p.lower p.upper more (omega (arith, c.if-depth-hi.true)))
+    sym (met_ended p.lower p.upper (omega (arith, c.if-depth-lo.false, p.lower.depth_in)) (omega (arith, c.if-depth-hi.true)))
 
 pub apart-requires : goal.apart-requires
 apart-requires c =
-    let more : c.args.depth < length c.args.lo.now = omega (arith, c.if-depth-lo.false, c.requires.0.lower.depth_in) in
-    let further : c.args.depth < length c.args.hi.now = omega (arith, c.if-depth-hi.false, c.requires.0.upper.depth_in) in
+    let p = c.requires.0 in
+    let more : c.args.depth < length c.args.lo.now = omega (arith, c.if-depth-lo.false, p.lower.depth_in) in
+    let further : c.args.depth < length c.args.hi.now = omega (arith, c.if-depth-hi.false, p.upper.depth_in) in
     record {
-      lower = c.requires.0.lower;
-      upper = c.requires.0.upper;
+      lower = p.lower;
+      upper = p.upper;
       lo_more = more;
       hi_more = further;
       differ = shared_parts c.args.lo.now c.args.hi.now c.args.depth c.requires.1 more further;
     }
-
-pub returns : goal.returns
-returns c =
-    c.apart.ensures

@@ -16,8 +16,8 @@ returns-then-image-eq0 c =
       bound = λ q. absurd (q refl);
     }
 
-pub leaf_of_way-end-requires : goal.leaf_of_way-end-requires
-leaf_of_way-end-requires c =
+pub leaf_of_way-requires : goal.leaf_of_way-requires
+leaf_of_way-requires c =
     let v = c.args.image.now in
     let written = c.write_bytes.ensures in
     record {

@@ -1,7 +1,8 @@
 use Rattle.query_sums.specs.Bounds.{slot_inside, passed_nowhere, passed_node, passed_leaf}
+use Rattle.query_descent.specs.SuffixBytes.{bit_le}
 use Rattle.spec.specs.Bytes.{bit}
 use native.Mathlib.Omega.{arith}
-use mathlib.Core.Path.{sym, ap, ◌∙◌}
+use mathlib.Core.Path.{◌≡◌, sym, ap, ◌∙◌}
 use Rattle.query_sums.proofs.bounds.passed_at.Goals as goal
 
 pub high_below-requires : goal.high_below-requires
@@ -23,4 +24,5 @@ returns-in-Node c =
 pub returns-in-Leaf : goal.returns-in-Leaf
 returns-in-Leaf c =
     let v = c.args.image.now in
-    (c.one_if.ensures.0 ∙ ap bit c.high_below.ensures ∙ sym (passed_leaf v.bytes.now v.frame c.args.key.now c.args.bound c.requires c.in-Leaf.slot c.in-Leaf.is), c.one_if.ensures.1)
+    let e : c.from.result ≡ bit c.high_below.result = c.from.ensures in
+    (e ∙ ap bit c.high_below.ensures ∙ sym (passed_leaf v.bytes.now v.frame c.args.key.now c.args.bound c.requires c.in-Leaf.slot c.in-Leaf.is), rw e (bit_le c.high_below.result))

@@ -9,6 +9,3 @@ use Rattle.query_sums.proofs.levels.empty_key_sum_by_table.Given as goal
 
 abbrev pub invariant-loop-t : goal.invariant-loop-t
 invariant-loop-t l = (l.t ≤ level_count l.image.bytes.now l.image.frame) × (l.next ≡ level_at l.image.bytes.now l.image.frame l.t) × (l.sum ≡ slots_below (nodes l.image.bytes.now l.image.frame) (64 - l.t) (level_at l.image.bytes.now l.image.frame l.t) []) × (l.sum ≤ (64 - l.t) * 65535)
-
-abbrev pub decreases-loop-t : goal.decreases-loop-t
-decreases-loop-t l = l.t

@@ -1,64 +1,52 @@
--- The invariant: both bounds have gone down to one level, from where they first stood on one.
-use Rattle.query_sums.specs.Levels.{DownTo, GoneDown, down_none, down_first, down_again, gone_again, apart_same, apart_end, apart_above}
+-- Both bounds go down by the laws in `Levels`.
+use Rattle.query_sums.specs.Levels.{GoneDown, down_first, down_again, gone_again, apart_same, apart_end}
 use Prim.Native.Nat.{ℕ, ◌≤◌}
-use mathlib.Core.Path.{refl, sym, subst, ◌∙◌}
-use native.Mathlib.Nat.{max-le, le-max_left, le-max_right}
+use mathlib.Core.Path.{sym, subst, ◌∙◌}
 use native.Mathlib.Omega.{arith}
 use Rattle.query_sums.proofs.levels.sums_apart.Goals as goal
+use Rattle.query_sums.proofs.levels.sums_apart.Goals.{After-max-depth}
+
+-- the level on which both first stand
+level : (c : After-max-depth) → (c.args.a.depth ≤ c.max-depth.result) × (c.args.b.depth ≤ c.max-depth.result) × (c.max-depth.result ≤ 64)
+level c = omega (arith, c.requires.0.from_in, c.requires.1.from_in)
 
 pub go_down-lower-requires : goal.go_down-lower-requires
 go_down-lower-requires c =
     let v = c.args.image.now in
-    let level : (c.args.a.depth ≤ c.larger-depth.result) × (c.args.b.depth ≤ c.larger-depth.result) × (c.larger-depth.result ≤ 64) = let e = c.larger-depth.ensures in
-    (rw e (le-max_left c.args.a.depth c.args.b.depth), rw e (le-max_right c.args.a.depth c.args.b.depth), rw e (max-le c.requires.0.from_in c.requires.1.from_in)) in
-    down_first v.bytes.now v.frame c.args.a c.requires.0 c.larger-depth.result level.0 level.2
+    let l = level (goal.at.go_down-lower-requires c).After-max-depth in
+    down_first v.bytes.now v.frame c.args.a c.requires.0 c.max-depth.result l.0 l.2
 
 pub go_down-upper-requires : goal.go_down-upper-requires
 go_down-upper-requires c =
     let v = c.args.image.now in
-    let level : (c.args.a.depth ≤ c.larger-depth.result) × (c.args.b.depth ≤ c.larger-depth.result) × (c.larger-depth.result ≤ 64) = let e = c.larger-depth.ensures in
-    (rw e (le-max_left c.args.a.depth c.args.b.depth), rw e (le-max_right c.args.a.depth c.args.b.depth), rw e (max-le c.requires.0.from_in c.requires.1.from_in)) in
-    down_first v.bytes.now v.frame c.args.b c.requires.1 c.larger-depth.result level.1 level.2
+    let l = level (goal.at.go_down-upper-requires c).After-max-depth in
+    down_first v.bytes.now v.frame c.args.b c.requires.1 c.max-depth.result l.1 l.2
 
 pub loop-lower-init : goal.loop-lower-init
 loop-lower-init c =
     let v = c.args.image.now in
-    let level : (c.args.a.depth ≤ c.larger-depth.result) × (c.args.b.depth ≤ c.larger-depth.result) × (c.larger-depth.result ≤ 64) = let e = c.larger-depth.ensures in
-    (rw e (le-max_left c.args.a.depth c.args.b.depth), rw e (le-max_right c.args.a.depth c.args.b.depth), rw e (max-le c.requires.0.from_in c.requires.1.from_in)) in
-    let a = c.requires.0.accepted in
+    let l = level (goal.at.loop-lower-init c).After-max-depth in
     let x = c.go_down-lower.ensures in
-    let y = c.go_down-upper.ensures in (
-      omega (arith, x.depth_is),
-      omega (arith, x.depth_is, level.2),
-      x.depth_is ∙ sym y.depth_is,
-      down_none v.bytes.now v.frame a c.go_down-lower.result c.go_down-lower.result.depth refl x.node_in,
-      down_none v.bytes.now v.frame a c.go_down-upper.result c.go_down-lower.result.depth (y.depth_is ∙ sym x.depth_is) y.node_in,
-    )
-
-pub returns-then-lower-upper : goal.returns-then-lower-upper
-returns-then-lower-upper c =
-    let v = c.args.image.now in
-    let level : (c.args.a.depth ≤ c.larger-depth.result) × (c.args.b.depth ≤ c.larger-depth.result) × (c.larger-depth.result ≤ 64) = let e = c.larger-depth.ensures in
-    (rw e (le-max_left c.args.a.depth c.args.b.depth), rw e (le-max_right c.args.a.depth c.args.b.depth), rw e (max-le c.requires.0.from_in c.requires.1.from_in)) in
-    let lower_down : DownTo v.bytes.now v.frame c.go_down-lower.result 64 = down_again v.bytes.now v.frame c.args.a c.requires.0 c.larger-depth.result level.0 c.go_down-lower.result c.go_down-lower.ensures 64 level.2 (omega arith) in
-    let upper_down : DownTo v.bytes.now v.frame c.go_down-upper.result 64 = down_again v.bytes.now v.frame c.args.b c.requires.1 c.larger-depth.result level.1 c.go_down-upper.result c.go_down-upper.ensures 64 level.2 (omega arith) in
-    let lower_above : c.go_down-lower.result.depth ≤ c.loop-lower.lower.depth = omega (arith, c.go_down-lower.ensures.depth_is, c.loop-lower.invariant.0) in
-    let upper_above : c.go_down-upper.result.depth ≤ c.loop-lower.lower.depth = omega (arith, c.go_down-upper.ensures.depth_is, c.loop-lower.invariant.0) in
-    apart_above v.bytes.now v.frame c.args.a c.args.b c.larger-depth.result c.go_down-lower.result c.go_down-upper.result c.go_down-lower.ensures c.go_down-upper.ensures _
-    (apart_same v.bytes.now v.frame c.go_down-lower.result c.go_down-upper.result lower_down upper_down c.loop-lower.lower.depth lower_above upper_above c.loop-lower.invariant.1 c.loop-lower.lower c.loop-lower.upper c.loop-lower.invariant.3 c.loop-lower.invariant.4 c.if-lower-upper.true)
+    let y = c.go_down-upper.ensures in
+    record {
+      below_a = omega (arith, x.depth_is, l.0);
+      below_b = omega (arith, x.depth_is, l.1);
+      depth_in = omega (arith, x.depth_is, l.2);
+      same_depth = x.depth_is ∙ sym y.depth_is;
+      lower_gone = subst (λ (d : ℕ). GoneDown v.bytes.now v.frame c.args.a d c.go_down-lower.result) (sym x.depth_is) x;
+      upper_gone = subst (λ (d : ℕ). GoneDown v.bytes.now v.frame c.args.b d c.go_down-upper.result) (sym x.depth_is) y;
+    }
 
 pub step_both-next-requires : goal.step_both-next-requires
 step_both-next-requires c =
     let v = c.args.image.now in
-    let level : (c.args.a.depth ≤ c.larger-depth.result) × (c.args.b.depth ≤ c.larger-depth.result) × (c.larger-depth.result ≤ 64) = let e = c.larger-depth.ensures in
-    (rw e (le-max_left c.args.a.depth c.args.b.depth), rw e (le-max_right c.args.a.depth c.args.b.depth), rw e (max-le c.requires.0.from_in c.requires.1.from_in)) in
-    let lower_down : DownTo v.bytes.now v.frame c.go_down-lower.result 64 = down_again v.bytes.now v.frame c.args.a c.requires.0 c.larger-depth.result level.0 c.go_down-lower.result c.go_down-lower.ensures 64 level.2 (omega arith) in
-    let upper_down : DownTo v.bytes.now v.frame c.go_down-upper.result 64 = down_again v.bytes.now v.frame c.args.b c.requires.1 c.larger-depth.result level.1 c.go_down-upper.result c.go_down-upper.ensures 64 level.2 (omega arith) in
-    let lower_above : c.go_down-lower.result.depth ≤ c.loop-lower.lower.depth = omega (arith, c.go_down-lower.ensures.depth_is, c.loop-lower.invariant.0) in
-    let upper_above : c.go_down-upper.result.depth ≤ c.loop-lower.lower.depth = omega (arith, c.go_down-upper.ensures.depth_is, c.loop-lower.invariant.0) in
-    let lower_on : DownTo v.bytes.now v.frame c.loop-lower.lower 64 = down_again v.bytes.now v.frame c.go_down-lower.result lower_down c.loop-lower.lower.depth lower_above c.loop-lower.lower c.loop-lower.invariant.3 64 c.loop-lower.invariant.1 (omega arith) in
-    let upper_on : DownTo v.bytes.now v.frame c.loop-lower.upper 64 = down_again v.bytes.now v.frame c.go_down-upper.result upper_down c.loop-lower.lower.depth upper_above c.loop-lower.upper c.loop-lower.invariant.4 64 c.loop-lower.invariant.1 (omega arith) in
-    (lower_on, upper_on, c.loop-lower.invariant.2, c.loop-lower-test.true)
+    let i = c.loop-lower.invariant in
+    let d = c.loop-lower.lower.depth in (
+      down_again v.bytes.now v.frame c.args.a c.requires.0 d i.below_a c.loop-lower.lower i.lower_gone 64 i.depth_in (omega arith),
+      down_again v.bytes.now v.frame c.args.b c.requires.1 d i.below_b c.loop-lower.upper i.upper_gone 64 i.depth_in (omega arith),
+      i.same_depth,
+      c.loop-lower-test.true,
+    )
 
 pub loop-lower-smaller : goal.loop-lower-smaller
 loop-lower-smaller c =
@@ -67,31 +55,29 @@ loop-lower-smaller c =
 pub loop-lower-preserved : goal.loop-lower-preserved
 loop-lower-preserved c =
     let v = c.args.image.now in
-    let level : (c.args.a.depth ≤ c.larger-depth.result) × (c.args.b.depth ≤ c.larger-depth.result) × (c.larger-depth.result ≤ 64) = let e = c.larger-depth.ensures in
-    (rw e (le-max_left c.args.a.depth c.args.b.depth), rw e (le-max_right c.args.a.depth c.args.b.depth), rw e (max-le c.requires.0.from_in c.requires.1.from_in)) in
-    let lower_down : DownTo v.bytes.now v.frame c.go_down-lower.result 64 = down_again v.bytes.now v.frame c.args.a c.requires.0 c.larger-depth.result level.0 c.go_down-lower.result c.go_down-lower.ensures 64 level.2 (omega arith) in
-    let upper_down : DownTo v.bytes.now v.frame c.go_down-upper.result 64 = down_again v.bytes.now v.frame c.args.b c.requires.1 c.larger-depth.result level.1 c.go_down-upper.result c.go_down-upper.ensures 64 level.2 (omega arith) in
-    let lower_above : c.go_down-lower.result.depth ≤ c.loop-lower.lower.depth = omega (arith, c.go_down-lower.ensures.depth_is, c.loop-lower.invariant.0) in
-    let upper_above : c.go_down-upper.result.depth ≤ c.loop-lower.lower.depth = omega (arith, c.go_down-upper.ensures.depth_is, c.loop-lower.invariant.0) in
+    let i = c.loop-lower.invariant in
+    let d = c.loop-lower.lower.depth in
     let r = c.step_both-next.result in
     let x = c.step_both-next.ensures.0 in
     let y = c.step_both-next.ensures.1 in
-    let e = c.step_both-next.ensures.2 in (
-      omega (arith, c.loop-lower.invariant.0, x.deeper),
-      x.depth_in,
-      e,
-      gone_again v.bytes.now v.frame c.go_down-lower.result lower_down c.loop-lower.lower.depth lower_above c.loop-lower.lower c.loop-lower.invariant.3 r.lower.depth (omega (arith, x.deeper)) r.lower x.gone,
-      gone_again v.bytes.now v.frame c.go_down-upper.result upper_down c.loop-lower.lower.depth upper_above c.loop-lower.upper c.loop-lower.invariant.4 r.lower.depth (omega (arith, x.deeper)) r.upper (subst (λ (d : ℕ). GoneDown v.bytes.now v.frame c.loop-lower.upper d r.upper) (sym e) y.gone),
-    )
+    let e = c.step_both-next.ensures.2 in
+    record {
+      below_a = omega (arith, i.below_a, x.deeper);
+      below_b = omega (arith, i.below_b, x.deeper);
+      depth_in = x.depth_in;
+      same_depth = e;
+      lower_gone = gone_again v.bytes.now v.frame c.args.a c.requires.0 d i.below_a c.loop-lower.lower i.lower_gone r.lower.depth (omega (arith, x.deeper)) r.lower x.gone;
+      upper_gone = gone_again v.bytes.now v.frame c.args.b c.requires.1 d i.below_b c.loop-lower.upper i.upper_gone r.lower.depth (omega (arith, x.deeper)) r.upper (subst (λ (n : ℕ). GoneDown v.bytes.now v.frame c.loop-lower.upper n r.upper) (sym e) y.gone);
+    }
 
-pub returns : goal.returns
-returns c =
+pub returns-else-lower-upper : goal.returns-else-lower-upper
+returns-else-lower-upper c =
     let v = c.args.image.now in
-    let level : (c.args.a.depth ≤ c.larger-depth.result) × (c.args.b.depth ≤ c.larger-depth.result) × (c.larger-depth.result ≤ 64) = let e = c.larger-depth.ensures in
-    (rw e (le-max_left c.args.a.depth c.args.b.depth), rw e (le-max_right c.args.a.depth c.args.b.depth), rw e (max-le c.requires.0.from_in c.requires.1.from_in)) in
-    let lower_down : DownTo v.bytes.now v.frame c.go_down-lower.result 64 = down_again v.bytes.now v.frame c.args.a c.requires.0 c.larger-depth.result level.0 c.go_down-lower.result c.go_down-lower.ensures 64 level.2 (omega arith) in
-    let upper_down : DownTo v.bytes.now v.frame c.go_down-upper.result 64 = down_again v.bytes.now v.frame c.args.b c.requires.1 c.larger-depth.result level.1 c.go_down-upper.result c.go_down-upper.ensures 64 level.2 (omega arith) in
-    let lower_above : c.go_down-lower.result.depth ≤ c.loop-lower.lower.depth = omega (arith, c.go_down-lower.ensures.depth_is, c.loop-lower.invariant.0) in
-    let upper_above : c.go_down-upper.result.depth ≤ c.loop-lower.lower.depth = omega (arith, c.go_down-upper.ensures.depth_is, c.loop-lower.invariant.0) in
-    apart_above v.bytes.now v.frame c.args.a c.args.b c.larger-depth.result c.go_down-lower.result c.go_down-upper.result c.go_down-lower.ensures c.go_down-upper.ensures _
-    (apart_end v.bytes.now v.frame c.go_down-lower.result c.go_down-upper.result lower_down upper_down c.loop-lower.lower.depth lower_above upper_above c.loop-lower.invariant.1 c.loop-lower.lower c.loop-lower.upper c.loop-lower.invariant.3 c.loop-lower.invariant.4 c.loop-lower-test.false)
+    let i = c.loop-lower.invariant in
+    apart_same v.bytes.now v.frame c.args.a c.args.b c.requires.0 c.requires.1 c.loop-lower.lower.depth i.below_a i.below_b i.depth_in c.loop-lower.lower c.loop-lower.upper i.lower_gone i.upper_gone c.if-lower-upper.false
+
+pub returns-after-loop-lower : goal.returns-after-loop-lower
+returns-after-loop-lower c =
+    let v = c.args.image.now in
+    let i = c.loop-lower.invariant in
+    apart_end v.bytes.now v.frame c.args.a c.args.b c.requires.0 c.requires.1 c.loop-lower.lower.depth i.below_a i.below_b i.depth_in c.loop-lower.lower c.loop-lower.upper i.lower_gone i.upper_gone c.loop-lower-test.false

@@ -1,7 +1,7 @@
 -- Each turn counts one word; where a block starts with it, the ones before it are compared with the block's entry.
 use Prim.Native.Nat.{ℕ, ◌+◌, ◌*◌, ◌%◌, ◌≤◌, ◌<◌, min}
 use mathlib.Core.Path.{◌≡◌, sym, ap, ap₂, ◌∙◌}
-use mathlib.Core.Bool.{◌&&◌}
+use mathlib.Core.Bool.{Bool, ◌&&◌}
 use native.Mathlib.Omega.{arith}
 use native.Mathlib.Nat.{mul-suc, mul_assoc, mul-zero}
 use native.Mathlib.Numerals.{add-one}
@@ -14,6 +14,7 @@ use Rattle.rank_tables.specs.TableEntries.{table_entry_right, all_below, all_non
 use Rattle.rank_tables.specs.Ranks.{block_begun, blocks_are}
 use Rattle.rank_tables.specs.Tables.{word_counted}
 use Rattle.rank_tables.proofs.rank_compare.count_ranks.Goals as goal
+use Rattle.rank_tables.proofs.rank_compare.count_ranks.Goals.{then-q-start, else-q-start}
 
 -- the first word of the next block
 next : (words b : ℕ) → words * (b + 1) ≡ words * b + words
@@ -43,7 +44,6 @@ pub loop-q-init : goal.loop-q-init
 loop-q-init c =
     let a = c.args in
     let w : min 0 a.n ≡ 0 = omega arith in (
-      omega arith,
       sym (ap (rank a.body.now) w ∙ rank_zero a.body.now),
       omega arith,
       sym (mul-zero a.words),
@@ -51,84 +51,69 @@ loop-q-init c =
       sym (all_none (table_entry_right (ranks a.body.now a.words) a.table.now)),
     )
 
-pub overflow_mul-q : goal.overflow_mul-q
-overflow_mul-q c =
-    let p = c.requires in
-    let l = c.loop-q in
-    omega (arith, p.short, l.invariant.0)
-
-pub overflow_add-q : goal.overflow_add-q
-overflow_add-q c =
-    let p = c.requires in
-    let l = c.loop-q in
-    omega (arith, p.short, l.invariant.0)
-
 pub overflow_add-ones : goal.overflow_add-ones
 overflow_add-ones c =
-    let loop-test = c.loop-q-test in
     let a = c.args in
     let p = c.requires in
     let l = c.loop-q in
-    let e = word_counted a.body.now a.n l.q l.ones c.ones_among.result loop-test.true l.invariant.1 c.ones_among.ensures.0 in
-    omega (arith, p.short, e.0, rank_le a.body.now (64 * l.q), c.ones_among.ensures.1, loop-test.true)
+    let lt : 64 * l.q < a.n = omega arith in
+    let e = word_counted a.body.now a.n l.q l.ones c.ones_among-ones.result lt l.invariant.0 c.ones_among-ones.ensures.0 in
+    omega (arith, p.short, e.0, rank_le a.body.now (64 * l.q), c.ones_among-ones.ensures.1, lt)
 
 pub overflow_mul-b : goal.overflow_mul-b
 overflow_mul-b c =
     let p = c.requires in
     let l = c.loop-q in
-    omega (arith, p.sized, begun _ _ l.b l.q l.start p.some c.loop-q-test.true l.invariant.3 c.if-word-start.true)
+    let lt : 64 * l.q < c.args.n = omega arith in
+    omega (arith, p.sized, begun _ _ l.b l.q l.start p.some lt l.invariant.2 c.if-q-start.true)
 
 pub read32-requires : goal.read32-requires
 read32-requires c =
     let p = c.requires in
     let l = c.loop-q in
-    omega (arith, p.sized, begun _ _ l.b l.q l.start p.some c.loop-q-test.true l.invariant.3 c.if-word-start.true)
+    let lt : 64 * l.q < c.args.n = omega arith in
+    omega (arith, p.sized, begun _ _ l.b l.q l.start p.some lt l.invariant.2 c.if-q-start.true)
 
 pub overflow_add-b : goal.overflow_add-b
 overflow_add-b c =
     let p = c.requires in
     let l = c.loop-q in
-    omega (arith, p.sized, begun _ _ l.b l.q l.start p.some c.loop-q-test.true l.invariant.3 c.if-word-start.true)
+    let lt : 64 * l.q < c.args.n = omega arith in
+    omega (arith, p.sized, begun _ _ l.b l.q l.start p.some lt l.invariant.2 c.if-q-start.true)
 
 pub overflow_add-start : goal.overflow_add-start
 overflow_add-start c =
     let p = c.requires in
-    omega (arith, p.few, p.short, c.loop-q-test.true, c.if-word-start.true)
-
-pub loop-q-smaller-then-word-start : goal.loop-q-smaller-then-word-start
-loop-q-smaller-then-word-start c =
-    omega (arith, c.loop-q-test.true)
-
-pub loop-q-preserved-then-word-start : goal.loop-q-preserved-then-word-start
-loop-q-preserved-then-word-start c =
-    let loop-test = c.loop-q-test in
-    let ones-among = c.ones_among in
-    let if1 = c.if-word-start in
-    let a = c.args in
-    let p = c.requires in
-    let l = c.loop-q in
-    let e = word_counted a.body.now a.n l.q l.ones ones-among.result loop-test.true l.invariant.1 ones-among.ensures.0 in
-    let f : l.ones ≡ ranks a.body.now a.words l.b = e.0 ∙ ap (rank a.body.now) (sym (bits_before a.words l.b l.q (if1.true ∙ l.invariant.3))) in (
-      omega (arith, loop-test.true),
-      e.1,
-      omega (arith, begun a.n a.words l.b l.q l.start p.some loop-test.true l.invariant.3 if1.true),
-      omega (arith, l.invariant.3, next a.words l.b),
-      omega (arith, p.some, if1.true),
-      ap₂ ◌&&◌ l.invariant.5 (ap₂ eqb c.read32.ensures.0 (ap (λ (k : ℕ). k % 4294967296) f)) ∙ sym (all_more (table_entry_right (ranks a.body.now a.words) a.table.now) l.b),
-    )
-
-pub loop-q-smaller : goal.loop-q-smaller
-loop-q-smaller c =
-    omega (arith, c.loop-q-test.true)
+    let lt : 64 * c.loop-q.q < c.args.n = omega arith in
+    omega (arith, p.few, p.short, lt, c.if-q-start.true)
 
 pub loop-q-preserved : goal.loop-q-preserved
 loop-q-preserved c =
-    let loop-test = c.loop-q-test in
-    let ones-among = c.ones_among in
+    let ones-among = c.ones_among-ones in
     let a = c.args in
+    let p = c.requires in
     let l = c.loop-q in
-    let e = word_counted a.body.now a.n l.q l.ones ones-among.result loop-test.true l.invariant.1 ones-among.ensures.0 in
-    (omega (arith, loop-test.true), e.1, l.invariant.2, l.invariant.3, onward l.q l.start l.invariant.4 c.if-word-start.false, l.invariant.5)
+    let lt : 64 * l.q < a.n = omega arith in
+    let e = word_counted a.body.now a.n l.q l.ones ones-among.result lt l.invariant.0 ones-among.ensures.0 in
+    let entry : ℕ → Bool = table_entry_right (ranks a.body.now a.words) a.table.now in
+    elim c.if-q-start.branch [
+      | then-q-start w ↦
+          let is : l.q ≡ l.start = w.if-q-start.true in
+          let f : l.ones ≡ ranks a.body.now a.words l.b = e.0 ∙ ap (rank a.body.now) (sym (bits_before a.words l.b l.q (is ∙ l.invariant.2))) in (
+            e.1,
+            omega (arith, w.b-is, begun a.n a.words l.b l.q l.start p.some lt l.invariant.2 is),
+            w.start-is ∙ omega (arith, l.invariant.2, next a.words l.b) ∙ ap (λ (k : ℕ). a.words * k) (sym w.b-is),
+            omega (arith, w.start-is, p.some, is),
+            w.agrees-is ∙ ap₂ ◌&&◌ l.invariant.4 (ap₂ eqb w.read32.ensures.0 (ap (λ (k : ℕ). k % 4294967296) f)) ∙ sym (all_more entry l.b) ∙ ap (all_below entry) (sym w.b-is),
+          )
+      | else-q-start w ↦ (
+        e.1,
+        omega (arith, w.b-is, l.invariant.1),
+        w.start-is ∙ l.invariant.2 ∙ ap (λ (k : ℕ). a.words * k) (sym w.b-is),
+        omega (arith, w.start-is, onward l.q l.start l.invariant.3 w.if-q-start.false),
+        w.agrees-is ∙ l.invariant.4 ∙ ap (all_below entry) (sym w.b-is),
+      )
+    ]
 
 pub returns : goal.returns
 returns c =
@@ -136,6 +121,6 @@ returns c =
     let p = c.requires in
     let l = c.loop-q in
     let small : Small a.table.now = λ i. (c.shared_slice_known-2-1.given i).fits in
-    let w : min (64 * l.q) a.n ≡ a.n = omega (arith, c.loop-q-test.false) in
-    let all : l.b ≡ blocks (64 * a.words) a.n = blocks_are (64 * a.words) l.b a.n (positive p.some) l.invariant.2 (omega (arith, c.loop-q-test.false, l.invariant.4, bits_before a.words l.b l.start l.invariant.3)) in
-    (l.invariant.1 ∙ ap (rank a.body.now) w, l.invariant.5 ∙ ap (all_below (table_entry_right (ranks a.body.now a.words) a.table.now)) all ∙ table_agrees (ranks a.body.now a.words) (blocks (64 * a.words) a.n) a.table.now small p.sized)
+    let w : min (64 * l.q) a.n ≡ a.n = omega arith in
+    let all : l.b ≡ blocks (64 * a.words) a.n = blocks_are (64 * a.words) l.b a.n (positive p.some) l.invariant.1 (omega (arith, l.invariant.3, bits_before a.words l.b l.start l.invariant.2)) in
+    (l.invariant.0 ∙ ap (rank a.body.now) w, l.invariant.4 ∙ ap (all_below (table_entry_right (ranks a.body.now a.words) a.table.now)) all ∙ table_agrees (ranks a.body.now a.words) (blocks (64 * a.words) a.n) a.table.now small p.sized)

@@ -23,7 +23,7 @@ ranks body words i = rank body (64 * words * i)
 
 pub loop-b-init : goal.loop-b-init
 loop-b-init c =
-    (omega arith, filled_none _ _ _ _ _, omega arith, sym (rank_zero _))
+    (filled_none _ _ _ _ _, omega arith, sym (rank_zero _))
 
 pub overflow_mul-words : goal.overflow_mul-words
 overflow_mul-words c =
@@ -39,9 +39,9 @@ pub rank_from-r-requires : goal.rank_from-r-requires
 rank_from-r-requires c =
     let a = c.args in
     let l = c.loop-b in
-    let m : length l.out ≡ length a.out.now = l.invariant.1.size in
+    let m : length l.out ≡ length a.out.now = l.invariant.0.size in
     let w = length_part l.out a.body.at (a.body.at + a.body.len - a.body.at) (omega (arith, m, c.requires.behind, c.requires.room)) in
-    (omega (arith, w, c.requires.starts l.b (omega arith)), omega (arith, l.invariant.2), l.invariant.3 ∙ ap (λ (s : List ℕ). rank s (64 * l.q)) (sym l.invariant.1.kept))
+    (omega (arith, w, c.requires.starts l.b (omega arith)), omega (arith, l.invariant.1), l.invariant.2 ∙ ap (λ (s : List ℕ). rank s (64 * l.q)) (sym l.invariant.0.kept))
 
 pub overflow_mul-q : goal.overflow_mul-q
 overflow_mul-q c =
@@ -56,16 +56,15 @@ loop-b-preserved c =
     let from : ℕ = a.body.at in
     let m : ℕ = from + a.body.len - from in
     let counted = c.rank_from-r in
-    let e : counted.result ≡ rank (part a.out.now from m) (64 * (a.words * l.b)) = counted.ensures ∙ ap (λ (s : List ℕ). rank s (64 * (a.words * l.b))) l.invariant.1.kept in (
-      omega arith,
-      filled_more a.out.now from m a.table _ l.b l.out _ _ (omega (arith, c.requires.behind)) (omega (arith, c.requires.room)) l.invariant.1 (e ∙ ap (rank (part a.out.now from m)) (sym (mul_assoc 64 a.words l.b))) write32.ensures,
+    let e : counted.result ≡ rank (part a.out.now from m) (64 * (a.words * l.b)) = counted.ensures ∙ ap (λ (s : List ℕ). rank s (64 * (a.words * l.b))) l.invariant.0.kept in (
+      filled_more a.out.now from m a.table _ l.b l.out _ _ (omega (arith, c.requires.behind)) (omega (arith, c.requires.room)) l.invariant.0 (e ∙ ap (rank (part a.out.now from m)) (sym (mul_assoc 64 a.words l.b))) write32.ensures,
       omega (arith, step a.words l.b),
       e,
     )
 
 pub shape_of-out : goal.shape_of-out
 shape_of-out c =
-    c.loop-b.invariant.1.size
+    c.loop-b.invariant.0.size
 
 pub returns : goal.returns
 returns c =
@@ -73,4 +72,4 @@ returns c =
     let l = c.loop-b in
     let m : a.body.at + a.body.len - a.body.at ≡ a.body.len = omega arith in
     let n : l.b ≡ a.n = omega arith in
-    l.invariant.1.text ∙ ap₂ (λ (k i : ℕ). overlaid a.out.now a.table (rank_table (64 * a.words) (part a.out.now a.body.at k) i)) m n
+    l.invariant.0.text ∙ ap₂ (λ (k i : ℕ). overlaid a.out.now a.table (rank_table (64 * a.words) (part a.out.now a.body.at k) i)) m n

@@ -11,7 +11,4 @@ abbrev ranks : List ℕ → ℕ → ℕ → ℕ
 ranks body words i = rank body (64 * words * i)
 
 abbrev pub invariant-loop-b : goal.invariant-loop-b
-invariant-loop-b l = (l.b ≤ l.n) × Filled l.initial.out l.from (l.end - l.from) l.table (ranks (part l.initial.out l.from (l.end - l.from)) l.words) l.b l.out × (l.q ≤ l.words * l.b) × (l.r ≡ rank (part l.initial.out l.from (l.end - l.from)) (64 * l.q))
-
-abbrev pub decreases-loop-b : goal.decreases-loop-b
-decreases-loop-b l = l.n - l.b
+invariant-loop-b l = Filled l.initial.out l.from (l.end - l.from) l.table (ranks (part l.initial.out l.from (l.end - l.from)) l.words) l.b l.out × (l.q ≤ l.words * l.b) × (l.r ≡ rank (part l.initial.out l.from (l.end - l.from)) (64 * l.q))
