@@ -18,7 +18,7 @@ pub fn read_full<R: Read>(reader: &mut R, buffer: &mut [u8]) -> io::Result<usize
         if read == 0 {
             return Ok(len);
         }
-        len = len + read;
+        len += read;
     }
     Ok(len)
 }

@@ -6,11 +6,11 @@ ghost use Rattle.print_pages.specs.Printing.{Progress};
 ghost use Rattle.print_pages.specs.Handing.{Handed};
 
 use super::input::read_full;
-use super::opening::{Follows, open};
+use super::opening::open;
 use super::pages::write_page;
 use std::io;
 use std::io::{Read, Write};
-use walk_states::State;
+use walk::walker::Walker;
 
 // The bytes of a page.
 const PAGE: usize = 16384;
@@ -25,29 +25,27 @@ pub struct Sent {
     pub all: bool,
 }
 
-// The lines of an image's leaves from a state's on, page after page, until all are written or a page cannot be. The first bytes of the text, `sent` of them, have been written before. Gives how much of the text has been handed on, also where a write failed, and why one failed.
-fn write_pages<W: Write>(
-    image: &[u8],
-    from: State,
+// The lines of an image's leaves from a walker's on, page after page, until all are written or a page cannot be. The first bytes of the text, `sent` of them, have been written before. Gives how much of the text has been handed on, also where a write failed, and why one failed.
+fn write_pages<'a, W: Write>(
+    from: Walker<'a>,
     sent: usize,
     page: &mut [u8],
     writer: &mut W,
 ) -> (Sent, io::Result<()>)
-    requires { Progress image.now from sent × (longest_line ≤ length page.old) }
-    ensures { Handed image.now result.0 }
+    requires { Progress from.image.bytes.now from sent × (longest_line ≤ length page.old) }
+    ensures { Handed from.entry.image.bytes.now result.0 }
 {
     let mut at = from;
     let mut bytes = sent;
     loop {
-        let written = write_page(image, at, page);
-        let len = written.len;
-        if len == 0 {
+        let written = write_page(at, page);
+        if written.len == 0 {
             return (Sent { bytes, all: true }, Ok(()));
         }
-        if let Err(error) = writer.write_all(&page[..len]) {
+        if let Err(error) = writer.write_all(&page[..written.len]) {
             return (Sent { bytes, all: false }, Err(error));
         }
-        bytes = bytes + len;
+        bytes += written.len;
         at = written.next;
     }
 }
@@ -58,25 +56,17 @@ fn write_text<W: Write>(input: &[u8], writer: &mut W) -> (Sent, io::Result<()>)
 {
     let mut page = [0u8; PAGE];
     let opening = open(input, &mut page);
-    let len = opening.len;
-    let follows = opening.follows;
-    let at = opening.at;
-    if let Err(error) = writer.write_all(&page[..len]) {
+    let bytes = opening.len;
+    if let Err(error) = writer.write_all(&page[..bytes]) {
         let sent = Sent {
             bytes: 0,
             all: false,
         };
         return (sent, Err(error));
     }
-    match follows {
-        Follows::Nothing => {
-            let sent = Sent {
-                bytes: len,
-                all: true,
-            };
-            (sent, Ok(()))
-        }
-        Follows::Lines => write_pages(input, at, len, &mut page, writer),
+    match opening.lines {
+        None => (Sent { bytes, all: true }, Ok(())),
+        Some(from) => write_pages(from, bytes, &mut page, writer),
     }
 }
 

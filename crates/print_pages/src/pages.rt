@@ -1,36 +1,32 @@
 // The leaves' lines, a page at a time: as many whole lines as a buffer holds.
-ghost use Rattle.std.specs.Prelude.{◌≡◌, ◌≤◌, length};
+ghost use Rattle.std.specs.Prelude.{◌≤◌, length};
 ghost use Rattle.walk_states.specs.Walks.{Walks};
 ghost use Rattle.print_text.specs.Texts.{longest_line};
 ghost use Rattle.print_pages.specs.Printing.{Paged};
 
 use print_text::lines::{LONGEST_LINE, write_line};
-use walk::walker::{move_from, stand_from};
-use walk_states::{Stand, State, Status};
+use walk::walker::Walker;
 
-// The bytes of a page, and the state at the leaf that the next page starts with.
+// The bytes of a page, and the walker at the leaf that the next page starts with.
 #[derive(Clone, Copy)]
-pub struct Page {
+pub struct Page<'a> {
     pub len: usize,
-    pub next: State,
+    pub next: Walker<'a>,
 }
 
-// The lines of the leaves from the state's on, written into a page for as long as it has room for another line.
-pub fn write_page(image: &[u8], from: State, page: &mut [u8]) -> Page
-    requires { Walks image.now from × (from.status ≡ Status.Opened) × (longest_line ≤ length page.old) }
-    ensures { Paged image.now from page.new result }
+// The lines of the leaves from the walker's on, written into a page for as long as it has room for another line.
+pub fn write_page<'a>(from: Walker<'a>, page: &mut [u8]) -> Page<'a>
+    requires { Walks from × (longest_line ≤ length page.old) }
+    ensures { Paged from.entry page.new result }
 {
     let mut at = from;
     let mut len = 0usize;
     while LONGEST_LINE <= page.len() - len {
-        let s = stand_from(image, at);
-        let stand = s.stand;
-        let Stand::Leaf = stand else {
+        let Some(leaf) = at.stand() else {
             return Page { len, next: at };
         };
-        let l = s.leaf;
-        len = write_line(page, len, at.place, l);
-        at = move_from(image, at);
+        len = write_line(page, len, at.cursor.place, leaf);
+        at = at.next();
     }
     Page { len, next: at }
 }

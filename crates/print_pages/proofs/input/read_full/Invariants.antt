@@ -1,5 +1,5 @@
 -- What stands at the front of the buffer is what the reader has given.
-use Rattle.std.proofs.Common.{◌≡◌, ◌-◌, ◌≤◌, length, take}
+use Rattle.std.proofs.Common.{◌-◌, ◌≤◌, length, take}
 use Rattle.std.specs.Io.KnownBytes.{Consumes}
 use Rattle.print_pages.proofs.input.read_full.Given as goal
 
