@@ -41,7 +41,7 @@ fn replies_length(image: &AcceptedImage, file: &[u8]) -> usize
     let mut total = 0usize;
     while at < file.len() {
         let asked = question_at(file, at);
-        total += REPLY_HEAD + key_length(image, base, asked.question);
+        total = total + REPLY_HEAD + key_length(image, base, asked.question);
         at = asked.next;
     }
     total

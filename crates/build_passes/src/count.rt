@@ -9,8 +9,8 @@ ghost use Rattle.build_keys.specs.CountPass.{leaf_level_of, raised, level_counts
 ghost use Rattle.build_passes.specs.LevelSums.{Balanced, Summable, Summed};
 ghost use Rattle.build_laws.specs.Limits.{counters, counter_max};
 
-use build_keys::numbers::{leaf_level, split_level};
 use build_keys::LevelCounts;
+use build_keys::numbers::{leaf_level, split_level};
 use build_laws::Key;
 use build_list::read::read_key;
 use image::MAX_LEVELS;

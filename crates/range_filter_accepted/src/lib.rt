@@ -11,8 +11,8 @@ ghost use Rattle.spec.specs.OneQuestion.{ask_one, reply_number, reply_rule, key_
 ghost use Rattle.image.specs.Codes.{Coded};
 ghost use Rattle.range_filter_accepted.specs.CodedNumber.{CodedNumber};
 
-use accepted::records::write_accepted;
 use accepted::FOUND_BYTES;
+use accepted::records::write_accepted;
 use image::codes::code;
 
 // The number in the reply to a point over an accepted image: 1 or 0.
