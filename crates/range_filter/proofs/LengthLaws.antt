@@ -7,7 +7,6 @@ use Rattle.spec.specs.Build.{length_bytes, length_code}
 use Rattle.std.specs.Prelude.{Result, Ok, Err}
 use Rattle.spec.specs.Answer.{answer_code}
 use Rattle.image.specs.declared.refusals.Refusal.{Refusal}
-use Rattle.image.specs.Refusals.{number_of}
 use Rattle.image.specs.Outcomes.{answer_of}
 use Rattle.build.specs.Build.{length_of}
 use Rattle.range_filter.specs.Filter.{CodedLength}

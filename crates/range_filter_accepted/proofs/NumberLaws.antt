@@ -21,7 +21,6 @@ use Rattle.ask_files.specs.ReplyLaws.{point_reply}
 use Rattle.std.specs.Prelude.{Result, Ok, Err}
 use Rattle.spec.specs.Answer.{answer_code}
 use Rattle.image.specs.declared.refusals.Refusal.{Refusal}
-use Rattle.image.specs.Refusals.{number_of}
 use Rattle.image.specs.Outcomes.{answer_of}
 use Rattle.accepted.specs.Numbers.{numbered_of}
 use Rattle.range_filter_accepted.specs.CodedNumber.{CodedNumber}
