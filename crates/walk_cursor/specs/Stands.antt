@@ -1,5 +1,5 @@
 -- Where a cursor stands: at a leaf of the image, or behind the last one.
-use Rattle.std.specs.Prelude.{ℕ, ◌+◌, ◌-◌, ◌<◌, ◌≤◌, ◌≡◌, true, false, List, get_or, drop}
+use Rattle.std.specs.Prelude.{ℕ, ◌+◌, ◌-◌, ◌<◌, ◌≤◌, ◌≡◌, true, false, get_or, drop}
 use Rattle.std.proofs.Math.Option.{some}
 use Rattle.std.proofs.Math.ListN.{get_elem?}
 use Rattle.spec.specs.Bytes.{Bytes, low_bits}
@@ -15,6 +15,7 @@ use Rattle.nav_branches.specs.PathSteps.{Ends}
 use Rattle.nav_nodes.specs.Slots.{slot_of}
 use Rattle.nav_branches.specs.declared.LeafEnd.{LeafEnd}
 use Rattle.walk_path.specs.declared.moves.Resume.{Resume}
+use Rattle.walk_path.specs.declared.moves.Trail.{Trail}
 use Rattle.walk_path.specs.Levels.{numbered, Kept, Room}
 use Rattle.walk_cursor.specs.declared.Cursor.{Cursor}
 
@@ -22,11 +23,11 @@ use Rattle.walk_cursor.specs.declared.Cursor.{Cursor}
 pub record Stands (s : Bytes) (f : Frame) (c : Cursor) : Type 0 where
   -- the place is a leaf's, or behind the last one
   pub within : c.place ≤ f.leaves
-  pub ends : Ends s f (numbered c.path) c.end.depth c.end.stop
-  pub leaves_are : drop c.place (read_leaves s) ≡ standing f.width (nodes s f) (numbered c.path) c.labels c.end.depth c.end.stop
+  pub ends : Ends s f (numbered c.trail.nodes) c.end.depth c.end.stop
+  pub leaves_are : drop c.place (read_leaves s) ≡ standing f.width (nodes s f) (numbered c.trail.nodes) c.trail.labels c.end.depth c.end.stop
   -- what it keeps of the levels holds
-  pub kept : Kept s f c.path c.entries c.labels c.end
-  pub room : Room c.path c.entries c.labels
+  pub kept : Kept s f c.trail.nodes c.trail.entries c.trail.labels c.end
+  pub room : Room c.trail.nodes c.trail.entries c.trail.labels
 
 -- The cursor stands at a leaf of the image.
 pub record AtLeaf (s : Bytes) (f : Frame) (c : Cursor) : Type 0 where
@@ -44,20 +45,20 @@ pub record NoLeaf (place : ℕ) (c : Cursor) : Type 0 where
   pub stop_is : c.end.stop ≡ Stop.Nowhere
   pub depth_is : c.end.depth ≡ 0
   pub place_is : c.place ≡ place
-  pub room : Room c.path c.entries c.labels
+  pub room : Room c.trail.nodes c.trail.entries c.trail.labels
 
--- the cursor of these arrays at a place
-abbrev pub cursor_of : List ℕ → List ℕ → Bytes → LeafEnd → ℕ → Cursor
-cursor_of ns es cut e place = record { path = ns; entries = es; labels = cut; end = e; place = place }
+-- the cursor of a trail at a place
+abbrev pub cursor_of : Trail → LeafEnd → ℕ → Cursor
+cursor_of t e place = record { trail = t; end = e; place = place }
 
--- The cursor of these arrays stands at a leaf.
-pub record CanAdvance (s : Bytes) (f : Frame) (ns es : List ℕ) (cut : Bytes) (e : LeafEnd) : Type 0 where
+-- The cursor of the trail stands at a leaf.
+pub record CanAdvance (s : Bytes) (f : Frame) (t : Trail) (e : LeafEnd) : Type 0 where
   pub place : ℕ
-  pub at : AtLeaf s f (cursor_of ns es cut e place)
+  pub at : AtLeaf s f (cursor_of t e place)
 
--- The cursor of these arrays stands at the next place.
-pub record Advances (s : Bytes) (f : Frame) (ns₀ es₀ : List ℕ) (cut₀ : Bytes) (e₀ : LeafEnd) (ns es : List ℕ) (cut : Bytes) (e : LeafEnd) : Type 0 where
-  pub stands : (place : ℕ) → AtLeaf s f (cursor_of ns₀ es₀ cut₀ e₀ place) → Stands s f (cursor_of ns es cut e (place + 1))
+-- The cursor of the trail t stands at the next place.
+pub record Advances (s : Bytes) (f : Frame) (t₀ : Trail) (e₀ : LeafEnd) (t : Trail) (e : LeafEnd) : Type 0 where
+  pub stands : (place : ℕ) → AtLeaf s f (cursor_of t₀ e₀ place) → Stands s f (cursor_of t e (place + 1))
 
 -- An open leaf has a label before it, and at most 64.
 abbrev pub HasEnd : LeafEnd → Type 0

@@ -12,19 +12,17 @@ use image::{AcceptedImage, Leaf, ValuePos};
 use nav_branches::branches::is_there;
 use nav_branches::{LeafEnd, LeafStop};
 use query_descent::suffix::slot_bits;
-use walk_path::moves::{Resume, climb, first_behind};
+use walk_path::moves::{Resume, Trail, climb, first_behind};
 
 pub mod branch; // branch.rt: the branch of a node before which so many of its leaves stand
 pub mod descent; // descent.rt: the path from the root to the leaf at a place
 pub mod locate; // locate.rt: the cursor at a place, straight from the root
 pub mod values; // values.rt: a leaf by value, with zeros for what it does not settle
 
-// A place of a walk: the path to the leaf, whose labels are the cut key, what is kept of its levels, and the leaf's number in key order. Behind the last leaf the path ends nowhere.
+// A place of a walk: what is kept of the levels of the path to the leaf, whose labels are the cut key, where the path ends, and the leaf's number in key order. Behind the last leaf the path ends nowhere.
 #[derive(Clone, Copy)]
 pub struct Cursor {
-    pub path: [usize; 64],
-    pub entries: [usize; 128],
-    pub labels: [u8; 64],
+    pub trail: Trail,
     pub end: LeafEnd,
     pub place: usize,
 }
@@ -34,9 +32,11 @@ pub fn at_no_leaf(place: usize) -> Cursor
     ensures { NoLeaf place result }
 {
     Cursor {
-        path: [0usize; 64],
-        entries: [0usize; 128],
-        labels: [0u8; 64],
+        trail: Trail {
+            nodes: [0usize; 64],
+            entries: [0usize; 128],
+            labels: [0u8; 64],
+        },
         end: LeafEnd {
             depth: 0,
             stop: LeafStop::Nowhere,
@@ -64,20 +64,14 @@ fn resume(labels: &[u8; 64], end: LeafEnd) -> Resume
 }
 
 // The leaf behind the one where the path ends: up to the next higher branch, and down to the first leaf behind it.
-pub fn advance(
-    image: &AcceptedImage,
-    path: &mut [usize; 64],
-    entries: &mut [usize; 128],
-    labels: &mut [u8; 64],
-    end: LeafEnd,
-) -> LeafEnd
-    requires { CanAdvance image.now.bytes.now image.now.frame path.old entries.old labels.old end }
-    ensures { Advances image.now.bytes.now image.now.frame path.old entries.old labels.old end path.new entries.new labels.new result }
+pub fn advance(image: &AcceptedImage, trail: &mut Trail, end: LeafEnd) -> LeafEnd
+    requires { CanAdvance image.now.bytes.now image.now.frame trail.old end }
+    ensures { Advances image.now.bytes.now image.now.frame trail.old end trail.new result }
 {
-    let from = resume(labels, end);
-    let higher = climb(image, path, entries, labels, from);
+    let from = resume(&trail.labels, end);
+    let higher = climb(image, trail, from);
     if is_there(higher.branch.kind) {
-        return first_behind(image, path, entries, labels, higher);
+        return first_behind(image, trail, higher);
     }
     LeafEnd {
         depth: 0,
@@ -90,14 +84,10 @@ pub fn step(image: &AcceptedImage, c: Cursor) -> Cursor
     requires { AtLeaf image.now.bytes.now image.now.frame c }
     ensures { StandsAt image.now.bytes.now image.now.frame (c.place + 1) result }
 {
-    let mut path = c.path;
-    let mut entries = c.entries;
-    let mut labels = c.labels;
-    let end = advance(image, &mut path, &mut entries, &mut labels, c.end);
+    let mut trail = c.trail;
+    let end = advance(image, &mut trail, c.end);
     Cursor {
-        path,
-        entries,
-        labels,
+        trail,
         end,
         place: c.place + 1,
     }
@@ -142,5 +132,5 @@ pub fn leaf_at(image: &AcceptedImage, c: Cursor) -> Leaf
     requires { AtLeaf image.now.bytes.now image.now.frame c }
     ensures { IsLeaf image.now.bytes.now c.place result }
 {
-    leaf_of(image, c.labels, c.end)
+    leaf_of(image, c.trail.labels, c.end)
 }

@@ -8,6 +8,7 @@ use super::descent::descend_to;
 use super::{Cursor, at_no_leaf};
 use image::AcceptedImage;
 use nav_branches::{LeafEnd, Path};
+use walk_path::moves::Trail;
 
 // The numbers of a path's nodes.
 fn node_numbers(path: Path) -> [usize; 64]
@@ -30,12 +31,14 @@ pub fn cursor_at(image: &AcceptedImage, place: usize) -> Cursor
         return at_no_leaf(place);
     }
     let found = descend_to(image, place);
-    let path = node_numbers(found.path);
+    let nodes = node_numbers(found.path);
     let labels = found.path.labels;
     Cursor {
-        path,
-        entries: [0usize; 128],
-        labels,
+        trail: Trail {
+            nodes,
+            entries: [0usize; 128],
+            labels,
+        },
         end: LeafEnd {
             depth: found.depth,
             stop: found.stop,

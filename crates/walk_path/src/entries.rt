@@ -61,13 +61,11 @@ pub fn first_at(image: &AcceptedImage, m: NodeNum, at: BitPos) -> FirstBranch
         return first_branch(image, m);
     }
     let first = branch_at(image, at);
-    if first.label == EXTRA {
-        if goes_on(image, BitPos(at.0 + 1)) {
-            return FirstBranch {
-                exact: true,
-                branch: branch_at(image, BitPos(at.0 + 1)),
-            };
-        }
+    if first.label == EXTRA && goes_on(image, BitPos(at.0 + 1)) {
+        return FirstBranch {
+            exact: true,
+            branch: branch_at(image, BitPos(at.0 + 1)),
+        };
     }
     FirstBranch {
         exact: false,
@@ -86,10 +84,8 @@ pub fn start_at(image: &AcceptedImage, m: NodeNum, last: NodeNum, known: Entry) 
             child: NodeNum(0),
         };
     }
-    if known.at.0 != 0 {
-        if m.0 - 1 == last.0 {
-            return known;
-        }
+    if known.at.0 != 0 && m.0 - 1 == last.0 {
+        return known;
     }
     let start = node_start(image, m);
     Entry {
@@ -103,10 +99,8 @@ pub fn child_at(image: &AcceptedImage, m: NodeNum, at: BitPos, known: Entry) -> 
     requires { IsPosition image.now.bytes.now image.now.frame m.0 at.0 × (0 < known.at.0 → (image.now.frame.dense.nodes ≤ m.0) × (known.child.0 ≡ child_from image.now.bytes.now image.now.frame known.at.0)) }
     ensures { result.0 ≡ child_at image.now.bytes.now image.now.frame m.0 at.0 }
 {
-    if known.at.0 != 0 {
-        if known.at.0 == at.0 {
-            return known.child;
-        }
+    if known.at.0 != 0 && known.at.0 == at.0 {
+        return known.child;
     }
     child(image, m, at)
 }

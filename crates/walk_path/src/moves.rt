@@ -1,5 +1,4 @@
-// From leaf to leaf in key order: up the path to the next higher branch, and down to the first leaf behind it. For each level the node last visited there is kept,
-// and, for sparse levels, the entry behind the last one visited (the first 64 of `entries`) with the child from it on (the others).
+// From leaf to leaf in key order: up the path to the next higher branch, and down to the first leaf behind it.
 ghost use Rattle.std.specs.Prelude.{◌≡◌, ◌<◌};
 ghost use Rattle.walk_path.specs.Entries.{BehindNode};
 ghost use Rattle.walk_path.specs.Levels.{CanClimb, Climbs, CanDescend, Descended, OnNode, Enters, BehindTaken, entry_on, with_entry};
@@ -10,6 +9,14 @@ use nav_branches::branches::is_there;
 use nav_branches::paths::Higher;
 use nav_branches::{LeafEnd, LeafStop};
 use nav_nodes::{BranchKind, FirstBranch, NextBranch};
+
+// What a walk keeps for each level: the node last visited there; for sparse levels the entry behind the last one visited (the first 64 of `entries`) with the child from it on (the others); and the label of the path.
+#[derive(Clone, Copy)]
+pub struct Trail {
+    pub nodes: [usize; 64],
+    pub entries: [usize; 128],
+    pub labels: [u8; 64],
+}
 
 // Where the search for the next leaf starts: the depth of a node of the path, and the first of its labels that is not behind.
 #[derive(Clone, Copy)]
@@ -26,25 +33,19 @@ pub struct Entered {
 }
 
 // The next higher branch of the path. Its levels stay as they are: a node without a branch left is left behind its last entry.
-pub fn climb(
-    image: &AcceptedImage,
-    path: &[usize; 64],
-    entries: &[usize; 128],
-    labels: &[u8; 64],
-    r: Resume,
-) -> Higher
-    requires { CanClimb image.now.bytes.now image.now.frame path.now entries.now labels.now r }
-    ensures { Climbs image.now.bytes.now image.now.frame path.now entries.now labels.now r result }
+pub fn climb(image: &AcceptedImage, trail: &Trail, r: Resume) -> Higher
+    requires { CanClimb image.now.bytes.now image.now.frame trail.now.nodes trail.now.entries trail.now.labels r }
+    ensures { Climbs image.now.bytes.now image.now.frame trail.now.nodes trail.now.entries trail.now.labels r result }
 {
     let mut d = r.depth;
     let mut y = r.from;
     loop {
-        let branch = next_at(image, NodeNum(path[d]), y, BitPos(entries[d]));
+        let branch = next_at(image, NodeNum(trail.nodes[d]), y, BitPos(trail.entries[d]));
         if is_there(branch.kind) || d == 0 {
             return Higher { depth: d, branch };
         }
         d -= 1;
-        y = usize::from(labels[d]) + 1;
+        y = usize::from(trail.labels[d]) + 1;
     }
 }
 
@@ -116,35 +117,39 @@ fn entry_behind(f: Frame, m: NodeNum, b: NextBranch, child: NodeNum) -> Entry
 }
 
 // The first leaf behind a branch of the path. On each level that is entered the node is the next one, and its first entry the one behind the last.
-pub fn first_behind(
-    image: &AcceptedImage,
-    path: &mut [usize; 64],
-    entries: &mut [usize; 128],
-    labels: &mut [u8; 64],
-    from: Higher,
-) -> LeafEnd
-    requires { CanDescend image.now.bytes.now image.now.frame path.old entries.old labels.old from }
-    ensures { Descended image.now.bytes.now image.now.frame path.old labels.old from.depth from.branch.label path.new entries.new labels.new result }
+pub fn first_behind(image: &AcceptedImage, trail: &mut Trail, from: Higher) -> LeafEnd
+    requires { CanDescend image.now.bytes.now image.now.frame trail.old.nodes trail.old.entries trail.old.labels from }
+    ensures { Descended image.now.bytes.now image.now.frame trail.old.nodes trail.old.labels from.depth from.branch.label trail.new.nodes trail.new.entries trail.new.labels result }
 {
     let mut d = from.depth;
     let mut b = from.branch;
-    let mut c = child_at(image, NodeNum(path[d]), b.at, entry_on(entries, d));
+    let mut c = child_at(
+        image,
+        NodeNum(trail.nodes[d]),
+        b.at,
+        entry_on(&trail.entries, d),
+    );
     loop {
-        let m = NodeNum(path[d]);
+        let m = NodeNum(trail.nodes[d]);
         let at = b.at;
         let kind = b.kind;
-        labels[d] = b.label as u8;
-        keep_entry(entries, d, entry_behind(image.frame, m, b, c));
-        d = d + 1;
+        trail.labels[d] = b.label as u8;
+        keep_entry(&mut trail.entries, d, entry_behind(image.frame, m, b, c));
+        d += 1;
         let BranchKind::Child = kind else {
             let stop = LeafStop::Open(slot_at(image, m, at, c));
             return LeafEnd { depth: d, stop };
         };
-        let next = enter(image, c, NodeNum(path[d]), entry_on(entries, d));
+        let next = enter(
+            image,
+            c,
+            NodeNum(trail.nodes[d]),
+            entry_on(&trail.entries, d),
+        );
         let first = next.first;
         let entry = next.entry;
-        path[d] = c.0;
-        keep_entry(entries, d, entry);
+        trail.nodes[d] = c.0;
+        keep_entry(&mut trail.entries, d, entry);
         if first.exact {
             let stop = LeafStop::Exact;
             return LeafEnd { depth: d, stop };

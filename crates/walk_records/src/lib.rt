@@ -54,18 +54,16 @@ pub fn write_leaves(from: &Walker, out: &mut [u8]) -> usize
     requires { Walks from.now }
     ensures { outcome (Ok result) out.new ≡ walk_records from.now.image.bytes.now from.now.cursor.place out.old }
 {
-    let mut path = from.cursor.path;
-    let mut entries = from.cursor.entries;
-    let mut labels = from.cursor.labels;
+    let mut trail = from.cursor.trail;
     let mut end = from.cursor.end;
     let room = out.len() / RECORD_SIZE;
     for count in 0..room {
         if from.cursor.place + count == from.image.frame.leaves {
             return RECORD_SIZE * count;
         }
-        let l = padded(leaf_of(&from.image, labels, end));
+        let l = padded(leaf_of(&from.image, trail.labels, end));
         write_record(out, RECORD_SIZE * count, l);
-        end = advance(&from.image, &mut path, &mut entries, &mut labels, end);
+        end = advance(&from.image, &mut trail, end);
     }
     RECORD_SIZE * room
 }

@@ -13,8 +13,8 @@ resume-from-requires c =
 
 pub climb-higher-requires : goal.climb-higher-requires
 climb-higher-requires c =
-    let resumed : (place : ℕ) → AtLeaf c.args.image.now.bytes.now c.args.image.now.frame (cursor_of c.args.path.now c.args.entries.now c.args.labels.now c.args.end place)
-    → Resumes c.args.image.now.bytes.now c.args.image.now.frame (cursor_of c.args.path.now c.args.entries.now c.args.labels.now c.args.end place) c.resume-from.result.depth c.resume-from.result.from = λ place w. let a = c.args in resumes a.image.now.bytes.now a.image.now.frame (cursor_of a.path.now a.entries.now a.labels.now a.end place) w c.resume-from.result c.resume-from.ensures in
+    let resumed : (place : ℕ) → AtLeaf c.args.image.now.bytes.now c.args.image.now.frame (cursor_of c.args.trail.now c.args.end place)
+    → Resumes c.args.image.now.bytes.now c.args.image.now.frame (cursor_of c.args.trail.now c.args.end place) c.resume-from.result.depth c.resume-from.result.from = λ place w. let a = c.args in resumes a.image.now.bytes.now a.image.now.frame (cursor_of a.trail.now a.end place) w c.resume-from.result c.resume-from.ensures in
     let p = c.requires in
     let r = resumed p.place p.at in
     record { searchable = r.searchable; levels = r.levels }
@@ -27,26 +27,26 @@ first_behind-requires c =
 
 pub returns-then-is_there : goal.returns-then-is_there
 returns-then-is_there c =
-    let resumed : (place : ℕ) → AtLeaf c.args.image.now.bytes.now c.args.image.now.frame (cursor_of c.args.path.now c.args.entries.now c.args.labels.now c.args.end place)
-    → Resumes c.args.image.now.bytes.now c.args.image.now.frame (cursor_of c.args.path.now c.args.entries.now c.args.labels.now c.args.end place) c.resume-from.result.depth c.resume-from.result.from = λ place w. let a = c.args in resumes a.image.now.bytes.now a.image.now.frame (cursor_of a.path.now a.entries.now a.labels.now a.end place) w c.resume-from.result c.resume-from.ensures in
+    let resumed : (place : ℕ) → AtLeaf c.args.image.now.bytes.now c.args.image.now.frame (cursor_of c.args.trail.now c.args.end place)
+    → Resumes c.args.image.now.bytes.now c.args.image.now.frame (cursor_of c.args.trail.now c.args.end place) c.resume-from.result.depth c.resume-from.result.from = λ place w. let a = c.args in resumes a.image.now.bytes.now a.image.now.frame (cursor_of a.trail.now a.end place) w c.resume-from.result c.resume-from.ensures in
     let branch_left : c.climb-higher.result.branch.kind ≡ Absent → ⊥ = there_not c.climb-higher.result.branch.kind (sym c.is_there.ensures ∙ c.if-is_there.true) in
     let a = c.args in
     let k = c.climb-higher in
     record {
       stands = λ place w.
           let r = c.resume-from.result in
-          stands_next a.image.now.bytes.now a.image.now.frame (cursor_of a.path.now a.entries.now a.labels.now a.end place) w r.depth r.from (resumed place w) k.result k.ensures.higher branch_left _ _ _ c.first_behind.result c.first_behind.ensures;
+          stands_next a.image.now.bytes.now a.image.now.frame (cursor_of a.trail.now a.end place) w r.depth r.from (resumed place w) k.result k.ensures.higher branch_left _ c.first_behind.result c.first_behind.ensures;
     }
 
 pub returns : goal.returns
 returns c =
-    let resumed : (place : ℕ) → AtLeaf c.args.image.now.bytes.now c.args.image.now.frame (cursor_of c.args.path.now c.args.entries.now c.args.labels.now c.args.end place)
-    → Resumes c.args.image.now.bytes.now c.args.image.now.frame (cursor_of c.args.path.now c.args.entries.now c.args.labels.now c.args.end place) c.resume-from.result.depth c.resume-from.result.from = λ place w. let a = c.args in resumes a.image.now.bytes.now a.image.now.frame (cursor_of a.path.now a.entries.now a.labels.now a.end place) w c.resume-from.result c.resume-from.ensures in
+    let resumed : (place : ℕ) → AtLeaf c.args.image.now.bytes.now c.args.image.now.frame (cursor_of c.args.trail.now c.args.end place)
+    → Resumes c.args.image.now.bytes.now c.args.image.now.frame (cursor_of c.args.trail.now c.args.end place) c.resume-from.result.depth c.resume-from.result.from = λ place w. let a = c.args in resumes a.image.now.bytes.now a.image.now.frame (cursor_of a.trail.now a.end place) w c.resume-from.result c.resume-from.ensures in
     let a = c.args in
     let k = c.climb-higher in
     let none = not_there k.result.branch.kind (sym c.is_there.ensures ∙ c.if-is_there.false) in
     record {
       stands = λ place w.
           let r = c.resume-from.result in
-          stands_last a.image.now.bytes.now a.image.now.frame (cursor_of a.path.now a.entries.now a.labels.now a.end place) w r.depth r.from (resumed place w) k.result k.ensures.higher none _ (record { stop_is = refl; depth_is = refl; place_is = refl; room = w.stands.room });
+          stands_last a.image.now.bytes.now a.image.now.frame (cursor_of a.trail.now a.end place) w r.depth r.from (resumed place w) k.result k.ensures.higher none _ (record { stop_is = refl; depth_is = refl; place_is = refl; room = w.stands.room });
     }

@@ -34,15 +34,15 @@ pub advance-end-requires : goal.advance-end-requires
 advance-end-requires c =
     let w = c.args.from.now in
     let l = c.loop-count in
-    record { place = w.cursor.place + l.count; at = can_step (record { image = w.image; cursor = cursor_of l.path l.entries l.labels l.end (w.cursor.place + l.count) }) l.invariant.1 (omega (arith, c.if-from-count.false, l.invariant.1.within)) }
+    record { place = w.cursor.place + l.count; at = can_step (record { image = w.image; cursor = cursor_of l.trail l.end (w.cursor.place + l.count) }) l.invariant.1 (omega (arith, c.if-from-count.false, l.invariant.1.within)) }
 
 pub loop-count-preserved : goal.loop-count-preserved
 loop-count-preserved c =
     let w = c.args.from.now in
     let l = c.loop-count in
-    let at = can_step (record { image = w.image; cursor = cursor_of l.path l.entries l.labels l.end (w.cursor.place + l.count) }) l.invariant.1 (omega (arith, c.if-from-count.false, l.invariant.1.within)) in
+    let at = can_step (record { image = w.image; cursor = cursor_of l.trail l.end (w.cursor.place + l.count) }) l.invariant.1 (omega (arith, c.if-from-count.false, l.invariant.1.within)) in
     let leaf = leaf_of c.leaf_of.result in
-    let found = (leaf_read w.image.bytes.now w.image.frame (cursor_of l.path l.entries l.labels l.end (w.cursor.place + l.count)) at c.leaf_of.result c.leaf_of.ensures).leaf_is in
+    let found = (leaf_read w.image.bytes.now w.image.frame (cursor_of l.trail l.end (w.cursor.place + l.count)) at c.leaf_of.result c.leaf_of.ensures).leaf_is in
     let t = c.loop-count-test.true in
     let z : w.cursor.place + (l.count + 1) ≡ w.cursor.place + l.count + 1 = omega arith in (
       omega (arith, t),

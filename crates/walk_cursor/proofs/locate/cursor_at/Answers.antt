@@ -17,8 +17,8 @@ returns c =
     let a = c.args in
     let d = c.descend_to-found.ensures in
     let e = c.descend_to-found.result in
-    let ns = c.node_numbers-path.result in
-    let same = c.node_numbers-path.ensures in
+    let ns = c.node_numbers-nodes.result in
+    let same = c.node_numbers-nodes.ensures in
     record {
       stands = record {
         within = c.requires;

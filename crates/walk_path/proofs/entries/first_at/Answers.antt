@@ -8,6 +8,7 @@ use Rattle.nav_nodes.specs.FoundBranch.{IsSparse}
 use Rattle.walk_path.specs.Entries.{start_of}
 use Rattle.walk_path.specs.EntryLaws.{start_below, first_other, first_sole, first_extra}
 use Rattle.walk_path.proofs.entries.first_at.Goals as goal
+use Rattle.walk_path.proofs.entries.first_at.Goals.{else-first-eq-EXTRA-via-then-first-eq-EXTRA+else-goes_on, else-first-eq-EXTRA-via-else-first-eq-EXTRA}
 
 pub branch_at-first-requires : goal.branch_at-first-requires
 branch_at-first-requires c =
@@ -51,18 +52,14 @@ returns-then-goes_on c =
     let n = sparse in
     first_extra a.image.now.bytes.now a.image.now.frame n.accepted a.m.0 n.behind_dense n.inside a.at.0 starts c.branch_at.result (sym c.branch_at-first.ensures.label_is ∙ c.if-first-eq-EXTRA.true) extra c.branch_at.ensures
 
-pub returns-else-goes_on : goal.returns-else-goes_on
-returns-else-goes_on c =
+pub returns : goal.returns
+returns c =
     let sparse : IsSparse c.args.image.now.bytes.now c.args.image.now.frame c.args.m.0 = let n = c.if-m-image.false in record { accepted = c.requires.0.accepted; behind_dense = omega arith; inside = c.requires.0.inside } in
     let starts : c.args.at.0 ≡ start_of c.args.image.now.bytes.now c.args.image.now.frame c.args.m.0 = let n = c.if-m-image.false in c.requires.1 (omega arith) in
-    let a = c.args in
-    let n = sparse in
-    first_sole a.image.now.bytes.now a.image.now.frame n.accepted a.m.0 n.behind_dense n.inside a.at.0 starts c.branch_at-first.result (c.goes_on.ensures.outside a.m.0 n (omega (arith, starts)) c.if-goes_on.false) c.branch_at-first.ensures
-
-pub returns-else-first-eq-EXTRA : goal.returns-else-first-eq-EXTRA
-returns-else-first-eq-EXTRA c =
-    let sparse : IsSparse c.args.image.now.bytes.now c.args.image.now.frame c.args.m.0 = let n = c.if-m-image.false in record { accepted = c.requires.0.accepted; behind_dense = omega arith; inside = c.requires.0.inside } in
-    let starts : c.args.at.0 ≡ start_of c.args.image.now.bytes.now c.args.image.now.frame c.args.m.0 = let n = c.if-m-image.false in c.requires.1 (omega arith) in
-    let a = c.args in
-    let n = sparse in
-    first_other a.image.now.bytes.now a.image.now.frame n.accepted a.m.0 n.behind_dense n.inside a.at.0 starts c.branch_at-first.result (λ e. c.if-first-eq-EXTRA.false (c.branch_at-first.ensures.label_is ∙ e)) c.branch_at-first.ensures
+    let v = c.args.image.now in
+    elim c.else-first-eq-EXTRA.branch [
+      | else-first-eq-EXTRA-via-then-first-eq-EXTRA+else-goes_on w ↦
+          first_sole v.bytes.now v.frame sparse.accepted c.args.m.0 sparse.behind_dense sparse.inside c.args.at.0 starts c.branch_at-first.result (w.goes_on.ensures.outside c.args.m.0 sparse (omega (arith, starts)) w.if-goes_on.false) c.branch_at-first.ensures
+      | else-first-eq-EXTRA-via-else-first-eq-EXTRA w ↦
+          first_other v.bytes.now v.frame sparse.accepted c.args.m.0 sparse.behind_dense sparse.inside c.args.at.0 starts c.branch_at-first.result (λ e. w.if-first-eq-EXTRA.false (c.branch_at-first.ensures.label_is ∙ e)) c.branch_at-first.ensures
+    ]
