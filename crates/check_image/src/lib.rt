@@ -4,7 +4,7 @@
 
 ghost use Rattle.std.specs.Prelude.{◌≡◌};
 ghost use Rattle.spec.specs.Check.{check};
-ghost use Rattle.check_image.specs.Answers.{answer, CheckedAs};
+ghost use Rattle.check_image.specs.Answers.{answer, Judged, CheckedAs};
 
 use check_frame::ranked::RankedFrame;
 use check_frame::read_frame;
@@ -16,9 +16,9 @@ use check_trie::trie::trie_valid;
 use image::AcceptedImage;
 use image::refusals::Refusal;
 
-// The image with its frame, if none of the numbers 13 to 16 applies, or the refusal. The ranks are compared where the ones are counted, and judged in their turn.
-fn judge<'a>(read: RankedFrame<'a>) -> Result<AcceptedImage<'a>, Refusal>
-    ensures { CheckedAs read.entry.image.bytes.now result }
+// Whether an image with its frame passes the numbers 13 to 16, or the refusal. The ranks are compared where the ones are counted, and judged in their turn.
+fn judge(read: &RankedFrame) -> Result<(), Refusal>
+    ensures { Judged read.now.image.bytes.now result }
 {
     let image = &read.image;
     if !spare_clear(image) {
@@ -37,23 +37,25 @@ fn judge<'a>(read: RankedFrame<'a>) -> Result<AcceptedImage<'a>, Refusal>
     if !slots_valid(image) {
         return Err(Refusal::SlotWrong);
     }
-    Ok(AcceptedImage {
-        bytes: image.bytes,
-        frame: image.frame,
-    })
+    Ok(())
 }
 
 // An accepted image with its frame, or the refusal.
 pub fn accept<'a>(image: &'a [u8]) -> Result<AcceptedImage<'a>, Refusal>
     ensures { CheckedAs image.now result }
 {
-    judge(read_frame(image)?)
+    let read = read_frame(image)?;
+    judge(&read)?;
+    Ok(AcceptedImage {
+        bytes: read.image.bytes,
+        frame: read.image.frame,
+    })
 }
 
 // What check says of an image: accepted, or refused with the first of 11 to 16 that applies.
 pub fn check(image: &[u8]) -> Result<(), Refusal>
     ensures { answer result ≡ check image.now }
 {
-    accept(image)?;
-    Ok(())
+    let read = read_frame(image)?;
+    judge(&read)
 }

@@ -1,19 +1,26 @@
--- The answer by what accepting the image gave.
+-- The answer by what reading the frame and judging the image gave.
 use mathlib.Core.Path.{◌≡◌, sym}
+use Rattle.std.specs.Prelude.{Result, Ok, Err}
 use Rattle.std.proofs.lemmas.Result.{err_from_is_err_and}
+use Rattle.spec.specs.Bytes.{Bytes}
+use Rattle.spec.specs.Check.{check}
 use Rattle.theory.proofs.RefusalNumbers.{check_accepts, check_refused}
+use Rattle.image.specs.declared.refusals.Refusal.{Refusal}
 use Rattle.image.specs.Refusals.{number_of, number_positive}
+use Rattle.check_image.specs.Answers.{answer, Judged, refuses}
 use Rattle.check_image.proofs.check.Goals as goal
 
-pub returns-in_err-accept : goal.returns-in_err-accept
-returns-in_err-accept c =
-    let r = c.in_err-accept.field-0.0 in
+-- what judging says is the answer
+judged : (s : Bytes) (r : Result (Unit {0}) Refusal) → Judged s r → answer r ≡ check s
+judged s (Ok _) v = sym ((check_accepts s).1 v)
+judged s (Err r) v = sym ((check_refused s (number_of r)).1 (v, number_positive r))
+
+pub returns-in_err-read : goal.returns-in_err-read
+returns-in_err-read c =
+    let r = c.in_err-read.field-0.0 in
     let p = err_from_is_err_and c.from_residual.result c.from_residual.ensures.1 in
-    let q = rw c.in_err-accept.was at c.accept.ensures in
-    rw (p.1, p.2) (sym ((check_refused c.args.image.now (number_of r)).1 (q, number_positive r)))
+    rw (p.1, p.2) (judged c.args.image.now (Err r) (refuses r c.in_err-read.ensures.1))
 
 pub returns : goal.returns
 returns c =
-    let a = c.in_ok-accept.field-0 in
-    let e : a.bytes.now ≡ c.args.image.now = c.in_ok-accept.ensures in
-    sym ((check_accepts c.args.image.now).1 (rw e at a.checked))
+    judged c.args.image.now c.judge.result (rw c.in_ok-read.ensures at c.judge.ensures)

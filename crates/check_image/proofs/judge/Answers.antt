@@ -52,58 +52,54 @@ module _ (s : Bytes) (f : Frame) (o : FrameOf s f) where
 
 pub returns-then-not-spare_clear : goal.returns-then-not-spare_clear
 returns-then-not-spare_clear c =
-    let s = c.args.read.image.bytes.now in
-    let f = c.args.read.image.frame in
-    refuses SpareBitSet (spare_set (frame_bodies s f) (frame_passes s f c.args.read.image.framed) (sym c.spare_clear.ensures ∙ c.if-not-spare_clear.true))
+    let s = c.args.read.now.image.bytes.now in
+    let f = c.args.read.now.image.frame in
+    refuses SpareBitSet (spare_set (frame_bodies s f) (frame_passes s f c.args.read.now.image.framed) (sym c.spare_clear.ensures ∙ c.if-not-spare_clear.true))
 
 pub returns-then-not-trie_valid : goal.returns-then-not-trie_valid
 returns-then-not-trie_valid c =
-    let s = c.args.read.image.bytes.now in
-    let f = c.args.read.image.frame in
-    refuses TrieWrong (no_trie (frame_bodies s f) (to_13 s f c.args.read.image.framed c.spare_clear.ensures c.if-not-spare_clear.false) (ap builders_trie c.args.read.image.framed.parts_are ∙ sym c.trie_valid.ensures ∙ c.if-not-trie_valid.true))
+    let s = c.args.read.now.image.bytes.now in
+    let f = c.args.read.now.image.frame in
+    refuses TrieWrong (no_trie (frame_bodies s f) (to_13 s f c.args.read.now.image.framed c.spare_clear.ensures c.if-not-spare_clear.false) (ap builders_trie c.args.read.now.image.framed.parts_are ∙ sym c.trie_valid.ensures ∙ c.if-not-trie_valid.true))
 
 pub returns-then-not-counts : goal.returns-then-not-counts
 returns-then-not-counts c =
-    let s = c.args.read.image.bytes.now in
-    let f = c.args.read.image.frame in
-    let r = ranks_found s f c.args.read.image.framed c.args.read.judged c.count_sparse-counts.ensures.agrees ∙ both c.args.read.agrees c.count_sparse-counts.result.agrees c.if-read.value (elim c.if-read.branch [ then-read w ↦ inl (w.if-read.true, w.value-is) | else-read w ↦ inr (w.if-read.false, w.value-is) ]) in
-    refuses TableWrong (table_wrong (frame_bodies s f) (to_14 s f c.args.read.image.framed c.spare_clear.ensures c.if-not-spare_clear.false c.trie_valid.ensures c.if-not-trie_valid.false) (tables s f c.args.read.image.framed (r ∙ c.if-not-counts.true) refl))
+    let s = c.args.read.now.image.bytes.now in
+    let f = c.args.read.now.image.frame in
+    let r = ranks_found s f c.args.read.now.image.framed c.args.read.now.judged c.count_sparse-counts.ensures.agrees ∙ both c.args.read.now.agrees c.count_sparse-counts.result.agrees c.if-read.value (elim c.if-read.branch [ then-read w ↦ inl (w.if-read.true, w.value-is) | else-read w ↦ inr (w.if-read.false, w.value-is) ]) in
+    refuses TableWrong (table_wrong (frame_bodies s f) (to_14 s f c.args.read.now.image.framed c.spare_clear.ensures c.if-not-spare_clear.false c.trie_valid.ensures c.if-not-trie_valid.false) (tables s f c.args.read.now.image.framed (r ∙ c.if-not-counts.true) refl))
 
 pub starts_valid-requires : goal.starts_valid-requires
 starts_valid-requires c =
-    let s = c.args.read.image.bytes.now in
-    let f = c.args.read.image.frame in
-    let r = ranks_found s f c.args.read.image.framed c.args.read.judged c.count_sparse-counts.ensures.agrees ∙ both c.args.read.agrees c.count_sparse-counts.result.agrees c.if-read.value (elim c.if-read.branch [ then-read w ↦ inl (w.if-read.true, w.value-is) | else-read w ↦ inr (w.if-read.false, w.value-is) ]) in
-    to_ranks s f c.args.read.image.framed c.spare_clear.ensures c.if-not-spare_clear.false c.trie_valid.ensures c.if-not-trie_valid.false r c.if-not-counts.false
+    let s = c.args.read.now.image.bytes.now in
+    let f = c.args.read.now.image.frame in
+    let r = ranks_found s f c.args.read.now.image.framed c.args.read.now.judged c.count_sparse-counts.ensures.agrees ∙ both c.args.read.now.agrees c.count_sparse-counts.result.agrees c.if-read.value (elim c.if-read.branch [ then-read w ↦ inl (w.if-read.true, w.value-is) | else-read w ↦ inr (w.if-read.false, w.value-is) ]) in
+    to_ranks s f c.args.read.now.image.framed c.spare_clear.ensures c.if-not-spare_clear.false c.trie_valid.ensures c.if-not-trie_valid.false r c.if-not-counts.false
 
 pub returns-then-not-starts_valid : goal.returns-then-not-starts_valid
 returns-then-not-starts_valid c =
-    let s = c.args.read.image.bytes.now in
-    let f = c.args.read.image.frame in
-    let r = ranks_found s f c.args.read.image.framed c.args.read.judged c.count_sparse-counts.ensures.agrees ∙ both c.args.read.agrees c.count_sparse-counts.result.agrees c.if-read.value (elim c.if-read.branch [ then-read w ↦ inl (w.if-read.true, w.value-is) | else-read w ↦ inr (w.if-read.false, w.value-is) ]) in
-    refuses TableWrong (table_wrong (frame_bodies s f) (to_14 s f c.args.read.image.framed c.spare_clear.ensures c.if-not-spare_clear.false c.trie_valid.ensures c.if-not-trie_valid.false) (tables s f c.args.read.image.framed (r ∙ c.if-not-counts.false) (sym c.starts_valid.ensures ∙ c.if-not-starts_valid.true)))
+    let s = c.args.read.now.image.bytes.now in
+    let f = c.args.read.now.image.frame in
+    let r = ranks_found s f c.args.read.now.image.framed c.args.read.now.judged c.count_sparse-counts.ensures.agrees ∙ both c.args.read.now.agrees c.count_sparse-counts.result.agrees c.if-read.value (elim c.if-read.branch [ then-read w ↦ inl (w.if-read.true, w.value-is) | else-read w ↦ inr (w.if-read.false, w.value-is) ]) in
+    refuses TableWrong (table_wrong (frame_bodies s f) (to_14 s f c.args.read.now.image.framed c.spare_clear.ensures c.if-not-spare_clear.false c.trie_valid.ensures c.if-not-trie_valid.false) (tables s f c.args.read.now.image.framed (r ∙ c.if-not-counts.false) (sym c.starts_valid.ensures ∙ c.if-not-starts_valid.true)))
 
 pub slots_valid-requires : goal.slots_valid-requires
 slots_valid-requires c =
-    let s = c.args.read.image.bytes.now in
-    let f = c.args.read.image.frame in
-    let r = ranks_found s f c.args.read.image.framed c.args.read.judged c.count_sparse-counts.ensures.agrees ∙ both c.args.read.agrees c.count_sparse-counts.result.agrees c.if-read.value (elim c.if-read.branch [ then-read w ↦ inl (w.if-read.true, w.value-is) | else-read w ↦ inr (w.if-read.false, w.value-is) ]) in
-    to_ranks s f c.args.read.image.framed c.spare_clear.ensures c.if-not-spare_clear.false c.trie_valid.ensures c.if-not-trie_valid.false r c.if-not-counts.false
+    let s = c.args.read.now.image.bytes.now in
+    let f = c.args.read.now.image.frame in
+    let r = ranks_found s f c.args.read.now.image.framed c.args.read.now.judged c.count_sparse-counts.ensures.agrees ∙ both c.args.read.now.agrees c.count_sparse-counts.result.agrees c.if-read.value (elim c.if-read.branch [ then-read w ↦ inl (w.if-read.true, w.value-is) | else-read w ↦ inr (w.if-read.false, w.value-is) ]) in
+    to_ranks s f c.args.read.now.image.framed c.spare_clear.ensures c.if-not-spare_clear.false c.trie_valid.ensures c.if-not-trie_valid.false r c.if-not-counts.false
 
 pub returns-then-not-slots_valid : goal.returns-then-not-slots_valid
 returns-then-not-slots_valid c =
-    let s = c.args.read.image.bytes.now in
-    let f = c.args.read.image.frame in
-    let r = ranks_found s f c.args.read.image.framed c.args.read.judged c.count_sparse-counts.ensures.agrees ∙ both c.args.read.agrees c.count_sparse-counts.result.agrees c.if-read.value (elim c.if-read.branch [ then-read w ↦ inl (w.if-read.true, w.value-is) | else-read w ↦ inr (w.if-read.false, w.value-is) ]) in
-    refuses SlotWrong (slot_set (frame_bodies s f) (to_15 s f c.args.read.image.framed c.spare_clear.ensures c.if-not-spare_clear.false c.trie_valid.ensures c.if-not-trie_valid.false r c.if-not-counts.false c.starts_valid.ensures c.if-not-starts_valid.false) (sym c.slots_valid.ensures ∙ c.if-not-slots_valid.true))
+    let s = c.args.read.now.image.bytes.now in
+    let f = c.args.read.now.image.frame in
+    let r = ranks_found s f c.args.read.now.image.framed c.args.read.now.judged c.count_sparse-counts.ensures.agrees ∙ both c.args.read.now.agrees c.count_sparse-counts.result.agrees c.if-read.value (elim c.if-read.branch [ then-read w ↦ inl (w.if-read.true, w.value-is) | else-read w ↦ inr (w.if-read.false, w.value-is) ]) in
+    refuses SlotWrong (slot_set (frame_bodies s f) (to_15 s f c.args.read.now.image.framed c.spare_clear.ensures c.if-not-spare_clear.false c.trie_valid.ensures c.if-not-trie_valid.false r c.if-not-counts.false c.starts_valid.ensures c.if-not-starts_valid.false) (sym c.slots_valid.ensures ∙ c.if-not-slots_valid.true))
 
-pub invariant_of-result-clause-framed : goal.invariant_of-result-clause-framed
-invariant_of-result-clause-framed c =
-    c.args.read.image.framed
-
-pub invariant_of-result-clause-checked : goal.invariant_of-result-clause-checked
-invariant_of-result-clause-checked c =
-    let s = c.args.read.image.bytes.now in
-    let f = c.args.read.image.frame in
-    let r = ranks_found s f c.args.read.image.framed c.args.read.judged c.count_sparse-counts.ensures.agrees ∙ both c.args.read.agrees c.count_sparse-counts.result.agrees c.if-read.value (elim c.if-read.branch [ then-read w ↦ inl (w.if-read.true, w.value-is) | else-read w ↦ inr (w.if-read.false, w.value-is) ]) in
-    passes_verdict s (frame_bodies s f) (record { before = to_15 s f c.args.read.image.framed c.spare_clear.ensures c.if-not-spare_clear.false c.trie_valid.ensures c.if-not-trie_valid.false r c.if-not-counts.false c.starts_valid.ensures c.if-not-starts_valid.false; slots = sym c.slots_valid.ensures ∙ c.if-not-slots_valid.false })
+pub returns : goal.returns
+returns c =
+    let s = c.args.read.now.image.bytes.now in
+    let f = c.args.read.now.image.frame in
+    let r = ranks_found s f c.args.read.now.image.framed c.args.read.now.judged c.count_sparse-counts.ensures.agrees ∙ both c.args.read.now.agrees c.count_sparse-counts.result.agrees c.if-read.value (elim c.if-read.branch [ then-read w ↦ inl (w.if-read.true, w.value-is) | else-read w ↦ inr (w.if-read.false, w.value-is) ]) in
+    passes_verdict s (frame_bodies s f) (record { before = to_15 s f c.args.read.now.image.framed c.spare_clear.ensures c.if-not-spare_clear.false c.trie_valid.ensures c.if-not-trie_valid.false r c.if-not-counts.false c.starts_valid.ensures c.if-not-starts_valid.false; slots = sym c.slots_valid.ensures ∙ c.if-not-slots_valid.false })
