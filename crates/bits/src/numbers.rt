@@ -1,45 +1,10 @@
-// Numbers of four and of eight bytes in a slice, the low byte first; numbers widened, the smaller and the larger of two, and how many blocks hold so many bits.
-ghost use Rattle.std.specs.Prelude.{◌≡◌, ◌+◌, ◌*◌, ◌^◌, ◌≤◌, ◌<◌, min, max, length, drop};
-ghost use Rattle.spec.specs.Bytes.{bit, blocks, from32, le32};
+// Numbers of four and of eight bytes in a slice, the low byte first, and how many blocks hold so many bits.
+ghost use Rattle.std.specs.Prelude.{◌≡◌, ◌+◌, ◌*◌, ◌^◌, ◌≤◌, ◌<◌, length, drop};
+ghost use Rattle.spec.specs.Bytes.{blocks, from32, le32};
 ghost use Rattle.bits.specs.Bits.{word, overlaid};
 
 // 2^32: a number of four bytes is below it, and four bytes hold a larger number modulo it.
 pub const MODULUS_32: usize = 4294967296;
-
-// A byte as a usize.
-pub fn wide(x: u8) -> usize
-    ensures { (result ≡ x) × (result < 256) }
-{
-    usize::from(x)
-}
-
-// A u32 as a usize.
-pub fn wide32(x: u32) -> usize
-    ensures { result ≡ x }
-{
-    x as usize
-}
-
-// A truth value as a number: 1 or 0.
-pub fn one_if(b: bool) -> usize
-    ensures { (result ≡ bit b) × (result ≤ 1) }
-{
-    usize::from(b)
-}
-
-// The smaller of two numbers.
-pub fn smaller(a: usize, b: usize) -> usize
-    ensures { result ≡ min a b }
-{
-    a.min(b)
-}
-
-// The larger of two numbers.
-pub fn larger(a: usize, b: usize) -> usize
-    ensures { result ≡ max a b }
-{
-    a.max(b)
-}
 
 // How many blocks of w bits hold n bits. The last block may not be full.
 pub fn blocks_for(w: usize, n: usize) -> usize

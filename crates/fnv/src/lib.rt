@@ -5,6 +5,9 @@
 ghost use Rattle.std.specs.Prelude.{◌≡◌, ◌*◌, ◌%◌, ◌^◌};
 ghost use Rattle.spec.specs.Fnv.{offset_basis, prime, hash_step, hash};
 
+// 2^32: each half of a 64-bit number is below it.
+const HALF: u64 = 4294967296;
+
 // The hash of the bytes that it has taken so far.
 #[derive(Clone, Copy)]
 pub struct Fnv1a {
@@ -17,6 +20,12 @@ impl Fnv1a {
 
     // What the state is multiplied with at each byte.
     pub const PRIME: u64 = 0x100000001b3;
+
+    // The low half of the prime.
+    const PRIME_LOW: u64 = Self::PRIME % HALF;
+
+    // The high half of the prime.
+    const PRIME_HIGH: u64 = Self::PRIME / HALF;
 
     // The hash of no bytes.
     pub fn start() -> Self
@@ -32,8 +41,21 @@ impl Fnv1a {
         ensures { result.state ≡ hash_step self.state byte }
     {
         Self {
-            state: (u64::from(byte) ^ self.state).wrapping_mul(Self::PRIME),
+            state: Self::times_prime(u64::from(byte) ^ self.state),
         }
+    }
+
+    // The product of a number and the prime modulo 2^64, from the products of their halves. That of the two high halves is a multiple of 2^64, and is left out.
+    fn times_prime(x: u64) -> u64
+        ensures { result ≡ x * prime % 2 ^ 64 }
+    {
+        let low = x % HALF;
+        let high = x / HALF;
+        let high_low = (high * Self::PRIME_LOW) << 32;
+        let low_high = (low * Self::PRIME_HIGH) << 32;
+        (low * Self::PRIME_LOW)
+            .wrapping_add(high_low)
+            .wrapping_add(low_high)
     }
 }
 

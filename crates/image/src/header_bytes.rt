@@ -1,5 +1,5 @@
-// Settings judged, the header read and written, the beginning of a record, and cleared bytes.
-ghost use Rattle.std.specs.Prelude.{◌≡◌, ◌++◌, ◌+◌, ◌≤◌, ◌<◌, length, drop, replicate};
+// Settings judged, the header read and written, and the beginning of a record.
+ghost use Rattle.std.specs.Prelude.{◌≡◌, ◌++◌, ◌+◌, ◌≤◌, length};
 ghost use Rattle.spec.specs.Bytes.{le32};
 ghost use Rattle.spec.specs.Image.{header};
 ghost use Rattle.spec.specs.Build.{in_range};
@@ -122,12 +122,4 @@ pub fn read_header(image: &[u8]) -> Header
             entries: read32(image, SPARSE_ENTRIES_AT),
         },
     }
-}
-
-// The first m bytes become zero, and all else stays.
-pub fn clear(out: &mut [u8], m: usize)
-    requires { m ≤ length out.old }
-    ensures { out.new ≡ replicate m 0 ++ drop m out.old }
-{
-    out[..m].fill(0);
 }

@@ -7,7 +7,7 @@ ghost use Rattle.spec.specs.Check.{verdict};
 ghost use Rattle.image.specs.FrameOf.{FrameOf};
 
 pub mod table; // table.rt: marks, body lengths and starts of the records
-pub mod header_bytes; // header_bytes.rt: settings judged, the header read and written, the beginning of a record, and cleared bytes
+pub mod header_bytes; // header_bytes.rt: settings judged, the header read and written, and the beginning of a record
 pub mod suffix; // suffix.rt: a key's suffix bits as a number
 pub mod refusals; // refusals.rt: why a call refuses, with the numbers of refusals
 pub mod codes; // codes.rt: an answer as one number, and settings as one number

@@ -1,7 +1,7 @@
 // Ranks and starts over an accepted image: the ones before a position, by its tables, and where a sparse node starts. Navigation is made of these.
 ghost use Rattle.std.specs.Prelude.{◌≡◌, ◌+◌, ◌-◌, ◌*◌, ◌≤◌, ◌<◌, length, drop};
 ghost use Rattle.bits.specs.Bits.{rank, select};
-ghost use Rattle.rank_tables.specs.Reading.{RankTable, SampleTable};
+ghost use Rattle.rank_tables.specs.Reading.{RankTable};
 
 use bits_select::select::next_one;
 use image::{AcceptedImage, BitPos, DENSE_BLOCK_WORDS, NodeNum, ROW_BITS, SPARSE_BLOCK_WORDS};

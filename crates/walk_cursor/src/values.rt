@@ -1,5 +1,5 @@
 // A leaf by value with zeros behind its cut key and above its suffix bits, so that all of it is settled by the leaf.
-ghost use Rattle.std.specs.Prelude.{◌≡◌, ◌≤◌, ◌<◌};
+ghost use Rattle.std.specs.Prelude.{◌≡◌, ◌≤◌};
 ghost use Rattle.spec.specs.Bytes.{low_first, low_bits};
 ghost use Rattle.image.specs.Value.{leaf_of, Sized, value_of};
 
