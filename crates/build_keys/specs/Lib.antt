@@ -4,6 +4,7 @@ pub mod CounterRoom
 pub mod CursorWrites
 pub mod EntryLaws
 pub mod KeySparseBits
+pub mod RowCells
 pub mod SlotLaws
 pub mod SmallCounters
 pub mod SuffixLaws

@@ -1,6 +1,6 @@
 -- What the passes that fill bodies do, emission by emission, to the bytes of a body and the cursors of the levels.
 use Rattle.std.specs.Prelude.{ℕ, ◌+◌, ◌*◌, ◌≤◌, Bool, true, false, not, ◌&&◌, List, [], ◌∷◌, length, get_or, set, leb, ltb, eqb}
-use Rattle.spec.specs.Bytes.{Bytes}
+use Rattle.spec.specs.Bytes.{Bytes, Bits}
 use Rattle.bits.specs.Bits.{with_bit, key}
 use Rattle.build_laws.specs.SlotWidths.{width_of, no_bits}
 use Rattle.build_laws.specs.LevelEntries.{pred}
@@ -100,6 +100,10 @@ all_entries lo hi p ks = emissions lo hi entry_at exact_entry p ks
 abbrev pub EntriesRoom : Kind → List (Emission Entry) → ℕ → List ℕ → Type 0
 EntriesRoom kind es size c = Room (kind_step kind) (kind_ones kind) (capacity kind size) counter_max es c
 
+-- there is room in so many bytes for the bits of slots
+abbrev pub SlotsRoom : SlotBits → List (Emission Bits) → ℕ → List ℕ → Type 0
+SlotsRoom w es size c = Room one_step (slot_at (width_of w)) (8 * size) counter_max es c
+
 -- ---- a key of the list
 
 -- the bytes of a key of the list
@@ -126,6 +130,10 @@ listed_later l k = key_emissions l.lo l.hi (λ d. not (leb k.first d)) false (pr
 -- there is room in so many bytes for the bits of entries
 abbrev pub BitsRoom : List (Emission Bool) → ℕ → List ℕ → Type 0
 BitsRoom es size c = Room one_step bit_at (8 * size) counter_max es c
+
+-- the slot of a key of these bytes, on the level of its leaf
+abbrev pub listed_slot : SlotBits → Key → Bytes → Emission Bits
+listed_slot w k b = emission (leaf_level (pred k.first) k.next (length b)) (key_slot w (pred k.first) k.next b)
 
 -- ---- bodies
 

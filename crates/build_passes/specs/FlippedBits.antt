@@ -57,6 +57,13 @@ flip_rest n i s o q h l e =
     let w : 8 * i + n % 8 ≡ n = omega arith in
     ap₂ (λ (z : Bytes) (y : ℕ). set z i (flip_byte (n % 8) y)) e x ∙ flip_next i (n % 8) s h (omega arith) ∙ ap₂ (λ (k m : ℕ). flipped k m s) u w
 
+-- no bit behind whole bytes
+pub flip_even : (n i : ℕ) (s o : Bytes) → i ≡ n / 8 → n % 8 ≤ 0 → o ≡ flipped i (8 * i) s → o ≡ flipped (blocks 8 n) n s
+flip_even n i s o q l e =
+    let u : i ≡ blocks 8 n = omega arith in
+    let w : 8 * i ≡ n = omega arith in
+    e ∙ ap₂ (λ (k m : ℕ). flipped k m s) u w
+
 -- ---- packed bits
 
 one_more : (n x y : ℕ) → x + y + 1 ≡ 2 ^ n → (1 + 2 * x + (0 + 2 * y) + 1 ≡ 2 ^ suc n) × (0 + 2 * x + (1 + 2 * y) + 1 ≡ 2 ^ suc n)

@@ -278,6 +278,10 @@ module _ (m l : List ℕ) (f : Summable m l) (d : ℕ) (h : d < 64) (e n : List 
   level_here : get_or e d 0 ≡ level_entries m l d
   level_here = s.entries d (omega arith)
 
+  -- the entries of the level that are no leaves
+  pub summing_fits : get_or l d 0 ≤ get_or e d 0
+  summing_fits = omega (arith, level_here, f.fits d h)
+
   -- the entries of the next level
   pub summing_few : get_or e d 0 - get_or l d 0 + get_or e (d + 1) 0 ≤ counter_max
   unfolding level_entries
@@ -296,6 +300,10 @@ module _ (m l : List ℕ) (f : Summable m l) (d : ℕ) (h : d < 64) (e n : List 
         nodes = cursor_more n (level_nodes m l) (d + 1) x (omega (arith, s.nodes_width)) u s.nodes;
         starts = λ i g. get_or-set_other e (d + 1) i y 0 (λ z. omega arith) ∙ s.starts i (omega arith);
       }
+
+-- all levels
+pub summing_done : (m l : List ℕ) (d : ℕ) (e n : List ℕ) → 64 ≤ d → Summing m l d e n → Summed m l e n
+summing_done m l d e n h s = record { entries_width = s.entries_width; nodes_width = s.nodes_width; entries = λ i g. s.entries i (omega arith); nodes = λ i g. s.nodes i (omega arith) }
 
 -- ---- what the sums are
 
