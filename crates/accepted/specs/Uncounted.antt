@@ -92,7 +92,12 @@ module _ (s : Bytes) (h : Header) (v : verdict s ≡ 0) (r : ReadsHeader s h) (s
   pub header_frame : (f : Frame) → f ≡ frame_at h (header_starts h) uncounted → Uncounted s f
   header_frame f e = record { header = h; totals = laid_totals s h; frame_is = e; accepted = checked_accepted s (frame_at h (header_starts h) (laid_totals s h)) small (laid_frame s h laid) v }
 
-  -- With its dense nodes counted that is its frame.
-  pub counted_frame : (t : DenseTotals) → Totals s (frame_at h (header_starts h) uncounted).dl (frame_at h (header_starts h) uncounted).dc (frame_at h (header_starts h) uncounted).dp h.dense.nodes t
+  -- With its dense nodes counted that is its frame,
+  pub counted_is : (t : DenseTotals) → Totals s (frame_at h (header_starts h) uncounted).dl (frame_at h (header_starts h) uncounted).dc (frame_at h (header_starts h) uncounted).dp h.dense.nodes t
       → FrameOf s (frame_at h (header_starts h) t)
-  counted_frame t n = frame_laid s h t laid n
+  counted_is t n = frame_laid s h t laid n
+
+  -- with which the image is accepted.
+  pub counted_frame : (t : DenseTotals) → Totals s (frame_at h (header_starts h) uncounted).dl (frame_at h (header_starts h) uncounted).dc (frame_at h (header_starts h) uncounted).dp h.dense.nodes t
+      → Accepted s (frame_at h (header_starts h) t)
+  counted_frame t n = checked_accepted s (frame_at h (header_starts h) t) small (counted_is t n) v

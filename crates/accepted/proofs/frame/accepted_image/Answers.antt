@@ -3,7 +3,7 @@ use native.Mathlib.Omega.{arith}
 use Rattle.theory.proofs.CheckStages.{verdict_passes}
 use Rattle.check_frame.specs.FrameLaws.{header_long}
 use Rattle.query_descent.specs.Answers.{all_small}
-use Rattle.accepted.specs.Uncounted.{header_frame, counted_frame}
+use Rattle.accepted.specs.Uncounted.{header_frame, counted_is}
 use Rattle.accepted.proofs.frame.accepted_image.Goals as goal
 
 pub read_header-requires : goal.read_header-requires
@@ -20,6 +20,6 @@ invariant_of-result c =
     let e = rw c.frame_at-frame.ensures at c.dense_totals-frame.ensures in
     record {
       in_range = λ i. omega (arith, c.type_inv.image i);
-      framed = rw c.frame_at-frame.ensures (counted_frame s c.read_header.result c.requires c.read_header.ensures (all_small s (λ i. omega (arith, c.type_inv.image i))) c.dense_totals-frame.result e);
+      framed = rw c.frame_at-frame.ensures (counted_is s c.read_header.result c.requires c.read_header.ensures (all_small s (λ i. omega (arith, c.type_inv.image i))) c.dense_totals-frame.result e);
       checked = c.requires;
     }
