@@ -66,18 +66,18 @@
  * STACK
  *   Less than this was measured, the frame of the caller included:
  *     range_filter_image_length            2 KiB
- *     range_filter_build                   4 KiB
+ *     range_filter_build                   3 KiB
  *     range_filter_check                   2 KiB
- *     range_filter_ask                    27 KiB
- *     range_filter_walk                   36 KiB
+ *     range_filter_ask                    15 KiB
+ *     range_filter_walk                   26 KiB
  *     range_filter_hash                    1 KiB
- *     range_filter_accepted_point          3 KiB
- *     range_filter_accepted_rule           3 KiB
- *     range_filter_accepted_range          3 KiB
- *     range_filter_accepted_begins_with    3 KiB
- *     range_filter_accepted_count         27 KiB
- *     range_filter_accepted_seek          27 KiB
- *     range_filter_accepted_walk          33 KiB
+ *     range_filter_accepted_point          2 KiB
+ *     range_filter_accepted_rule           2 KiB
+ *     range_filter_accepted_range          2 KiB
+ *     range_filter_accepted_begins_with    2 KiB
+ *     range_filter_accepted_count         13 KiB
+ *     range_filter_accepted_seek          13 KiB
+ *     range_filter_accepted_walk          23 KiB
  *   No bound on it is proved. Keys that share a long beginning take the most, however few they are.
  *   Where memcpy and memset are bound at their first call, the loader's own stack comes on top.
  */
