@@ -9,6 +9,7 @@ ghost use Rattle.query_seek.specs.SeekContracts.{PassedHigher, WayFollowed, IsNe
 
 use super::leaf::{first_behind, first_below};
 use super::way::{Way, follow_key};
+use bits::copy::write_bytes;
 use image::AcceptedImage;
 use nav_branches::edges::next_higher;
 use nav_branches::{LeafEnd, LeafStop};
@@ -75,7 +76,7 @@ pub fn next_leaf(image: &AcceptedImage, start: &[u8], key: &mut [u8]) -> NextLea
             level: AT_ROOT,
         };
     }
-    key[..start.len()].copy_from_slice(start);
+    write_bytes(key, 0, start);
     let way = follow_key(image, start);
     NextLeaf {
         end: leaf_of_way(image, start, way, key),

@@ -1,9 +1,10 @@
 use Rattle.query_seek.specs.LeafKeys.{no_key}
 use Rattle.query_descent.specs.Seeks.{next_nowhere}
 use Rattle.nav_nodes.specs.FromCheck.{accepted}
-use lib.ListN.{length, length-append, length-drop, drop}
-use lib.Seq.{take-append_seam}
-use mathlib.Core.Path.{refl}
+use Rattle.query_seek.proofs.NextLaws.{overlaid_front}
+use Rattle.bits.proofs.Overlaying.{length_overlaid}
+use lib.ListN.{length, take}
+use mathlib.Core.Path.{refl, ap, ◌∙◌}
 use native.Mathlib.Omega.{arith}
 use Rattle.query_seek.proofs.next.next_leaf.Goals as goal
 
@@ -17,12 +18,12 @@ returns-then-image-eq0 c =
 
 pub leaf_of_way-requires : goal.leaf_of_way-requires
 leaf_of_way-requires c =
-    let start = c.args.start.now in
-    let e = c.copy_from_slice.ensures.after in
+    let v = c.args.image.now in
+    let written = c.write_bytes.ensures in
     record {
-      accepted = accepted c.args.image.now;
+      accepted = accepted v;
       short = c.requires.0;
-      key_size = rw e (omega (arith, length-append start (drop (length start) c.args.key.now), length-drop (length start) c.args.key.now));
-      begins = rw e (take-append_seam start _);
+      key_size = ap length written ∙ length_overlaid c.args.key.now 0 c.args.start.now (omega (arith, c.requires.0, c.requires.1)) ∙ c.requires.1;
+      begins = ap (take (length c.args.start.now)) written ∙ overlaid_front c.args.key.now c.args.start.now;
       ended = c.follow_key-way.ensures;
     }

@@ -1,8 +1,9 @@
+use Rattle.query_seek.proofs.NextLaws.{overlaid_front}
 use Rattle.query_seek.proofs.SeekLaws.{greater_above, greater_not_above}
-use lib.ListN.{length, length-append, length-drop, take, drop}
-use lib.Seq.{take-append_seam}
+use Rattle.bits.proofs.Overlaying.{length_overlaid}
+use lib.ListN.{length, take}
 use native.Mathlib.Omega.{arith}
-use mathlib.Core.Path.{sym, ◌∙◌}
+use mathlib.Core.Path.{sym, ap, ◌∙◌}
 use Rattle.query_seek.proofs.seek.greater_key.Goals as goal
 
 pub returns-in_default : goal.returns-in_default
@@ -14,8 +15,9 @@ returns-in_default c =
 pub returns-in-Greater : goal.returns-in-Greater
 returns-in-Greater c =
     let a = c.args in
-    let e = c.copy_from_slice.ensures.after in (
-      rw e (take-append_seam a.start.now _ ∙ greater_above a.start.now (take a.n a.key.now) (sym c.compare.ensures ∙ c.in-Greater.is)),
-      c.requires.0,
-      rw e (omega (arith, length-append a.start.now (drop (length a.start.now) a.key.now), length-drop (length a.start.now) a.key.now)),
+    let p = c.requires in
+    let written = c.write_bytes.ensures in (
+      ap (take (length a.start.now)) written ∙ overlaid_front a.key.now a.start.now ∙ greater_above a.start.now (take a.n a.key.now) (sym c.compare.ensures ∙ c.in-Greater.is),
+      p.0,
+      ap length written ∙ length_overlaid a.key.now 0 a.start.now (omega (arith, p.0, p.1)) ∙ p.1,
     )
