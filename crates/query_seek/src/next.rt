@@ -8,8 +8,8 @@ ghost use Rattle.query_descent.specs.Seeking.{higher_leaf};
 ghost use Rattle.query_seek.specs.SeekContracts.{PassedHigher, WayFollowed, IsNextLeaf};
 
 use super::leaf::{first_behind, first_below};
+use super::start::write_start;
 use super::way::{Way, follow_key};
-use bits::copy::write_bytes;
 use image::AcceptedImage;
 use nav_branches::edges::next_higher;
 use nav_branches::{LeafEnd, LeafStop};
@@ -76,7 +76,7 @@ pub fn next_leaf(image: &AcceptedImage, start: &[u8], key: &mut [u8]) -> NextLea
             level: AT_ROOT,
         };
     }
-    write_bytes(key, 0, start);
+    write_start(key, start);
     let way = follow_key(image, start);
     NextLeaf {
         end: leaf_of_way(image, start, way, key),

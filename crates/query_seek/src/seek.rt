@@ -6,7 +6,7 @@ ghost use Rattle.query_seek.specs.Sought.{IsSought};
 ghost use Rattle.query_descent.specs.Summed.{empty_key_sum};
 
 use super::next::next_leaf;
-use bits::copy::write_bytes;
+use super::start::write_start;
 use image::{AcceptedImage, ValuePos};
 use keys::compare::compare;
 use nav_branches::LeafStop;
@@ -52,7 +52,7 @@ fn greater_key(start: &[u8], key: &mut [u8], n: usize) -> usize
 {
     match compare(start, &key[..n]) {
         Ordering::Greater => {
-            write_bytes(key, 0, start);
+            write_start(key, start);
             start.len()
         }
         _ => n,

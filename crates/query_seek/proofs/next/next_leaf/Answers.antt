@@ -19,7 +19,7 @@ returns-then-image-eq0 c =
 pub leaf_of_way-requires : goal.leaf_of_way-requires
 leaf_of_way-requires c =
     let v = c.args.image.now in
-    let written = c.write_bytes.ensures in
+    let written = c.write_start.ensures in
     record {
       accepted = accepted v;
       short = c.requires.0;

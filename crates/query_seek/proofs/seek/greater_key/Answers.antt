@@ -16,7 +16,7 @@ pub returns-in-Greater : goal.returns-in-Greater
 returns-in-Greater c =
     let a = c.args in
     let p = c.requires in
-    let written = c.write_bytes.ensures in (
+    let written = c.write_start.ensures in (
       ap (take (length a.start.now)) written ∙ overlaid_front a.key.now a.start.now ∙ greater_above a.start.now (take a.n a.key.now) (sym c.compare.ensures ∙ c.in-Greater.is),
       p.0,
       ap length written ∙ length_overlaid a.key.now 0 a.start.now (omega (arith, p.0, p.1)) ∙ p.1,
