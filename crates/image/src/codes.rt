@@ -4,6 +4,7 @@ ghost use Rattle.spec.specs.Answer.{answer_code};
 ghost use Rattle.spec.specs.Build.{settings_from};
 ghost use Rattle.image.specs.Header.{asked};
 ghost use Rattle.image.specs.Outcomes.{answer_of};
+ghost use Rattle.image.specs.Refusals.{by_number};
 
 use super::Settings;
 use super::refusals::Refusal;
@@ -23,13 +24,23 @@ const REAL_WIDTH_WEIGHT: u64 = 65536;
 // What the hash bits are multiplied with there.
 const HASH_WIDTH_WEIGHT: u64 = 16777216;
 
+// An answer, in which a refusal is given by its number.
+pub fn by_number(answer: Result<usize, Refusal>) -> Result<usize, u32>
+    ensures { result ≡ by_number answer }
+{
+    match answer {
+        Ok(written) => Ok(written),
+        Err(refusal) => Err(refusal.number()),
+    }
+}
+
 // An answer as one number: the number of a refusal, 0 for success, times 2^32, plus the bytes written, 0 for a refusal.
-pub fn code(answer: Result<usize, Refusal>) -> u64
+pub fn code(answer: Result<usize, u32>) -> u64
     ensures { result ≡ answer_code (answer_of answer) }
 {
     match answer {
         Ok(written) => written as u64,
-        Err(refusal) => u64::from(refusal.number()) * REFUSAL_WEIGHT,
+        Err(number) => u64::from(number) * REFUSAL_WEIGHT,
     }
 }
 

@@ -35,7 +35,7 @@ pub fn count(image: &AcceptedImage, lo: &[u8], hi: &[u8]) -> usize
     ensures { result ≡ counted (real_leaves image.now.bytes.now image.now.frame) lo.now hi.now }
 {
     let n = shared(lo, hi);
-    match follow(image, &lo[..n]) {
+    match follow(image, lo, n) {
         KeyEnd::NoNodes | KeyEnd::NoBranch => 0,
         KeyEnd::Node(node) => {
             let fork = LevelSum {

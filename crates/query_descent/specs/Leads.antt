@@ -1,10 +1,8 @@
 -- Where the first bytes of a key lead from the root, one branch a byte: what the descent that all questions share promises. What a question says of this is said by its own laws, which go along the way.
-use Rattle.std.specs.Prelude.{ℕ, zero, suc, ◌+◌, ◌<◌, ◌≤◌, ◌≡◌, refl, Bool, true, false, cond, [], ◌∷◌, length, get_or, take, eqb}
-use Rattle.std.proofs.Common.{arith, eqb-true, get_or-take}
-use Rattle.std.proofs.Math.Seq.{length-take-le}
+use Rattle.std.specs.Prelude.{ℕ, zero, suc, ◌+◌, ◌<◌, ◌≡◌, refl, Bool, true, false, cond, [], ◌∷◌, length, get_or, eqb}
+use Rattle.std.proofs.Common.{arith, eqb-true}
 use Rattle.std.proofs.lemmas.Bool.{eqb-false}
 use Rattle.spec.specs.Bytes.{Bytes, shared}
-use Rattle.theory.proofs.Order.{shared_le}
 use Rattle.image.specs.declared.Frame.{Frame}
 use Rattle.nav_nodes.specs.declared.BranchKind.TheVariants as Kind
 use Rattle.nav_nodes.specs.declared.Found.{Found}
@@ -63,39 +61,7 @@ LeadsTo s f key n End.NoBranch = BranchMissing s f key n
 LeadsTo s f key n (End.Node m) = Leads s f key n m.0
 LeadsTo s f key n (End.Leaf m p d) = LeafBehind s f key n m.0 p.0 d
 
--- ---- the first bytes of a key
-
-module _ (s : Bytes) (f : Frame) (k : Bytes) (n : ℕ) (h : n ≤ length k) where
-  -- what a node has at a byte of them it has at that byte of the key
-  first_byte : {d m : ℕ} {b : Found} → AtByte s f (take n k) d m b → AtByte s f k d m b
-  first_byte {d} a = let e = length-take-le n k h in record { more = omega (arith, a.more, e); found = rw (get_or-take n k d 0 (omega (arith, a.more, e))) at a.found }
-
-  -- they lead to the same node whether the key goes on or not
-  first_leads : {d m : ℕ} → Leads s f (take n k) d m → Leads s f k d m
-  first_leads (root z) = root z
-  first_leads (next l b) = next (first_leads l) (record { branch = b.branch; here = first_byte b.here; continues = b.continues; child_is = b.child_is })
-
-  -- and to the same end
-  first_bytes : (e : KeyEnd) → LeadsTo s f (take n k) (length (take n k)) e → LeadsTo s f k n e
-  first_bytes End.NoNodes z = z
-  first_bytes End.NoBranch b = record { depth = b.depth; node = b.node; leads = first_leads b.leads; inside = omega (arith, b.inside, length-take-le n k h); branch = b.branch; here = first_byte b.here; absent = b.absent }
-  first_bytes (End.Node m) l = rw (length-take-le n k h) at (first_leads l)
-  first_bytes (End.Leaf m p d) b = record {
-    depth = b.depth;
-    passed = b.passed;
-    leads = first_leads b.leads;
-    inside = omega (arith, b.inside, length-take-le n k h);
-    branch = b.branch;
-    here = first_byte b.here;
-    ends = b.ends;
-    at_is = b.at_is;
-  }
-
 -- ---- two keys along the bytes that they share
-
--- Where the shared prefix leads the first bytes of the key lead.
-pub shared_leads : (s : Bytes) (f : Frame) (p q : Bytes) (n : ℕ) → n ≡ shared p q → (e : KeyEnd) → LeadsTo s f (take n p) (length (take n p)) e → LeadsTo s f p n e
-shared_leads s f p q n h = first_bytes s f p n (omega (arith, h, shared_le p q))
 
 -- a byte of the shared prefix stands in both keys
 pub shared_byte : (p q : Bytes) (i : ℕ) → i < shared p q → (i < length p) × (i < length q) × (get_or p i 0 ≡ get_or q i 0)

@@ -59,7 +59,7 @@ pub fn descend(image: &AcceptedImage, key: &[u8]) -> Rule
     requires { length key.now ≤ 64 }
     ensures { rule_of result ≡ rule image.now.frame.hash_width (read_leaves image.now.bytes.now) key.now }
 {
-    match follow(image, key) {
+    match follow(image, key, key.len()) {
         KeyEnd::NoNodes => Rule::NoNodes,
         KeyEnd::NoBranch => Rule::BranchMissing,
         KeyEnd::Node(node) => node_rule(image, node),

@@ -15,7 +15,7 @@ pub fn begins_with(image: &AcceptedImage, stem: &[u8]) -> bool
     requires { length stem.now ≤ 64 }
     ensures { begins_with (real_leaves image.now.bytes.now image.now.frame) stem.now ≡ bit result }
 {
-    match follow(image, stem) {
+    match follow(image, stem, stem.len()) {
         KeyEnd::NoNodes | KeyEnd::NoBranch => false,
         KeyEnd::Node(_) => true,
         KeyEnd::Leaf { node, at, depth } => real_agrees(image, slot(image, node, at), stem, depth),

@@ -18,7 +18,7 @@ pub fn range(image: &AcceptedImage, lo: &[u8], hi: &[u8]) -> bool
     ensures { range (real_leaves image.now.bytes.now image.now.frame) lo.now hi.now ≡ bit result }
 {
     let n = shared(lo, hi);
-    match follow(image, &lo[..n]) {
+    match follow(image, lo, n) {
         KeyEnd::NoNodes | KeyEnd::NoBranch => false,
         KeyEnd::Node(node) => at_node(image, lo, hi, node, n),
         KeyEnd::Leaf { node, at, depth } => open_between(

@@ -15,7 +15,7 @@ use ask::ask;
 use build::{build, image_length};
 use check_image::check;
 use fnv::hash;
-use image::codes::{code, settings_of};
+use image::codes::{by_number, code, settings_of};
 use walk_records::write_records;
 
 // Gives the exact length of the image of a key list with the settings of a number, and writes nothing. The answer is one number: its quotient by 2^32 is the number of a refusal, 0 for a length, and its rest the bytes, 0 for a refusal.
@@ -23,7 +23,7 @@ use walk_records::write_records;
 pub extern "C" fn range_filter_image_length(list: &[u8], settings: u64) -> u64
     ensures { CodedLength result (image_length list.now (settings_from settings)) }
 {
-    code(image_length(list, settings_of(settings)))
+    code(by_number(image_length(list, settings_of(settings))))
 }
 
 // Builds the image of a key list with the settings of a number, whose length is stated, into the output. The answer is one number: its quotient by 2^32 is the number of a refusal, 0 for success, and its rest the bytes written, 0 for a refusal.
@@ -31,7 +31,7 @@ pub extern "C" fn range_filter_image_length(list: &[u8], settings: u64) -> u64
 pub extern "C" fn range_filter_build(list: &[u8], settings: u64, stated: u64, out: &mut [u8]) -> u64
     ensures { Coded result out.new (build list.now (settings_from settings) stated out.old) }
 {
-    code(build(list, settings_of(settings), stated, out))
+    code(by_number(build(list, settings_of(settings), stated, out)))
 }
 
 // Gives the hash of a key, of which a slot has the low bits: the whole 64-bit FNV-1a hash, of any number of bytes.
@@ -58,7 +58,7 @@ pub extern "C" fn range_filter_check(image: &[u8]) -> u32
 pub extern "C" fn range_filter_ask(image: &[u8], questions: &[u8], replies: &mut [u8]) -> u64
     ensures { Coded result replies.new (ask image.now questions.now replies.old) }
 {
-    code(ask(image, questions, replies))
+    code(by_number(ask(image, questions, replies)))
 }
 
 // Walks an image from a place on: a leaf's number in key order, or the leaf count for done. Of as many leaves as the buffer holds whole, it writes the records, 70 bytes each, one behind the other:
@@ -68,5 +68,5 @@ pub extern "C" fn range_filter_ask(image: &[u8], questions: &[u8], replies: &mut
 pub extern "C" fn range_filter_walk(image: &[u8], place: u64, records: &mut [u8]) -> u64
     ensures { Coded result records.new (walk_records image.now place records.old) }
 {
-    code(write_records(image, place as usize, records))
+    code(by_number(write_records(image, place as usize, records)))
 }

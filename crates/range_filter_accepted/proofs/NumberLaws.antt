@@ -21,6 +21,7 @@ use Rattle.ask_files.specs.ReplyLaws.{point_reply}
 use Rattle.std.specs.Prelude.{Result, Ok, Err}
 use Rattle.spec.specs.Answer.{answer_code}
 use Rattle.image.specs.declared.refusals.Refusal.{Refusal}
+use Rattle.image.specs.Refusals.{by_number}
 use Rattle.image.specs.Outcomes.{answer_of}
 use Rattle.accepted.specs.Numbers.{numbered_of}
 use Rattle.range_filter_accepted.specs.CodedNumber.{CodedNumber}
@@ -47,12 +48,12 @@ pub rule_short : (b k : Bytes) → given_number (reply_rule (ask_one b (QP k))) 
 rule_short b k = short_answer b (QP k) reply_rule (λ n. refl) (omega (arith, ap (λ (r : Reply). get_or r.key 0 0) (point_reply (read_settings b).hash_width (read_leaves b) k), (rule_number_range (rule (read_settings b).hash_width (read_leaves b) k)).1))
 
 -- A number of a reply and an answer of the same number or refusal are the same number.
-same_code : (w : Result ℕ Refusal) → answer_code (answer_of w) ≡ numbered_code (numbered_of w)
+same_code : (w : Result ℕ Refusal) → answer_code (answer_of (by_number w)) ≡ numbered_code (numbered_of w)
 same_code (Ok n) = refl
 same_code (Err r) = refl
 
 -- The number of an answer that is small decodes.
-pub coded_number : (w : Result ℕ Refusal) (a : Numbered) (r : ℕ) → numbered_of w ≡ a → r ≡ answer_code (answer_of w) → given_number a < refusal_weight → CodedNumber r a
-coded_number w a r e f h =
-    let c : r ≡ numbered_code a = f ∙ same_code w ∙ ap numbered_code e in
+pub coded_number : (w : Result ℕ Refusal) (j : Result ℕ ℕ) (a : Numbered) (r : ℕ) → numbered_of w ≡ a → j ≡ by_number w → r ≡ answer_code (answer_of j) → given_number a < refusal_weight → CodedNumber r a
+coded_number w j a r e i f h =
+    let c : r ≡ numbered_code a = f ∙ ap (λ (k : Result ℕ ℕ). answer_code (answer_of k)) i ∙ same_code w ∙ ap numbered_code e in
     record { code = c; refusal = omega arith; number = omega arith }

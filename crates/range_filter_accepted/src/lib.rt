@@ -13,7 +13,7 @@ ghost use Rattle.range_filter_accepted.specs.CodedNumber.{CodedNumber};
 
 use accepted::FOUND_BYTES;
 use accepted::records::write_accepted;
-use image::codes::code;
+use image::codes::{by_number, code};
 
 // The number in the reply to a point over an accepted image: 1 or 0.
 #[unsafe(no_mangle)]
@@ -21,7 +21,7 @@ pub extern "C" fn range_filter_accepted_point(image: &[u8], key: &[u8]) -> u64
     requires { verdict image.now ≡ 0 }
     ensures { CodedNumber result (reply_number (ask_one image.now (QP key.now))) }
 {
-    code(accepted::point(image, key))
+    code(by_number(accepted::point(image, key)))
 }
 
 // The rule behind the reply to a point over an accepted image: 1 to 6.
@@ -30,7 +30,7 @@ pub extern "C" fn range_filter_accepted_rule(image: &[u8], key: &[u8]) -> u64
     requires { verdict image.now ≡ 0 }
     ensures { CodedNumber result (reply_rule (ask_one image.now (QP key.now))) }
 {
-    code(accepted::rule(image, key))
+    code(by_number(accepted::rule(image, key)))
 }
 
 // The number in the reply to a range over an accepted image: 1 or 0.
@@ -39,7 +39,7 @@ pub extern "C" fn range_filter_accepted_range(image: &[u8], lower: &[u8], upper:
     requires { verdict image.now ≡ 0 }
     ensures { CodedNumber result (reply_number (ask_one image.now (QR lower.now upper.now))) }
 {
-    code(accepted::range(image, lower, upper))
+    code(by_number(accepted::range(image, lower, upper)))
 }
 
 // The number in the reply to a begins-with question over an accepted image: 1 or 0.
@@ -48,7 +48,7 @@ pub extern "C" fn range_filter_accepted_begins_with(image: &[u8], stem: &[u8]) -
     requires { verdict image.now ≡ 0 }
     ensures { CodedNumber result (reply_number (ask_one image.now (QB stem.now))) }
 {
-    code(accepted::begins_with(image, stem))
+    code(by_number(accepted::begins_with(image, stem)))
 }
 
 // The number in the reply to a count over an accepted image.
@@ -57,7 +57,7 @@ pub extern "C" fn range_filter_accepted_count(image: &[u8], lower: &[u8], upper:
     requires { verdict image.now ≡ 0 }
     ensures { CodedNumber result (reply_number (ask_one image.now (QC lower.now upper.now))) }
 {
-    code(accepted::count(image, lower, upper))
+    code(by_number(accepted::count(image, lower, upper)))
 }
 
 // The number in the reply to a seek over an accepted image: the leaf's place, or FFFFFFFF for none. A byte with the length of the reply's key goes to the front of `found`, and the key behind it.
@@ -70,7 +70,7 @@ pub extern "C" fn range_filter_accepted_seek(
     requires { verdict image.now ≡ 0 }
     ensures { CodedNumber result (reply_number (ask_one image.now (QS start.now))) × (found.new ≡ key_written (ask_one image.now (QS start.now)) found.old) }
 {
-    code(accepted::seek(image, start, found))
+    code(by_number(accepted::seek(image, start, found)))
 }
 
 // Walks an accepted image as `range_filter_walk` does, and writes what it writes.
@@ -79,5 +79,5 @@ pub extern "C" fn range_filter_accepted_walk(image: &[u8], place: u64, records: 
     requires { verdict image.now ≡ 0 }
     ensures { Coded result records.new (walk_records image.now place records.old) }
 {
-    code(write_accepted(image, place as usize, records))
+    code(by_number(write_accepted(image, place as usize, records)))
 }

@@ -1,13 +1,9 @@
 use Rattle.nav_nodes.specs.FromCheck.{accepted}
 use Rattle.query_sums.specs.Bounds.{LeafShared, leads_parted, count_nowhere, count_absent, count_shared}
-use Rattle.query_descent.specs.Leads.{shared_leads}
 use Rattle.query_descent.specs.OpenBetween.{open_between}
 use Rattle.query_descent.specs.declared.KeyEnd.TheVariants as End
 use Rattle.spec.specs.Bytes.{bit}
 use Rattle.theory.proofs.Order.{shared_le}
-use lib.ListN.{length}
-use lib.Seq.{length-take-le}
-use Prim.Native.Nat.{◌≤◌}
 use mathlib.Core.Logic.{⊎_elim}
 use mathlib.Core.Path.{◌≡◌, refl, sym, ap, ◌∙◌}
 use native.Mathlib.Omega.{arith}
@@ -18,17 +14,16 @@ use Rattle.query_count.proofs.count.Goals.{In-Leaf}
 leaf : (c : In-Leaf) → LeafShared c.args.image.now.bytes.now c.args.image.now.frame c.args.lo.now c.args.hi.now c.in-Leaf.node.0 c.in-Leaf.at.0 c.in-Leaf.depth
 leaf c =
     let v = c.args.image.now in
-    count_shared v.bytes.now v.frame (accepted v) c.args.lo.now c.args.hi.now c.requires.0 c.requires.1 c.in-Leaf.node.0 c.in-Leaf.at.0 c.in-Leaf.depth (rw (c.in-Leaf.is, c.shared-n.ensures) at (shared_leads v.bytes.now v.frame c.args.lo.now c.args.hi.now c.shared-n.result c.shared-n.ensures c.follow.result c.follow.ensures))
+    count_shared v.bytes.now v.frame (accepted v) c.args.lo.now c.args.hi.now c.requires.0 c.requires.1 c.in-Leaf.node.0 c.in-Leaf.at.0 c.in-Leaf.depth (rw (c.in-Leaf.is, c.shared-n.ensures) at c.follow.ensures)
 
-pub slice_bounds-follow-end : goal.slice_bounds-follow-end
-slice_bounds-follow-end c =
-    let within : c.shared-n.result ≤ length c.args.lo.now = omega (arith, c.shared-n.ensures, shared_le c.args.lo.now c.args.hi.now) in
-    omega (arith, within, length-take-le c.shared-n.result c.args.lo.now within)
+pub follow-requires : goal.follow-requires
+follow-requires c =
+    omega (arith, c.shared-n.ensures, shared_le c.args.lo.now c.args.hi.now)
 
 pub count_apart-requires : goal.count_apart-requires
 count_apart-requires c =
     let v = c.args.image.now in
-    (leads_parted v.bytes.now v.frame (accepted v) c.args.lo.now c.args.hi.now c.requires.0 c.requires.1 (rw c.in-Node.is at (shared_leads v.bytes.now v.frame c.args.lo.now c.args.hi.now c.shared-n.result c.shared-n.ensures c.follow.result c.follow.ensures)) (omega (arith, c.shared-n.ensures)), refl)
+    (leads_parted v.bytes.now v.frame (accepted v) c.args.lo.now c.args.hi.now c.requires.0 c.requires.1 (rw c.in-Node.is at c.follow.ensures) (omega (arith, c.shared-n.ensures)), refl)
 
 pub slot-leaf-requires : goal.slot-leaf-requires
 slot-leaf-requires c =
@@ -43,7 +38,7 @@ returns-in-NoNodes c =
     let v = c.args.image.now in
     ⊎_elim
     (λ (e : c.follow.result ≡ End.NoNodes). sym (count_nowhere v.bytes.now v.frame (accepted v) c.args.lo.now c.args.hi.now c.requires.0 c.requires.1 (rw e at c.follow.ensures)))
-    (λ (e : c.follow.result ≡ End.NoBranch). sym (count_absent v.bytes.now v.frame (accepted v) c.args.lo.now c.args.hi.now c.requires.0 c.requires.1 (rw (e, c.shared-n.ensures) at (shared_leads v.bytes.now v.frame c.args.lo.now c.args.hi.now c.shared-n.result c.shared-n.ensures c.follow.result c.follow.ensures))))
+    (λ (e : c.follow.result ≡ End.NoBranch). sym (count_absent v.bytes.now v.frame (accepted v) c.args.lo.now c.args.hi.now c.requires.0 c.requires.1 (rw (e, c.shared-n.ensures) at c.follow.ensures)))
     c.in-NoNodes.is
 
 pub returns-in-Leaf : goal.returns-in-Leaf

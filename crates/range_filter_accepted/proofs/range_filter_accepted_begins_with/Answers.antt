@@ -7,4 +7,4 @@ use Rattle.range_filter_accepted.proofs.range_filter_accepted_begins_with.Goals 
 pub returns : goal.returns
 returns c =
     let a = c.args in
-    coded_number c.begins_with.result _ _ c.begins_with.ensures c.code.ensures (number_short a.image.now (all_small a.image.now (λ i. (c.shared_slice_known-1.given i).fits)) c.requires (QB a.stem.now))
+    coded_number c.begins_with.result _ _ _ c.begins_with.ensures c.by_number.ensures c.code.ensures (number_short a.image.now (all_small a.image.now (λ i. (c.shared_slice_known-1.given i).fits)) c.requires (QB a.stem.now))

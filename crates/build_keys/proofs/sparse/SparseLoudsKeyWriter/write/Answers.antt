@@ -1,72 +1,18 @@
--- The bit where the key leaves the key before it is set, and the cursors behind move on.
-use Prim.Native.Nat.{ℕ, ◌-◌, ◌<◌}
-use mathlib.Core.Path.{subst, refl, sym, ap, ap₂, ◌∙◌}
-use mathlib.Core.Bool.{Bool}
-use mathlib.Core.List.{List}
-use native.Mathlib.Omega.{arith}
+-- A listed key's bits are those of its entries.
+use mathlib.Core.Path.{◌∙◌}
 use lib.ListN.{length}
-use Rattle.build_laws.specs.Emissions.{emission}
-use Rattle.build_laws.specs.BytePass.{byte_state, one_step}
-use Rattle.build_laws.specs.BodyLaws.{bit_at}
-use Rattle.build_laws.specs.Cursors.{counts}
 use Rattle.build_laws.specs.KeyLaws.{key_length}
-use Rattle.build_laws.specs.Passes.{key_bytes, set_at_cursor}
-use Rattle.build_keys.specs.CountPass.{CounterRoom}
-use Rattle.build_keys.specs.KeySparseBits.{blank, behind_level, later_room, later_cursors, later_cursors_only, later_does, later_none, later_ask, later_written}
-use Rattle.build_keys.proofs.sparse.SparseLoudsKeyWriter.write.Goals.{then-is_among, else-is_among}
+use Rattle.build_laws.specs.Passes.{key_bytes}
+use Rattle.build_keys.specs.KeySparseBits.{later_ask, later_written}
 use Rattle.build_keys.proofs.sparse.SparseLoudsKeyWriter.write.Goals as goal
 
-pub put_bit-requires : goal.put_bit-requires
-put_bit-requires c =
+pub write_later-requires : goal.write_later-requires
+write_later-requires c =
     let a = c.args in
-    let l = a.self.now.levels in
-    let k = a.k in
-    let b = c.split_level-b in
     let i = c.requires.0 in
-    let r = later_ask l k (key_bytes a.s.now k) (key_length a.s.now k.at k.len i.within) (length a.out.now) a.cur.now c.requires.1 in
-    rw (behind_level k.first b.result) (later_room l k b.result _ b.ensures refl (omega (arith, b.ensures, i.numbers.before)) (length a.out.now) a.cur.now r (sym c.is_among.ensures ∙ c.if-is_among.true))
-
-pub move_on-requires : goal.move_on-requires
-move_on-requires c =
-    let a = c.args in
-    let l = a.self.now.levels in
-    let k = a.k in
-    let b = c.split_level-b in
-    let d = c.leaf_level in
-    let i = c.if-is_among in
-    let n = c.requires.0 in
-    let h : b.result < k.len = omega (arith, b.ensures, n.numbers.before) in
-    let r = later_ask l k (key_bytes a.s.now k) (key_length a.s.now k.at k.len n.within) (length a.out.now) a.cur.now c.requires.1 in
-    let told = sym c.is_among.ensures in
-    let is = ap (λ (x : Bool). set_at_cursor one_step bit_at (emission b.result x) (byte_state a.out.now a.cur.now)) (behind_level k.first b.result) in
-    elim c.if-is_among.branch [
-      | then-is_among w ↦
-          later_cursors l k b.result d.result b.ensures d.ensures.0 h c.max.result c.min.result c.max.ensures c.min.ensures (length a.out.now)
-          a.out.now i.out a.cur.now i.cur r (told ∙ w.if-is_among.true) (ap₂ byte_state w.out-is w.cur-is ∙ w.put_bit.ensures ∙ is)
-      | else-is_among w ↦
-          subst (λ (z : List ℕ). CounterRoom one_step (blank c.max.result (c.min.result - c.max.result)) z) (sym w.cur-is)
-          (later_cursors_only l k b.result d.result b.ensures d.ensures.0 h c.max.result c.min.result c.max.ensures c.min.ensures (length a.out.now) a.cur.now r (told ∙ w.if-is_among.false))
-    ]
+    (i.numbers, later_ask a.self.now.levels a.k (key_bytes a.s.now a.k) (key_length a.s.now a.k.at a.k.len i.within) (length a.out.now) a.cur.now c.requires.1)
 
 pub returns : goal.returns
 returns c =
     let a = c.args in
-    let l = a.self.now.levels in
-    let k = a.k in
-    let b = c.split_level-b in
-    let d = c.leaf_level in
-    let i = c.if-is_among in
-    let n = c.requires.0 in
-    let h : b.result < k.len = omega (arith, b.ensures, n.numbers.before) in
-    let told = sym c.is_among.ensures in
-    let is = ap (λ (x : Bool). set_at_cursor one_step bit_at (emission b.result x) (byte_state a.out.now a.cur.now)) (behind_level k.first b.result) in
-    let all = later_written l k (key_bytes a.s.now k) (key_length a.s.now k.at k.len n.within) (byte_state a.out.now a.cur.now) in
-    elim c.if-is_among.branch [
-      | then-is_among w ↦
-          later_does l k b.result d.result b.ensures d.ensures.0 h c.max.result c.min.result c.max.ensures c.min.ensures
-          a.out.now i.out a.cur.now i.cur _ (told ∙ w.if-is_among.true) (ap₂ byte_state w.out-is w.cur-is ∙ w.put_bit.ensures ∙ is) c.move_on.ensures ∙ all
-      | else-is_among w ↦
-          ap (λ (o : List ℕ). byte_state o c.move_on.new.cur) w.out-is
-          ∙ later_none l k b.result d.result b.ensures d.ensures.0 h c.max.result c.min.result c.max.ensures c.min.ensures a.out.now a.cur.now _ (told ∙ w.if-is_among.false)
-          (c.move_on.ensures ∙ ap (counts one_step (blank c.max.result (c.min.result - c.max.result))) w.cur-is) ∙ all
-    ]
+    c.write_later.ensures ∙ later_written a.self.now.levels a.k (key_bytes a.s.now a.k) (key_length a.s.now a.k.at a.k.len c.requires.0.within) _
