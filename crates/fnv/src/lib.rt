@@ -5,6 +5,8 @@
 ghost use Rattle.std.specs.Prelude.{◌≡◌, ◌*◌, ◌%◌, ◌^◌};
 ghost use Rattle.spec.specs.Fnv.{offset_basis, prime, hash_step, hash};
 
+use std::num::wrapping_add_u64;
+
 // 2^32: each half of a 64-bit number is below it.
 const HALF: u64 = 4294967296;
 
@@ -46,6 +48,7 @@ impl Fnv1a {
     }
 
     // The product of a number and the prime modulo 2^64, from the products of their halves. That of the two high halves is a multiple of 2^64, and is left out.
+    // Of these sums the compiler makes one multiplication, and of the method `wrapping_add` two and more, in twice the time.
     fn times_prime(x: u64) -> u64
         ensures { result ≡ x * prime % 2 ^ 64 }
     {
@@ -53,9 +56,7 @@ impl Fnv1a {
         let high = x / HALF;
         let high_low = (high * Self::PRIME_LOW) << 32;
         let low_high = (low * Self::PRIME_HIGH) << 32;
-        (low * Self::PRIME_LOW)
-            .wrapping_add(high_low)
-            .wrapping_add(low_high)
+        wrapping_add_u64(wrapping_add_u64(low * Self::PRIME_LOW, high_low), low_high)
     }
 }
 
