@@ -1,5 +1,8 @@
+pub mod Accepted
+pub mod AcceptedProp
 pub mod Codes
 pub mod FrameOf
+pub mod FromCheck
 pub mod Header
 pub mod Outcomes
 pub mod Records
