@@ -4,6 +4,7 @@ pub mod Codes
 pub mod FrameOf
 pub mod FromCheck
 pub mod Header
+pub mod Inside
 pub mod Outcomes
 pub mod Records
 pub mod Refusals

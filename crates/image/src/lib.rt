@@ -6,6 +6,7 @@ ghost use Rattle.std.specs.Prelude.{ℕ, ◌<◌, slice_index};
 ghost use Rattle.image.specs.FrameOf.{FrameOf};
 ghost use Rattle.image.specs.Accepted.{Accepted};
 ghost use Rattle.image.specs.AcceptedProp.{Accepted-prop};
+ghost use Rattle.image.specs.Inside.{Inside};
 
 pub mod table; // table.rt: marks, body lengths and starts of the records
 pub mod header_bytes; // header_bytes.rt: settings judged, the header read and written, and the beginning of a record
@@ -140,12 +141,13 @@ pub struct FramedImage<'a> {
     ghost framed: { FrameOf bytes.now frame },
 }
 
-// An image that the check has accepted, with its frame: what the questions and the walk read.
+// An image that the check has accepted, with its frame: what the questions and the walk read. That its bodies lie within it follows (`Inside.accepted_inside`), and stands here so that each reader has it at hand.
 #[derive(Clone, Copy)]
 pub struct AcceptedImage<'a> {
     pub bytes: &'a [u8],
     pub frame: Frame,
     ghost in_range: { (i : ℕ) → slice_index bytes.now i < 256 },
+    ghost inside: { Inside bytes.now frame },
     ghost accepted: { Accepted bytes.now frame } by { Accepted-prop bytes.now frame },
 }
 

@@ -1,5 +1,5 @@
 -- A node is an exact leaf where two entries stand behind its start and the first label is FF.
-use Rattle.nav_nodes.specs.Positions.{entries_valid, sole_plain, other_plain, first_exact, labels_room}
+use Rattle.nav_nodes.specs.Positions.{entries_valid, sole_plain, other_plain, first_exact}
 use Rattle.nav_nodes.specs.Tables.{start_found}
 use Rattle.bits.specs.Bits.{select}
 use borrow.Author.Tests.{eqb-true, eqb-false, lt-leb}
@@ -21,11 +21,6 @@ next_start-end-requires c =
     let v = a.image.now in
     let p = c.requires in
     (start_found v.bytes.now v.frame p.accepted a.m.0 c.node_start-start.result.0 p.behind_dense p.inside c.node_start-start.ensures.0).0
-
-pub bounds-image-image : goal.bounds-image-image
-bounds-image-image c =
-    let v = c.args.image.now in
-    omega (arith, labels_room v.bytes.now v.frame c.requires.accepted, c.next_start-end.ensures.1)
 
 pub returns : goal.returns
 returns c =

@@ -1,6 +1,5 @@
 use Rattle.nav_nodes.specs.Positions.{exact_dense}
 use Rattle.nav_nodes.specs.NextLabel.{bit_one}
-use Rattle.nav_nodes.specs.Tables.{exacts_ranked}
 use Rattle.nav_nodes.specs.Accepted.{nodes}
 use Rattle.nav_nodes.specs.Slots.{node_at}
 use Rattle.spec.specs.Nodes.{is_exact}
@@ -12,11 +11,6 @@ use lib.Dec.{eqb}
 use native.Mathlib.Omega.{arith}
 use mathlib.Core.Path.{ap, ◌∙◌}
 use Rattle.nav_nodes.proofs.nodes.is_exact.Goals as goal
-
-pub bit_at-requires : goal.bit_at-requires
-bit_at-requires c =
-    let v = c.args.image.now in
-    rw (tail_part v.bytes.now v.frame.dp) (omega (arith, (exacts_ranked v.bytes.now v.frame c.requires.accepted).0))
 
 pub returns-then-m-image : goal.returns-then-m-image
 returns-then-m-image c =
