@@ -2,7 +2,7 @@
 use Rattle.spec.specs.Leaves.{Leaf}
 use Prim.Native.Nat.{ℕ, zero, suc, ◌+◌, ◌-◌, ◌<◌, ◌≤◌}
 use Rattle.std.specs.Prelude.{◌≡◌, refl, true, length, drop}
-use Rattle.std.proofs.Common.{sym, ap, ◌∙◌, true≢false, length-append}
+use Rattle.std.proofs.Common.{sym, ap, ◌∙◌, true≢false}
 use mathlib.Core.List.{List, [], ◌∷◌}
 use native.Mathlib.Omega.{arith}
 use Rattle.std.proofs.Math.ListN.{take}
@@ -10,16 +10,16 @@ use Rattle.std.proofs.Math.Seq.{take-nil, take-take}
 use Rattle.spec.specs.Bytes.{bit, concat}
 use Rattle.spec.specs.Nodes.{Branch, to_node, to_leaf, Node, node, branches_of, is_exact, children, total, children_of}
 use Rattle.spec.specs.Trie.{open_leaves, leaf_count}
+pub use Rattle.image.specs.FromCheck.{node_total}
 use Rattle.nav_nodes.specs.declared.BranchKind.{BranchKind}
 use Rattle.nav_nodes.specs.declared.BranchKind.TheVariants as Kind
 use Rattle.nav_nodes.specs.Slots.{node_at, leaves_before, slot_number}
-use Rattle.nav_nodes.specs.Descent.{goes_children, children_before, child_number, children_split, goes_on, ends_at, kids_append, kids_take}
+use Rattle.nav_nodes.specs.Descent.{goes_children, children_before, child_number, children_split, goes_on, ends_at, kids_take}
 use Rattle.nav_nodes.specs.NextLabel.{first_kind}
 use Rattle.theory.proofs.LeafLists.{Realizable, AllWellSized}
 use Rattle.theory.proofs.LevelTrie.{trie}
 use Rattle.theory.proofs.Levels.{leaf_count_root}
 use Rattle.theory.proofs.TrieTests.{realizable_trie, EmptyOrValid, empty_list, valid_trie}
-use Rattle.theory.proofs.LinkedLevels.{first_width, levels_back, Linked}
 
 -- the leaves of the nodes are those of the list
 pub leaf_total : (n : ℕ) (ls : List Leaf) (ns : List Node) → Realizable n ls → AllWellSized n ls → ns ≡ concat (trie ls) → leaf_count ns ≡ length ls
