@@ -10,14 +10,13 @@ use mathlib.Core.HLevel.{Σ_prop_path}
 use mathlib.Core.Path.{subst_refl}
 use Rattle.spec.specs.Bytes.{Bytes, Bits}
 use Rattle.spec.specs.Leaves.{Leaf}
-use Rattle.spec.specs.Nodes.{Branch, to_node, to_leaf, Node, node, label_of}
+use Rattle.spec.specs.Nodes.{Branch, to_node, to_leaf, Node, node, label_of, read_leaves}
 use Rattle.image.specs.declared.Frame.{Frame}
 use Rattle.image.specs.Accepted.{Starts, Holds, Accepted, dense_nodes, sparse_nodes}
-use Rattle.spec.specs.Nodes.{read_leaves}
-use Rattle.theory.specs.Terms.{All, Key}
-use Rattle.theory.proofs.LeafLists.{Before, inner, less, step, Ordered, ClearPast, SpareClear, Shortest, WellSized, Realizable}
+use Rattle.theory.specs.Terms.{All}
+use Rattle.theory.proofs.LeafLists.{Before, inner, less, step, Ordered, ClearPast, WellSized, Realizable}
 use Rattle.theory.proofs.LinkedLevels.{BelowLabel, Ascends, Labelled}
-use Rattle.theory.proofs.NodeBits.{BranchWidth, ExactWidth, SlotsWidth, ByteLabels}
+use Rattle.theory.proofs.NodeBits.{BranchWidth, ExactWidth, SlotsWidth}
 use Rattle.theory.proofs.ImageParts.{Writable}
 
 -- ---- lists
@@ -67,7 +66,7 @@ writable_prop n count ds ss = hlevel (all_prop, labelled_prop, slots_width_prop,
 
 -- ---- leaves
 
--- Before, by cases
+-- `Before`, by cases
 abbrev Parts : Bool → Bytes → Bytes → Type 0
 Parts e c [] = ⊥
 Parts e [] (y ∷ d) = T e

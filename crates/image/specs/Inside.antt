@@ -1,9 +1,8 @@
 -- What follows for the numbers of an accepted image's frame, at hand where one is read: each body lies within the image, and all counts are small.
-use Rattle.std.specs.Prelude.{ℕ, ◌+◌, ◌*◌, ◌≤◌, ◌<◌, ◌≡◌, List, map, ◌++◌, length, drop}
-use Rattle.std.proofs.Common.{ap, ◌∙◌, sym, arith, mul-le-mul, length-append, length-drop}
+use Rattle.std.specs.Prelude.{ℕ, ◌+◌, ◌*◌, ◌≤◌, ◌<◌, ◌≡◌, List, map, length}
+use Rattle.std.proofs.Common.{ap, ◌∙◌, arith, mul-le-mul, length-append, length-drop}
 use Rattle.std.proofs.lemmas.List.{length-map}
-use Rattle.spec.specs.Bytes.{Bytes, Bits, blocks, concat, pack}
-use Rattle.spec.specs.Image.{ranks, samples}
+use Rattle.spec.specs.Bytes.{Bytes, Bits, blocks, concat}
 use Rattle.spec.specs.Nodes.{Node, is_exact}
 use Rattle.image.specs.declared.Frame.{Frame}
 use Rattle.image.specs.FrameOf.{Within}
@@ -12,7 +11,7 @@ use Rattle.theory.proofs.Bits.{length_pack, length_ranks, length_samples}
 use Rattle.theory.proofs.DenseBits.{length_dl, length_dc}
 use Rattle.theory.proofs.SparseBits.{length_sc, length_sb, louds_ones}
 use Rattle.theory.proofs.ImageParts.{sv_size}
-use Rattle.theory.proofs.NodeBits.{sparse_labels, dense_labels, dense_has_child, sparse_has_child, louds, slots}
+use Rattle.theory.proofs.NodeBits.{dense_labels, dense_has_child, sparse_has_child, louds, slots}
 
 pub record Inside (s : Bytes) (f : Frame) : Type 0 where
   pub within : Within s f

@@ -37,7 +37,7 @@ module _ {M : Type 1} {𝓤 : Ura M} (𝓛 : Logic 𝓤) (mem : Memory → SProp
 -- ---- `open`, of the slice s and the place n
 
 abbrev pub Opened : Bor (List ℕ) → ℕ → Result Walker Refusal → Type 0
-Opened s n r = Opens s.now n r × IfOk r (λ w. w.image.bytes ≡ s)
+Opened s n r = IfOk r (λ w. w.image.bytes ≡ s) × Opens s.now n r
 
 module _ {M : Type 1} {𝓤 : Ura M} (𝓛 : Logic 𝓤) (mem : Memory → SProp 𝓤) (run : Routine → Fun 𝓤) (κ : Lft) (q : Share) (s : Bor (List ℕ)) (n : ℕ) where
   -- of what is ensured, the clause alone: no function here has a `&mut`, so what is said of last values is dropped

@@ -1,7 +1,7 @@
 -- What a walker says and where it goes, by the tests of its code.
-use Rattle.std.specs.Prelude.{ℕ, zero, suc, ◌+◌, ◌/◌, ◌≤◌, ◌<◌, ◌≡◌, refl, List, [], ◌∷◌, ◌++◌, length, Some, None, Ok, Err}
+use Rattle.std.specs.Prelude.{ℕ, zero, suc, ◌+◌, ◌/◌, ◌≤◌, ◌<◌, ◌≡◌, refl, List, [], ◌∷◌, ◌++◌, length, Some, None, Result, Ok, Err, IfOk}
 use Rattle.std.proofs.Math.Path.{sym, ap, ap₂}
-use Rattle.std.proofs.Common.{◌∙◌, arith, length-drop}
+use Rattle.std.proofs.Common.{Bor, ◌∙◌, arith, length-drop}
 use Rattle.std.proofs.Math.Option.{Option, none, some}
 use Rattle.std.proofs.Math.ListN.{get_elem?, drop}
 use Rattle.spec.specs.Bytes.{Bytes}
@@ -12,6 +12,7 @@ use Rattle.spec.specs.Walk.{Stand, refused, leaf, done, stand_at, open_walk}
 use Rattle.theory.proofs.Lists.{le_or_lt, all_at}
 use Rattle.theory.proofs.AskLaws.{walk_correct}
 use Rattle.theory.proofs.LeafLists.{WellSized}
+use Rattle.image.specs.declared.AcceptedImage.{AcceptedImage}
 use Rattle.image.specs.declared.Frame.{Frame}
 use Rattle.image.specs.declared.Leaf.{Leaf as Value}
 use Rattle.image.specs.declared.refusals.Refusal.{Refusal}
@@ -60,6 +61,11 @@ opened_unchecked s place r v = check_refuses s place (number_of r) v (number_pos
 -- 17: the place is past done
 pub opened_past : (s : Bytes) (f : Frame) → Accepted s f → verdict s ≡ 0 → (place : ℕ) → f.leaves < place → Opens s place (Err PlaceOutOfRange)
 opened_past s f a v place h = place_refused s v place (omega (arith, leaf_total s f a))
+
+-- A walker over an image holds the slice that the image does.
+pub same_slice : (r : Result Walker Refusal) (v : AcceptedImage) → IfOk r (λ w. w.image ≡ v) → (s : Bor Bytes) → v.bytes ≡ s → IfOk r (λ w. w.image.bytes ≡ s)
+same_slice (Ok w) v h s e = ap (λ (i : AcceptedImage). i.bytes) h ∙ e
+same_slice (Err r) v h s e = tt
 
 -- What a refused walk says.
 pub says_refused : (said : Stand) (r : Refusal) → said ≡ refused (number_of r) → Gives said (Err r)

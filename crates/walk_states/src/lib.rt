@@ -38,8 +38,7 @@ pub fn open_accepted<'a>(image: &AcceptedImage<'a>, place: usize) -> Result<Walk
 
 // A walker at a place of an image, or the refusal. The image is checked here, and not again. The walker holds the slice that was lent.
 pub fn open<'a>(image: &'a [u8], place: usize) -> Result<Walker<'a>, Refusal>
-    ensures opens { Opens image.now place result }
-    ensures slice { IfOk result (λ w. w.image.bytes ≡ image.entry) }
+    ensures { IfOk result (λ w. w.image.bytes ≡ image.entry) × Opens image.now place result }
 {
     open_accepted(&accept(image)?, place)
 }
