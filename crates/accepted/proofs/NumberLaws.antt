@@ -21,8 +21,8 @@ use Rattle.ask_files.specs.ReplyLaws.{point_reply}
 use Rattle.std.specs.Prelude.{Ok, Err}
 use Rattle.image.specs.declared.refusals.Refusal.{Refusal}
 use Rattle.image.specs.Refusals.{number_of, number_positive}
-use Rattle.image.specs.declared.AcceptedImage.{AcceptedImage}
-use Rattle.nav_nodes.specs.FromCheck.{accepted}
+use Rattle.image.specs.declared.Frame.{Frame}
+use Rattle.nav_nodes.specs.Accepted.{Accepted}
 use Rattle.accepted.specs.Numbers.{numbered_of}
 
 module _ (s : Bytes) (q : Question) where
@@ -41,24 +41,22 @@ module _ (s : Bytes) (q : Question) where
     pub refused_key : (out : Bytes) → out ≡ key_written (ask_one s q) out
     refused_key out = sym (ap (λ (a : Answered). key_written a out) turned)
 
-  -- a question that is taken, over the accepted image
-  module _ (e : question_refusal q ≡ 0) (v : AcceptedImage) (same : v.bytes.now ≡ s) where
+  -- a question that is taken
+  module _ (e : question_refusal q ≡ 0) (f : Frame) (a : Accepted s f) where
     -- by the hash bits that the frame says
-    answered : ask_one s q ≡ replied (reply v.frame.hash_width (read_leaves v.bytes.now) q)
-    answered =
-        one_replied s q e ∙ ap (λ (z : Bytes). replied (reply (read_settings z).hash_width (read_leaves z) q)) (sym same)
-        ∙ ap (λ (h : ℕ). replied (reply h (read_leaves v.bytes.now) q)) (accepted v).hash_is
+    answered : ask_one s q ≡ replied (reply f.hash_width (read_leaves s) q)
+    answered = one_replied s q e ∙ ap (λ (h : ℕ). replied (reply h (read_leaves s) q)) a.hash_is
 
-    pub replied_number : (x : ℕ) → x ≡ (reply v.frame.hash_width (read_leaves v.bytes.now) q).number → numbered_of (Ok x) ≡ reply_number (ask_one s q)
+    pub replied_number : (x : ℕ) → x ≡ (reply f.hash_width (read_leaves s) q).number → numbered_of (Ok x) ≡ reply_number (ask_one s q)
     replied_number x h = ap number h ∙ sym (ap reply_number answered)
 
     -- the length of the reply's key and the key stand at the front of the buffer
-    pub replied_key : (out key : Bytes) (n : ℕ) → take n key ≡ (reply v.frame.hash_width (read_leaves v.bytes.now) q).key → n ≡ length (take n key) → 0 < length out
+    pub replied_key : (out key : Bytes) (n : ℕ) → take n key ≡ (reply f.hash_width (read_leaves s) q).key → n ≡ length (take n key) → 0 < length out
         → overlaid (set out 0 n) 1 (take n key) ≡ key_written (ask_one s q) out
     replied_key (x ∷ out) key n k size h =
-        let whole : n ∷ (take n key ++ drop (length (take n key)) out) ≡ key_written (replied (reply v.frame.hash_width (read_leaves v.bytes.now) q)) (x ∷ out) = ap₂ {C = Bytes} (λ (m : ℕ) (z : Bytes). m ∷ (z ++ drop (length z) out)) (size ∙ ap length k) k in
+        let same : n ∷ (take n key ++ drop (length (take n key)) out) ≡ key_written (replied (reply f.hash_width (read_leaves s) q)) (x ∷ out) = ap₂ {C = Bytes} (λ (m : ℕ) (z : Bytes). m ∷ (z ++ drop (length z) out)) (size ∙ ap length k) k in
         let one : 1 + length (take n key) ≡ suc (length (take n key)) = omega arith in
-        rw one (whole ∙ sym (ap (λ (r : Answered). key_written r (x ∷ out)) answered))
+        rw one (same ∙ sym (ap (λ (r : Answered). key_written r (x ∷ out)) answered))
     replied_key [] key n k size h = absurd (omega arith)
 
 -- a point: what its rule says, and the rule

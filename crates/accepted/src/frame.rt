@@ -2,6 +2,7 @@
 ghost use Rattle.std.specs.Prelude.{◌≡◌, ◌*◌, drop};
 ghost use Rattle.spec.specs.Check.{verdict};
 ghost use Rattle.bits.specs.Bits.{rank};
+ghost use Rattle.image.specs.FrameOf.{FrameOf};
 ghost use Rattle.check_frame.specs.FrameLaws.{Totals};
 ghost use Rattle.accepted.specs.Uncounted.{Uncounted};
 
@@ -49,7 +50,8 @@ fn dense_totals(image: &[u8], f: Frame) -> DenseTotals
 // An image that the check has accepted, with its frame.
 pub fn accepted_image<'a>(image: &'a [u8]) -> AcceptedImage<'a>
     requires { verdict image.now ≡ 0 }
-    ensures { result.bytes.now ≡ image.entry.now }
+    ensures bytes { result.bytes.now ≡ image.entry.now }
+    ensures frame { FrameOf image.entry.now result.frame }
 {
     let mut frame = frame_at(read_header(image));
     frame.totals = dense_totals(image, frame);

@@ -3,6 +3,7 @@
 #![tactic(auto)]
 
 ghost use Rattle.std.specs.Prelude.{◌≡◌};
+ghost use Rattle.spec.specs.Check.{verdict};
 ghost use Rattle.spec.specs.Ask.{ask};
 ghost use Rattle.image.specs.Outcomes.{outcome};
 
@@ -21,6 +22,7 @@ fn ask_accepted(
     questions: &[u8],
     replies: &mut [u8],
 ) -> Result<usize, Refusal>
+    requires { verdict image.now.bytes.now ≡ 0 }
     ensures { outcome result replies.new ≡ ask image.now.bytes.now questions.now replies.old }
 {
     let count = judge_file(questions)?;

@@ -3,7 +3,7 @@
 
 #![tactic(auto)]
 
-ghost use Rattle.std.specs.Prelude.{◌≡◌, ◌≤◌, ◌<◌, length};
+ghost use Rattle.std.specs.Prelude.{◌≡◌, ◌≤◌, ◌<◌, length, IfOk};
 ghost use Rattle.spec.specs.Image.{rows};
 ghost use Rattle.spec.specs.Frame.{rows_of};
 ghost use Rattle.image.specs.FrameOf.{level_gap};
@@ -178,7 +178,7 @@ pub fn frame_at(h: Header) -> Frame
 // An image whose records stand where its header says, with its frame and in it the totals of its dense nodes.
 fn laid_out<'a>(image: &'a [u8], h: Header) -> RankedFrame<'a>
     requires { LaidOut image.now h }
-    ensures { result.image.bytes.now ≡ image.now }
+    ensures { result.image.bytes ≡ image.entry }
 {
     let mut frame = frame_at(h);
     let counts = count_dense(image, frame);
@@ -193,9 +193,10 @@ fn laid_out<'a>(image: &'a [u8], h: Header) -> RankedFrame<'a>
     }
 }
 
-// An image with its frame, or 11 where a part of it does not stand there, or 12 where the header or a length is wrong.
+// An image with its frame, or 11 where a part of it does not stand there, or 12 where the header or a length is wrong. The image is the slice that was lent.
 pub fn read_frame<'a>(image: &'a [u8]) -> Result<RankedFrame<'a>, Refusal>
-    ensures { ReadAs image.now result }
+    ensures read { ReadAs image.now result }
+    ensures slice { IfOk result (λ r. r.image.bytes ≡ image.entry) }
 {
     if image.len() < HEADER {
         return Err(Refusal::FrameWrong);

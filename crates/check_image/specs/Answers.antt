@@ -4,6 +4,7 @@ use Rattle.spec.specs.Bytes.{Bytes}
 use Rattle.spec.specs.Check.{verdict, Checked, accepted, refused}
 use Rattle.theory.specs.Demands.{CheckRefusal}
 use Rattle.theory.proofs.CheckStages.{refusal_verdict}
+use Rattle.image.specs.FrameOf.{FrameOf}
 use Rattle.image.specs.Refusals.{number_of}
 use Rattle.image.specs.declared.refusals.Refusal.{Refusal}
 use Rattle.image.specs.declared.AcceptedImage.{AcceptedImage}
@@ -20,7 +21,7 @@ Judged s (Err r) = verdict s ≡ number_of r
 
 -- what accepting an image gives: the image, with a frame of it and a verdict of 0; or a refusal by the verdict's number
 abbrev pub CheckedAs : Bytes → Result AcceptedImage Refusal → Type 0
-CheckedAs s (Ok a) = a.bytes.now ≡ s
+CheckedAs s (Ok a) = (a.bytes.now ≡ s) × FrameOf s a.frame × (verdict s ≡ 0)
 CheckedAs s (Err r) = verdict s ≡ number_of r
 
 -- A refusal is by the verdict's number.

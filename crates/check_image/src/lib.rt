@@ -2,7 +2,7 @@
 
 #![tactic(auto)]
 
-ghost use Rattle.std.specs.Prelude.{◌≡◌};
+ghost use Rattle.std.specs.Prelude.{◌≡◌, IfOk};
 ghost use Rattle.spec.specs.Check.{check};
 ghost use Rattle.check_image.specs.Answers.{answer, Judged, CheckedAs};
 
@@ -40,9 +40,10 @@ fn judge(read: &RankedFrame) -> Result<(), Refusal>
     Ok(())
 }
 
-// An accepted image with its frame, or the refusal.
+// An accepted image with its frame, or the refusal. The image is the slice that was lent.
 pub fn accept<'a>(image: &'a [u8]) -> Result<AcceptedImage<'a>, Refusal>
-    ensures { CheckedAs image.now result }
+    ensures checked { CheckedAs image.now result }
+    ensures slice { IfOk result (λ a. a.bytes ≡ image.entry) }
 {
     let read = read_frame(image)?;
     judge(&read)?;

@@ -1,6 +1,10 @@
+pub mod Accepted
+pub mod AcceptedProp
 pub mod Codes
 pub mod FrameOf
+pub mod FromCheck
 pub mod Header
+pub mod Inside
 pub mod Outcomes
 pub mod Records
 pub mod Refusals

@@ -2,9 +2,11 @@
 
 #![tactic(auto)]
 
-ghost use Rattle.std.specs.Prelude.{◌≡◌, ℕ, ◌<◌, slice_index};
-ghost use Rattle.spec.specs.Check.{verdict};
+ghost use Rattle.std.specs.Prelude.{ℕ, ◌<◌, slice_index};
 ghost use Rattle.image.specs.FrameOf.{FrameOf};
+ghost use Rattle.image.specs.Accepted.{Accepted};
+ghost use Rattle.image.specs.AcceptedProp.{Accepted-prop};
+ghost use Rattle.image.specs.Inside.{Inside};
 
 pub mod table; // table.rt: marks, body lengths and starts of the records
 pub mod header_bytes; // header_bytes.rt: settings judged, the header read and written, and the beginning of a record
@@ -139,14 +141,14 @@ pub struct FramedImage<'a> {
     ghost framed: { FrameOf bytes.now frame },
 }
 
-// An image that the check has accepted, with its frame: what the questions and the walk read.
+// An image that the check has accepted, with its frame: what the questions and the walk read. That its bodies lie within it follows (`Inside.accepted_inside`), and stands here so that each reader has it at hand.
 #[derive(Clone, Copy)]
 pub struct AcceptedImage<'a> {
     pub bytes: &'a [u8],
     pub frame: Frame,
     ghost in_range: { (i : ℕ) → slice_index bytes.now i < 256 },
-    ghost framed: { FrameOf bytes.now frame },
-    ghost checked: { verdict bytes.now ≡ 0 },
+    ghost inside: { Inside bytes.now frame },
+    ghost accepted: { Accepted bytes.now frame } by { Accepted-prop bytes.now frame },
 }
 
 // A leaf by value: the cut key is the first len bytes of cut; the suffix bits are the low width bits of suffix, the first one lowest, as the suffix slots hold them.

@@ -2,7 +2,7 @@
 use Rattle.spec.specs.Leaves.{Leaf}
 use Prim.Native.Nat.{ℕ, zero, suc, ◌+◌, ◌-◌, ◌<◌, ◌≤◌}
 use Rattle.std.specs.Prelude.{◌≡◌, refl, true, length, drop}
-use Rattle.std.proofs.Common.{sym, ap, ◌∙◌, true≢false, length-append}
+use Rattle.std.proofs.Common.{sym, ◌∙◌, true≢false}
 use mathlib.Core.List.{List, [], ◌∷◌}
 use native.Mathlib.Omega.{arith}
 use Rattle.std.proofs.Math.ListN.{take}
@@ -10,32 +10,16 @@ use Rattle.std.proofs.Math.Seq.{take-nil, take-take}
 use Rattle.spec.specs.Bytes.{bit, concat}
 use Rattle.spec.specs.Nodes.{Branch, to_node, to_leaf, Node, node, branches_of, is_exact, children, total, children_of}
 use Rattle.spec.specs.Trie.{open_leaves, leaf_count}
+pub use Rattle.image.specs.FromCheck.{node_total}
 use Rattle.nav_nodes.specs.declared.BranchKind.{BranchKind}
 use Rattle.nav_nodes.specs.declared.BranchKind.TheVariants as Kind
 use Rattle.nav_nodes.specs.Slots.{node_at, leaves_before, slot_number}
-use Rattle.nav_nodes.specs.Descent.{goes_children, children_before, child_number, children_split, goes_on, ends_at, kids_append, kids_take}
+use Rattle.nav_nodes.specs.Descent.{goes_children, children_before, child_number, children_split, goes_on, ends_at, kids_take}
 use Rattle.nav_nodes.specs.NextLabel.{first_kind}
 use Rattle.theory.proofs.LeafLists.{Realizable, AllWellSized}
 use Rattle.theory.proofs.LevelTrie.{trie}
 use Rattle.theory.proofs.Levels.{leaf_count_root}
 use Rattle.theory.proofs.TrieTests.{realizable_trie, EmptyOrValid, empty_list, valid_trie}
-use Rattle.theory.proofs.LinkedLevels.{first_width, levels_back, Linked}
-
-linked_size : (ls : List (List Node)) → Linked ls → length (concat ls) ≡ first_width ls + total children_of (concat ls)
-unfolding concat total
-linked_size [] k = refl
-linked_size (ns ∷ ls) k = omega (arith, length-append ns (concat ls), kids_append ns (concat ls), linked_size ls k.3, k.1)
-
--- Nodes are continuing branches plus one, where there are nodes.
-pub node_total : (n : ℕ) (ls : List Leaf) (ns : List Node) → Realizable n ls → AllWellSized n ls → ns ≡ concat (trie ls) → 0 < length ns → length ns ≡ 1 + total children_of ns
-unfolding trie concat
-node_total n ls ns g o e h = go (realizable_trie n ls g o) e
-  where
-    go : {ls : List Leaf} → EmptyOrValid ls → ns ≡ concat (trie ls) → length ns ≡ 1 + total children_of ns
-    go empty_list e = absurd (omega (arith, ap length e))
-    go (valid_trie {ls = ls} t) e =
-        let z : first_width (trie ls) ≡ 1 = sym (levels_back (trie ls) t.linked).wide ∙ ap length t.root in
-        rw e (omega (arith, linked_size (trie ls) t.linked))
 
 -- the leaves of the nodes are those of the list
 pub leaf_total : (n : ℕ) (ls : List Leaf) (ns : List Node) → Realizable n ls → AllWellSized n ls → ns ≡ concat (trie ls) → leaf_count ns ≡ length ls

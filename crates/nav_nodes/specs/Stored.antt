@@ -14,10 +14,7 @@ use Rattle.theory.proofs.Frame.{from32_le32}
 use Rattle.theory.proofs.Bits.{length_positions}
 use Rattle.rank_tables.specs.Ranks.{block_begun}
 use Rattle.rank_tables.specs.Reading.{RankEntry, Sample}
-
--- s starts with the bytes of b
-abbrev pub Starts : Bytes → Bytes → Type 0
-Starts b s = (t : Bytes) × (s ≡ b ++ t)
+pub use Rattle.image.specs.Accepted.{Starts}
 
 unpack_append : (a b : Bytes) → unpack (a ++ b) ≡ unpack a ++ unpack b
 unfolding unpack

@@ -48,7 +48,7 @@ module _ (s out page : Bytes) (len : ℕ) where
         let n : length (read_leaves b) ≡ w.image.frame.leaves = leaf_total b w.image.frame (accepted w.image) in
         let size : length (take len page) ≡ len = length-take-le len page x.within in
         let text : print b ≡ take len page ++ lines_left w =
-        print_accepted b (rw o.image_is short) w.image.checked ∙ listing_is (read_leaves b)
+        print_accepted b (rw o.image_is short) o.walks.checked ∙ listing_is (read_leaves b)
         ∙ ap₂ ◌++◌ (ap head_text n ∙ sym (written_front x)) (ap (λ (k : ℕ). lines k (drop k (read_leaves b))) (sym o.place_is)) in
         let progress : Progress s w len = record {
           walks = o.walks;

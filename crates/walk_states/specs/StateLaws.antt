@@ -1,7 +1,7 @@
 -- What a walker says and where it goes, by the tests of its code.
-use Rattle.std.specs.Prelude.{ℕ, zero, suc, ◌+◌, ◌/◌, ◌≤◌, ◌<◌, ◌≡◌, refl, List, [], ◌∷◌, ◌++◌, length, Some, None, Ok, Err}
+use Rattle.std.specs.Prelude.{ℕ, zero, suc, ◌+◌, ◌/◌, ◌≤◌, ◌<◌, ◌≡◌, refl, List, [], ◌∷◌, ◌++◌, length, Some, None, Result, Ok, Err, IfOk}
 use Rattle.std.proofs.Math.Path.{sym, ap, ap₂}
-use Rattle.std.proofs.Common.{◌∙◌, arith, length-drop}
+use Rattle.std.proofs.Common.{Bor, ◌∙◌, arith, length-drop}
 use Rattle.std.proofs.Math.Option.{Option, none, some}
 use Rattle.std.proofs.Math.ListN.{get_elem?, drop}
 use Rattle.spec.specs.Bytes.{Bytes}
@@ -59,8 +59,13 @@ pub opened_unchecked : (s : Bytes) (place : ℕ) (r : Refusal) → verdict s ≡
 opened_unchecked s place r v = check_refuses s place (number_of r) v (number_positive r)
 
 -- 17: the place is past done
-pub opened_past : (image : AcceptedImage) (place : ℕ) → image.frame.leaves < place → Opens image.bytes.now place (Err PlaceOutOfRange)
-opened_past image place h = place_refused image.bytes.now image.checked place (omega (arith, leaf_total image.bytes.now image.frame (accepted image)))
+pub opened_past : (s : Bytes) (f : Frame) → Accepted s f → verdict s ≡ 0 → (place : ℕ) → f.leaves < place → Opens s place (Err PlaceOutOfRange)
+opened_past s f a v place h = place_refused s v place (omega (arith, leaf_total s f a))
+
+-- A walker over an image holds the slice that the image does.
+pub same_slice : (r : Result Walker Refusal) (v : AcceptedImage) → IfOk r (λ w. w.image ≡ v) → (s : Bor Bytes) → v.bytes ≡ s → IfOk r (λ w. w.image.bytes ≡ s)
+same_slice (Ok w) v h s e = ap (λ (i : AcceptedImage). i.bytes) h ∙ e
+same_slice (Err r) v h s e = tt
 
 -- What a refused walk says.
 pub says_refused : (said : Stand) (r : Refusal) → said ≡ refused (number_of r) → Gives said (Err r)
@@ -81,11 +86,11 @@ module _ (w : Walker) (walks : Walks w) where
 
   -- its place is a leaf's, or done
   pub place_within : w.cursor.place ≤ length (read_leaves image)
-  place_within = omega (arith, total, walks.within)
+  place_within = omega (arith, total, walks.stands.within)
 
   -- and small
   pub place_small : w.cursor.place ≤ 65535
-  place_small = omega (arith, walks.within, (accepted w.image).writable.few)
+  place_small = omega (arith, walks.stands.within, (accepted w.image).writable.few)
 
   -- done stays
   pub stays_done : w.cursor.place ≡ w.image.frame.leaves → Moved w w
@@ -96,7 +101,7 @@ module _ (w : Walker) (walks : Walks w) where
   -- it says done
   pub says_done : w.image.frame.leaves ≤ w.cursor.place → Gives (open_walk image w.cursor.place) (Ok None)
   says_done h = record {
-    says = sym (at_done image w.image.checked w.cursor.place (omega (arith, total, walks.within)));
+    says = sym (at_done image walks.checked w.cursor.place (omega (arith, total, walks.stands.within)));
     settled = λ v e. let z : ◌≡◌ {A = ℕ} 0 1 = cc in absurd (omega arith);
     sized = λ v e. let z : ◌≡◌ {A = ℕ} 0 1 = cc in absurd (omega arith);
   }
@@ -104,13 +109,13 @@ module _ (w : Walker) (walks : Walks w) where
   -- it stands at a leaf
   module _ (h : w.cursor.place < w.image.frame.leaves) where
     pub can_step : AtLeaf image w.image.frame w.cursor
-    can_step = record { accepted = accepted w.image; stands = walks; inside = h }
+    can_step = record { accepted = accepted w.image; stands = walks.stands; inside = h }
 
     -- the walker r stands behind it
     pub steps : (c : Cursor) → StandsAt image w.image.frame (w.cursor.place + 1) c → Moved w (record { image = w.image; cursor = c })
     steps c h =
         let n = next_leaf image w.cursor.place (omega (arith, total)) in
-        record { walks = h.stands; image_is = refl; stands = next_at image w.cursor.place c.place (n ∙ sym h.place_is); place_is = h.place_is ∙ sym n }
+        record { walks = record { checked = walks.checked; stands = h.stands }; image_is = refl; stands = next_at image w.cursor.place c.place (n ∙ sym h.place_is); place_is = h.place_is ∙ sym n }
 
     -- it says the leaf
     pub says_leaf : (l : Leaves.Leaf) → get_elem? (read_leaves image) w.cursor.place ≡ some l → (v : Value) → v ≡ value_of l → Gives (open_walk image w.cursor.place) (Ok (Some v))
@@ -118,7 +123,7 @@ module _ (w : Walker) (walks : Walks w) where
         let z : Sized v = leaf_sized image w.image.frame (accepted w.image) w.cursor.place l e v f in
         let same : leaf_of v ≡ l = ap leaf_of f ∙ leaf_of_value l (omega (arith, z, ap (λ (x : Value). x.len) f)) in
         record {
-          says = ap leaf same ∙ sym (at_leaf image w.image.checked w.cursor.place l (omega (arith, h, total)) e);
+          says = ap leaf same ∙ sym (at_leaf image walks.checked w.cursor.place l (omega (arith, h, total)) e);
           settled = λ x q. let g : v ≡ x = cc in rw (← g) (f ∙ sym (ap value_of same));
           sized = λ x q. let g : v ≡ x = cc in rw (← g) z;
         }
@@ -145,7 +150,7 @@ module _ (w : Walker) (walks : Walks w) where
   bytes = w.image.bytes.now
 
   stands_there : open_walk bytes w.cursor.place ≡ stand_at (read_leaves bytes) w.cursor.place
-  stands_there = (walk_correct bytes (read_leaves bytes) w.image.checked refl).stands w.cursor.place (place_within w walks)
+  stands_there = (walk_correct bytes (read_leaves bytes) walks.checked refl).stands w.cursor.place (place_within w walks)
 
   -- it says a leaf: the one at its place
   pub found_leaf : (v : Value) → Gives (open_walk bytes w.cursor.place) (Ok (Some v)) → get_elem? (read_leaves bytes) w.cursor.place ≡ some (leaf_of v)
@@ -158,7 +163,7 @@ module _ (w : Walker) (walks : Walks w) where
       none_said : (ls : List Leaves.Leaf) → drop w.cursor.place (read_leaves bytes) ≡ ls → w.cursor.place < length (read_leaves bytes) → ⊥
       none_said [] e l = omega (arith, length-drop w.cursor.place (read_leaves bytes), ap length e)
       none_said (x ∷ rest) e l =
-          let f : done ≡ leaf x = g.says ∙ at_leaf bytes w.image.checked w.cursor.place x (omega arith) (found_at (read_leaves bytes) w.cursor.place x rest e) in
+          let f : done ≡ leaf x = g.says ∙ at_leaf bytes walks.checked w.cursor.place x (omega arith) (found_at (read_leaves bytes) w.cursor.place x rest e) in
           let z : ◌≡◌ {A = ℕ} 0 1 = cc in omega arith
 
   -- behind a leaf the next place is one on
@@ -178,4 +183,4 @@ unfolding success
 writes_records w walks out n buffer f =
     let bs : Bytes = records_from (read_leaves w.image.bytes.now) w.cursor.place (length out / record_size) in
     ap₂ {C = Outcome} (λ (k : ℕ) (z : Bytes). record { answer = written k; final = z }) f.size (f.bytes ∙ ap (λ (k : ℕ). bs ++ drop k out) f.size)
-    ∙ sym (records_written w.image.bytes.now w.cursor.place out w.image.checked (place_within w walks))
+    ∙ sym (records_written w.image.bytes.now w.cursor.place out walks.checked (place_within w walks))

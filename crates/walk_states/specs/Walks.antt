@@ -1,6 +1,7 @@
 -- What a walk says, by value, and what is said of a walker that is opened or moved.
 use Rattle.std.specs.Prelude.{ℕ, ◌≡◌, Option, Some, None, Result, Ok, Err}
 use Rattle.spec.specs.Bytes.{Bytes}
+use Rattle.spec.specs.Check.{verdict}
 use Rattle.spec.specs.Walk as Walk
 use Rattle.spec.specs.Walk.{open_walk, next_place, next}
 use Rattle.image.specs.declared.Leaf.{Leaf as Value}
@@ -28,9 +29,10 @@ pub record Gives (said : Walk.Stand) (r : Result (Option Value) Refusal) : Type 
 
 -- ---- a walker
 
--- The walker's cursor stands in its image.
-abbrev pub Walks : Walker → Type 0
-Walks w = Stands w.image.bytes.now w.image.frame w.cursor
+-- The check takes the walker's image, and the cursor stands in it.
+pub record Walks (w : Walker) : Type 0 where
+  pub checked : verdict w.image.bytes.now ≡ 0
+  pub stands : Stands w.image.bytes.now w.image.frame w.cursor
 
 -- The walker stands at this place of the image s.
 pub record StandsIn (s : Bytes) (place : ℕ) (w : Walker) : Type 0 where

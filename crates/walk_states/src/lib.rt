@@ -2,7 +2,8 @@
 
 #![tactic(auto)]
 
-ghost use Rattle.std.specs.Prelude.{Ok};
+ghost use Rattle.std.specs.Prelude.{◌≡◌, Ok, IfOk};
+ghost use Rattle.spec.specs.Check.{verdict};
 ghost use Rattle.spec.specs.Walk.{open_walk};
 ghost use Rattle.walk_states.specs.Walks.{Gives, Walks, Opens, Moved};
 
@@ -20,9 +21,11 @@ pub struct Walker<'a> {
     pub cursor: Cursor,
 }
 
-// A walker at a place of an accepted image, to which the cursor goes straight, or the refusal of the place.
+// A walker at a place of an accepted image, to which the cursor goes straight, or the refusal of the place. It holds the image that was lent.
 pub fn open_accepted<'a>(image: &AcceptedImage<'a>, place: usize) -> Result<Walker<'a>, Refusal>
-    ensures { Opens image.now.bytes.now place result }
+    requires { verdict image.now.bytes.now ≡ 0 }
+    ensures opens { Opens image.now.bytes.now place result }
+    ensures slice { IfOk result (λ w. w.image ≡ image.now) }
 {
     if image.frame.leaves < place {
         return Err(Refusal::PlaceOutOfRange);
@@ -33,9 +36,9 @@ pub fn open_accepted<'a>(image: &AcceptedImage<'a>, place: usize) -> Result<Walk
     })
 }
 
-// A walker at a place of an image, or the refusal. The image is checked here, and not again.
+// A walker at a place of an image, or the refusal. The image is checked here, and not again. The walker holds the slice that was lent.
 pub fn open<'a>(image: &'a [u8], place: usize) -> Result<Walker<'a>, Refusal>
-    ensures { Opens image.now place result }
+    ensures { IfOk result (λ w. w.image.bytes ≡ image.entry) × Opens image.now place result }
 {
     open_accepted(&accept(image)?, place)
 }

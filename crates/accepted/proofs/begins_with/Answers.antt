@@ -5,6 +5,7 @@ use Rattle.spec.specs.Questions.{QB, Reply}
 use Rattle.theory.proofs.OneQuestionLaws.{key_long, key_fits, stem_keys}
 use Rattle.spec.specs.Nodes.{read_leaves}
 use Rattle.ask_files.specs.ReplyLaws.{begins_reply}
+use Rattle.nav_nodes.specs.FromCheck.{accepted}
 use Rattle.accepted.proofs.NumberLaws.{refused_number, replied_number}
 use Rattle.accepted.proofs.begins_with.Goals as goal
 
@@ -19,5 +20,6 @@ pub returns : goal.returns
 returns c =
     let a = c.args in
     let v = c.accepted_image.result in
-    replied_number a.image.now (QB a.stem.now) (stem_keys a.stem.now ∙ key_fits a.stem.now c.in_ok-judge_key.ensures) v c.accepted_image.ensures _
-    (c.from.ensures ∙ sym c.begins_with-held.ensures ∙ sym (ap (λ (r : Reply). r.number) (begins_reply v.frame.hash_width (read_leaves v.bytes.now) a.stem.now)))
+    rw (← c.accepted_image.ensures.bytes)
+    (replied_number v.bytes.now (QB a.stem.now) (stem_keys a.stem.now ∙ key_fits a.stem.now c.in_ok-judge_key.ensures) v.frame (accepted v) _
+    (c.from.ensures ∙ sym c.begins_with-held.ensures ∙ sym (ap (λ (r : Reply). r.number) (begins_reply v.frame.hash_width (read_leaves v.bytes.now) a.stem.now))))

@@ -5,6 +5,7 @@ use Rattle.spec.specs.Nodes.{read_leaves}
 use Rattle.spec.specs.Questions.{QC, Reply}
 use Rattle.theory.proofs.OneQuestionLaws.{count_keys, bounds_short}
 use Rattle.ask_files.specs.ReplyLaws.{count_reply}
+use Rattle.nav_nodes.specs.FromCheck.{accepted}
 use Rattle.accepted.proofs.NumberLaws.{refused_number, replied_number}
 use Rattle.accepted.proofs.count.Goals as goal
 
@@ -23,5 +24,6 @@ pub returns : goal.returns
 returns c =
     let a = c.args in
     let v = c.accepted_image.result in
-    replied_number a.image.now (QC a.lo.now a.hi.now) (count_keys a.lo.now a.hi.now ∙ c.in_ok-judge_bounds.ensures) v c.accepted_image.ensures _
-    (c.count.ensures ∙ sym (ap (λ (r : Reply). r.number) (count_reply v.frame.hash_width (read_leaves v.bytes.now) a.lo.now a.hi.now)))
+    rw (← c.accepted_image.ensures.bytes)
+    (replied_number v.bytes.now (QC a.lo.now a.hi.now) (count_keys a.lo.now a.hi.now ∙ c.in_ok-judge_bounds.ensures) v.frame (accepted v) _
+    (c.count.ensures ∙ sym (ap (λ (r : Reply). r.number) (count_reply v.frame.hash_width (read_leaves v.bytes.now) a.lo.now a.hi.now))))

@@ -12,4 +12,4 @@ pub returns : goal.returns
 returns c =
     let v = c.accepted_image.result in
     c.descend.ensures ∙ ap (λ (h : ℕ). rule h (read_leaves v.bytes.now) c.args.key.now) (sym (accepted v).hash_is)
-    ∙ ap (λ (s : Bytes). rule (read_settings s).hash_width (read_leaves s) c.args.key.now) c.accepted_image.ensures
+    ∙ ap (λ (s : Bytes). rule (read_settings s).hash_width (read_leaves s) c.args.key.now) c.accepted_image.ensures.bytes

@@ -6,6 +6,7 @@ use lib.Seq.{length-take-le}
 use Rattle.std.proofs.lemmas.Result.{err_from_is_err_and}
 use Rattle.spec.specs.Questions.{QS, Reply}
 use Rattle.theory.proofs.OneQuestionLaws.{key_long, key_fits, seek_keys}
+use Rattle.nav_nodes.specs.FromCheck.{accepted}
 use Rattle.accepted.proofs.NumberLaws.{refused_number, refused_key, replied_number, replied_key}
 use Rattle.accepted.proofs.seek.Goals as goal
 
@@ -24,9 +25,12 @@ returns c =
     let a = c.args in
     let e = seek_keys a.start.now ∙ key_fits a.start.now c.in_ok-judge_key.ensures in
     let g = c.accepted_image-accepted in
-    let w = r.ensures.1 in (
-      replied_number a.image.now (QS a.start.now) e g.result g.ensures _ (ap (λ (z : Reply). z.number) w),
+    let s = g.result.bytes.now in
+    let f = g.result.frame in
+    let w = r.ensures.1 in
+    rw (← g.ensures.bytes) (
+      replied_number s (QS a.start.now) e f (accepted g.result) _ (ap (λ (z : Reply). z.number) w),
       c.write_bytes.ensures
-          ∙ replied_key a.image.now (QS a.start.now) e g.result g.ensures a.found.now r.new.key r.result.n (ap (λ (z : Reply). z.key) w) key_length
+          ∙ replied_key s (QS a.start.now) e f (accepted g.result) a.found.now r.new.key r.result.n (ap (λ (z : Reply). z.key) w) key_length
           (omega (arith, length-set a.found.now 0 r.result.n)),
     )

@@ -5,7 +5,7 @@ use lib.ListN.{length}
 use borrow.Author.Tests.{leb-true, leb-false}
 use Rattle.std.proofs.lemmas.Result.{err_from_is_err_and}
 use Rattle.spec.specs.Questions.{questions_of}
-use Rattle.nav_nodes.specs.FromCheck.{hash_read}
+use Rattle.nav_nodes.specs.FromCheck.{accepted}
 use Rattle.ask.specs.AskJoined.{ask_joined}
 use Rattle.ask_files.proofs.JudgeLaws.{file_taken, file_refused}
 use Rattle.ask_replies.specs.Replies.{file_replies}
@@ -16,7 +16,7 @@ returns-in_err-count c =
     let a = c.args in
     let v = a.image.now in
     let p = err_from_is_err_and c.from_residual.result c.from_residual.ensures.1 in
-    rw (p.1, p.2) (sym ((ask_joined v.bytes.now a.questions.now a.replies.now).turned_down _ v.checked (file_refused a.questions.now _ c.in_err-count.ensures)))
+    rw (p.1, p.2) (sym ((ask_joined v.bytes.now a.questions.now a.replies.now).turned_down _ c.requires (file_refused a.questions.now _ c.in_err-count.ensures)))
 
 pub replies_fit-requires : goal.replies_fit-requires
 replies_fit-requires c =
@@ -29,8 +29,8 @@ returns-then-not-replies_fit c =
     let v = a.image.now in
     let t = file_taken a.questions.now _ c.in_ok-count.ensures in
     let short = leb-false _ _ (sym c.replies_fit.ensures ∙ c.if-not-replies_fit.true) in
-    let h = hash_read v.bytes.now v.frame v.framed in
-    sym ((ask_joined v.bytes.now a.questions.now a.replies.now).too_long (questions_of a.questions.now) v.checked t.0 (rw h short))
+    let h = (accepted v).hash_is in
+    sym ((ask_joined v.bytes.now a.questions.now a.replies.now).too_long (questions_of a.questions.now) c.requires t.0 (rw h short))
 
 pub write_replies-requires : goal.write_replies-requires
 write_replies-requires c =
@@ -44,5 +44,5 @@ returns c =
     let t = file_taken a.questions.now _ c.in_ok-count.ensures in
     let room = leb-true (length (file_replies v.frame.hash_width v.bytes.now a.questions.now)) (length a.replies.now) (sym c.replies_fit.ensures ∙ c.if-not-replies_fit.false) in
     let w = c.write_replies.ensures in
-    let h = hash_read v.bytes.now v.frame v.framed in
-    sym ((ask_joined v.bytes.now a.questions.now a.replies.now).answered (questions_of a.questions.now) _ _ v.checked t.0 (rw h w.sized) (omega (arith, w.sized, room)) (rw h w.bytes))
+    let h = (accepted v).hash_is in
+    sym ((ask_joined v.bytes.now a.questions.now a.replies.now).answered (questions_of a.questions.now) _ _ c.requires t.0 (rw h w.sized) (omega (arith, w.sized, room)) (rw h w.bytes))

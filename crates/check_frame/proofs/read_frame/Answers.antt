@@ -23,31 +23,31 @@ stood s h e long first second all whole reads = record {
   reads = reads;
 }
 
-pub returns-then-image-lt-HEADER : goal.returns-then-image-lt-HEADER
-returns-then-image-lt-HEADER c =
+pub returns-then-image-lt-HEADER-clause-read : goal.returns-then-image-lt-HEADER-clause-read
+returns-then-image-lt-HEADER-clause-read c =
     (omega arith, header_short c.args.image.now c.if-image-lt-HEADER.true)
 
-pub returns-then-image-ne72 : goal.returns-then-image-ne72
-returns-then-image-ne72 c =
+pub returns-then-image-ne72-clause-read : goal.returns-then-image-ne72-clause-read
+returns-then-image-ne72-clause-read c =
     (omega arith, header_first c.args.image.now c.if-image-ne72.true)
 
-pub returns-then-image-ne68 : goal.returns-then-image-ne68
-returns-then-image-ne68 c =
+pub returns-then-image-ne68-clause-read : goal.returns-then-image-ne68-clause-read
+returns-then-image-ne68-clause-read c =
     (omega arith, header_second c.args.image.now c.if-image-ne68.true)
 
-pub returns-in_err-end : goal.returns-in_err-end
-returns-in_err-end c =
+pub returns-in_err-end-clause-read : goal.returns-in_err-end-clause-read
+returns-in_err-end-clause-read c =
     let p = err_from_is_err_and c.from_residual.result c.from_residual.ensures.1 in
     let q = end_refused c.last_end.result FrameWrong c.in_err-end.field-0.0 (sym c.ok_or.ensures.value ∙ c.in_err-end.was) in
     rw (p.1, p.2, q.1) (omega arith, records_absent c.args.image.now c.if-image-lt-HEADER.false (sym c.last_end.ensures ∙ q.0))
 
-pub returns-then-end-image : goal.returns-then-end-image
-returns-then-end-image c =
+pub returns-then-end-image-clause-read : goal.returns-then-end-image-clause-read
+returns-then-end-image-clause-read c =
     let end = sym c.last_end.ensures ∙ end_used c.last_end.result FrameWrong c.in_ok-end.end (sym c.ok_or.ensures.value ∙ c.in_ok-end.was) in
     (omega arith, records_short c.args.image.now c.in_ok-end.end c.if-image-lt-HEADER.false end c.if-end-image.true)
 
-pub returns-then-not-settings_valid : goal.returns-then-not-settings_valid
-returns-then-not-settings_valid c =
+pub returns-then-not-settings_valid-clause-read : goal.returns-then-not-settings_valid-clause-read
+returns-then-not-settings_valid-clause-read c =
     let end = sym c.last_end.ensures ∙ end_used c.last_end.result FrameWrong c.in_ok-end.end (sym c.ok_or.ensures.value ∙ c.in_ok-end.was) in
     let p = stood c.args.image.now c.read_header-h.result c.in_ok-end.end c.if-image-lt-HEADER.false c.if-image-ne72.false c.if-image-ne68.false end c.if-end-image.false c.read_header-h.ensures in
     (omega arith, settings_wrong c.args.image.now c.read_header-h.result p (sym c.settings_valid.ensures ∙ c.if-not-settings_valid.true))
@@ -58,8 +58,8 @@ lengths_valid-requires c =
     let p = stood c.args.image.now c.read_header-h.result c.in_ok-end.end c.if-image-lt-HEADER.false c.if-image-ne72.false c.if-image-ne68.false end c.if-end-image.false c.read_header-h.ensures in
     (p.reads.short, p.records)
 
-pub returns-then-not-lengths_valid : goal.returns-then-not-lengths_valid
-returns-then-not-lengths_valid c =
+pub returns-then-not-lengths_valid-clause-read : goal.returns-then-not-lengths_valid-clause-read
+returns-then-not-lengths_valid-clause-read c =
     let end = sym c.last_end.ensures ∙ end_used c.last_end.result FrameWrong c.in_ok-end.end (sym c.ok_or.ensures.value ∙ c.in_ok-end.was) in
     let p = stood c.args.image.now c.read_header-h.result c.in_ok-end.end c.if-image-lt-HEADER.false c.if-image-ne72.false c.if-image-ne68.false end c.if-end-image.false c.read_header-h.ensures in
     (omega arith, lengths_wrong c.args.image.now c.read_header-h.result p (sym c.lengths_valid.ensures ∙ c.if-not-lengths_valid.true))

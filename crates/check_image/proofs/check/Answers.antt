@@ -19,8 +19,8 @@ pub returns-in_err-read : goal.returns-in_err-read
 returns-in_err-read c =
     let r = c.in_err-read.field-0.0 in
     let p = err_from_is_err_and c.from_residual.result c.from_residual.ensures.1 in
-    rw (p.1, p.2) (judged c.args.image.now (Err r) (refuses r c.in_err-read.ensures.1))
+    rw (p.1, p.2) (judged c.args.image.now (Err r) (refuses r c.in_err-read.ensures.read.1))
 
 pub returns : goal.returns
 returns c =
-    judged c.args.image.now c.judge.result (rw c.in_ok-read.ensures at c.judge.ensures)
+    judged c.args.image.now c.judge.result (rw c.in_ok-read.ensures.read at c.judge.ensures)

@@ -15,7 +15,7 @@ pub loop-count-init : goal.loop-count-init
 loop-count-init c =
     let w = c.args.from.now in
     let z : w.cursor.place + 0 ≡ w.cursor.place = omega arith in
-    (omega arith, rw z c.requires, filled_none (read_leaves w.image.bytes.now) w.cursor.place c.args.out.now)
+    (omega arith, rw z c.requires.stands, filled_none (read_leaves w.image.bytes.now) w.cursor.place c.args.out.now)
 
 pub overflow_add-from : goal.overflow_add-from
 overflow_add-from c = omega (arith, c.loop-count.invariant.1.within, (accepted c.args.from.now.image).writable.few)
@@ -34,13 +34,13 @@ pub advance-end-requires : goal.advance-end-requires
 advance-end-requires c =
     let w = c.args.from.now in
     let l = c.loop-count in
-    record { place = w.cursor.place + l.count; at = can_step (record { image = w.image; cursor = cursor_of l.trail l.end (w.cursor.place + l.count) }) l.invariant.1 (omega (arith, c.if-from-count.false, l.invariant.1.within)) }
+    record { place = w.cursor.place + l.count; at = can_step (record { image = w.image; cursor = cursor_of l.trail l.end (w.cursor.place + l.count) }) (record { checked = c.requires.checked; stands = l.invariant.1 }) (omega (arith, c.if-from-count.false, l.invariant.1.within)) }
 
 pub loop-count-preserved : goal.loop-count-preserved
 loop-count-preserved c =
     let w = c.args.from.now in
     let l = c.loop-count in
-    let at = can_step (record { image = w.image; cursor = cursor_of l.trail l.end (w.cursor.place + l.count) }) l.invariant.1 (omega (arith, c.if-from-count.false, l.invariant.1.within)) in
+    let at = can_step (record { image = w.image; cursor = cursor_of l.trail l.end (w.cursor.place + l.count) }) (record { checked = c.requires.checked; stands = l.invariant.1 }) (omega (arith, c.if-from-count.false, l.invariant.1.within)) in
     let leaf = leaf_of c.leaf_of.result in
     let found = (leaf_read w.image.bytes.now w.image.frame (cursor_of l.trail l.end (w.cursor.place + l.count)) at c.leaf_of.result c.leaf_of.ensures).leaf_is in
     let t = c.loop-count-test.true in

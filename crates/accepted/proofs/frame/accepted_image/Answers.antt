@@ -1,9 +1,10 @@
 -- The header gives the frame but for the totals of the dense nodes, which their tables give.
 use native.Mathlib.Omega.{arith}
 use Rattle.theory.proofs.CheckStages.{verdict_passes}
+use Rattle.image.specs.Inside.{accepted_inside}
 use Rattle.check_frame.specs.FrameLaws.{header_long}
 use Rattle.query_descent.specs.Answers.{all_small}
-use Rattle.accepted.specs.Uncounted.{header_frame, counted_is}
+use Rattle.accepted.specs.Uncounted.{header_frame, counted_is, counted_frame}
 use Rattle.accepted.proofs.frame.accepted_image.Goals as goal
 
 pub read_header-requires : goal.read_header-requires
@@ -18,8 +19,11 @@ pub invariant_of-result : goal.invariant_of-result
 invariant_of-result c =
     let s = c.args.image.now in
     let e = rw c.frame_at-frame.ensures at c.dense_totals-frame.ensures in
-    record {
-      in_range = λ i. omega (arith, c.type_inv.image i);
-      framed = rw c.frame_at-frame.ensures (counted_is s c.read_header.result c.requires c.read_header.ensures (all_small s (λ i. omega (arith, c.type_inv.image i))) c.dense_totals-frame.result e);
-      checked = c.requires;
-    }
+    let a = counted_frame s c.read_header.result c.requires c.read_header.ensures (all_small s (λ i. omega (arith, c.type_inv.image i))) c.dense_totals-frame.result e in
+    rw c.frame_at-frame.ensures (record { in_range = λ i. omega (arith, c.type_inv.image i); inside = accepted_inside s _ a; accepted = a })
+
+pub returns-clause-frame : goal.returns-clause-frame
+returns-clause-frame c =
+    let s = c.args.image.now in
+    let e = rw c.frame_at-frame.ensures at c.dense_totals-frame.ensures in
+    rw c.frame_at-frame.ensures (counted_is s c.read_header.result c.requires c.read_header.ensures (all_small s (λ i. omega (arith, c.type_inv.image i))) c.dense_totals-frame.result e)

@@ -10,8 +10,8 @@ returns-then-input-gt-LONGEST_INPUT c =
 
 pub returns-in-Err : goal.returns-in-Err
 returns-in-Err c =
-    opened_refused c.args.input.now _ _ _ c.if-input-gt-LONGEST_INPUT.false c.number.result ((rw c.in-Err.is at c.open.ensures) ∙ ap refused (sym c.number.ensures)) c.write_refused.ensures
+    opened_refused c.args.input.now _ _ _ c.if-input-gt-LONGEST_INPUT.false c.number.result ((rw c.in-Err.is at c.open.ensures.1) ∙ ap refused (sym c.number.ensures)) c.write_refused.ensures
 
 pub returns-in-Ok : goal.returns-in-Ok
 returns-in-Ok c =
-    opened_listing c.args.input.now _ _ _ c.if-input-gt-LONGEST_INPUT.false c.in-Ok.at (rw c.in-Ok.is at c.open.ensures) c.write_head.ensures
+    opened_listing c.args.input.now _ _ _ c.if-input-gt-LONGEST_INPUT.false c.in-Ok.at (rw c.in-Ok.is at c.open.ensures.1) c.write_head.ensures

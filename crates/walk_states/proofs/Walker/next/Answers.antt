@@ -7,7 +7,7 @@ pub returns-then-self : goal.returns-then-self
 returns-then-self c = stays_done c.args.self c.requires (omega arith)
 
 pub step-requires : goal.step-requires
-step-requires c = can_step c.args.self c.requires (omega (arith, c.requires.within))
+step-requires c = can_step c.args.self c.requires (omega (arith, c.requires.stands.within))
 
 pub returns : goal.returns
-returns c = steps c.args.self c.requires (omega (arith, c.requires.within)) c.step.result c.step.ensures
+returns c = steps c.args.self c.requires (omega (arith, c.requires.stands.within)) c.step.result c.step.ensures
