@@ -12,13 +12,13 @@ pub struct Counted {
 }
 
 // The number of ones in word q of s that stand among the first n bits of s.
+// Where all words are whole, as in the bodies of the dense nodes, the compiler sees that the first test fails, and leaves it out of a loop.
 pub fn ones_among(s: &[u8], q: usize, n: usize) -> usize
     requires { (n ≤ 8 * length s.now) × (64 * q < n) }
     ensures { (rank s.now (min (64 * q + 64) n) ≡ rank s.now (64 * q) + result) × (result ≤ 64) }
 {
-    let left = n - 64 * q;
-    if left < 64 {
-        return ones_before(s, q, left);
+    if n % 64 != 0 && q == n / 64 {
+        return ones_before(s, q, n % 64);
     }
     ones_word(s, q)
 }
