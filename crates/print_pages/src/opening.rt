@@ -1,5 +1,6 @@
 // How the text of an input opens: the first line of a listing, or the whole text where no listing follows.
-ghost use Rattle.std.specs.Prelude.{◌≤◌, length};
+ghost use Rattle.std.specs.Prelude.{◌≤◌, length, IfSome};
+ghost use Rattle.image.specs.FrameOf.{FrameOf};
 ghost use Rattle.print_text.specs.Texts.{longest_line};
 ghost use Rattle.print_pages.specs.Printing.{Opened};
 
@@ -17,10 +18,11 @@ pub struct Opening<'a> {
     pub lines: Option<Walker<'a>>,
 }
 
-// The opening of the input's text, written into a page.
+// The opening of the input's text, written into a page. A walker that it gives has the frame of the input.
 pub fn open<'a>(input: &'a [u8], page: &mut [u8]) -> Opening<'a>
     requires { longest_line ≤ length page.old }
-    ensures { Opened input.now page.new result }
+    ensures opened { Opened input.now page.new result }
+    ensures frame { IfSome result.lines (λ w. FrameOf input.now w.image.frame) }
 {
     if input.len() > LONGEST_INPUT {
         return Opening {

@@ -17,6 +17,7 @@ use denote.Triple.Clauses.{ensured, lasts}
 use Rattle.std.specs.Prelude.{Option, Result, Ok, IfOk}
 use Rattle.spec.specs.Walk.{open_walk}
 use Rattle.walk_states.specs.Walks.{Gives, Opens, Moved}
+use Rattle.image.specs.FrameOf.{FrameOf}
 use Rattle.image.specs.declared.Leaf.{Leaf}
 use Rattle.image.specs.declared.refusals.Refusal.{Refusal}
 use Rattle.walk_states.specs.declared.Walker.{Walker}
@@ -37,7 +38,7 @@ module _ {M : Type 1} {𝓤 : Ura M} (𝓛 : Logic 𝓤) (mem : Memory → SProp
 -- ---- `open`, of the slice s and the place n
 
 abbrev pub Opened : Bor (List ℕ) → ℕ → Result Walker Refusal → Type 0
-Opened s n r = IfOk r (λ w. w.image.bytes ≡ s) × Opens s.now n r
+Opened s n r = IfOk r (λ w. (w.image.bytes ≡ s) × FrameOf s.now w.image.frame) × Opens s.now n r
 
 module _ {M : Type 1} {𝓤 : Ura M} (𝓛 : Logic 𝓤) (mem : Memory → SProp 𝓤) (run : Routine → Fun 𝓤) (κ : Lft) (q : Share) (s : Bor (List ℕ)) (n : ℕ) where
   -- of what is ensured, the clause alone: no function here has a `&mut`, so what is said of last values is dropped

@@ -13,6 +13,7 @@ use Rattle.theory.proofs.Lists.{le_or_lt, all_at}
 use Rattle.theory.proofs.AskLaws.{walk_correct}
 use Rattle.theory.proofs.LeafLists.{WellSized}
 use Rattle.image.specs.declared.AcceptedImage.{AcceptedImage}
+use Rattle.image.specs.FrameOf.{FrameOf}
 use Rattle.image.specs.declared.Frame.{Frame}
 use Rattle.image.specs.declared.Leaf.{Leaf as Value}
 use Rattle.image.specs.declared.refusals.Refusal.{Refusal}
@@ -66,6 +67,11 @@ opened_past s f a v place h = place_refused s v place (omega (arith, leaf_total 
 pub same_slice : (r : Result Walker Refusal) (v : AcceptedImage) → IfOk r (λ w. w.image ≡ v) → (s : Bor Bytes) → v.bytes ≡ s → IfOk r (λ w. w.image.bytes ≡ s)
 same_slice (Ok w) v h s e = ap (λ (i : AcceptedImage). i.bytes) h ∙ e
 same_slice (Err r) v h s e = tt
+
+-- So it holds the frame of the slice, where the image does.
+pub same_image : (r : Result Walker Refusal) (v : AcceptedImage) → IfOk r (λ w. w.image ≡ v) → (s : Bor Bytes) → v.bytes ≡ s → FrameOf s.now v.frame → IfOk r (λ w. (w.image.bytes ≡ s) × FrameOf s.now w.image.frame)
+same_image (Ok w) v h s e o = (same_slice (Ok w) v h s e, rw h o)
+same_image (Err r) v h s e o = tt
 
 -- What a refused walk says.
 pub says_refused : (said : Stand) (r : Refusal) → said ≡ refused (number_of r) → Gives said (Err r)

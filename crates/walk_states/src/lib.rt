@@ -5,6 +5,7 @@
 ghost use Rattle.std.specs.Prelude.{◌≡◌, Ok, IfOk};
 ghost use Rattle.spec.specs.Check.{verdict};
 ghost use Rattle.spec.specs.Walk.{open_walk};
+ghost use Rattle.image.specs.FrameOf.{FrameOf};
 ghost use Rattle.walk_states.specs.Walks.{Gives, Walks, Opens, Moved};
 
 use check_image::accept;
@@ -36,9 +37,9 @@ pub fn open_accepted<'a>(image: &AcceptedImage<'a>, place: usize) -> Result<Walk
     })
 }
 
-// A walker at a place of an image, or the refusal. The image is checked here, and not again. The walker holds the slice that was lent.
+// A walker at a place of an image, or the refusal. The image is checked here, and not again. The walker holds the slice that was lent, and the frame of it.
 pub fn open<'a>(image: &'a [u8], place: usize) -> Result<Walker<'a>, Refusal>
-    ensures { IfOk result (λ w. w.image.bytes ≡ image.entry) × Opens image.now place result }
+    ensures { IfOk result (λ w. (w.image.bytes ≡ image.entry) × FrameOf image.now w.image.frame) × Opens image.now place result }
 {
     open_accepted(&accept(image)?, place)
 }

@@ -1,6 +1,6 @@
--- The check's refusal, or the walk over the accepted image, which is the slice that was lent.
+-- The check's refusal, or the walk over the accepted image, which is the slice that was lent, with its frame.
 use Rattle.std.proofs.lemmas.Result.{err_from_is_err_and}
-use Rattle.walk_states.specs.StateLaws.{opened_unchecked, same_slice}
+use Rattle.walk_states.specs.StateLaws.{opened_unchecked, same_image}
 use Rattle.walk_states.proofs.open.Goals as goal
 
 pub returns-in_err-accept : goal.returns-in_err-accept
@@ -17,4 +17,4 @@ pub returns : goal.returns
 returns c =
     let e = c.in_ok-accept.ensures in
     let r = c.open_accepted in
-    (same_slice r.result _ r.ensures.slice _ e.slice, rw e.checked.0 at r.ensures.opens)
+    (same_image r.result _ r.ensures.slice _ e.slice e.checked.1, rw e.checked.0 at r.ensures.opens)

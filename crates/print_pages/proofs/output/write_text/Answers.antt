@@ -6,10 +6,10 @@ use Rattle.print_pages.proofs.output.write_text.Goals as goal
 
 pub write_pages-requires : goal.write_pages-requires
 write_pages-requires g c =
-    let p = c.open-opening.ensures.listing c.in-Some.from c.in-Some.is in
+    let p = c.open-opening.ensures.opened.listing c.in-Some.from c.in-Some.is in
     (subst (λ (b : Bytes). Progress b c.in-Some.from c.open-opening.result.len) (sym p.image_is) p, search rules)
 
 pub returns-in-Some : goal.returns-in-Some
 returns-in-Some g c =
-    let p = c.open-opening.ensures.listing c.in-Some.from c.in-Some.is in
+    let p = c.open-opening.ensures.opened.listing c.in-Some.from c.in-Some.is in
     rw p.image_is at c.write_pages.ensures
